@@ -1,0 +1,4 @@
+pub mod Fields
+pub mod FrameValue
+pub mod Padding
+pub mod Refusals

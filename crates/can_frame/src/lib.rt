@@ -1,0 +1,17 @@
+//! Identifiers and frames of a bus with 29-bit identifiers (SAE J1939-21).
+#![tactic(auto)]
+
+mod frame;
+mod frames;
+mod id;
+mod pgn;
+mod reading;
+
+pub use frame::{Frame, FrameError};
+pub use frames::Frames;
+pub use id::{Id, IdTooLarge};
+pub use pgn::{Pgn, PgnTooLarge};
+pub use reading::Reading;
+
+#[cfg(test)]
+mod tests;

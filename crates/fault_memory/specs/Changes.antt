@@ -1,0 +1,61 @@
+use Rattle.std.specs.Prelude.{ℕ, ◌+◌, ◌^◌, min, not, Bool, ◌&&◌, ◌==◌, nat_le, nat_lt, List, [], ◌∷◌, ◌++◌, length, if◌then◌else◌, Option, Some, None, Result, Ok, Err}
+use Rattle.std.specs.List.{filter, find, list_any}
+use Rattle.trouble_code.specs.Code.{Code, code}
+use Rattle.trouble_code.specs.LampBytes.{lamps_off}
+use Rattle.fault_memory.specs.Memory.{MemoryValue}
+use Rattle.fault_memory.specs.declared.change.FaultChange.{FaultChange}
+use Rattle.fault_memory.specs.declared.change.FaultChange.TheVariants.{Set, Heal, Lamp}
+use Rattle.fault_memory.specs.declared.error.FaultError.{FaultError}
+use Rattle.fault_memory.specs.declared.error.FaultError.TheVariants.{SpnTooLarge, FmiTooLarge, Full, NotActive}
+
+-- the code has this SPN and FMI
+abbrev pub is_fault : ℕ → ℕ → Code → Bool
+is_fault spn fmi c = (c.spn == spn) && (c.fmi == fmi)
+
+-- the list without the code of this SPN and FMI, the others in their order
+abbrev pub without : ℕ → ℕ → List Code → List Code
+without spn fmi codes = filter (λ c. not (is_fault spn fmi c)) codes
+
+-- the code when its fault occurs once more: the count one more, at most 126
+abbrev pub occurred_again : Code → Code
+occurred_again c = code c.spn c.fmi (min (c.count + 1) 126)
+
+-- a fault that is not active becomes active: with its previous code, if there is one, else as a new code, which needs room
+abbrev pub activated : ℕ → ℕ → MemoryValue → Option Code → Result MemoryValue FaultError
+activated spn fmi m (Some c) = Ok (record { lamps = m.lamps; active = m.active ++ occurred_again c ∷ []; previous = without spn fmi m.previous })
+activated spn fmi m None =
+    if nat_lt (length m.active + length m.previous) 445
+    then Ok (record { lamps = m.lamps; active = m.active ++ code spn fmi 1 ∷ []; previous = m.previous })
+    else Err Full
+
+-- a fault is there: an active code stays as it is
+abbrev pub fault_set : ℕ → ℕ → MemoryValue → Result MemoryValue FaultError
+fault_set spn fmi m =
+    if list_any (is_fault spn fmi) m.active then Ok m else activated spn fmi m (find (is_fault spn fmi) m.previous)
+
+-- a fault has gone: its active code goes to the end of the previous ones, with its count
+abbrev pub deactivated : ℕ → ℕ → MemoryValue → Option Code → Result MemoryValue FaultError
+deactivated spn fmi m (Some c) = Ok (record { lamps = m.lamps; active = without spn fmi m.active; previous = m.previous ++ c ∷ [] })
+deactivated spn fmi m None = Err NotActive
+
+abbrev pub fault_healed : ℕ → ℕ → MemoryValue → Result MemoryValue FaultError
+fault_healed spn fmi m = deactivated spn fmi m (find (is_fault spn fmi) m.active)
+
+-- refused where the SPN has more than 19 bits, then where the FMI has more than 5
+abbrev pub if_in_range : ℕ → ℕ → Result MemoryValue FaultError → Result MemoryValue FaultError
+if_in_range spn fmi outcome =
+    if nat_le (2 ^ 19) spn then Err SpnTooLarge else (if nat_le 32 fmi then Err FmiTooLarge else outcome)
+
+-- the memory after a change, or why the change is refused
+abbrev pub changed : MemoryValue → FaultChange → Result MemoryValue FaultError
+changed m (Set spn fmi) = if_in_range spn fmi (fault_set spn fmi m)
+changed m (Heal spn fmi) = if_in_range spn fmi (fault_healed spn fmi m)
+changed m (Lamp lamps) = Ok (record { lamps = lamps; active = m.active; previous = m.previous })
+
+-- the memory after its active codes are cleared (DM11): no active code, and the lamps off
+abbrev pub cleared_active : MemoryValue → MemoryValue
+cleared_active m = record { lamps = lamps_off; active = []; previous = m.previous }
+
+-- the memory after its previously active codes are cleared (DM3)
+abbrev pub cleared_previous : MemoryValue → MemoryValue
+cleared_previous m = record { lamps = m.lamps; active = m.active; previous = [] }

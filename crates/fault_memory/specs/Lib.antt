@@ -1,0 +1,3 @@
+pub mod FaultRefusals
+pub mod Memory
+pub mod Changes

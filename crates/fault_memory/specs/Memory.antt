@@ -1,0 +1,30 @@
+use Rattle.std.specs.Prelude.{◌+◌, ◌≤◌, Bool, ◌&&◌, ◌==◌, List, [], ◌++◌, length}
+use Rattle.std.specs.List.{All, IsDistinct}
+use Rattle.trouble_code.specs.Code.{Code, IsCode}
+use Rattle.trouble_code.specs.LampBytes.{LampsValue, IsLamps, lamps_off}
+
+-- a fault memory: the lamps, the active codes and the previously active codes, each list in the order of entry
+pub record MemoryValue : Type 0 where
+  pub lamps : LampsValue
+  pub active : List Code
+  pub previous : List Code
+
+-- the memory of a new unit: the lamps off, and no code
+abbrev pub new_memory : MemoryValue
+new_memory = record { lamps = lamps_off; active = []; previous = [] }
+
+-- two codes of one SPN and FMI
+abbrev pub same_fault : Code → Code → Bool
+same_fault c d = (c.spn == d.spn) && (c.fmi == d.fmi)
+
+-- a code that a memory may hold: one that has occurred 1 to 126 times
+abbrev pub IsKeptCode : Code → Type 0
+IsKeptCode c = IsCode c × (1 ≤ c.count) × (c.count ≤ 126)
+
+-- no SPN and FMI twice over both lists, every code a kept one, and at most 445 codes together
+pub record IsLawfulMemory (m : MemoryValue) : Type 0 where
+  pub lamps : IsLamps m.lamps
+  pub active : All IsKeptCode m.active
+  pub previous : All IsKeptCode m.previous
+  pub distinct : IsDistinct same_fault (m.active ++ m.previous)
+  pub room : length m.active + length m.previous ≤ 445

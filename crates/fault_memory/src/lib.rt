@@ -1,0 +1,10 @@
+//! The fault memory of a control unit: its lamps, its active trouble codes and its previously active ones (SAE J1939-73).
+#![tactic(auto)]
+
+mod change;
+mod error;
+mod memory;
+
+pub use change::FaultChange;
+pub use error::FaultError;
+pub use memory::FaultMemory;

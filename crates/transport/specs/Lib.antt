@@ -1,0 +1,4 @@
+pub mod Pieces
+pub mod ControlMessage
+pub mod Messages
+pub mod Assembling

@@ -1,0 +1,37 @@
+-- How a payload is cut into pieces of seven bytes, and joined again (SAE J1939-21, transport protocol).
+use Rattle.std.specs.Prelude.{ℕ, zero, suc, ◌+◌, ◌-◌, ◌*◌, ◌/◌, List, [], ◌∷◌, ◌++◌, length, take, drop, replicate}
+use Rattle.std.specs.List.{concat}
+
+-- how many packets carry this many bytes: seven to a packet, rounded up
+abbrev pub packet_count : ℕ → ℕ
+packet_count size = (size + 6) / 7
+
+-- the first seven bytes, filled with FF
+abbrev pub first_piece : List ℕ → List ℕ
+first_piece bytes = take 7 (bytes ++ replicate 7 255)
+
+-- the first pieces, this many of them
+abbrev pub first_pieces : ℕ → List ℕ → List (List ℕ)
+first_pieces zero bytes = []
+first_pieces (suc count) bytes = first_piece bytes ∷ first_pieces count (drop 7 bytes)
+
+-- the pieces of a payload, the last filled with FF
+abbrev pub pieces : List ℕ → List (List ℕ)
+pieces payload = first_pieces (packet_count (length payload)) payload
+
+-- the packet of this number, from 1: the number, then the piece of that number
+abbrev pub packet : List ℕ → ℕ → List ℕ
+packet payload number = number ∷ first_piece (drop (7 * (number - 1)) payload)
+
+-- the packets from this number on, this many of them
+abbrev pub packets_from : List ℕ → ℕ → ℕ → List (List ℕ)
+packets_from payload number zero = []
+packets_from payload number (suc count) = packet payload number ∷ packets_from payload (suc number) count
+
+-- the packets of a payload, numbered from 1
+abbrev pub packets_of : List ℕ → List (List ℕ)
+packets_of payload = packets_from payload 1 (packet_count (length payload))
+
+-- the pieces one after another, cut to the size
+abbrev pub joined : ℕ → List (List ℕ) → List ℕ
+joined size parts = take size (concat parts)

@@ -1,7 +1,7 @@
 use Rattle.std.specs.Prelude.{◌≡◌, ℕ, ◌+◌, ◌*◌, ◌/◌, ◌%◌, ◌≤◌, ◌⊎◌, ◌&&◌, ◌||◌, ◌==◌, nat_le, nat_lt, List, [], ◌∷◌, ◌++◌, length, take, drop, if◌then◌else◌, Option, Some, None}
-use Rattle.std.specs.List.{list_all}
-use Rattle.trouble_code.specs.Code.{Code, code, EncodesCode, code_bytes}
-use Rattle.trouble_code.specs.LampBytes.{LampsValue, lamps_value, lamps_bytes}
+use Rattle.std.specs.List.{All, list_all}
+use Rattle.trouble_code.specs.Code.{Code, code, IsCode, EncodesCode, code_bytes}
+use Rattle.trouble_code.specs.LampBytes.{LampsValue, lamps_value, lamps_bytes, IsLamps}
 use Rattle.fault_memory.specs.Memory.{MemoryValue}
 use Rattle.dm_messages.specs.declared.kind.Kind.{Kind}
 use Rattle.dm_messages.specs.declared.kind.Kind.TheVariants.{Dm1, Dm2}
@@ -20,6 +20,12 @@ codes_of_kind Dm2 m = m.previous
 -- what a message of a kind shows of a fault memory
 abbrev pub view : Kind → MemoryValue → Shown
 view kind m = record { lamps = m.lamps; codes = codes_of_kind kind m }
+
+-- what one message can show: lamps of two bytes, and at most 445 codes
+pub record IsShowable (v : Shown) : Type 0 where
+  pub lamps : IsLamps v.lamps
+  pub codes : All IsCode v.codes
+  pub room : length v.codes ≤ 445
 
 -- each group of four bytes encodes its code, in turn
 abbrev pub EncodesEach : List Code → List ℕ → Type 0

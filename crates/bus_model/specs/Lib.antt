@@ -1,0 +1,7 @@
+pub mod Stub
+pub mod Messages
+pub mod Traffic
+pub mod Heard
+pub mod Expected
+pub mod Machine
+pub mod Order

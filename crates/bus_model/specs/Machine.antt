@@ -1,0 +1,288 @@
+-- The bus, its units and the station as a machine: what may happen next, and what it changes.
+-- It leaves free whatever the law does not need, so the exact tables of units and station are special cases of it.
+use Rattle.std.specs.Prelude.{◌≡◌, ◌≢◌, ℕ, zero, suc, ◌+◌, ◌^◌, ◌<◌, ◌≤◌, Bool, true, false, ◌==◌, List, [], ◌∷◌, ◌++◌, length, set, slice_get, Option, Some, None, if◌then◌else◌}
+use Rattle.can_frame.specs.FrameValue.{FrameValue}
+use Rattle.bus_model.specs.Stub.{claim_frame_value}
+use Rattle.dm_messages.specs.declared.kind.Kind.{Kind}
+use Rattle.fault_memory.specs.Memory.{MemoryValue}
+use Rattle.parameter_group.specs.Group.{Group, AddressClaimed, CannotClaim, Request, Acknowledgment, ConnectionManagement, Other, group_of}
+use Rattle.transport.specs.declared.control.Control.TheVariants.{Rts, Cts, EndAck, Abort}
+use Rattle.bus_model.specs.Messages.{Message, Way, One, Broadcast, Session, IsProper, frame_of_part, last_part_of, way_of, is_session}
+use Rattle.bus_model.specs.Traffic.{Tag, Item, says}
+use Rattle.bus_model.specs.Heard.{Settings, is_contest, address_heard}
+use Rattle.bus_model.specs.Expected.{Reception, Own, Received, Missed, readings, passed}
+
+-- a seat of a unit: its NAME, the address it holds, what it wants carried, what it heard of the wire, and its open
+-- session with the last part queued
+pub record Seat : Type 0 where
+  pub name : ℕ
+  pub live : Bool
+  pub held : Option ℕ
+  pub queue : List Item
+  pub heard : List Item
+  pub session : Option Tag
+
+pub record World : Type 0 where
+  pub settings : Settings
+  pub wire : List Item          -- the frames carried
+  pub seats : List Seat
+  pub asked : List Item         -- the station's queue
+  pub begun : List Message      -- the messages begun
+  pub path : List Reception     -- the wire as far as the station has it
+
+-- what a unit does with a frame that it hears
+pub data Answer : Type 0 where
+  Quiet : Answer
+  Replies : FrameValue → Answer
+  Begins : (kind : Kind) (memory : MemoryValue) (source destination : ℕ) → Answer
+  Grants : ℕ → Answer             -- queues that many further packets of its session
+  Ends : Answer                   -- ends its session and withdraws what is left of it
+  Yields : Option ℕ → Answer      -- withdraws all, holds that address or none from now on, and says so
+
+pub data Event : Type 0 where
+  Join : (name address : ℕ) → Event
+  Hear : (seat : ℕ) → Answer → Event
+  Begin : (seat : ℕ) (kind : Kind) (memory : MemoryValue) (source : ℕ) → Event
+  Turned : (seat : ℕ) → Event
+  Carry : (seat : ℕ) → Event
+  Carry_station : Event
+  Ask : List FrameValue → Event          -- the station queues these frames, newest first
+  Read : List FrameValue → Event         -- the station receives a frame, and queues these in answer
+  Miss : ℕ → List FrameValue → Event     -- the station is told of so many missed frames, and queues these
+  Leave : (seat : ℕ) → Event
+
+-- a frame that is no part of a message
+abbrev pub plain : ℕ → FrameValue → Item
+plain n f = record { name = n; frame = f; tag = None }
+
+abbrev pub all_plain : ℕ → List FrameValue → List Item
+all_plain n [] = []
+all_plain n (f ∷ fs) = plain n f ∷ all_plain n fs
+
+abbrev pub item_of_part : Message → ℕ → Item
+item_of_part m j = record { name = m.name; frame = frame_of_part m j; tag = Some (record { message = m; part = j }) }
+
+-- the parts up to that one, newest first
+abbrev pub parts_upto : Message → ℕ → List Item
+parts_upto m zero = item_of_part m 0 ∷ []
+parts_upto m (suc j) = item_of_part m (suc j) ∷ parts_upto m j
+
+-- what is queued at the beginning: all parts, but of a session the first alone
+abbrev pub first_parts : Way → Message → ℕ
+first_parts One m = last_part_of m
+first_parts Broadcast m = last_part_of m
+first_parts (Session d) m = 0
+
+abbrev pub session_opened : Way → Message → Option Tag → Option Tag
+session_opened One m before = before
+session_opened Broadcast m before = before
+session_opened (Session d) m before = Some (record { message = m; part = 0 })
+
+abbrev pub is_to : Way → ℕ → Bool
+is_to One a = false
+is_to Broadcast a = false
+is_to (Session d) a = d == a
+
+abbrev pub is_destination : Option Tag → ℕ → Bool
+is_destination None a = false
+is_destination (Some t) a = is_to (way_of t.message) a
+
+-- a claim of the open session's destination
+abbrev pub cuts : Option Tag → Group → Bool
+cuts o (AddressClaimed a m) = is_destination o a
+cuts o _ = false
+
+-- nothing in the group makes the unit yield or end its session
+pub record IsCalm (s : Seat) (g : Group) : Type 0 where
+  pub uncontested : is_contest s.name s.held g ≡ false
+  pub uncut : cuts s.session g ≡ false
+
+-- a request to send, from that address
+abbrev pub IsRtsFrom : ℕ → Group → Type 0
+IsRtsFrom a (ConnectionManagement s d (Rts size packets most pgn)) = s ≡ a
+IsRtsFrom a _ = ⊥
+
+-- a request from that address
+abbrev pub IsRequestFrom : ℕ → Group → Type 0
+IsRequestFrom a (Request pgn d s) = s ≡ a
+IsRequestFrom a _ = ⊥
+
+-- what a unit that heard g may queue besides messages: its claim or cannot claim, an abort to the sender of an Rts,
+-- and any group that neither starts, continues nor ends a message, as an acknowledgment
+abbrev pub MayReply : Seat → Group → Group → Type 0
+MayReply s g (AddressClaimed a m) = (s.held ≡ Some a) × (m ≡ s.name)
+MayReply s g (CannotClaim m) = Unit {0}
+MayReply s g (ConnectionManagement a d (Abort reason pgn)) = (s.held ≡ Some a) × IsRtsFrom d g
+MayReply s g (ConnectionManagement a d (Cts granted next pgn)) = Unit {0}
+MayReply s g (ConnectionManagement a d (EndAck size packets pgn)) = Unit {0}
+MayReply s g (Acknowledgment control requester pgn d a) = Unit {0}
+MayReply s g Other = Unit {0}
+MayReply s g _ = ⊥
+
+-- no session of that kind is open
+abbrev pub IsNotOpen : Option Tag → Kind → Type 0
+IsNotOpen None k = Unit {0}
+IsNotOpen (Some t) k = t.message.kind ≢ k
+
+-- a session opens with who asked for it, at another address than one's own, where none is open
+abbrev pub MayOpen : Seat → Group → Way → ℕ → Type 0
+MayOpen s g One a = Unit {0}
+MayOpen s g Broadcast a = Unit {0}
+MayOpen s g (Session d) a = IsRequestFrom d g × (d ≢ a) × (s.session ≡ None)
+
+abbrev pub message_at : World → Seat → Kind → MemoryValue → ℕ → ℕ → Message
+message_at w s kind memory source destination =
+    record { number = length w.begun; name = s.name; kind = kind; memory = memory; source = source; destination = destination }
+
+-- an address that can be held
+abbrev pub CanHold : Option ℕ → Type 0
+CanHold None = Unit {0}
+CanHold (Some a) = a ≤ 253
+
+abbrev pub MayAnswer : World → Seat → Group → Answer → Type 0
+MayAnswer w s g Quiet = IsCalm s g
+MayAnswer w s g (Replies f) = IsCalm s g × MayReply s g (group_of f)
+MayAnswer w s g (Begins kind memory source destination) =
+    IsCalm s g × (s.held ≡ Some source) × IsProper (message_at w s kind memory source destination) × IsNotOpen s.session kind
+    × MayOpen s g (way_of (message_at w s kind memory source destination)) source
+MayAnswer w s g (Grants n) = IsCalm s g × ((t : Tag) × (s.session ≡ Some t) × (n + t.part ≤ last_part_of t.message))
+MayAnswer w s g Ends = is_contest s.name s.held g ≡ false
+MayAnswer w s g (Yields to) = CanHold to
+
+abbrev pub with_seat : World → ℕ → Seat → World
+with_seat w x s = record w { seats = set w.seats x s }
+
+abbrev pub with_heard : Seat → Item → Seat
+with_heard s e = record s { heard = e ∷ s.heard }
+
+abbrev pub with_message : Seat → Message → Seat
+with_message s m =
+    record s { queue = parts_upto m (first_parts (way_of m) m) ++ s.queue; session = session_opened (way_of m) m s.session }
+
+abbrev pub with_begun : World → ℕ → Seat → Message → World
+with_begun w x s m = record w { seats = set w.seats x (with_message s m); begun = m ∷ w.begun }
+
+-- a claim, or where there is no address a cannot claim, alone in the queue
+abbrev pub claim_alone : ℕ → Option ℕ → List Item
+claim_alone n held = plain n (claim_frame_value n held) ∷ []
+
+abbrev pub yielded : Seat → Option ℕ → Seat
+yielded s to = record s { held = to; queue = claim_alone s.name to; session = None }
+
+-- one more packet of the open session
+abbrev pub granted_one : Seat → Option Tag → Seat
+granted_one s None = s
+granted_one s (Some t) =
+    record s { queue = item_of_part t.message (suc t.part) ∷ s.queue; session = Some (record { message = t.message; part = suc t.part }) }
+
+abbrev pub granted : Seat → ℕ → Seat
+granted s zero = s
+granted s (suc n) = granted (granted_one s s.session) n
+
+abbrev pub is_of_session : Option Tag → Bool
+is_of_session None = false
+is_of_session (Some t) = is_session (way_of t.message)
+
+-- the queue without the frames of the session
+abbrev pub without_session : List Item → List Item
+without_session [] = []
+without_session (e ∷ es) = if is_of_session e.tag then without_session es else e ∷ without_session es
+
+abbrev pub session_ended : Seat → Seat
+session_ended s = record s { queue = without_session s.queue; session = None }
+
+abbrev pub answered : World → ℕ → Seat → Answer → World
+answered w x s Quiet = with_seat w x s
+answered w x s (Replies f) = with_seat w x (record s { queue = plain s.name f ∷ s.queue })
+answered w x s (Begins kind memory source destination) = with_begun w x s (message_at w s kind memory source destination)
+answered w x s (Grants n) = with_seat w x (granted s n)
+answered w x s Ends = with_seat w x (session_ended s)
+answered w x s (Yields to) = with_seat w x (yielded s to)
+
+-- the seat is there and live
+abbrev pub IsLive : World → ℕ → Seat → Type 0
+IsLive w x s = (slice_get w.seats x ≡ Some s) × (s.live ≡ true)
+
+-- neither a live seat nor the station has the NAME
+abbrev pub IsFree : World → ℕ → Type 0
+IsFree w n = (n ≢ w.settings.name) × ((x : ℕ) (s : Seat) → IsLive w x s → s.name ≢ n)
+
+-- a unit that joins counts the whole wire as heard, and claims its address
+abbrev pub joined_seat : World → ℕ → ℕ → Seat
+joined_seat w n a =
+    record { name = n; live = true; held = Some a; queue = claim_alone n (Some a); heard = w.wire; session = None }
+
+-- the station's own address
+abbrev pub station_address : World → Option ℕ
+station_address w = address_heard w.settings (readings w.path)
+
+-- the station claims, asks and aborts from its own address alone (a request may bear address 254 where it holds none),
+-- and starts no session; its other frames are free
+abbrev pub MaySend : ℕ → Option ℕ → Group → Type 0
+MaySend n held (AddressClaimed s m) = (held ≡ Some s) × (m ≡ n)
+MaySend n held (Request pgn d s) = s ≤ 253 → held ≡ Some s
+MaySend n held (ConnectionManagement s d (Abort reason pgn)) = held ≡ Some s
+MaySend n held (ConnectionManagement s d (Rts size packets most pgn)) = ⊥
+MaySend n held _ = Unit {0}
+
+abbrev pub AllMaySend : ℕ → Option ℕ → List FrameValue → Type 0
+AllMaySend n held [] = Unit {0}
+AllMaySend n held (f ∷ fs) = MaySend n held (group_of f) × AllMaySend n held fs
+
+-- the station's queue after a reading: its claim alone where its address was contested
+abbrev pub asked_after : World → Group → Option ℕ → List Item
+asked_after w g held = if is_contest w.settings.name (station_address w) g then claim_alone w.settings.name held else w.asked
+
+abbrev pub received : World → Item → World
+received w e =
+    record w { path = Received e ∷ w.path; asked = asked_after w (says e) (address_heard w.settings (readings (Received e ∷ w.path))) }
+
+-- after a gap the station withdraws its queue and claims again
+abbrev pub missed : World → List Item → World
+missed w es = record w { path = Missed es ∷ w.path; asked = claim_alone w.settings.name (station_address w) }
+
+-- the station queues these frames
+abbrev pub asking : World → List FrameValue → World
+asking w frames = record w { asked = all_plain w.settings.name frames ++ w.asked }
+
+abbrev pub CanAsk : World → List FrameValue → Type 0
+CanAsk w frames = AllMaySend w.settings.name (station_address w) frames
+
+abbrev pub Step : World → Event → World → Type 0
+Step old (Join n a) new = IsFree old n × (n < 2 ^ 64) × (a ≤ 253) × (new ≡ record old { seats = old.seats ++ joined_seat old n a ∷ [] })
+Step old (Hear x answer) new =
+    (s : Seat) × (e : Item) × (ahead : List Item) × IsLive old x s × (old.wire ≡ ahead ++ e ∷ s.heard)
+    × MayAnswer old (with_heard s e) (says e) answer × (new ≡ answered old x (with_heard s e) answer)
+Step old (Begin x kind memory source) new =
+    (s : Seat) × IsLive old x s × (s.held ≡ Some source) × IsProper (message_at old s kind memory source 255) × IsNotOpen s.session kind
+    × (new ≡ with_begun old x s (message_at old s kind memory source 255))
+Step old (Turned x) new = new ≡ old
+Step old (Carry x) new =
+    (s : Seat) × (e : Item) × (rest : List Item) × IsLive old x s × (s.queue ≡ rest ++ e ∷ []) × (s.heard ≡ old.wire)
+    × (new ≡ record old { wire = e ∷ old.wire; seats = set old.seats x (record s { queue = rest; heard = e ∷ old.wire }) })
+Step old Carry_station new =
+    (e : Item) × (rest : List Item) × (old.asked ≡ rest ++ e ∷ []) × (old.wire ≡ passed old.path)
+    × (new ≡ record old { wire = e ∷ old.wire; asked = rest; path = Own e ∷ old.path })
+Step old (Ask frames) new = CanAsk old frames × (new ≡ asking old frames)
+Step old (Read frames) new =
+    (e : Item) × (ahead : List Item) × (old.wire ≡ ahead ++ e ∷ passed old.path)
+    × CanAsk (received old e) frames × (new ≡ asking (received old e) frames)
+Step old (Miss n frames) new =
+    (es : List Item) × (ahead : List Item) × (length es ≡ n) × (old.wire ≡ ahead ++ (es ++ passed old.path))
+    × CanAsk (missed old es) frames × (new ≡ asking (missed old es) frames)
+Step old (Leave x) new = (s : Seat) × IsLive old x s × (new ≡ with_seat old x (record s { live = false; queue = [] }))
+
+-- a whole run
+abbrev pub Run : World → List Event → World → Type 0
+Run old [] new = new ≡ old
+Run old (e ∷ es) new = (mid : World) × Step old e mid × Run mid es new
+
+-- nothing has happened yet; the station's claim is queued
+abbrev pub start : Settings → World
+start r =
+    record { settings = r; wire = []; seats = []; asked = claim_alone r.name (Some r.address); begun = []; path = [] }
+
+-- settings with a NAME of 64 bits and an address that can be held
+pub record IsFit (r : Settings) : Type 0 where
+  pub name : r.name < 2 ^ 64
+  pub address : r.address ≤ 253

@@ -1,0 +1,2 @@
+//! The law.
+#![tactic(auto)]

@@ -1,4 +1,5 @@
 pub mod Fields
+pub mod FrameText
 pub mod FrameValue
 pub mod Padding
 pub mod Refusals

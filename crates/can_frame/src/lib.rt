@@ -1,6 +1,7 @@
 //! Identifiers and frames of a bus with 29-bit identifiers (SAE J1939-21).
 #![tactic(auto)]
 
+mod display;
 mod frame;
 mod frames;
 mod id;

@@ -51,3 +51,17 @@ fn frames_are_kept(rt: HostRuntime) -> Result<(), Fail> {
     assert_ne!(rt; Reading::Frame(frame), Reading::Gap(1));
     Ok(())
 }
+
+#[test]
+fn frame_is_displayed(rt: HostRuntime) -> Result<(), Fail> {
+    let frame = Frame::new(
+        0x18FECA00,
+        &[0x04, 0xFF, 0xB8, 0x04, 0x03, 0x01, 0xFF, 0xFF],
+    )?;
+    let text = format!(in rt.alloc(); "{frame}")?;
+    assert_eq!(rt; text.as_str(), "18FECA00 04 FF B8 04 03 01 FF FF");
+    let empty = Frame::new(0x18FECA00, &[])?;
+    let text = format!(in rt.alloc(); "{empty}")?;
+    assert_eq!(rt; text.as_str(), "18FECA00");
+    Ok(())
+}

@@ -1,0 +1,3 @@
+pub mod Claiming
+pub mod Frames
+pub mod Refusals

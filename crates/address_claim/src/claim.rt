@@ -1,0 +1,59 @@
+ghost use Rattle.std.specs.Prelude.{◌≡◌, ℕ, ◌≤◌, ◌<◌, ◌^◌, ◌↔◌, Option, Some, None, IfOk, IsOk, IsErrOf, IfSome, length};
+ghost use Rattle.address_claim.specs.Frames.{IsClaimFrame, claim_of, claim_source, claim_frame_value};
+
+use crate::error::ClaimError;
+use can_frame::{Frame, Id, Pgn};
+use name_field::Name;
+
+const ADDRESS_CLAIMED: u32 = 60928;
+
+const TO_ALL: u8 = 255;
+
+const NULL_ADDRESS: u8 = 254;
+
+const PRIORITY: u8 = 6;
+
+/// What a claim says: this NAME claims this source address, or says with the null address 254 that it
+/// holds none.
+#[derive(Clone, Copy, Debug, PartialEq, Eq)]
+pub struct Claim {
+    /// The address claimed, 0 to 253, or 254.
+    pub source: u8,
+    /// Who claims it.
+    pub name: Name,
+}
+
+/// The frame by which a NAME claims an address, 0 to 253; with no address, the one by which it says that
+/// it cannot claim. It goes to all with priority 6.
+pub fn claim_frame(name: Name, address: Option<u8>) -> Frame
+    requires { IfSome address (λ a. a ≤ 253) }
+    ensures { result ≡ claim_frame_value name address }
+{
+    let source = address.unwrap_or(NULL_ADDRESS);
+    let group = Pgn::new(ADDRESS_CLAIMED).unwrap();
+    Frame::of(Id::pdu1(PRIORITY, group, TO_ALL, source), &name.to_bytes())
+}
+
+/// What a claim or a cannot claim says, whatever its priority.
+///
+/// `NotThis` for any other frame: of another group, to one address, not of eight bytes, or from 255.
+pub fn read_claim(frame: &Frame) -> Result<Claim, ClaimError>
+    ensures value { IfOk result (λ c. c ≡ claim_of frame.now) }
+    ensures accepted { IsOk result ↔ IsClaimFrame frame.now }
+    ensures not_this { IsErrOf result ClaimError.NotThis ↔ (IsClaimFrame frame.now → ⊥) }
+    ensures source { IfOk result (λ c. c.source ≤ 254) }
+    ensures reads_back { (name : ℕ) (address : Option ℕ) → name < 2 ^ 64 → IfSome address (λ a. a ≤ 253) → frame.now ≡ claim_frame_value name address → result ≡ Ok (record { source = claim_source address; name = name }) }
+{
+    let id = frame.id();
+    let source = id.source();
+    if id.pgn().number() != ADDRESS_CLAIMED || id.dest() != Some(TO_ALL) || source == 255 {
+        return Err(ClaimError::NotThis);
+    }
+    match <[u8; 8]>::try_from(frame.bytes()) {
+        Ok(bytes) => Ok(Claim {
+            source,
+            name: Name::from_bytes(bytes),
+        }),
+        Err(_) => Err(ClaimError::NotThis),
+    }
+}

@@ -1,0 +1,166 @@
+ghost use Rattle.std.specs.Prelude.{◌≡◌, ℕ, ◌≤◌, ◌<◌, ◌↔◌, Option, Some, None, IfSome, IsErrOf, OnOk, OnErr, slice_index_or, length, position};
+ghost use Rattle.address_claim.specs.Claiming.{ClaimerValue, new_claimer, claim_step, after_claim, after_command, is_free, free_address, noted_after, next_address, IsOwnChoice, IsLawfulStep};
+
+use crate::error::ClaimError;
+use name_field::Name;
+use std::marker::Model;
+
+/// What a claim that was heard asks of a claimer.
+#[derive(Clone, Copy, Debug, PartialEq, Eq)]
+pub enum ClaimStep {
+    /// Nothing: the claim is one's own or of another address.
+    Nothing,
+    /// Claim the address held again: one's own NAME is the lower.
+    Defend,
+    /// Claim this address, which is held from now on.
+    Move(u8),
+    /// Say that no address can be claimed; none is held from now on.
+    CannotClaim,
+}
+
+/// A NAME with the address that it holds, and the NAMEs of the last claims heard of each address.
+#[derive(Debug, Drop)]
+pub struct Claimer {
+    name: Name,
+    held: Option<u8>,
+    noted: [Option<Name>; 254],
+}
+
+impl Model for Claimer {
+    ghost use Rattle.std.specs.Prelude.{◌≤◌, IfSome};
+    ghost use Rattle.address_claim.specs.Claiming.{ClaimerValue};
+
+    ghost Value = { ClaimerValue };
+
+    ghost view = { λ c. record { name = c.name; held = c.held; noted = c.noted } };
+
+    ghost invariant = { λ c. IfSome c.held (λ a. a ≤ 253) };
+}
+
+impl Claimer {
+    /// A claimer of this NAME that holds the address it wants, 0 to 253, and has heard no claim.
+    pub fn new(name: Name, want: u8) -> Claimer
+        requires { want ≤ 253 }
+        ensures { result ≡ new_claimer name want }
+    {
+        Claimer {
+            name,
+            held: Some(want),
+            noted: [None; 254],
+        }
+    }
+
+    /// Its NAME.
+    pub fn name(&self) -> Name
+        ensures { result ≡ self.now.name }
+    {
+        self.name
+    }
+
+    /// The address held, 0 to 253.
+    pub fn held(&self) -> Option<u8>
+        ensures value { result ≡ self.now.held }
+        ensures bound { IfSome result (λ a. a ≤ 253) }
+    {
+        self.held
+    }
+
+    /// The NAME in the last claim of an address, 0 to 253, that was heard.
+    pub fn last_claim(&self, address: u8) -> Option<Name>
+        requires { address ≤ 253 }
+        ensures { result ≡ slice_index_or self.now.noted address None }
+    {
+        self.noted[address as usize]
+    }
+
+    /// What a claim of this source address under this NAME would ask; it changes nothing.
+    pub fn answer(&self, source: u8, name: Name) -> ClaimStep
+        ensures step { result ≡ claim_step source name self.now }
+        ensures lawful { IsLawfulStep result }
+    {
+        if self.held != Some(source) || name == self.name {
+            return ClaimStep::Nothing;
+        }
+        if self.name < name {
+            return ClaimStep::Defend;
+        }
+        match self.next_address(source, name) {
+            Some(address) => ClaimStep::Move(address),
+            None => ClaimStep::CannotClaim,
+        }
+    }
+
+    /// A claim of this source address under this NAME, which is noted. The step is taken at once: after
+    /// `Move` the new address is held, after `CannotClaim` none. A source of 254 or 255 changes nothing.
+    pub fn hear_claim(&mut self, source: u8, name: Name) -> ClaimStep
+        ensures step { result ≡ claim_step source name self.old }
+        ensures lawful { IsLawfulStep result }
+        ensures after { self.new ≡ after_claim source name self.old }
+    {
+        let step = self.answer(source, name);
+        if source < 254 {
+            self.noted[source as usize] = Some(name);
+        }
+        match step {
+            ClaimStep::Nothing | ClaimStep::Defend => {}
+            ClaimStep::Move(address) => self.held = Some(address),
+            ClaimStep::CannotClaim => self.held = None,
+        }
+        step
+    }
+
+    /// Holds this address from now on; `NotAnAddress`, with nothing changed, where it is 254 or 255.
+    pub fn command(&mut self, address: u8) -> Result<(), ClaimError>
+        ensures ok { OnOk result (self.new ≡ after_command address self.old) }
+        ensures err { OnErr result (self.new ≡ self.old) }
+        ensures not_an_address { IsErrOf result ClaimError.NotAnAddress ↔ (254 ≤ address) }
+    {
+        if address > 253 {
+            return Err(ClaimError::NotAnAddress);
+        }
+        self.held = Some(address);
+        Ok(())
+    }
+
+    /// Where it moves to when it loses its address to this claim.
+    fn next_address(&self, source: u8, name: Name) -> Option<u8>
+        requires { source ≤ 253 }
+        ensures value { result ≡ next_address self.now.name (noted_after source name self.now.noted) }
+        ensures bound { IfSome result IsOwnChoice }
+    {
+        if self.name.fields().arbitrary_capable != 1 {
+            return None;
+        }
+        let mut noted = [None; 254];
+        noted.copy_from_slice(&self.noted);
+        noted[source as usize] = Some(name);
+        free_address(self.name, &noted)
+    }
+}
+
+/// The least address from 128 to 247 that is free for a NAME.
+fn free_address(own: Name, noted: &[Option<Name>]) -> Option<u8>
+    requires { length noted.now ≡ 254 }
+    ensures value { result ≡ free_address own noted.now }
+    ensures bound { IfSome result IsOwnChoice }
+{
+    let place = first_free(own, &noted[128..248])?;
+    Some(128 + place as u8)
+}
+
+fn first_free(own: Name, places: &[Option<Name>]) -> Option<usize>
+    ensures value { result ≡ position (is_free own) places.now }
+    ensures bound { IfSome result (λ place. place < length places.now) }
+{
+    places.iter().position(|last| is_free(own, *last))
+}
+
+/// Whether an address with this last claim is free for a NAME.
+fn is_free(own: Name, last: Option<Name>) -> bool
+    ensures { result ≡ is_free own last }
+{
+    match last {
+        None => true,
+        Some(other) => other == own,
+    }
+}

@@ -9,6 +9,8 @@ const FMI_LIMIT: u8 = 1 << 5;
 
 const COUNT_LIMIT: u8 = 1 << 7;
 
+const MOST_OCCURRENCES: u8 = 126;
+
 /// A diagnostic trouble code (SAE J1939-73).
 ///
 /// The SPN is at most 524,287, the FMI at most 31, the occurrence count at most 127 (127: not available), and they are
@@ -33,7 +35,7 @@ impl Model for Dtc {
 }
 
 impl Dtc {
-    ghost use Rattle.trouble_code.specs.Code.{Code, code, IsCode, EncodesCode, code_bytes};
+    ghost use Rattle.trouble_code.specs.Code.{Code, code, IsCode, occurred_again, EncodesCode, code_bytes};
 
     /// The code with these three numbers.
     ///
@@ -85,6 +87,16 @@ impl Dtc {
         ensures lawful { IsCode self }
     {
         self.count
+    }
+
+    /// The code when its fault occurs once more: the count is one more, and at most 126.
+    pub fn occurred_again(self) -> Dtc
+        ensures { result ≡ occurred_again self }
+    {
+        Dtc {
+            count: (self.count + 1).min(MOST_OCCURRENCES),
+            ..self
+        }
     }
 
     /// The one group of four bytes that encodes this code.

@@ -1,5 +1,5 @@
 -- The fields of a 29-bit identifier, as quotients and remainders of its number (SAE J1939-21, protocol data unit).
-use Rattle.std.specs.Prelude.{ℕ, ◌+◌, ◌*◌, ◌/◌, ◌%◌, ◌^◌, nat_lt, if◌then◌else◌, Option, Some, None}
+use Rattle.std.specs.Prelude.{ℕ, ◌+◌, ◌*◌, ◌/◌, ◌%◌, ◌^◌, nat_lt, if◌then◌else◌, List, [], ◌∷◌, Option, Some, None}
 
 -- the priority: the three bits on top
 abbrev pub priority_of : ℕ → ℕ
@@ -45,3 +45,11 @@ pdu1_number priority pgn destination source = priority * 2 ^ 26 + (pgn + destina
 -- the identifier of a group that goes to all
 abbrev pub pdu2_number : ℕ → ℕ → ℕ → ℕ
 pdu2_number priority pgn source = priority * 2 ^ 26 + pgn * 256 + source
+
+-- the three bytes that carry a parameter group number, lowest first
+abbrev pub pgn_bytes : ℕ → List ℕ
+pgn_bytes pgn = pgn % 256 ∷ pgn / 256 % 256 ∷ pgn / 65536 ∷ []
+
+-- the parameter group number that three bytes carry
+abbrev pub pgn_of_bytes : ℕ → ℕ → ℕ → ℕ
+pgn_of_bytes low middle high = low + 256 * middle + 65536 * high

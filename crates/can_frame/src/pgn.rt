@@ -1,4 +1,5 @@
-ghost use Rattle.std.specs.Prelude.{◌≡◌, ℕ, ◌^◌, ◌<◌, ◌≤◌, ◌↔◌, IfOk, IsErr};
+ghost use Rattle.std.specs.Prelude.{◌≡◌, ℕ, ◌^◌, ◌<◌, ◌≤◌, ◌↔◌, ◌∷◌, [], IfOk, IsErr, slice_index};
+ghost use Rattle.can_frame.specs.Fields.{pgn_bytes, pgn_of_bytes};
 
 use std::marker::Model;
 use thiserror::Error;
@@ -38,6 +39,27 @@ impl Model for Pgn {
 }
 
 impl Pgn {
+    /// Acknowledgment.
+    pub const ACKNOWLEDGMENT: Pgn = Pgn { number: 59392 };
+    /// Request.
+    pub const REQUEST: Pgn = Pgn { number: 59904 };
+    /// Transport protocol, data transfer (TP.DT).
+    pub const DATA_TRANSFER: Pgn = Pgn { number: 60160 };
+    /// Transport protocol, connection management (TP.CM).
+    pub const CONNECTION_MANAGEMENT: Pgn = Pgn { number: 60416 };
+    /// Address claimed, and cannot claim.
+    pub const ADDRESS_CLAIMED: Pgn = Pgn { number: 60928 };
+    /// Active trouble codes (DM1).
+    pub const DM1: Pgn = Pgn { number: 65226 };
+    /// Previously active trouble codes (DM2).
+    pub const DM2: Pgn = Pgn { number: 65227 };
+    /// Clear the previously active trouble codes (DM3).
+    pub const DM3: Pgn = Pgn { number: 65228 };
+    /// Clear the active trouble codes (DM11).
+    pub const DM11: Pgn = Pgn { number: 65235 };
+    /// Commanded address.
+    pub const COMMANDED_ADDRESS: Pgn = Pgn { number: 65240 };
+
     /// The parameter group of this number; refused where it is 2^24 or more.
     pub fn new(number: u32) -> Result<Pgn, PgnTooLarge>
         ensures ok { IfOk result (λ p. p ≡ number) }
@@ -55,6 +77,25 @@ impl Pgn {
         ensures bound { result < 2 ^ 24 }
     {
         self.number
+    }
+
+    /// The parameter group that three bytes carry, lowest byte first.
+    pub fn from_bytes(bytes: [u8; 3]) -> Pgn
+        ensures value { result ≡ pgn_of_bytes (slice_index bytes 0) (slice_index bytes 1) (slice_index bytes 2) }
+        ensures back { pgn_bytes result ≡ bytes }
+    {
+        let [low, middle, high] = bytes;
+        Pgn {
+            number: u32::from_le_bytes([low, middle, high, 0]),
+        }
+    }
+
+    /// The three bytes that carry it, lowest byte first.
+    pub fn to_bytes(self) -> [u8; 3]
+        ensures { result ≡ pgn_bytes self }
+    {
+        let [low, middle, high, _] = self.number.to_le_bytes();
+        [low, middle, high]
     }
 
     /// The parameter group of a number known to fit an identifier.

@@ -9,7 +9,7 @@ fn fields_of_request_to_all(rt: HostRuntime) -> Result<(), Fail> {
     assert_eq!(rt; id.pgn().number(), 59904);
     assert_eq!(rt; id.dest(), Some(255));
     assert_eq!(rt; id.source(), 249);
-    assert_eq!(rt; Id::pdu1(6, Pgn::new(59904)?, 255, 249), id);
+    assert_eq!(rt; Id::pdu1(6, Pgn::REQUEST, 255, 249), id);
     Ok(())
 }
 
@@ -19,7 +19,7 @@ fn fields_of_active_codes(rt: HostRuntime) -> Result<(), Fail> {
     assert_eq!(rt; id.pgn().number(), 65226);
     assert_eq!(rt; id.dest(), None);
     assert_eq!(rt; id.source(), 0);
-    assert_eq!(rt; Id::pdu2(6, Pgn::new(65226)?, 0), id);
+    assert_eq!(rt; Id::pdu2(6, Pgn::DM1, 0), id);
     Ok(())
 }
 
@@ -34,6 +34,9 @@ fn refusals(rt: HostRuntime) -> Result<(), Fail> {
     assert_eq!(rt; Pgn::new(1 << 24), Err(PgnTooLarge));
     assert_eq!(rt; Pgn::new(1 << 24).map_err(|e| e.number()), Err(28));
     assert_eq!(rt; Pgn::new(16777215)?.number(), 16777215);
+    let group = Pgn::from_bytes([0xCA, 0xFE, 0x00]);
+    assert_eq!(rt; group, Pgn::DM1);
+    assert_eq!(rt; group.to_bytes(), [0xCA, 0xFE, 0x00]);
     Ok(())
 }
 

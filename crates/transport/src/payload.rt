@@ -36,6 +36,13 @@ impl Payload {
         })
     }
 
+    /// The bytes of this buffer.
+    pub(crate) fn of(bytes: Vec<u8>) -> Payload
+        ensures { result ≡ bytes.items }
+    {
+        Payload { bytes }
+    }
+
     /// Adds a byte at the end. Where memory is refused, the payload stays as it was.
     pub fn push(&mut self, byte: u8) -> Result<(), AllocError>
         ensures ok { OnOk result (self.new ≡ self.old ++ byte ∷ []) }

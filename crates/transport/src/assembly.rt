@@ -1,0 +1,104 @@
+ghost use Rattle.std.specs.Prelude.{◌≡◌, ℕ, ◌≤◌, ◌↔◌, IfOk, IsTrue, Some, List, length};
+ghost use Rattle.transport.specs.Pieces.{IsNext};
+ghost use Rattle.transport.specs.Pieces.{packet_count, pieces, joined};
+
+use crate::payload::Payload;
+use crate::pieces::packets;
+use crate::took::Took;
+use can_frame::Pgn;
+use std::alloc::{AllocError, Global};
+use std::marker::Model;
+
+/// A message that is being joined from its packets.
+#[derive(Debug, Drop)]
+pub struct Assembly {
+    size: u16,
+    pgn: Pgn,
+    bytes: Vec<u8>,
+    broken: bool,
+}
+
+impl Model for Assembly {
+    ghost use Rattle.std.specs.Prelude.{Some, None, if◌then◌else◌};
+    ghost use Rattle.transport.specs.Pieces.{pieces};
+    ghost use Rattle.transport.specs.Assembling.{AssemblyValue};
+
+    ghost Value = { AssemblyValue };
+
+    ghost use Rattle.transport.specs.Places.{HasRoom};
+
+    ghost view = { λ a. record { size = a.size; pgn = a.pgn; taken = if a.broken then None else Some (pieces a.bytes.items) } };
+
+    ghost invariant = { HasRoom };
+}
+
+impl Assembly {
+    ghost use Rattle.transport.specs.Assembling.{new_assembly, after_part, took_of};
+
+    /// A message of this size, 9 to 1,785 bytes, of which nothing was taken yet. It takes all the memory that it will need.
+    pub fn start(alloc: Global, size: u16, pgn: Pgn) -> Result<Assembly, AllocError>
+        requires least { 9 ≤ size }
+        requires most { size ≤ 1785 }
+        ensures { IfOk result (λ a. a ≡ new_assembly size pgn) }
+    {
+        Ok(Assembly {
+            size,
+            pgn,
+            bytes: Vec::with_capacity(alloc, 7 * usize::from(packets(size)))?,
+            broken: false,
+        })
+    }
+
+    /// Takes the bytes of one packet. It takes no memory.
+    ///
+    /// Broken where they are not eight, where their number is not the next one, or where the message was whole before; and
+    /// from then on for ever. Whole with the last packet, and More with any other one that is next.
+    pub fn take(&mut self, part: &[u8]) -> Took
+        ensures after { self.new ≡ after_part self.old part.now }
+        ensures answer { result ≡ took_of self.new.size self.new.taken }
+    {
+        let taken = self.bytes.len() / 7;
+        let count = usize::from(packets(self.size));
+        if self.broken || !is_next(part, taken, count) {
+            self.broken = true;
+            return Took::Broken;
+        }
+        if self.bytes.extend_from_slice(&part[1..]).is_err() {
+            unreachable!()
+        }
+        if taken + 1 == count {
+            Took::Whole
+        } else {
+            Took::More
+        }
+    }
+
+    /// The group of the message.
+    pub fn pgn(&self) -> Pgn
+        ensures { result ≡ self.now.pgn }
+    {
+        self.pgn
+    }
+
+    /// The payload, once the last answer was Whole: the pieces one after another, cut to the size. It takes no memory.
+    pub fn finish(self) -> Payload
+        requires { took_of self.size self.taken ≡ Took.Whole }
+        ensures value { (parts : List (List ℕ)) → self.taken ≡ Some parts → result ≡ joined self.size parts }
+        ensures back { (payload : List ℕ) → length payload ≡ self.size → self.taken ≡ Some (pieces payload) → result ≡ payload }
+    {
+        let Assembly {
+            size,
+            pgn: _,
+            mut bytes,
+            broken: _,
+        } = self;
+        bytes.truncate(usize::from(size));
+        Payload::of(bytes)
+    }
+}
+
+fn is_next(part: &[u8], taken: usize, count: usize) -> bool
+    ensures { IsTrue result ↔ IsNext part.now taken count }
+{
+    part.len() == 8 && usize::from(part[0]) == taken.saturating_add(1) && taken < count
+}

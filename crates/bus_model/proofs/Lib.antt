@@ -1,0 +1,12 @@
+pub mod Lawful
+pub mod Bridge
+pub mod Lookback
+pub mod Order
+pub mod Seats
+pub mod Units
+pub mod Path
+pub mod Sessions
+pub mod Shows
+pub mod Tells
+pub mod Worlds
+pub mod Clear

@@ -64,4 +64,4 @@ is_clear m (Received e ∷ older) = if is_part m (last_part_of m) e.tag then is_
 abbrev pub expected : ℕ → Kind → List Message → List Reception → List Shown
 expected n k [] path = []
 expected n k (m ∷ older) path =
-    if (m.name == n && same_kind m.kind k) && is_clear m path then view k m.memory ∷ expected n k older path else expected n k older path
+    if (m.name == n && same_kind m.kind k) && is_clear m path then view m.kind m.memory ∷ expected n k older path else expected n k older path

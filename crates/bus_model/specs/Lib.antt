@@ -5,3 +5,4 @@ pub mod Heard
 pub mod Expected
 pub mod Machine
 pub mod Order
+pub mod ClearPath

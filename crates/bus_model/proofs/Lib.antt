@@ -1,4 +1,5 @@
 pub mod Lawful
+pub mod Cuts
 pub mod Bridge
 pub mod Lookback
 pub mod Order

@@ -1,5 +1,5 @@
 -- What the readings say of a path that is marked on a lawful wire.
-use Rattle.std.proofs.Common.{◌≡◌, ◌≢◌, ℕ, suc, zero, ◌<◌, ◌≤◌, Bool, true, false, not, ◌&&◌, ◌==◌, List, [], ◌∷◌, ◌++◌, length, take, slice_index, Option, Some, None, if◌then◌else◌, sym, refl, ap, ◌∙◌, subst, inl, inr, arith, take-suc, length-take-le}
+use Rattle.std.proofs.Common.{◌≡◌, ◌≢◌, ℕ, suc, zero, ◌<◌, ◌≤◌, Bool, true, false, not, ◌&&◌, ◌==◌, List, [], ◌∷◌, length, take, Option, Some, None, if◌then◌else◌, sym, refl, ap, ◌∙◌, subst, inl, inr, arith}
 use Rattle.dm_messages.specs.View.{pgn_of_kind}
 use Rattle.parameter_group.specs.Group.{AddressClaimed, ConnectionManagement, DataTransfer, Group}
 use Rattle.transport.specs.Pieces.{packet, pieces}
@@ -50,14 +50,14 @@ owner_anchored st a n (Missed es ∷ path) mk ne h = refl
 owner_anchored st a n (Received e ∷ path) mk ne h = owner_step a n (says e) (claimed_by a (passed path)) (owner_heard a (readings path)) (is_anchored a path) (owner_anchored st a n path mk.1 ne) h
 
 -- while a broadcast may go on, its source is claimed by its NAME
-pub claim_step : (n a : ℕ) (f : Group) (d : Option ℕ) → is_foreign n a f ≡ false → d ≡ Some n → owner_after a f d ≡ Some n
-claim_step n a (AddressClaimed s m) d h e = go (s == a) (m == n) refl h
+pub claim_keeps : (n a : ℕ) (f : Group) (d : Option ℕ) → is_foreign n a f ≡ false → d ≡ Some n → owner_after a f d ≡ Some n
+claim_keeps n a (AddressClaimed s m) d h e = go (s == a) (m == n) refl h
   where
     go : (t u : Bool) → (m == n) ≡ u → t && not u ≡ false → (if t then Some m else d) ≡ Some n
     go true true i h = ap Some (true_test m n i)
     go true false i h = cc
     go false u i h = e
-claim_step n a _ d h e = e
+claim_keeps n a _ d h e = e
 
 pub cast_claimed : (st : ℕ) (m : Message) (j : ℕ) (xs : List Item) → Lawful st xs → cast m.name m.source xs ≡ Some (tag_of m j) → claimed_by m.source xs ≡ Some m.name
 cast_claimed st m j [] law h = cc
@@ -65,7 +65,7 @@ cast_claimed st m j (e ∷ xs) law h =
     elim (pick_cases (is_foreign m.name m.source (says e)) None (if is_cast m.name e.tag then e.tag else cast m.name m.source xs) (Some (tag_of m j)) h) [
       inl w ↦ cc w.1
     | inr w ↦
-        claim_step m.name m.source (says e) (claimed_by m.source xs) w.0
+        claim_keeps m.name m.source (says e) (claimed_by m.source xs) w.0
         (elim (pick_cases (is_cast m.name e.tag) e.tag (cast m.name m.source xs) (Some (tag_of m j)) w.1) [
           inl v ↦ (law.0.tagged (tag_of m j) v.1).owned
         | inr v ↦ cast_claimed st m j xs law.1 v.1 ]) ]
@@ -169,7 +169,7 @@ skip_frame st m j e xs o b allowed law unit c foreign notcast = by_frame (says e
 -- the next packet
 pub next_piece : (m : Message) (j : ℕ) (b : Bool) → IsProper m → way_of m ≢ One → j < count_of m → with_packet (packet (payload_of m) (suc j)) (half m j b) ≡ grown m (suc j) b
 next_piece m j false ok w l = refl
-next_piece m j true ok w l = rw (half_open m j l, next_is m j ok w l, next_pieces m j ok w l) refl
+next_piece m j true ok w l = rw (half_open m j l, next_is m j l, next_pieces m j l) refl
 
 pub started_half : (m : Message) (b : Bool) → 0 < count_of m → started (kind_of (pgn_of_kind m.kind)) (length (payload_of m)) (if b then Some m.name else None) ≡ half m 0 b
 started_half m true l = rw (kind_back m.kind) (sym (half_open m 0 l))
@@ -178,8 +178,8 @@ started_half m false l = rw (kind_back m.kind) refl
 pub not_one : (m : Message) → way_of m ≡ Broadcast → way_of m ≢ One
 not_one m w h = let e : Broadcast ≡ One = sym w ∙ h in cc
 
-pub first_part : (m : Message) (o : Option Tag) → o ≡ Some (tag_of m 0) → is_part m 0 o ≡ true
-first_part m o tag = rw (tag, same_test m.number) refl
+pub first_is_part : (m : Message) (o : Option Tag) → o ≡ Some (tag_of m 0) → is_part m 0 o ≡ true
+first_is_part m o tag = rw (tag, same_test m.number) refl
 
 pub later_part : (m : Message) (i : ℕ) (o : Option Tag) → o ≡ Some (tag_of m (suc i)) → is_part m 0 o ≡ false
 later_part m i o tag = rw (tag, same_test m.number, ne_test (suc i) 0 (omega arith)) refl
@@ -189,7 +189,7 @@ pub joined_part : (st : ℕ) (m : Message) (j : ℕ) (e : Item) (path : List Rec
 joined_part st m zero e path mk ne w le law tag ih =
     let f : says e ≡ ConnectionManagement m.source 255 (Bam (length (payload_of m)) (count_of m) (pgn_of_kind m.kind)) = part_says st e (tag_of m 0) (passed path) law ∙ ap (λ (v : Way). group_at v m 0) w in
     let o = owner_anchored st m.source m.name path mk (λ g. ne (law.name ∙ g)) law.owned in
-    rw (f, same_test m.source, first_part m e.tag tag, o) (started_half m (is_anchored m.source path) (many_last m law.proper (not_one m w)).1)
+    rw (f, same_test m.source, first_is_part m e.tag tag, o) (started_half m (is_anchored m.source path) (many_last m law.proper (not_one m w)).1)
 joined_part st m (suc i) e path mk ne w le law tag ih =
     let f : says e ≡ DataTransfer m.source 255 (packet (payload_of m) (suc i)) = part_says st e (tag_of m (suc i)) (passed path) law ∙ ap (λ (v : Way). group_at v m (suc i)) w in
     rw (f, same_test m.source, later_part m i e.tag tag, ih i refl) (ap unfinished (next_piece m i (is_unbroken m path) law.proper (not_one m w) (omega arith)))

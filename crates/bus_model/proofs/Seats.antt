@@ -1,12 +1,13 @@
 -- A seat's own frames behind what it has heard.
 use Rattle.std.proofs.Common.{◌≡◌, ◌≢◌, ℕ, suc, zero, ◌<◌, ◌≤◌, Bool, true, false, not, ◌&&◌, ◌==◌, List, [], ◌∷◌, ◌++◌, Option, Some, None, if◌then◌else◌, sym, refl, ap, ◌∙◌, subst, inl, inr, arith}
+use Rattle.address_claim.specs.Claiming.{is_held}
 use Rattle.can_frame.specs.FrameValue.{FrameValue}
 use Rattle.dm_messages.specs.declared.kind.Kind.{Kind}
 use Rattle.dm_messages.specs.declared.kind.Kind.TheVariants.{Dm1, Dm2}
 use Rattle.parameter_group.specs.Group.{Acknowledgment, AddressClaimed, CannotClaim, ConnectionManagement, DataTransfer, Diagnostic, Group, Other, Request, group_of}
 use Rattle.transport.specs.declared.control.Control.TheVariants.{Abort, Bam, Cts, EndAck, Rts}
 use Rattle.bus_model.specs.Expected.{is_claim}
-use Rattle.bus_model.specs.Heard.{is_contest, is_held, same_kind}
+use Rattle.bus_model.specs.Heard.{is_contest, same_kind}
 use Rattle.bus_model.specs.Machine.{Seat, cuts, is_destination, is_of_session, is_to, item_of_part, parts_upto, plain, without_session}
 use Rattle.bus_model.specs.Messages.{Broadcast, IsProper, Message, One, Session, Way, is_broadcast, is_session, last_part_of, way_of}
 use Rattle.bus_model.specs.Order.{IsBefore}

@@ -1,5 +1,6 @@
 -- What the station has half joined of sessions, reading by reading.
-use Rattle.std.proofs.Common.{◌≡◌, ◌≢◌, ℕ, suc, zero, ◌<◌, ◌≤◌, Bool, true, false, not, ◌&&◌, ◌==◌, List, [], ◌∷◌, ◌++◌, length, drop, slice_index, Option, Some, None, if◌then◌else◌, sym, refl, ap, ◌∙◌, subst, inl, inr, arith}
+use Rattle.std.proofs.Common.{◌≡◌, ◌≢◌, ℕ, suc, zero, ◌<◌, ◌≤◌, Bool, true, false, not, ◌&&◌, ◌==◌, List, [], ◌∷◌, ◌++◌, length, drop, Option, Some, None, if◌then◌else◌, sym, refl, ap, ◌∙◌, subst, inl, inr, arith}
+use Rattle.address_claim.specs.Claiming.{is_held}
 use Rattle.can_frame.specs.declared.reading.Reading.{Reading}
 use Rattle.can_frame.specs.declared.reading.Reading.TheVariants.{Empty, Frame, Gap}
 use Rattle.dm_messages.specs.View.{pgn_of_kind}
@@ -9,14 +10,14 @@ use Rattle.transport.specs.Assembling.{is_next}
 use Rattle.transport.specs.Pieces.{packet}
 use Rattle.transport.specs.declared.control.Control.TheVariants.{Abort, Bam, Cts, EndAck, Rts}
 use Rattle.bus_model.specs.Expected.{Missed, Own, Received, Reception, is_anchored, is_unbroken, passed, readings}
-use Rattle.bus_model.specs.Heard.{Joining, Settings, address_heard, is_contest, is_held, is_kind, is_whole, kept_under, kind_of, or_else, owner_heard, session_after, session_heard, started, unfinished, with_packet, without_kind}
-use Rattle.bus_model.specs.Machine.{CanHold, IsFit, start}
+use Rattle.bus_model.specs.Heard.{Joining, Settings, address_heard, is_contest, is_kind, is_whole, kept_under, kind_of, or_else, owner_heard, session_after, session_heard, started, unfinished, with_packet, without_kind}
+use Rattle.bus_model.specs.Machine.{CanHold, IsFit}
 use Rattle.bus_model.specs.Messages.{Broadcast, IsProper, Message, One, Session, Way, is_session, last_part_of, payload_of, way_of}
 use Rattle.bus_model.specs.Traffic.{Item, Tag, claimed_by, owner_after, says}
 use Rattle.bus_model.proofs.Bridge.{address_hold, address_read, count_of, many_last}
 use Rattle.bus_model.proofs.Lawful.{Allowed, Continues, IsPlain, IsVoiced, Lawful, PartLaw, breaks, group_at, is_foreign, is_sess, sess, tag_of}
 use Rattle.bus_model.proofs.Lookback.{Every, and_parts, or_parts, pick_cases, same_test, true_test}
-use Rattle.bus_model.proofs.Path.{IsStations, Marked, claim_step, first_part, half, half_open, kept, later_part, next_piece, not_first, owner_anchored, started_half}
+use Rattle.bus_model.proofs.Path.{IsStations, Marked, claim_keeps, first_is_part, half, half_open, kept, later_part, next_piece, not_first, owner_anchored, started_half}
 use Rattle.bus_model.proofs.Seats.{part_says, swap_test}
 use Rattle.bus_model.proofs.Units.{IsBooked, IsIn, Numbered}
 
@@ -31,7 +32,7 @@ sess_claimed st m d j (e ∷ xs) law h =
     elim (pick_cases (breaks m.name m.source d e.name (says e)) None (if is_sess m.name e.tag then e.tag else sess m.name m.source d xs) (Some (tag_of m j)) h) [
       inl w ↦ cc w.1
     | inr w ↦
-        claim_step m.name m.source (says e) (claimed_by m.source xs) (break_foreign m.name m.source d e.name (says e) w.0)
+        claim_keeps m.name m.source (says e) (claimed_by m.source xs) (break_foreign m.name m.source d e.name (says e) w.0)
         (elim (pick_cases (is_sess m.name e.tag) e.tag (sess m.name m.source d xs) (Some (tag_of m j)) w.1) [
           inl v ↦ (law.0.tagged (tag_of m j) v.1).owned
         | inr v ↦ sess_claimed st m d j xs law.1 v.1 ]) ]
@@ -274,7 +275,7 @@ session_part r m d zero e path mk ne w p tag only law =
     let l = (many_last m p.proper (no_one m d w)).1 in
     record {
       held = λ h. address_part r e m 0 path p ∙ at;
-      joined = rw (f, at, same_test m.source, same_test d, o, first_part m e.tag tag)
+      joined = rw (f, at, same_test m.source, same_test d, o, first_is_part m e.tag tag)
         (ap (λ (v : Option Joining). or_else v (session_heard r m.source (readings path))) (started_half m (is_anchored m.source path) l)
         ∙ or_started m (is_anchored m.source path) (session_heard r m.source (readings path)) l (λ u. none o u (session_heard r m.source (readings path)) refl));
     }

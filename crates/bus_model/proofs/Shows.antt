@@ -1,12 +1,13 @@
 -- A reading adds the same entry to what is heard and to what is expected.
-use Rattle.std.proofs.Common.{◌≡◌, ◌≢◌, ℕ, suc, zero, ◌<◌, ◌≤◌, Bool, true, false, ◌&&◌, ◌==◌, List, [], ◌∷◌, length, take, Option, Some, None, if◌then◌else◌, refl, ap, ◌∙◌, arith, sym}
+use Rattle.std.proofs.Common.{◌≡◌, ◌≢◌, ℕ, suc, zero, ◌≤◌, Bool, true, false, ◌&&◌, ◌==◌, List, ◌∷◌, length, take, Option, Some, None, if◌then◌else◌, refl, ap, ◌∙◌, arith}
+use Rattle.address_claim.specs.Claiming.{is_held}
 use Rattle.can_frame.specs.declared.reading.Reading.{Reading}
 use Rattle.dm_messages.specs.View.{pgn_of_kind}
 use Rattle.parameter_group.specs.Group.{ConnectionManagement, DataTransfer, Diagnostic, Group}
 use Rattle.transport.specs.Pieces.{joined, packet, pieces}
 use Rattle.transport.specs.declared.control.Control.TheVariants.{Bam, Rts}
 use Rattle.bus_model.specs.Expected.{Received, Reception, is_anchored, is_part, is_unbroken, passed, readings}
-use Rattle.bus_model.specs.Heard.{Entry, Settings, address_heard, ended_by, entry_under, finished, is_held, with_packet}
+use Rattle.bus_model.specs.Heard.{Entry, Settings, address_heard, ended_by, entry_under, finished, with_packet}
 use Rattle.bus_model.specs.Messages.{Broadcast, IsProper, Message, One, Session, Way, last_part_of, payload_of, way_of}
 use Rattle.bus_model.specs.Traffic.{Item, says}
 use Rattle.bus_model.proofs.Bridge.{all_pieces, count_of, many_last, one_last, session_to}
@@ -34,7 +35,7 @@ whole_gained m j true ok last le = rw (whole_is m j le, last) (go (j == count_of
   where
     go : (t : Bool) → (j == count_of m) ≡ t → (if t then Some (record { name = m.name; kind = m.kind; bytes = joined (length (payload_of m)) (take j (pieces (payload_of m))) }) else None) ≡ (if t && true then Some (entry m) else None)
     go false i = refl
-    go true i = rw (true_test j (count_of m) i, all_pieces m ok) refl
+    go true i = rw (true_test j (count_of m) i, all_pieces m) refl
 
 pub not_start : (m : Message) (b : Bool) → IsProper m → way_of m ≢ One → None ≡ gained m 0 b
 not_start m b ok w =

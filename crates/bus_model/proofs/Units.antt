@@ -1,6 +1,7 @@
 -- What each unit's event keeps of a seat.
 use Rattle.std.proofs.Common.{◌≡◌, ◌≢◌, ◌⊎◌, ℕ, suc, zero, ◌<◌, ◌≤◌, ◌+◌, ◌^◌, Bool, true, false, not, ◌&&◌, ◌==◌, List, [], ◌∷◌, ◌++◌, length, Option, Some, None, if◌then◌else◌, sym, refl, ap, ◌∙◌, subst, inl, inr, arith, append_assoc, le_refl}
 use Rattle.std.proofs.lemmas.List.{append_cancel_right}
+use Rattle.address_claim.specs.Frames.{claim_frame_value}
 use Rattle.can_frame.specs.FrameValue.{FrameValue}
 use Rattle.dm_messages.specs.declared.kind.Kind.{Kind}
 use Rattle.parameter_group.specs.Group.{Acknowledgment, AddressClaimed, CannotClaim, ConnectionManagement, DataTransfer, Diagnostic, Group, Other, Request, group_of}
@@ -9,7 +10,6 @@ use Rattle.bus_model.specs.Expected.{is_claim}
 use Rattle.bus_model.specs.Heard.{is_contest}
 use Rattle.bus_model.specs.Machine.{CanHold, IsCalm, IsNotOpen, IsRequestFrom, IsRtsFrom, MayReply, Seat, claim_alone, cuts, first_parts, granted, granted_one, is_destination, is_of_session, item_of_part, parts_upto, plain, session_ended, session_opened, with_heard, with_message, without_session, yielded}
 use Rattle.bus_model.specs.Messages.{Broadcast, IsProper, Message, One, Session, Way, is_session, last_part_of, way_of}
-use Rattle.bus_model.specs.Stub.{claim_frame_value}
 use Rattle.bus_model.specs.Traffic.{Item, Tag, claimed_by, owner_after, says}
 use Rattle.bus_model.proofs.Bridge.{claim_group, says_claim, says_part}
 use Rattle.bus_model.proofs.Lawful.{Allowed, Continues, IsNoStart, IsPlain, IsVoiced, Lawful, PartLaw, breaks, group_at, is_sess, last_of, sess, tag_of}

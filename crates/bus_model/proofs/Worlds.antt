@@ -1,16 +1,17 @@
 -- Each event keeps the law of the world.
 use Rattle.std.proofs.Common.{◌≡◌, ◌≢◌, ◌⊎◌, ℕ, suc, zero, ◌<◌, ◌≤◌, ◌^◌, Bool, true, false, ◌&&◌, ◌==◌, List, [], ◌∷◌, ◌++◌, length, set, slice_get, Option, Some, None, if◌then◌else◌, sym, refl, ap, ◌∙◌, subst, inl, inr, arith, append_assoc}
 use Rattle.std.proofs.lemmas.List.{append_cancel_right}
+use Rattle.address_claim.specs.Claiming.{is_held}
+use Rattle.address_claim.specs.Frames.{claim_frame_value}
 use Rattle.can_frame.specs.FrameValue.{FrameValue}
 use Rattle.dm_messages.specs.View.{view}
 use Rattle.dm_messages.specs.declared.kind.Kind.{Kind}
 use Rattle.parameter_group.specs.Group.{AddressClaimed, ConnectionManagement, Group, Request, group_of}
 use Rattle.transport.specs.declared.control.Control.TheVariants.{Abort, Rts}
 use Rattle.bus_model.specs.Expected.{Missed, Own, Received, Reception, expected, is_claim, is_clear, passed, readings}
-use Rattle.bus_model.specs.Heard.{Settings, address_heard, entries_heard, is_contest, is_held}
+use Rattle.bus_model.specs.Heard.{Settings, address_heard, entries_heard, is_contest}
 use Rattle.bus_model.specs.Machine.{AllMaySend, Answer, Ask, Begin, Begins, CanAsk, CanHold, Carry, Carry_station, Ends, Event, Grants, Hear, IsFit, IsFree, IsLive, IsNotOpen, Join, Leave, MayAnswer, MayOpen, MaySend, Miss, Quiet, Read, Replies, Run, Seat, Step, Turned, World, Yields, all_plain, answered, asking, claim_alone, granted, granted_one, joined_seat, message_at, missed, received, start, with_begun, with_heard, with_seat}
 use Rattle.bus_model.specs.Messages.{Broadcast, IsProper, Message, One, Session, Way, last_part_of, way_of}
-use Rattle.bus_model.specs.Stub.{claim_frame_value}
 use Rattle.bus_model.specs.Traffic.{Item, Tag, claimed_by, owner_after, says}
 use Rattle.bus_model.proofs.Bridge.{address_first, address_gap, address_hold, address_read, claim_group, says_claim, session_destination, session_to}
 use Rattle.bus_model.proofs.Lawful.{Allowed, IsHonest, IsNoStart, IsVoiced, Lawful}

@@ -3,7 +3,7 @@ use Rattle.std.specs.Prelude.{ℕ, ◌+◌, ◌-◌, ◌^◌, min, Bool, true, f
 use Rattle.std.specs.List.{list_any}
 use Rattle.can_frame.specs.declared.reading.Reading.{Reading}
 use Rattle.can_frame.specs.declared.reading.Reading.TheVariants.{Frame, Gap, Empty}
-use Rattle.bus_model.specs.Stub.{ClaimerValue, new_claimer, after_claim}
+use Rattle.address_claim.specs.Claiming.{is_held, ClaimerValue, new_claimer, after_claim}
 use Rattle.dm_messages.specs.View.{decoding, pgn_of_kind}
 use Rattle.dm_messages.specs.declared.kind.Kind.{Kind}
 use Rattle.dm_messages.specs.declared.kind.Kind.TheVariants.{Dm1, Dm2}
@@ -46,10 +46,6 @@ claimer_heard r (Frame f ∷ older) = claimer_after (group_of f) (claimer_heard 
 -- the station's own address
 unfoldable pub address_heard : Settings → List Reading → Option ℕ
 address_heard r rs = (claimer_heard r rs).held
-
-abbrev pub is_held : Option ℕ → ℕ → Bool
-is_held None a = false
-is_held (Some b) a = b == a
 
 -- a claim of the address held, under another NAME: it is defended, or given up
 abbrev pub is_contest : ℕ → Option ℕ → Group → Bool

@@ -1,4 +1,3 @@
-pub mod Stub
 pub mod Messages
 pub mod Traffic
 pub mod Heard

@@ -2,7 +2,7 @@
 -- It leaves free whatever the law does not need, so the exact tables of units and station are special cases of it.
 use Rattle.std.specs.Prelude.{◌≡◌, ◌≢◌, ℕ, zero, suc, ◌+◌, ◌^◌, ◌<◌, ◌≤◌, Bool, true, false, ◌==◌, List, [], ◌∷◌, ◌++◌, length, set, slice_get, Option, Some, None, if◌then◌else◌}
 use Rattle.can_frame.specs.FrameValue.{FrameValue}
-use Rattle.bus_model.specs.Stub.{claim_frame_value}
+use Rattle.address_claim.specs.Frames.{claim_frame_value}
 use Rattle.dm_messages.specs.declared.kind.Kind.{Kind}
 use Rattle.fault_memory.specs.Memory.{MemoryValue}
 use Rattle.parameter_group.specs.Group.{Group, AddressClaimed, CannotClaim, Request, Acknowledgment, ConnectionManagement, Other, group_of}

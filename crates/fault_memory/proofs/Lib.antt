@@ -1,1 +1,3 @@
 pub mod Lawful
+pub mod Places
+pub mod Outcomes

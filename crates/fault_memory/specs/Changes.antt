@@ -1,24 +1,20 @@
-use Rattle.std.specs.Prelude.{ℕ, ◌+◌, ◌^◌, min, not, Bool, ◌&&◌, ◌==◌, nat_le, nat_lt, List, [], ◌∷◌, ◌++◌, length, if◌then◌else◌, Option, Some, None, Result, Ok, Err}
+use Rattle.std.specs.Prelude.{◌≡◌, ◌⊎◌, ◌<◌, OnOk, OnErr, IfErr, ℕ, ◌+◌, ◌^◌, not, Bool, ◌&&◌, ◌==◌, nat_le, nat_lt, List, [], ◌∷◌, ◌++◌, length, if◌then◌else◌, Option, Some, None, Result, Ok, Err}
 use Rattle.std.specs.List.{filter, find, list_any}
-use Rattle.trouble_code.specs.Code.{Code, code}
+use Rattle.trouble_code.specs.Code.{Code, code, occurred_again}
 use Rattle.trouble_code.specs.LampBytes.{lamps_off}
 use Rattle.fault_memory.specs.Memory.{MemoryValue}
 use Rattle.fault_memory.specs.declared.change.FaultChange.{FaultChange}
 use Rattle.fault_memory.specs.declared.change.FaultChange.TheVariants.{Set, Heal, Lamp}
 use Rattle.fault_memory.specs.declared.error.FaultError.{FaultError}
-use Rattle.fault_memory.specs.declared.error.FaultError.TheVariants.{SpnTooLarge, FmiTooLarge, Full, NotActive}
+use Rattle.fault_memory.specs.declared.error.FaultError.TheVariants.{OutOfMemory, SpnTooLarge, FmiTooLarge, Full, NotActive}
 
 -- the code has this SPN and FMI
 abbrev pub is_fault : ℕ → ℕ → Code → Bool
-is_fault spn fmi c = (c.spn == spn) && (c.fmi == fmi)
+is_fault spn fmi c = (spn == c.spn) && (fmi == c.fmi)
 
 -- the list without the code of this SPN and FMI, the others in their order
 abbrev pub without : ℕ → ℕ → List Code → List Code
 without spn fmi codes = filter (λ c. not (is_fault spn fmi c)) codes
-
--- the code when its fault occurs once more: the count one more, at most 126
-abbrev pub occurred_again : Code → Code
-occurred_again c = code c.spn c.fmi (min (c.count + 1) 126)
 
 -- a fault that is not active becomes active: with its previous code, if there is one, else as a new code, which needs room
 abbrev pub activated : ℕ → ℕ → MemoryValue → Option Code → Result MemoryValue FaultError
@@ -59,3 +55,15 @@ cleared_active m = record { lamps = lamps_off; active = []; previous = m.previou
 -- the memory after its previously active codes are cleared (DM3)
 abbrev pub cleared_previous : MemoryValue → MemoryValue
 cleared_previous m = record { lamps = m.lamps; active = m.active; previous = [] }
+
+-- what is defined makes a list longer
+abbrev pub Grows : Result MemoryValue FaultError → MemoryValue → Type 0
+Grows (Ok new) old = (length old.active < length new.active) ⊎ (length old.previous < length new.previous)
+Grows (Err e) old = ⊥
+
+-- a call did what is defined, or refused it for the reason defined, or was refused the memory of a longer list
+pub record Follows (outcome : Result MemoryValue FaultError) (old new : MemoryValue) (result : Result (Unit {0}) FaultError) : Type 0 where
+  pub ok : OnOk result (outcome ≡ Ok new)
+  pub refused : (e : FaultError) → outcome ≡ Err e → result ≡ Err e
+  pub why : IfErr result (λ e. ((e ≡ OutOfMemory) × Grows outcome old) ⊎ (outcome ≡ Err e))
+  pub unchanged : OnErr result (new ≡ old)

@@ -4,6 +4,8 @@
 mod change;
 mod error;
 mod memory;
+#[cfg(test)]
+mod tests;
 
 pub use change::FaultChange;
 pub use error::FaultError;

@@ -1,6 +1,18 @@
-use std::alloc::Global;
+ghost use Rattle.std.specs.Prelude.{◌≡◌, ◌⊎◌, Result, Ok, Err, OnOk, OnErr, IfOk, IfErr};
+ghost use Rattle.std.specs.List.{position};
+ghost use Rattle.trouble_code.specs.Code.{code};
+ghost use Rattle.fault_memory.specs.Memory.{MemoryValue, new_memory, IsKeptCode, IsLawfulMemory};
+ghost use Rattle.fault_memory.specs.Changes.{is_fault, if_in_range, changed, Grows, Follows, fault_set, fault_healed, cleared_active, cleared_previous};
+ghost use Rattle.fault_memory.specs.declared.error.FaultError.{FaultError};
+
+use crate::change::FaultChange;
+use crate::error::FaultError;
+use std::alloc::{AllocError, Global};
 use std::marker::Model;
-use trouble_code::{Dtc, Lamps};
+use trouble_code::{Dtc, DtcError, Lamps};
+
+/// The most codes that both lists of one memory hold together.
+const MOST_CODES: usize = 445;
 
 /// The lamps, the active trouble codes and the previously active ones of one control unit (SAE J1939-73).
 ///
@@ -24,9 +36,6 @@ impl Model for FaultMemory {
 }
 
 impl FaultMemory {
-    ghost use Rattle.std.specs.Prelude.{◌≡◌};
-    ghost use Rattle.fault_memory.specs.Memory.{MemoryValue, new_memory, IsLawfulMemory};
-
     /// The memory of a new unit: the lamps off (00 FF), and no code. It takes no memory yet.
     #[tactic(auto, using(crate::proofs::Lawful::empty_is_lawful))]
     pub fn new(alloc: Global) -> FaultMemory
@@ -62,4 +71,123 @@ impl FaultMemory {
     {
         self.previous.as_slice()
     }
+
+    /// Makes one change.
+    ///
+    /// - `Set`: an active code stays as it is. A previously active one moves to the end of the active codes, its count one
+    ///   more, at most 126. A new one is put there with count 1.
+    /// - `Heal`: an active code moves to the end of the previously active ones, with its count.
+    /// - `Lamp`: all lamps and flash codes are replaced.
+    ///
+    /// Refused, in this order: `SpnTooLarge` above 524,287, `FmiTooLarge` above 31, `Full` for a new code where both lists
+    /// hold 445 together, `NotActive` where the code to be healed is not active, `OutOfMemory` where the memory for a longer
+    /// list is refused. After a refusal the memory is as it was.
+    pub fn apply(&mut self, change: FaultChange) -> Result<(), FaultError>
+        ensures ok { OnOk result (changed self.old change ≡ Ok self.new) }
+        ensures refused { (e : FaultError) → changed self.old change ≡ Err e → result ≡ Err e }
+        ensures why { IfErr result (λ e. ((e ≡ FaultError.OutOfMemory) × Grows (changed self.old change) self.old) ⊎ (changed self.old change ≡ Err e)) }
+        ensures unchanged { OnErr result (self.new ≡ self.old) }
+    {
+        match change {
+            FaultChange::Set { spn, fmi } => {
+                let first = first_occurrence(spn, fmi)?;
+                self.set(spn, fmi, first)
+            }
+            FaultChange::Heal { spn, fmi } => {
+                first_occurrence(spn, fmi)?;
+                self.heal(spn, fmi)
+            }
+            FaultChange::Lamp { lamps } => {
+                self.lamps = lamps;
+                Ok(())
+            }
+        }
+    }
+
+    /// A fault is there; `first` is the code of its first occurrence.
+    fn set(&mut self, spn: u32, fmi: u8, first: Dtc) -> Result<(), FaultError>
+        requires first { (first ≡ code spn fmi 1) × IsKeptCode first }
+        ensures { Follows (fault_set spn fmi self.old) self.old self.new result }
+    {
+        if place_of(&self.active, spn, fmi).is_some() {
+            return Ok(());
+        }
+        if let Some(place) = place_of(&self.previous, spn, fmi) {
+            let code = self.previous[place];
+            self.active.push(code.occurred_again())?;
+            self.previous.remove(place);
+            return Ok(());
+        }
+        if self.active.len() + self.previous.len() >= MOST_CODES {
+            return Err(FaultError::Full);
+        }
+        self.active.push(first)?;
+        Ok(())
+    }
+
+    /// A fault has gone.
+    fn heal(&mut self, spn: u32, fmi: u8) -> Result<(), FaultError>
+        ensures { Follows (fault_healed spn fmi self.old) self.old self.new result }
+    {
+        let Some(place) = place_of(&self.active, spn, fmi) else {
+            return Err(FaultError::NotActive);
+        };
+        let code = self.active[place];
+        self.previous.push(code)?;
+        self.active.remove(place);
+        Ok(())
+    }
+
+    /// Clears the active codes and puts the lamps off (DM11). The previously active codes stay. It takes no memory.
+    #[tactic(auto, using(crate::proofs::Lawful::cleared_active_is_lawful))]
+    pub fn clear_active(&mut self)
+        ensures { self.new ≡ cleared_active self.old }
+    {
+        self.lamps = Lamps::off();
+        self.active.clear();
+    }
+
+    /// Clears the previously active codes (DM3). The lamps and the active codes stay. It takes no memory.
+    pub fn clear_previous(&mut self)
+        ensures { self.new ≡ cleared_previous self.old }
+    {
+        self.previous.clear();
+    }
+
+    /// The same lamps and codes, in memory of their own.
+    #[tactic(auto, using(crate::proofs::Lawful::copy_is_lawful))]
+    pub fn copy(&self) -> Result<FaultMemory, AllocError>
+        ensures { IfOk result (λ m. m ≡ self.now) }
+    {
+        let active = self.active.clone()?;
+        let previous = self.previous.clone()?;
+        Ok(FaultMemory {
+            lamps: self.lamps,
+            active,
+            previous,
+        })
+    }
+}
+
+/// The code of a first occurrence, or why no code has this SPN and FMI.
+fn first_occurrence(spn: u32, fmi: u8) -> Result<Dtc, FaultError>
+    ensures ok { IfOk result (λ d. (d ≡ code spn fmi 1) × IsKeptCode d) }
+    ensures in_range { IfOk result (λ _. (outcome : Result MemoryValue FaultError) → if_in_range spn fmi outcome ≡ outcome) }
+    ensures not_in_range { IfErr result (λ e. (outcome : Result MemoryValue FaultError) → if_in_range spn fmi outcome ≡ Err e) }
+{
+    match Dtc::new(spn, fmi, 1) {
+        Ok(code) => Ok(code),
+        Err(DtcError::SpnTooLarge) => Err(FaultError::SpnTooLarge),
+        Err(DtcError::FmiTooLarge) => Err(FaultError::FmiTooLarge),
+        Err(_) => unreachable!(),
+    }
+}
+
+/// The place of the code with this SPN and FMI.
+fn place_of(codes: &[Dtc], spn: u32, fmi: u8) -> Option<usize>
+    ensures { result ≡ position (is_fault spn fmi) codes.now }
+{
+    codes
+        .iter()
+        .position(|code| spn == code.spn() && fmi == code.fmi())
 }

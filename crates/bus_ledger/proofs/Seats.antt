@@ -1,0 +1,291 @@
+-- What a change of one seat does to the value of a bus.
+use Rattle.std.proofs.Common.{ℕ, suc, zero, ◌≡◌, ◌≢◌, ◌+◌, ◌<◌, ◌≤◌, List, [], ◌∷◌, map, length, get_or, set, drop, Bool, cond, true, false, not, Result, Ok, Err, OnOk, IfErr, refl, sym, ap, ◌∙◌, subst, arith, ◌⊎◌, inl, inr, ◌-◌, nat_lt, if◌then◌else◌}
+use Rattle.std.proofs.lemmas.List.{map-set, length-set, length-drop, length-map, get_or_read, get_or-set_same, get_or-set_other, set-get_or, drop-drop, length_push}
+use Rattle.std.proofs.lemmas.List.Elements.{All-drop}
+use Rattle.std.specs.List.{All, filter}
+use Rattle.std.specs.Vec.{with_item}
+use Rattle.bus_ledger.specs.BusValue.{SeatValue, SeatBook, Traffic, BusValue, KeepsSpares, nobody, no_book, book_at, seat_at, spare_at}
+use Rattle.bus_ledger.specs.Changes.{with_seat, hearing, queueing, kept, is_in_session, withdrawing, leaving}
+use Rattle.bus_ledger.specs.declared.traffic.QueuedFrame.{QueuedFrame}
+use Rattle.bus_ledger.specs.declared.error.BusError.{BusError}
+use Rattle.bus_ledger.specs.declared.error.BusError.TheVariants.{OutOfMemory}
+use Rattle.bus_ledger.specs.declared.traffic.Which.{Which}
+use Rattle.bus_ledger.specs.declared.traffic.Which.TheVariants.{Session, All as Everything}
+use Rattle.bus_ledger.specs.Ledger.{IsBalanced, IsSound}
+use Rattle.bus_ledger.specs.Reception.{unread, first_reading, next_reading, passes}
+use Rattle.can_frame.specs.declared.reading.Reading.{Reading}
+use Rattle.can_frame.specs.declared.reading.Reading.TheVariants.{Frame, Gap, Empty}
+use Rattle.bus_ledger.specs.Inside.{seat_of, spare_of, traffic_of, view_of, IsKept}
+use Rattle.bus_ledger.specs.declared.bus.Bus.TheInside.{Inside}
+use Rattle.bus_ledger.specs.declared.traffic.CarriedFrame.{CarriedFrame}
+use Rattle.bus_ledger.proofs.Live.{live_set}
+
+pub seat_book : (xs : List SeatBook) (k : ℕ) → get_or (map seat_of xs) k nobody ≡ (book_at xs k).seat
+seat_book [] k = refl
+seat_book (x ∷ xs) zero = refl
+seat_book (x ∷ xs) (suc k) = seat_book xs k
+
+pub spare_book : (xs : List SeatBook) (k : ℕ) → get_or (map spare_of xs) k 0 ≡ (book_at xs k).spare
+spare_book [] k = refl
+spare_book (x ∷ xs) zero = refl
+spare_book (x ∷ xs) (suc k) = spare_book xs k
+
+-- two numbers are equal or not
+pub same_or_not : (k j : ℕ) → (k ≡ j) ⊎ (k ≢ j)
+same_or_not zero zero = inl refl
+same_or_not zero (suc j) = inr (λ e. omega arith)
+same_or_not (suc k) zero = inr (λ e. omega arith)
+same_or_not (suc k) (suc j) = elim (same_or_not k j) [ inl e ↦ inl (ap suc e) | inr n ↦ inr (λ e. n (omega arith)) ]
+
+-- a sound bus in which one seat changes and stays balanced is sound
+pub sound_set : (t : Traffic) (k : ℕ) (y : SeatValue) → IsSound t → k < length t.seats
+    → (k ≡ 0 → y.live ≡ true) → (IsBalanced t.wire k (seat_at t k) → IsBalanced t.wire k y) → IsSound (with_seat t k y)
+sound_set t k y s in' live balanced = record {
+  station = elim (same_or_not 0 k) [
+    | inl e ↦ let here : 0 < length t.seats = omega arith in rw (← e, get_or-set_same) (live (sym e))
+    | inr n ↦ rw get_or-set_other s.station
+  ];
+  window = s.window;
+  senders = rw (length-set t.seats k y) s.senders;
+  seats = λ j h.
+      let h' : j < length t.seats = rw (sym (length-set t.seats k y)) h in
+      elim (same_or_not j k) [
+        | inl e ↦ let there : j < length t.seats = h' in subst (λ (n : ℕ). IsBalanced t.wire n (get_or (set t.seats k y) n nobody)) (sym e) (rw get_or-set_same (balanced (s.seats k in')))
+        | inr n ↦ rw get_or-set_other (s.seats j h')
+      ];
+}
+
+-- a bus in whose list of seats one is replaced
+abbrev pub placed : Inside → ℕ → SeatBook → Inside
+placed a k y = record { wire = a.wire; seats = with_item a.seats k y; live = a.live; window = a.window }
+
+pub within : (a : Inside) (v : BusValue) (k : ℕ) → view_of a ≡ v → k < length v.traffic.seats → k < length a.seats.items
+within a v k is h =
+    let e : length v.traffic.seats ≡ length a.seats.items = ap (λ (b : BusValue). length b.traffic.seats) (sym is) ∙ length-map a.seats.items seat_of in
+    omega arith
+
+-- what was read of the list is what the value has there
+pub seat_is : (a : Inside) (v : BusValue) (k : ℕ) (x : SeatBook) → view_of a ≡ v → k < length a.seats.items → x ≡ get_or a.seats.items k x → x.seat ≡ seat_at v.traffic k
+seat_is a v k x is in' read =
+    ap (λ (b : SeatBook). b.seat) (get_or_read a.seats.items k x in' read no_book)
+    ∙ (sym (seat_book a.seats.items k) ∙ ap (λ (b : BusValue). seat_at b.traffic k) is)
+
+pub spare_is : (a : Inside) (v : BusValue) (k : ℕ) (x : SeatBook) → view_of a ≡ v → k < length a.seats.items → x ≡ get_or a.seats.items k x → x.spare ≡ spare_at v k
+spare_is a v k x is in' read =
+    ap (λ (b : SeatBook). b.spare) (get_or_read a.seats.items k x in' read no_book)
+    ∙ (sym (spare_book a.seats.items k) ∙ ap (λ (b : BusValue). spare_at b k) is)
+
+pub placed_traffic : (a : Inside) (v : BusValue) (k : ℕ) (y : SeatBook) (s : SeatValue) → view_of a ≡ v → y.seat ≡ s → traffic_of (placed a k y) ≡ with_seat v.traffic k s
+placed_traffic a v k y s is e =
+    ap (λ (l : List SeatValue). let t : Traffic = record { wire = a.wire.items; seats = l; window = a.window } in t) (map-set seat_of a.seats.items k y)
+    ∙ (ap (λ (z : SeatValue). with_seat (traffic_of a) k z) e ∙ ap (λ (b : BusValue). with_seat b.traffic k s) is)
+
+-- a seat replaced by itself
+pub placed_same : (a : Inside) (v : BusValue) (k : ℕ) (x y : SeatBook) → view_of a ≡ v → k < length a.seats.items → x ≡ get_or a.seats.items k x → y.seat ≡ x.seat → traffic_of (placed a k y) ≡ v.traffic
+placed_same a v k x y is in' read e =
+    placed_traffic a v k y (seat_at v.traffic k) is (e ∙ seat_is a v k x is in' read)
+    ∙ ap (λ (l : List SeatValue). record v.traffic { seats = l }) (set-get_or v.traffic.seats k nobody)
+
+pub own_spare : (a : Inside) (k : ℕ) (y : SeatBook) → k < length a.seats.items → spare_at (view_of (placed a k y)) k ≡ y.spare
+own_spare a k y in' = spare_book (set a.seats.items k y) k ∙ ap (λ (b : SeatBook). b.spare) (get_or-set_same a.seats.items k y no_book in')
+
+pub other_spares : (a : Inside) (v : BusValue) (k : ℕ) (y : SeatBook) → view_of a ≡ v → (j : ℕ) → j ≢ k → spare_at v j ≤ spare_at (view_of (placed a k y)) j
+other_spares a v k y is j n =
+    let e : spare_at (view_of (placed a k y)) j ≡ spare_at v j =
+    spare_book (set a.seats.items k y) j ∙ (ap (λ (b : SeatBook). b.spare) (get_or-set_other a.seats.items k j y no_book n)
+    ∙ (sym (spare_book a.seats.items j) ∙ ap (λ (b : BusValue). spare_at b j) is)) in
+    omega arith
+
+pub placed_spares : (a : Inside) (v : BusValue) (k : ℕ) (x y : SeatBook) → view_of a ≡ v → k < length a.seats.items → x ≡ get_or a.seats.items k x → x.spare ≤ y.spare → KeepsSpares v (view_of (placed a k y))
+placed_spares a v k x y is in' read grows j =
+    elim (same_or_not j k) [
+      | inl e ↦
+          let here : spare_at (view_of (placed a k y)) j ≡ y.spare = ap (λ (n : ℕ). spare_at (view_of (placed a k y)) n) e ∙ own_spare a k y in' in
+          let there : x.spare ≡ spare_at v j = spare_is a v k x is in' read ∙ ap (λ (n : ℕ). spare_at v n) (sym e) in
+          omega arith
+      | inr n ↦ other_spares a v k y is j n
+    ]
+
+-- a bus stays in order where one seat is replaced by one as live, which is balanced
+pub placed_kept : (a : Inside) (k : ℕ) (x y : SeatBook) → IsKept a → k < length a.seats.items → x ≡ get_or a.seats.items k x
+    → y.seat.live ≡ x.seat.live → (IsBalanced a.wire.items k x.seat → IsBalanced a.wire.items k y.seat) → IsKept (placed a k y)
+placed_kept a k x y kept in' read live balanced =
+    let s = seat_is a (view_of a) k x refl in' read in
+    let in'' : k < length (map seat_of a.seats.items) = rw length-map in' in
+    record {
+      sound = subst (λ (l : List SeatValue). IsSound (record { wire = a.wire.items; seats = l; window = a.window })) (sym (map-set seat_of a.seats.items k y))
+          (sound_set (traffic_of a) k y.seat kept.sound in''
+          (λ zero_is. live ∙ (ap (λ (b : SeatValue). b.live) s ∙ (ap (λ (n : ℕ). (seat_at (traffic_of a) n).live) zero_is ∙ kept.sound.station)))
+          (λ b. balanced (subst (λ (v : SeatValue). IsBalanced a.wire.items k v) (sym s) b)));
+      live = kept.live ∙ sym (live_set 0 a.seats.items k y (live ∙ ap (λ (b : SeatBook). b.seat.live) (get_or_read a.seats.items k x in' read no_book)));
+      few_seats = rw (length-set a.seats.items k y) kept.few_seats;
+      few_frames = kept.few_frames;
+    }
+
+-- a seat that hears more frames stays balanced
+pub balanced_hearing : (wire : List CarriedFrame) (k n : ℕ) (s : SeatValue) → s.heard + n ≤ length wire → IsBalanced wire k s → IsBalanced wire k (hearing n s)
+balanced_hearing wire k n s h b = record {
+  ledger = b.ledger;
+  carried = b.carried;
+  gone = b.gone;
+  heard = h;
+  own = subst (λ (l : List CarriedFrame). All (λ c. c.seat ≢ k) l) (drop-drop n s.heard wire) (All-drop (λ (c : CarriedFrame). c.seat ≢ k) n (drop s.heard wire) b.own);
+}
+
+-- the same at what callers see, for each change of a seat
+pub changed_traffic : (f : SeatValue → SeatValue) (a : Inside) (v : BusValue) (k : ℕ) (x y : SeatBook) → view_of a ≡ v → k < length v.traffic.seats → x ≡ get_or a.seats.items k x
+    → y.seat ≡ f x.seat → traffic_of (placed a k y) ≡ with_seat v.traffic k (f (seat_at v.traffic k))
+changed_traffic f a v k x y is h read e =
+    placed_traffic a v k y (f (seat_at v.traffic k)) is (e ∙ ap f (seat_is a v k x is (within a v k is h) read))
+
+pub changed_spares : (a : Inside) (v : BusValue) (k : ℕ) (x y : SeatBook) → view_of a ≡ v → k < length v.traffic.seats → x ≡ get_or a.seats.items k x → x.spare ≤ y.spare → KeepsSpares v (view_of (placed a k y))
+changed_spares a v k x y is h read grows = placed_spares a v k x y is (within a v k is h) read grows
+
+pub changed_kept : (a : Inside) (v : BusValue) (k : ℕ) (x y : SeatBook) → view_of a ≡ v → IsKept a → k < length v.traffic.seats → x ≡ get_or a.seats.items k x
+    → y.seat.live ≡ x.seat.live → (IsBalanced a.wire.items k x.seat → IsBalanced a.wire.items k y.seat) → IsKept (placed a k y)
+changed_kept a v k x y is kept h read live balanced = placed_kept a k x y kept (within a v k is h) read live balanced
+
+pub hear_kept : (a : Inside) (v : BusValue) (k n : ℕ) (x y : SeatBook) → view_of a ≡ v → IsKept a → k < length v.traffic.seats → x ≡ get_or a.seats.items k x
+    → y.seat ≡ hearing n x.seat → (seat_at v.traffic k).heard + n ≤ length v.traffic.wire → IsKept (placed a k y)
+hear_kept a v k n x y is kept h read e bound =
+    let s = seat_is a v k x is (within a v k is h) read in
+    let wire : a.wire.items ≡ v.traffic.wire = ap (λ (b : BusValue). b.traffic.wire) is in
+    let bound' : x.seat.heard + n ≤ length a.wire.items = rw (wire, s) bound in
+    changed_kept a v k x y is kept h read (ap (λ (z : SeatValue). z.live) e)
+    (λ b. subst (λ (z : SeatValue). IsBalanced a.wire.items k z) (sym e) (balanced_hearing a.wire.items k n x.seat bound' b))
+
+-- a live seat stays balanced where it queues a frame
+balanced_queueing : (wire : List CarriedFrame) (k : ℕ) (q : QueuedFrame) (s : SeatValue) → s.live ≡ true → IsBalanced wire k s → IsBalanced wire k (queueing q s)
+balanced_queueing wire k q s live b = record {
+  ledger = let e = length_push s.queue q in let l = b.ledger in omega arith;
+  carried = b.carried;
+  gone = λ e. absurd cc;
+  heard = b.heard;
+  own = b.own;
+}
+
+filter_short : (p : QueuedFrame → Bool) (qs : List QueuedFrame) → length (filter p qs) ≤ length qs
+filter_short p [] = omega arith
+filter_short p (q ∷ qs) =
+    let r = filter_short p qs in
+    elim (p q) as (λ v. length (cond v (q ∷ filter p qs) (filter p qs)) ≤ length (q ∷ qs)) [ true ↦ omega arith | false ↦ omega arith ]
+
+kept_fewer : (which : Which) (qs : List QueuedFrame) → length (kept which qs) ≤ length qs
+kept_fewer Session qs = filter_short (λ (q : QueuedFrame). not (is_in_session q)) qs
+kept_fewer Everything qs = omega arith
+
+kept_nil : (which : Which) → kept which [] ≡ []
+kept_nil Session = refl
+kept_nil Everything = refl
+
+-- a seat stays balanced where frames of its queue are withdrawn
+balanced_withdrawing : (wire : List CarriedFrame) (k : ℕ) (which : Which) (s : SeatValue) → IsBalanced wire k s → IsBalanced wire k (withdrawing which s)
+balanced_withdrawing wire k which s b = record {
+  ledger = let f = kept_fewer which s.queue in let l = b.ledger in omega arith;
+  carried = b.carried;
+  gone = λ e. ap (kept which) (b.gone e) ∙ kept_nil which;
+  heard = b.heard;
+  own = b.own;
+}
+
+-- a seat that is given up is balanced
+pub balanced_leaving : (wire : List CarriedFrame) (k : ℕ) (s : SeatValue) → IsBalanced wire k s → IsBalanced wire k (leaving s)
+balanced_leaving wire k s b = record {
+  ledger = let l = b.ledger in omega arith;
+  carried = b.carried;
+  gone = λ e. refl;
+  heard = b.heard;
+  own = b.own;
+}
+
+pub same_kept : (a : Inside) (v : BusValue) (k : ℕ) (x y : SeatBook) → view_of a ≡ v → IsKept a → k < length v.traffic.seats → x ≡ get_or a.seats.items k x → y.seat ≡ x.seat → IsKept (placed a k y)
+same_kept a v k x y is kept h read e =
+    changed_kept a v k x y is kept h read (ap (λ (z : SeatValue). z.live) e) (λ b. subst (λ (z : SeatValue). IsBalanced a.wire.items k z) (sym e) b)
+
+pub same_traffic : (a : Inside) (v : BusValue) (k : ℕ) (x y : SeatBook) → view_of a ≡ v → k < length v.traffic.seats → x ≡ get_or a.seats.items k x → y.seat ≡ x.seat → traffic_of (placed a k y) ≡ v.traffic
+same_traffic a v k x y is h read e = placed_same a v k x y is (within a v k is h) read e
+
+pub withdraw_kept : (a : Inside) (v : BusValue) (k : ℕ) (which : Which) (x y : SeatBook) → view_of a ≡ v → IsKept a → k < length v.traffic.seats → x ≡ get_or a.seats.items k x
+    → y.seat ≡ withdrawing which x.seat → IsKept (placed a k y)
+withdraw_kept a v k which x y is kept h read e =
+    changed_kept a v k x y is kept h read (ap (λ (z : SeatValue). z.live) e)
+    (λ b. subst (λ (z : SeatValue). IsBalanced a.wire.items k z) (sym e) (balanced_withdrawing a.wire.items k which x.seat b))
+
+pub queue_kept : (a : Inside) (v : BusValue) (k : ℕ) (q : QueuedFrame) (x y : SeatBook) (r : Result (Unit {0}) BusError) → view_of a ≡ v → IsKept a → k < length v.traffic.seats → (seat_at v.traffic k).live ≡ true → x ≡ get_or a.seats.items k x
+    → OnOk r (y.seat ≡ queueing q x.seat) → IfErr r (λ e. (e ≡ OutOfMemory) × (x.spare ≡ 0) × (y.seat ≡ x.seat)) → IsKept (placed a k y)
+queue_kept a v k q x y (Ok u) is kept h live read ok err =
+    let s = seat_is a v k x is (within a v k is h) read in
+    changed_kept a v k x y is kept h read (ap (λ (z : SeatValue). z.live) ok)
+    (λ b. subst (λ (z : SeatValue). IsBalanced a.wire.items k z) (sym ok) (balanced_queueing a.wire.items k q x.seat (ap (λ (z : SeatValue). z.live) s ∙ live) b))
+queue_kept a v k q x y (Err e) is kept h live read ok err = same_kept a v k x y is kept h read err.2
+
+pub queue_ok : (a : Inside) (v : BusValue) (k : ℕ) (q : QueuedFrame) (x y : SeatBook) (r : Result (Unit {0}) BusError) → view_of a ≡ v → k < length v.traffic.seats → x ≡ get_or a.seats.items k x
+    → OnOk r (y.seat ≡ queueing q x.seat) → OnOk r (traffic_of (placed a k y) ≡ with_seat v.traffic k (queueing q (seat_at v.traffic k)))
+queue_ok a v k q x y (Ok u) is h read ok = changed_traffic (queueing q) a v k x y is h read ok
+queue_ok a v k q x y (Err e) is h read ok = tt
+
+pub queue_err : (a : Inside) (v : BusValue) (k : ℕ) (x y : SeatBook) (r : Result (Unit {0}) BusError) → view_of a ≡ v → k < length v.traffic.seats → x ≡ get_or a.seats.items k x
+    → IfErr r (λ e. (e ≡ OutOfMemory) × (x.spare ≡ 0) × (y.seat ≡ x.seat)) → IfErr r (λ e. (e ≡ OutOfMemory) × (spare_at v k ≡ 0) × (traffic_of (placed a k y) ≡ v.traffic))
+queue_err a v k x y (Ok u) is h read err = tt
+queue_err a v k x y (Err e) is h read err =
+    (err.0, sym (spare_is a v k x is (within a v k is h) read) ∙ err.1, same_traffic a v k x y is h read err.2)
+
+pub queue_spare : (a : Inside) (v : BusValue) (k : ℕ) (x y : SeatBook) → view_of a ≡ v → k < length v.traffic.seats → x ≡ get_or a.seats.items k x
+    → x.spare ≤ y.spare + 1 → spare_at v k ≤ spare_at (view_of (placed a k y)) k + 1
+queue_spare a v k x y is h read le =
+    let in' = within a v k is h in
+    let old = spare_is a v k x is in' read in
+    let new = own_spare a k y in' in
+    omega arith
+
+pub reserve_ok : (a : Inside) (v : BusValue) (k n : ℕ) (y : SeatBook) (r : Result (Unit {0}) BusError) → view_of a ≡ v → k < length v.traffic.seats
+    → OnOk r (n ≤ y.spare) → OnOk r (n ≤ spare_at (view_of (placed a k y)) k)
+reserve_ok a v k n y (Ok u) is h ok = let new = own_spare a k y (within a v k is h) in omega arith
+reserve_ok a v k n y (Err e) is h ok = tt
+
+pub reserve_err : (a : Inside) (v : BusValue) (k n : ℕ) (x : SeatBook) (r : Result (Unit {0}) BusError) → view_of a ≡ v → k < length v.traffic.seats → x ≡ get_or a.seats.items k x
+    → IfErr r (λ e. (e ≡ OutOfMemory) × (x.spare < n)) → IfErr r (λ e. (e ≡ OutOfMemory) × (spare_at v k < n))
+reserve_err a v k n x (Ok u) is h read err = tt
+reserve_err a v k n x (Err e) is h read err = (err.0, let old = spare_is a v k x is (within a v k is h) read in let l = err.1 in omega arith)
+
+-- the counts of a withdrawal
+pub withdraw_count : (a : Inside) (v : BusValue) (k n : ℕ) (which : Which) (x y : SeatBook) → view_of a ≡ v → k < length v.traffic.seats → x ≡ get_or a.seats.items k x
+    → n + length y.seat.queue ≡ length x.seat.queue → n + length (seat_at (traffic_of (placed a k y)) k).queue ≡ length (seat_at v.traffic k).queue
+withdraw_count a v k n which x y is h read e =
+    let in' = within a v k is h in
+    let old = ap (λ (z : SeatValue). length z.queue) (seat_is a v k x is in' read) in
+    let new : (seat_at (traffic_of (placed a k y)) k) ≡ y.seat = seat_book (set a.seats.items k y) k ∙ ap (λ (b : SeatBook). b.seat) (get_or-set_same a.seats.items k y no_book in') in
+    let new' = ap (λ (z : SeatValue). length z.queue) new in
+    omega arith
+
+-- a reading passes over no more frames than are unread
+gap_or : (n m unread : ℕ) (r : Reading) (b : Bool) → n ≤ unread → passes r ≤ unread → passes (if b then Gap n else r) ≤ unread
+gap_or n m unread r true g h = g
+gap_or n m unread r false g h = h
+
+given : (xs : List SeatValue) (k : ℕ) → (get_or xs k nobody).live ≡ true → k < length xs
+given [] k e = absurd cc
+given (x ∷ xs) zero e = omega arith
+given (x ∷ xs) (suc k) e = let r = given xs k e in omega arith
+
+pub station_given : (t : Traffic) → IsSound t → 0 < length t.seats
+station_given t s = given t.seats 0 s.station
+
+reading_within : (unread window : ℕ) (l : List CarriedFrame) → length l ≡ unread → passes (if nat_lt 0 (unread - window) then Gap (unread - window) else first_reading l) ≤ unread
+reading_within unread window [] e = gap_or (unread - window) 0 unread Empty (nat_lt 0 (unread - window)) (omega arith) (omega arith)
+reading_within unread window (c ∷ cs) e = gap_or (unread - window) 1 unread (Frame c.frame) (nat_lt 0 (unread - window)) (omega arith) (omega arith)
+
+pub passes_within : (t : Traffic) → IsSound t → (seat_at t 0).heard + passes (next_reading t) ≤ length t.wire
+passes_within t s =
+    let zero_in = station_given t s in
+    let h = (s.seats 0 zero_in).heard in
+    let n : length (unread t) ≡ length t.wire - (seat_at t 0).heard = length-drop (seat_at t 0).heard t.wire in
+    let r = reading_within (length (unread t)) t.window (unread t) refl in
+    omega arith
+
+pub read_kept : (a : Inside) (v : BusValue) (n : ℕ) (x y : SeatBook) → view_of a ≡ v → IsKept a → x ≡ get_or a.seats.items 0 x → n ≡ passes (next_reading v.traffic)
+    → y.seat ≡ hearing n x.seat → IsKept (placed a 0 y)
+read_kept a v n x y is kept read passed e =
+    let sound : IsSound v.traffic = subst (λ (w : BusValue). IsSound w.traffic) is kept.sound in
+    let w = passes_within v.traffic sound in
+    hear_kept a v 0 n x y is kept (station_given v.traffic sound) read e (omega arith)

@@ -1,0 +1,126 @@
+-- A carry, a join and a leave keep a bus sound.
+use Rattle.std.proofs.Common.{ℕ, suc, zero, ◌≡◌, ◌≢◌, ◌+◌, ◌<◌, ◌≤◌, List, [], ◌∷◌, ◌++◌, length, get_or, set, drop, Bool, true, false, cond, ◌&&◌, ◌==◌, nat_eq, eq-eqb, eqb-true, Option, Some, None, slice_get, refl, sym, subst, arith, inl, inr}
+use Rattle.std.specs.List.{All, count_by}
+use Rattle.std.proofs.lemmas.Bool.{ne_eqb}
+use Rattle.std.proofs.lemmas.List.{length-set, length_push, get_or-set_same, get_or-set_other, get_or_append_left, get_or_push, drop_all, drop-append-le}
+use Rattle.std.proofs.lemmas.List.Elements.{All-push, All-nil, All-head, All-tail, All-weaker}
+use Rattle.std.proofs.lemmas.List.Sums.{sum_by_push, sum_by-cons}
+use Rattle.bus_ledger.specs.BusValue.{SeatValue, Traffic, nobody, seat_at}
+use Rattle.bus_ledger.specs.Changes.{newcomer, joined, sending, carried_frame, carried_from}
+use Rattle.bus_ledger.specs.Carrying.{offered, offer}
+use Rattle.bus_ledger.specs.Ledger.{IsBalanced, IsSound, is_from}
+use Rattle.bus_ledger.specs.declared.traffic.QueuedFrame.{QueuedFrame}
+use Rattle.bus_ledger.specs.declared.traffic.CarriedFrame.{CarriedFrame}
+use Rattle.bus_ledger.proofs.Seats.{same_or_not}
+
+-- what an offer says of its seat
+pub record IsOffer (n : ℕ) (s : SeatValue) (q : QueuedFrame) : Type 0 where
+  pub live : s.live ≡ true
+  pub heard : s.heard ≡ n
+  pub first : slice_get s.queue 0 ≡ Some q
+
+offer_says_at : (b c : Bool) (o : Option QueuedFrame) (q : QueuedFrame) → cond (b && c) o None ≡ Some q → (b ≡ true) × (c ≡ true) × (o ≡ Some q)
+offer_says_at true true o q e = (refl, refl, e)
+offer_says_at true false o q e = absurd cc
+offer_says_at false c o q e = absurd cc
+
+pub offer_says : (n : ℕ) (s : SeatValue) (q : QueuedFrame) → offered n s ≡ Some q → IsOffer n s q
+offer_says n s q e =
+    let r = offer_says_at s.live (s.heard == n) (slice_get s.queue 0) q e in
+    record { live = r.0; heard = eqb-true s.heard n r.1; first = r.2 }
+
+pub first_rest : (qs : List QueuedFrame) (q : QueuedFrame) → slice_get qs 0 ≡ Some q → length (drop 1 qs) + 1 ≡ length qs
+first_rest [] q e = absurd cc
+first_rest (x ∷ xs) q e = omega arith
+
+balanced_sending : (wire : List CarriedFrame) (k : ℕ) (q : QueuedFrame) (s : SeatValue) → IsOffer (length wire) s q → IsBalanced wire k s → IsBalanced (wire ++ carried_frame k q ∷ []) k (sending s)
+balanced_sending wire k q s o b =
+    let longer = length_push wire (carried_frame k q) in
+    record {
+      ledger = let l = b.ledger in let r = first_rest s.queue q o.first in omega arith;
+      carried =
+          let more = sum_by_push (λ (c : CarriedFrame). cond {A = ℕ} (is_from k c) 1 0) wire (carried_frame k q) in
+          let one : cond {A = ℕ} (is_from k (carried_frame k q)) 1 0 ≡ 1 = (let t : nat_eq k k ≡ true = eq-eqb k k refl in rw t refl) in
+          let old = b.carried in
+          omega arith;
+      gone = λ e. let live = o.live in absurd cc;
+      heard = let h = o.heard in omega arith;
+      own = let past : length (wire ++ carried_frame k q ∷ []) ≤ s.heard + 1 = (let h = o.heard in omega arith) in
+          subst (λ (l : List CarriedFrame). All (λ c. c.seat ≢ k) l) (sym (drop_all (s.heard + 1) (wire ++ carried_frame k q ∷ []) past)) (All-nil (λ (c : CarriedFrame). c.seat ≢ k));
+    }
+
+balanced_other : (wire : List CarriedFrame) (j k : ℕ) (q : QueuedFrame) (s : SeatValue) → j ≢ k → IsBalanced wire j s → IsBalanced (wire ++ carried_frame k q ∷ []) j s
+balanced_other wire j k q s n b =
+    let longer = length_push wire (carried_frame k q) in
+    record {
+      ledger = b.ledger;
+      carried =
+          let more = sum_by_push (λ (c : CarriedFrame). cond {A = ℕ} (is_from j c) 1 0) wire (carried_frame k q) in
+          let none : cond {A = ℕ} (is_from j (carried_frame k q)) 1 0 ≡ 0 = (let t : nat_eq k j ≡ false = ne_eqb k j (λ e. n (sym e)) in rw t refl) in
+          let old = b.carried in
+          omega arith;
+      gone = b.gone;
+      heard = let h = b.heard in omega arith;
+      own = subst (λ (l : List CarriedFrame). All (λ c. c.seat ≢ j) l) (sym (drop-append-le s.heard wire (carried_frame k q ∷ []) b.heard))
+          (All-push (λ (c : CarriedFrame). c.seat ≢ j) (drop s.heard wire) (carried_frame k q) b.own (λ e. n (sym e)));
+    }
+
+pub sound_carried : (t : Traffic) (k : ℕ) (q : QueuedFrame) → IsSound t → k < length t.seats → offer t k ≡ Some q → IsSound (carried_from k q t)
+sound_carried t k q s in' o =
+    let says = offer_says (length t.wire) (seat_at t k) q o in
+    let y = sending (seat_at t k) in
+    record {
+      station = elim (same_or_not 0 k) [
+        | inl e ↦ let here : 0 < length t.seats = omega arith in rw (← e, get_or-set_same) s.station
+        | inr n ↦ rw get_or-set_other s.station
+      ];
+      window = s.window;
+      senders = rw (length-set t.seats k y) (All-push (λ (c : CarriedFrame). c.seat < length t.seats) t.wire (carried_frame k q) s.senders in');
+      seats = λ j h.
+          let h' : j < length t.seats = rw (sym (length-set t.seats k y)) h in
+          elim (same_or_not j k) [
+            | inl e ↦ subst (λ (n : ℕ). IsBalanced (t.wire ++ carried_frame k q ∷ []) n (get_or (set t.seats k y) n nobody)) (sym e) (rw get_or-set_same (balanced_sending t.wire k q (seat_at t k) says (s.seats k in')))
+            | inr n ↦ rw get_or-set_other (balanced_other t.wire j k q (seat_at t j) n (s.seats j h'))
+          ];
+    }
+
+-- no frame is from a seat that was not given yet
+count_none : (k : ℕ) (wire : List CarriedFrame) → All (λ c. c.seat < k) wire → count_by (is_from k) wire ≡ 0
+count_none k [] all = refl
+count_none k (c ∷ cs) all =
+    let first : c.seat < k = All-head (λ (c : CarriedFrame). c.seat < k) c cs all in
+    let rest = count_none k cs (All-tail (λ (c : CarriedFrame). c.seat < k) c cs all) in
+    let step = sum_by-cons (λ (c : CarriedFrame). cond {A = ℕ} (is_from k c) 1 0) c cs in
+    let none : cond {A = ℕ} (is_from k c) 1 0 ≡ 0 = (let t : nat_eq c.seat k ≡ false = ne_eqb c.seat k (λ e. omega arith) in rw t refl) in
+    omega arith
+
+balanced_newcomer : (wire : List CarriedFrame) (k name : ℕ) → All (λ c. c.seat < k) wire → IsBalanced wire k (newcomer name (length wire))
+balanced_newcomer wire k name all = record {
+  ledger = refl;
+  carried = sym (count_none k wire all);
+  gone = λ e. refl;
+  heard = omega arith;
+  own = subst (λ (l : List CarriedFrame). All (λ c. c.seat ≢ k) l) (sym (drop_all (length wire) wire (omega arith))) (All-nil (λ (c : CarriedFrame). c.seat ≢ k));
+}
+
+pub live_within : (xs : List SeatValue) (k : ℕ) → (get_or xs k nobody).live ≡ true → k < length xs
+live_within [] k e = absurd cc
+live_within (x ∷ xs) zero e = omega arith
+live_within (x ∷ xs) (suc k) e = let r = live_within xs k e in omega arith
+
+first_stays : (t : Traffic) (name : ℕ) → IsSound t → (seat_at (joined name t) 0).live ≡ true
+first_stays t name s = let h : 0 < length t.seats = live_within t.seats 0 s.station in rw get_or_append_left s.station
+
+pub sound_joined : (t : Traffic) (name : ℕ) → IsSound t → IsSound (joined name t)
+sound_joined t name s =
+    let y = newcomer name (length t.wire) in
+    let longer = length_push t.seats y in
+    record {
+      station = first_stays t name s;
+      window = s.window;
+      senders = All-weaker (λ (c : CarriedFrame). c.seat < length t.seats) (λ (c : CarriedFrame). c.seat < length (t.seats ++ y ∷ [])) (λ c h. omega arith) t.wire s.senders;
+      seats = λ j h. elim (same_or_not j (length t.seats)) [
+        | inl e ↦ let e' : length t.seats ≡ j = sym e in rw get_or_push (subst (λ (n : ℕ). IsBalanced t.wire n y) e' (balanced_newcomer t.wire (length t.seats) name s.senders))
+        | inr n ↦ let h' : j < length t.seats = omega arith in rw get_or_append_left (s.seats j h')
+      ];
+    }

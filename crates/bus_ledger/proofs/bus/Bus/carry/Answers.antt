@@ -1,0 +1,30 @@
+use Rattle.std.proofs.Common.{arith, refl}
+use Rattle.std.proofs.lemmas.Grind.{common_steps}
+use Rattle.std.specs.Vec.{with_item}
+use Rattle.bus_ledger.proofs.Kept.{carry_kept, carry_traffic, next_within, send_waits, send_few}
+use Rattle.bus_ledger.proofs.Seats.{changed_spares}
+use Rattle.bus_ledger.proofs.bus.Bus.carry.Goals as goal
+
+pub send-requires : goal.send-requires
+send-requires c = record {
+  waits = send_waits c.self.inside c.args.self.now c.in-Some.seat c.in-Some.queued c.index_mut-place.result.now c.self.view_is c.in-Some.ensures c.index_mut-place.ensures.value;
+  few = send_few c.self.inside c.args.self.now c.in-Some.seat c.in-Some.queued c.index_mut-place.result.now c.self.view_is c.in-Some.ensures c.index_mut-place.ensures.value c.requires;
+}
+
+pub invariant_of-self-2 : goal.invariant_of-self-2
+invariant_of-self-2 c =
+    carry_kept c.self.inside _ c.args.self.now c.in-Some.seat c.in-Some.queued c.index_mut-place.result.now c.send.new.self c.self.view_is c.self.invariant c.in-Some.ensures c.index_mut-place.ensures.value c.send.ensures.seat
+    (grind (arith, common_steps)) refl refl refl c.requires
+
+pub returns-clause-ok : goal.returns-clause-ok
+returns-clause-ok c = (
+  c.in-Some.queued,
+  c.in-Some.ensures,
+  refl,
+  carry_traffic c.self.inside (record { wire = c.push_reserved.new.self; seats = with_item c.self.inside.seats c.in-Some.seat c.send.new.self; live = c.self.inside.live; window = c.self.inside.window }) c.args.self.now c.in-Some.seat c.in-Some.queued c.index_mut-place.result.now c.send.new.self c.self.view_is
+      (next_within c.args.self.now.traffic c.in-Some.seat c.in-Some.queued c.in-Some.ensures) c.index_mut-place.ensures.value c.send.ensures.seat (grind (arith, common_steps)) refl refl,
+)
+
+pub returns-clause-spares : goal.returns-clause-spares
+returns-clause-spares c =
+    changed_spares c.self.inside c.args.self.now c.in-Some.seat c.index_mut-place.result.now c.send.new.self c.self.view_is (next_within c.args.self.now.traffic c.in-Some.seat c.in-Some.queued c.in-Some.ensures) c.index_mut-place.ensures.value c.send.ensures.spare

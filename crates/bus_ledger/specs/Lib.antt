@@ -1,0 +1,9 @@
+pub mod BusValue
+pub mod Changes
+pub mod Joining
+pub mod Carrying
+pub mod Reception
+pub mod Ledger
+pub mod Refusals
+pub mod Offers
+pub mod Inside

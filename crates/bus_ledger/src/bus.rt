@@ -1,0 +1,312 @@
+ghost use Rattle.std.specs.Prelude.{◌≡◌, not, ◌==◌};
+ghost use Rattle.std.specs.List.{filter};
+ghost use Rattle.bus_ledger.specs.Reception.{passes};
+
+use crate::error::BusError;
+use crate::offers::{best_offer, is_any_waiting, is_name_among};
+use crate::seat::Seat;
+use crate::traffic::{Carried, CarriedFrame, Counts, QueuedFrame, Tag, Which};
+use can_frame::{Frame, Reading};
+use name_field::Name;
+use std::alloc::{AllocFailed, Global};
+use std::marker::Model;
+
+/// How many units may be live beside the station.
+const MOST_UNITS: usize = 64;
+
+/// The wire with all that was carried, the seats with their queues, and the station's window of unread frames.
+#[derive(Drop)]
+pub struct Bus {
+    wire: Vec<CarriedFrame>,
+    seats: Vec<Seat>,
+    // the numbers of the live seats, in order
+    live: Vec<u32>,
+    window: u32,
+}
+
+impl Model for Bus {
+    ghost use Rattle.bus_ledger.specs.BusValue.{BusValue};
+
+    ghost Value = { BusValue };
+
+    ghost use Rattle.bus_ledger.specs.Inside.{view_of, IsKept};
+
+    ghost view = { view_of };
+
+    ghost invariant = { IsKept };
+}
+
+impl Bus {
+    ghost use Rattle.std.specs.Prelude.{◌≡◌, ℕ, ◌<◌, ◌≤◌, ◌≢◌, ◌^◌, ◌+◌, ◌⊎◌, ◌↔◌, length, slice_get, Option, Some, None, IfOk, IfErr, OnOk, OnErr, MatchOption};
+    ghost use Rattle.std.specs.List.{All};
+    ghost use Rattle.std.specs.Option.{option_map};
+    ghost use Rattle.std.specs.Result.{result_err};
+    ghost use Rattle.bus_ledger.specs.BusValue.{IsLive, IsUnit, KeepsSpares, seat_at, spare_at};
+    ghost use Rattle.bus_ledger.specs.Changes.{carried_from, heard_more, joined, kept, left, new_traffic, queued, queued_frame, withdrawn};
+    ghost use Rattle.bus_ledger.specs.Joining.{join_refusal};
+    ghost use Rattle.bus_ledger.specs.Carrying.{Carries, IsChoice, IsNext, offer};
+    ghost use Rattle.bus_ledger.specs.Reception.{after_reading, next_reading, unread};
+    ghost use Rattle.bus_ledger.specs.Ledger.{IsSound, counts_of};
+
+    /// A bus with the station alone, on seat 0, whose window has room for `window` unread frames, 1 to 4,096.
+    ///
+    /// Refused where there is no memory.
+    pub fn new(alloc: Global, station: Name, window: u32) -> Result<Bus, BusError>
+        requires { (0 < window) × (window ≤ 4096) }
+        ensures ok { IfOk result (λ b. b.traffic ≡ new_traffic station window) }
+        ensures err { IfErr result (λ e. e ≡ BusError.OutOfMemory) }
+    {
+        let mut seats = Vec::with_capacity(alloc, 1)?;
+        let mut live = Vec::with_capacity(alloc, 1)?;
+        seats.push_reserved(Seat::new(alloc, station, 0));
+        live.push_reserved(0);
+        Ok(Bus {
+            wire: Vec::new(alloc),
+            seats,
+            live,
+            window,
+        })
+    }
+
+    /// Gives the next seat to a unit of this NAME, and answers its number. All that was carried so far counts as heard.
+    ///
+    /// Refused, in this order, where a live seat has the NAME, where 64 units are live, and where there is no memory.
+    pub fn join(&mut self, name: Name) -> Result<u32, BusError>
+        requires { length self.old.traffic.seats + 1 < 2 ^ 32 }
+        ensures ok { IfOk result (λ k. (k ≡ length self.old.traffic.seats) × (join_refusal name self.old.traffic ≡ None) × (self.new.traffic ≡ joined name self.old.traffic)) }
+        ensures err { IfErr result (λ e. (join_refusal name self.old.traffic ≡ Some e) ⊎ ((join_refusal name self.old.traffic ≡ None) × (e ≡ BusError.OutOfMemory))) }
+        ensures same { OnErr result (self.new.traffic ≡ self.old.traffic) }
+        ensures spares { KeepsSpares self.old self.new }
+    {
+        self.may_join(name)?;
+        self.seats.reserve(1)?;
+        self.live.reserve(1)?;
+        let number = self.seats.len() as u32;
+        let heard = self.wire.len() as u32;
+        let alloc = *self.seats.allocator();
+        self.seats.push_reserved(Seat::new(alloc, name, heard));
+        self.live.push_reserved(number);
+        Ok(number)
+    }
+
+    /// What `join` would answer for this NAME, want of memory aside.
+    pub fn may_join(&self, name: Name) -> Result<(), BusError>
+        ensures { result_err result ≡ join_refusal name self.now.traffic }
+    {
+        if is_name_among(self.seats.as_slice(), self.live.as_slice(), name) {
+            return Err(BusError::NameInUse);
+        }
+        if self.live.len() > MOST_UNITS {
+            return Err(BusError::TooManySeats);
+        }
+        Ok(())
+    }
+
+    /// The next frame that the seat has not heard, if there is one. It came from another seat.
+    pub fn next_for(&self, seat: u32) -> Option<Frame>
+        requires { IsUnit self.now.traffic seat }
+        ensures { result ≡ option_map (λ c. c.frame) (slice_get self.now.traffic.wire (seat_at self.now.traffic seat).heard) }
+    {
+        let heard = self.seats[seat as usize].heard();
+        let next = self.wire.get(heard as usize)?;
+        Some(next.frame)
+    }
+
+    /// The frame that `next_for` gives counts as heard by the seat.
+    pub fn mark_heard(&mut self, seat: u32)
+        requires unit { IsUnit self.old.traffic seat }
+        requires next { (seat_at self.old.traffic seat).heard < length self.old.traffic.wire }
+        ensures traffic { self.new.traffic ≡ heard_more seat 1 self.old.traffic }
+        ensures spares { KeepsSpares self.old self.new }
+    {
+        let place = &mut self.seats[seat as usize];
+        place.hear(1);
+    }
+
+    /// Makes room for `count` more frames in the seat's queue.
+    ///
+    /// Refused where there is no memory for them.
+    pub fn reserve(&mut self, seat: u32, count: usize) -> Result<(), BusError>
+        requires { IsLive self.old.traffic seat }
+        ensures traffic { self.new.traffic ≡ self.old.traffic }
+        ensures ok { OnOk result (count ≤ spare_at self.new seat) }
+        ensures err { IfErr result (λ e. (e ≡ BusError.OutOfMemory) × (spare_at self.old seat < count)) }
+        ensures spares { KeepsSpares self.old self.new }
+    {
+        let place = &mut self.seats[seat as usize];
+        place.reserve(count)
+    }
+
+    /// Puts a frame at the end of the seat's queue. It cannot fail where the seat's spare is at least 1, and lowers the
+    /// spare by at most 1.
+    ///
+    /// Refused where there is no memory; then nothing was queued.
+    pub fn queue(&mut self, seat: u32, frame: Frame, tag: Option<Tag>) -> Result<(), BusError>
+        requires live { IsLive self.old.traffic seat }
+        requires few { (seat_at self.old.traffic seat).queued + 1 < 2 ^ 32 }
+        ensures ok { OnOk result (self.new.traffic ≡ queued seat (queued_frame frame tag) self.old.traffic) }
+        ensures err { IfErr result (λ e. (e ≡ BusError.OutOfMemory) × (spare_at self.old seat ≡ 0) × (self.new.traffic ≡ self.old.traffic)) }
+        ensures spare { spare_at self.old seat ≤ spare_at self.new seat + 1 }
+        ensures spares { (k : ℕ) → k ≢ seat → spare_at self.old k ≤ spare_at self.new k }
+    {
+        let place = &mut self.seats[seat as usize];
+        place.put(QueuedFrame { frame, tag })
+    }
+
+    /// Withdraws frames of the seat's queue, and answers how many: all of them, or those that are part of a session.
+    pub fn withdraw(&mut self, seat: u32, which: Which) -> u32
+        requires { IsLive self.old.traffic seat }
+        ensures traffic { self.new.traffic ≡ withdrawn seat which self.old.traffic }
+        ensures count { result + length (seat_at self.new.traffic seat).queue ≡ length (seat_at self.old.traffic seat).queue }
+        ensures spares { KeepsSpares self.old self.new }
+    {
+        let place = &mut self.seats[seat as usize];
+        place.withdraw(which)
+    }
+
+    /// The seat is given up. Its queued frames are withdrawn; answers how many. Its counts stay readable.
+    pub fn leave(&mut self, seat: u32) -> u32
+        requires { IsUnit self.old.traffic seat }
+        ensures traffic { self.new.traffic ≡ left seat self.old.traffic }
+        ensures count { result ≡ length (seat_at self.old.traffic seat).queue }
+        ensures spares { (k : ℕ) → k ≢ seat → spare_at self.old k ≤ spare_at self.new k }
+    {
+        forget(&mut self.live, seat);
+        let place = &mut self.seats[seat as usize];
+        place.leave()
+    }
+
+    /// Carries one frame: the first frames of the seats that have heard the whole wire compete, and the lowest
+    /// identifier wins, among equal ones the lowest seat. Nothing changes where the answer is `Idle` or `Waiting`.
+    ///
+    /// Refused where there is no memory and a frame could be carried; then nothing changed.
+    pub fn carry(&mut self) -> Result<Carried, BusError>
+        requires { length self.old.traffic.wire + 1 < 2 ^ 32 }
+        ensures ok { IfOk result (λ a. Carries self.old.traffic a self.new.traffic) }
+        ensures err { IfErr result (λ e. (e ≡ BusError.OutOfMemory) × (self.new.traffic ≡ self.old.traffic)) }
+        ensures spares { KeepsSpares self.old self.new }
+    {
+        let Some((seat, queued)) = self.next_sender() else {
+            return Ok(self.without_sender());
+        };
+        self.wire.reserve(1)?;
+        self.wire.push_reserved(CarriedFrame {
+            seat,
+            frame: queued.frame,
+            tag: queued.tag,
+        });
+        let place = &mut self.seats[seat as usize];
+        place.send();
+        Ok(Carried::Frame {
+            seat,
+            frame: queued.frame,
+        })
+    }
+
+    /// What `carry` would answer, want of memory aside.
+    pub fn carry_peek(&self) -> Carried
+        ensures { IsChoice self.now.traffic result }
+    {
+        match self.next_sender() {
+            Some((seat, queued)) => Carried::Frame {
+                seat,
+                frame: queued.frame,
+            },
+            None => self.without_sender(),
+        }
+    }
+
+    /// The seat that carries next, and its frame.
+    fn next_sender(&self) -> Option<(u32, QueuedFrame)>
+        ensures { MatchOption result ((k : ℕ) → offer self.now.traffic k ≡ None) (λ b. IsNext self.now.traffic b.0 b.1) }
+    {
+        let wire_len = self.wire.len() as u32;
+        best_offer(self.seats.as_slice(), self.live.as_slice(), wire_len)
+    }
+
+    /// What a carry answers where no seat carries.
+    fn without_sender(&self) -> Carried
+        requires { (k : ℕ) → offer self.now.traffic k ≡ None }
+        ensures choice { IsChoice self.now.traffic result }
+        ensures stays { Carries self.now.traffic result self.now.traffic }
+    {
+        if is_any_waiting(self.seats.as_slice(), self.live.as_slice()) {
+            Carried::Waiting
+        } else {
+            Carried::Idle
+        }
+    }
+
+    /// The station's next reading, which stays: a gap where more frames are unread than the window has room for, else
+    /// the oldest unread frame, or that there is none. The station's own frames are no readings.
+    pub fn tap_peek(&self) -> Reading
+        ensures reading { result ≡ next_reading self.now.traffic }
+        ensures others { All (λ c. c.seat ≢ 0) (unread self.now.traffic) }
+    {
+        let heard = self.seats[0].heard();
+        let unread = self.wire.len() as u32 - heard;
+        if unread > self.window {
+            return Reading::Gap(unread - self.window);
+        }
+        match self.wire.get(heard as usize) {
+            Some(carried) => Reading::Frame(carried.frame),
+            None => Reading::Empty,
+        }
+    }
+
+    /// Takes the station's next reading. The frames of a gap are passed over.
+    pub fn tap_next(&mut self) -> Reading
+        ensures reading { result ≡ next_reading self.old.traffic }
+        ensures others { All (λ c. c.seat ≢ 0) (unread self.old.traffic) }
+        ensures traffic { self.new.traffic ≡ after_reading result self.old.traffic }
+        ensures spares { KeepsSpares self.old self.new }
+    {
+        let reading = self.tap_peek();
+        let passed = frames_of(&reading);
+        let place = &mut self.seats[0];
+        place.hear(passed);
+        reading
+    }
+
+    /// What became of the frames that a seat queued; nothing where the seat was never given.
+    pub fn counts(&self, seat: u32) -> Option<Counts>
+        ensures { result ≡ option_map counts_of (slice_get self.now.traffic.seats seat) }
+    {
+        let place = self.seats.get(seat as usize)?;
+        Some(place.counts())
+    }
+
+    /// How many frames were carried.
+    pub fn wire_len(&self) -> u32
+        ensures len { result ≡ length self.now.traffic.wire }
+        ensures sound { IsSound self.now.traffic }
+    {
+        self.wire.len() as u32
+    }
+
+    /// The i-th frame carried, counted from 0.
+    pub fn wire_frame(&self, i: u32) -> Option<Frame>
+        ensures { result ≡ option_map (λ c. c.frame) (slice_get self.now.traffic.wire i) }
+    {
+        let carried = self.wire.get(i as usize)?;
+        Some(carried.frame)
+    }
+}
+
+/// Takes a number out of those that are live.
+fn forget(live: &mut Vec<u32>, seat: u32)
+    ensures { live.new.items ≡ filter (λ n. not (n == seat)) live.old.items }
+{
+    live.retain(|number| *number != seat);
+}
+
+/// How many frames a reading passes over.
+fn frames_of(reading: &Reading) -> u32
+    ensures { result ≡ passes reading.now }
+{
+    match reading {
+        Reading::Frame(_) => 1,
+        Reading::Gap(count) => *count,
+        Reading::Empty => 0,
+    }
+}

@@ -1,0 +1,178 @@
+ghost use Rattle.std.specs.Prelude.{◌≡◌, ℕ, ◌+◌, ◌-◌, ◌<◌, ◌≤◌, ◌^◌, true, drop, length, nat_lt, OnOk, IfErr};
+ghost use Rattle.bus_ledger.specs.Changes.{newcomer, hearing, queueing, kept, withdrawing, leaving, sending};
+ghost use Rattle.bus_ledger.specs.Carrying.{offered};
+ghost use Rattle.bus_ledger.specs.Ledger.{counts_of};
+ghost use Rattle.bus_ledger.specs.declared.traffic.Which.TheVariants.{Session};
+ghost use Rattle.std.specs.VecDeque.{deque_capacity, deque_len};
+
+use crate::error::BusError;
+use crate::traffic::{Counts, QueuedFrame, Which};
+use name_field::Name;
+use std::alloc::Global;
+use std::collections::VecDeque;
+use std::marker::Model;
+
+/// A place on the bus.
+#[derive(Drop)]
+pub(crate) struct Seat {
+    name: Name,
+    live: bool,
+    heard: u32,
+    queued: u32,
+    carried: u32,
+    withdrawn: u32,
+    queue: VecDeque<QueuedFrame>,
+}
+
+impl Model for Seat {
+    ghost use Rattle.std.specs.Prelude.{◌≡◌, ◌+◌, ◌-◌, ◌<◌, ◌^◌};
+    ghost use Rattle.std.specs.VecDeque.{deque_capacity, deque_len};
+    ghost use Rattle.bus_ledger.specs.BusValue.{SeatBook};
+
+    ghost Value = { SeatBook };
+
+    ghost view = { λ s. record {
+      seat = record { name = s.name; live = s.live; heard = s.heard; queue = s.queue.items; queued = s.queued; carried = s.carried; withdrawn = s.withdrawn };
+      spare = deque_capacity s.queue - deque_len s.queue;
+    } };
+
+    ghost invariant = { λ s. (s.queued ≡ s.carried + s.withdrawn + deque_len s.queue) × (s.queued < 2 ^ 32) };
+}
+
+impl Seat {
+    /// A seat that has heard this much of the wire.
+    pub(crate) fn new(alloc: Global, name: Name, heard: u32) -> Seat
+        ensures { result.seat ≡ newcomer name heard }
+    {
+        Seat {
+            name,
+            live: true,
+            heard,
+            queued: 0,
+            carried: 0,
+            withdrawn: 0,
+            queue: VecDeque::new(alloc),
+        }
+    }
+
+    pub(crate) fn name(&self) -> Name
+        ensures { result ≡ self.now.seat.name }
+    {
+        self.name
+    }
+
+    /// How many frames of the wire it has heard.
+    pub(crate) fn heard(&self) -> u32
+        ensures { result ≡ self.now.seat.heard }
+    {
+        self.heard
+    }
+
+    pub(crate) fn is_waiting(&self) -> bool
+        ensures { result ≡ nat_lt 0 (length self.now.seat.queue) }
+    {
+        !self.queue.is_empty()
+    }
+
+    /// The first of its queue, once it has heard the whole wire.
+    pub(crate) fn offered(&self, wire_len: u32) -> Option<QueuedFrame>
+        ensures { result ≡ offered wire_len self.now.seat }
+    {
+        if self.live && self.heard == wire_len {
+            self.queue.front().copied()
+        } else {
+            None
+        }
+    }
+
+    pub(crate) fn counts(&self) -> Counts
+        ensures { result ≡ counts_of self.now.seat }
+    {
+        Counts {
+            queued: self.queued,
+            carried: self.carried,
+            withdrawn: self.withdrawn,
+            waiting: self.queue.len() as u32,
+        }
+    }
+
+    /// So many frames more count as heard.
+    pub(crate) fn hear(&mut self, frames: u32)
+        requires { self.old.seat.heard + frames < 2 ^ 32 }
+        ensures seat { self.new.seat ≡ hearing frames self.old.seat }
+        ensures spare { self.new.spare ≡ self.old.spare }
+    {
+        self.heard += frames;
+    }
+
+    /// Makes the spare at least `count`.
+    pub(crate) fn reserve(&mut self, count: usize) -> Result<(), BusError>
+        ensures seat { self.new.seat ≡ self.old.seat }
+        ensures grows { self.old.spare ≤ self.new.spare }
+        ensures ok { OnOk result (count ≤ self.new.spare) }
+        ensures err { IfErr result (λ e. (e ≡ BusError.OutOfMemory) × (self.old.spare < count)) }
+    {
+        self.queue.reserve(count)?;
+        Ok(())
+    }
+
+    /// Puts a frame at the end of the queue.
+    pub(crate) fn put(&mut self, queued: QueuedFrame) -> Result<(), BusError>
+        requires { self.old.seat.queued + 1 < 2 ^ 32 }
+        ensures ok { OnOk result (self.new.seat ≡ queueing queued self.old.seat) }
+        ensures spare { self.old.spare ≤ self.new.spare + 1 }
+        ensures err { IfErr result (λ e. (e ≡ BusError.OutOfMemory) × (self.old.spare ≡ 0) × (self.new.seat ≡ self.old.seat)) }
+    {
+        self.queue.push_back(queued)?;
+        self.queued += 1;
+        Ok(())
+    }
+
+    /// Withdraws frames of the queue, and says how many.
+    pub(crate) fn withdraw(&mut self, which: Which) -> u32
+        ensures seat { self.new.seat ≡ withdrawing which self.old.seat }
+        ensures spare { self.old.spare ≤ self.new.spare }
+        ensures count { result + length self.new.seat.queue ≡ length self.old.seat.queue }
+    {
+        let before = self.queue.len();
+        match which {
+            Which::Session => keep_single(&mut self.queue),
+            Which::All => self.queue.clear(),
+        }
+        let count = (before - self.queue.len()) as u32;
+        self.withdrawn += count;
+        count
+    }
+
+    /// The seat is given up, and its queue withdrawn; says how many frames.
+    pub(crate) fn leave(&mut self) -> u32
+        ensures seat { self.new.seat ≡ leaving self.old.seat }
+        ensures count { result ≡ length self.old.seat.queue }
+    {
+        let count = self.withdraw(Which::All);
+        self.queue.shrink_to_fit();
+        self.live = false;
+        count
+    }
+
+    /// The first of the queue is carried.
+    pub(crate) fn send(&mut self)
+        requires waits { 0 < length self.old.seat.queue }
+        requires few { self.old.seat.heard + 1 < 2 ^ 32 }
+        ensures seat { self.new.seat ≡ sending self.old.seat }
+        ensures spare { self.old.spare ≤ self.new.spare }
+    {
+        let _ = self.queue.pop_front();
+        self.carried += 1;
+        self.heard += 1;
+    }
+}
+
+/// Takes the frames that are part of a session out of a queue.
+fn keep_single(queue: &mut VecDeque<QueuedFrame>)
+    ensures items { queue.new.items ≡ kept Session queue.old.items }
+    ensures capacity { deque_capacity queue.new ≡ deque_capacity queue.old }
+    ensures bound { deque_len queue.new ≤ deque_len queue.old }
+{
+    queue.retain(|queued| !queued.is_in_session());
+}

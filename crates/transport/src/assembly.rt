@@ -33,7 +33,7 @@ impl Model for Assembly {
 }
 
 impl Assembly {
-    ghost use Rattle.transport.specs.Assembling.{new_assembly, after_part, took_of};
+    ghost use Rattle.transport.specs.Assembling.{new_assembly, after_part, with_part, took_of};
 
     /// A message of this size, 9 to 1,785 bytes, of which nothing was taken yet. It takes all the memory that it will need.
     pub fn start(alloc: Global, size: u16, pgn: Pgn) -> Result<Assembly, AllocError>
@@ -71,6 +71,36 @@ impl Assembly {
         } else {
             Took::More
         }
+    }
+
+    /// What `take` would answer to a packet; it changes nothing.
+    pub fn answer(&self, part: &[u8]) -> Took
+        ensures { result ≡ took_of self.now.size (with_part self.now.size self.now.taken part.now) }
+    {
+        let taken = self.bytes.len() / 7;
+        let count = usize::from(packets(self.size));
+        if self.broken || !is_next(part, taken, count) {
+            return Took::Broken;
+        }
+        if taken + 1 == count {
+            Took::Whole
+        } else {
+            Took::More
+        }
+    }
+
+    /// The same message with the same packets taken, in memory of its own.
+    pub fn copy(&self, alloc: Global) -> Result<Assembly, AllocError>
+        ensures { IfOk result (λ a. a ≡ self.now) }
+    {
+        let mut bytes = Vec::with_capacity(alloc, 7 * usize::from(packets(self.size)))?;
+        bytes.extend_from_slice(&self.bytes)?;
+        Ok(Assembly {
+            size: self.size,
+            pgn: self.pgn,
+            bytes,
+            broken: self.broken,
+        })
     }
 
     /// The group of the message.

@@ -9,13 +9,13 @@ use Rattle.dm_messages.specs.declared.kind.Kind.{Kind}
 use Rattle.dm_messages.specs.declared.kind.Kind.TheVariants.{Dm1, Dm2}
 
 pub data Group : Type 0 where
-  AddressClaimed : (source name : ℕ) → Group                                    -- from 0 to 253
-  CannotClaim : (name : ℕ) → Group                                              -- the same from 254
+  AddressClaimed : (source name : ℕ) → Group  -- from 0 to 253
+  CannotClaim : (name : ℕ) → Group  -- the same from 254
   Request : (pgn destination source : ℕ) → Group
   Acknowledgment : (control requester pgn destination source : ℕ) → Group
-  Diagnostic : (kind : Kind) (source : ℕ) (bytes : List ℕ) → Group              -- DM1 or DM2 in one frame
-  ConnectionManagement : (source destination : ℕ) (control : Control) → Group   -- TP.CM that can be read
-  DataTransfer : (source destination : ℕ) (bytes : List ℕ) → Group              -- TP.DT
+  Diagnostic : (kind : Kind) (source : ℕ) (bytes : List ℕ) → Group  -- DM1 or DM2 in one frame
+  ConnectionManagement : (source destination : ℕ) (control : Control) → Group  -- TP.CM that can be read
+  DataTransfer : (source destination : ℕ) (bytes : List ℕ) → Group  -- TP.DT
   Other : Group
 
 -- the number in three bytes from a place on, lowest first

@@ -1,0 +1,14 @@
+use Rattle.std.specs.Prelude.{ℕ, ◌<◌, List}
+use Rattle.std.specs.Str.Parse.{IsNumeral, digits_value}
+
+-- a word of decimal digits alone
+abbrev pub IsDecimal : List ℕ → Type 0
+IsDecimal word = IsNumeral 10 word
+
+-- the number that decimal digits spell
+abbrev pub decimal_value : List ℕ → ℕ
+decimal_value word = digits_value 10 word
+
+-- a word of decimal digits whose number is below a limit
+abbrev pub IsNumberBelow : ℕ → List ℕ → Type 0
+IsNumberBelow limit word = IsDecimal word × (decimal_value word < limit)

@@ -1,0 +1,154 @@
+use can_frame::{Pgn, PgnTooLarge};
+use name_field::{Name, NameError};
+use trouble_code::Lamps;
+
+/// A NAME as a word spells it: sixteen hexadecimal digits of either case, or none.
+pub type NameWord = Result<Name, NameError>;
+
+/// What a unit is like.
+#[derive(Clone, Copy, Debug, PartialEq, Eq)]
+pub enum UnitKind {
+    /// `plain`: it clears, obeys commands and wants to tell of its active codes.
+    Plain,
+    /// `guarded`: it neither clears nor obeys, and wants to tell nothing.
+    Guarded,
+    /// `flicker SPN FMI`: a plain unit whose code comes and goes as it thinks.
+    Flicker { spn: u32, fmi: u8 },
+}
+
+/// Which messages of a unit are shown.
+#[derive(Clone, Copy, Debug, PartialEq, Eq)]
+pub enum Kind {
+    /// `dm1`: active codes.
+    Dm1,
+    /// `dm2`: previously active codes.
+    Dm2,
+}
+
+/// Who is asked.
+#[derive(Clone, Copy, Debug, PartialEq, Eq)]
+pub enum Receiver {
+    /// `all`.
+    All,
+    /// The unit of a NAME.
+    Unit { name: NameWord },
+}
+
+/// What is asked for.
+#[derive(Clone, Copy, Debug, PartialEq, Eq)]
+pub enum Asked {
+    /// `dm1`: active codes.
+    Dm1,
+    /// `dm2`: previously active codes.
+    Dm2,
+    /// `dm3`: that the previously active codes be cleared.
+    Dm3,
+    /// `dm11`: that the active codes be cleared.
+    Dm11,
+    /// `claim`: the address claim.
+    Claim,
+    /// The number of a parameter group, or one too large to be any's.
+    Other { pgn: Result<Pgn, PgnTooLarge> },
+}
+
+/// A command of a script.
+#[derive(Clone, Copy, Debug, PartialEq, Eq)]
+pub enum Command {
+    /// `garage NAME ADDRESS WINDOW GRANT LIMIT`
+    Garage {
+        name: NameWord,
+        address: u8,
+        window: u32,
+        grant: u8,
+        limit: u32,
+    },
+    /// `join NAME ADDRESS KIND`
+    Join {
+        name: NameWord,
+        address: u8,
+        kind: UnitKind,
+    },
+    /// `set SEAT SPN FMI [N]`: the N codes from SPN on.
+    Set {
+        seat: u32,
+        spn: u32,
+        fmi: u8,
+        count: u32,
+    },
+    /// `heal SEAT SPN FMI [N]`: the N codes from SPN on.
+    Heal {
+        seat: u32,
+        spn: u32,
+        fmi: u8,
+        count: u32,
+    },
+    /// `lamps SEAT HHHH`: the lamps' byte and the flash codes' byte.
+    Lamps {
+        seat: u32,
+        lamps: Lamps,
+    },
+    /// `think SEAT`
+    Think {
+        seat: u32,
+    },
+    /// `turn SEAT`
+    Turn {
+        seat: u32,
+    },
+    /// `leave SEAT`
+    Leave {
+        seat: u32,
+    },
+    /// `hear SEAT [N]`: at most N frames.
+    Hear {
+        seat: u32,
+        most: u32,
+    },
+    /// `dm1 SEAT`
+    Dm1 {
+        seat: u32,
+    },
+    /// `carry [N]`: at most N frames.
+    Carry {
+        most: u32,
+    },
+    /// `read [N]`: at most N readings.
+    Read {
+        most: u32,
+    },
+    /// `round N`
+    Round {
+        count: u32,
+    },
+    /// `ask NAME WHAT`, `ask all WHAT`
+    Ask {
+        receiver: Receiver,
+        asked: Asked,
+    },
+    /// `command NAME ADDRESS`
+    Command {
+        name: NameWord,
+        address: u8,
+    },
+    /// `shown NAME dm1`, `shown NAME dm2`
+    Shown {
+        name: NameWord,
+        kind: Kind,
+    },
+    /// `row NAME`
+    Row {
+        name: NameWord,
+    },
+    /// `counts SEAT`
+    Counts {
+        seat: u32,
+    },
+    /// `stats`
+    Stats,
+    /// `frame I`: the frame of that number on the wire, from 0.
+    Frame {
+        index: u32,
+    },
+    /// `report`
+    Report,
+}

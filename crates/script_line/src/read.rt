@@ -1,0 +1,180 @@
+ghost use Rattle.std.specs.Prelude.{◌↔◌, IsTrue};
+ghost use Rattle.script_line.specs.Line.{IsSilent};
+
+use crate::command::{Asked, Command, Kind, NameWord, Receiver, UnitKind};
+use crate::numbers::{read_lamps, read_number, read_small_number};
+use crate::words::Words;
+use can_frame::Pgn;
+use name_field::Name;
+
+/// Whether a line has no answer: it is empty, or begins with `#`.
+pub fn is_silent(line: &str) -> bool
+    ensures { IsTrue result ↔ IsSilent line.now }
+{
+    match line.as_bytes().first() {
+        None => true,
+        Some(first) => *first == b'#',
+    }
+}
+
+/// The command that a line spells, or `None`: an unknown word, a missing or an extra one, or a number out of its range.
+pub fn read_command(line: &str) -> Option<Command> {
+    let mut words = Words::of(line);
+    let command = read_words(&mut words)?;
+    match words.next_word() {
+        None => Some(command),
+        Some(_) => None,
+    }
+}
+
+fn read_words(words: &mut Words<'_>) -> Option<Command> {
+    match words.next_word()? {
+        "garage" => read_garage(words),
+        "join" => read_join(words),
+        "ask" => read_ask(words),
+        "shown" => read_shown(words),
+        "command" => Some(Command::Command {
+            name: next_name(words)?,
+            address: next_small_number(words)?,
+        }),
+        "row" => Some(Command::Row {
+            name: next_name(words)?,
+        }),
+        "stats" => Some(Command::Stats),
+        "report" => Some(Command::Report),
+        "frame" => Some(Command::Frame {
+            index: next_number(words)?,
+        }),
+        "round" => Some(Command::Round {
+            count: next_number(words)?,
+        }),
+        "carry" => Some(Command::Carry {
+            most: next_count(words)?,
+        }),
+        "read" => Some(Command::Read {
+            most: next_count(words)?,
+        }),
+        keyword => read_of_seat(keyword, words),
+    }
+}
+
+/// The commands of one seat, whose number is the next word.
+fn read_of_seat(keyword: &str, words: &mut Words<'_>) -> Option<Command> {
+    let seat = next_number(words)?;
+    match keyword {
+        "set" => read_set(seat, words),
+        "heal" => read_heal(seat, words),
+        "lamps" => Some(Command::Lamps {
+            seat,
+            lamps: read_lamps(words.next_word()?)?,
+        }),
+        "think" => Some(Command::Think { seat }),
+        "turn" => Some(Command::Turn { seat }),
+        "leave" => Some(Command::Leave { seat }),
+        "dm1" => Some(Command::Dm1 { seat }),
+        "counts" => Some(Command::Counts { seat }),
+        "hear" => Some(Command::Hear {
+            seat,
+            most: next_count(words)?,
+        }),
+        _ => None,
+    }
+}
+
+fn read_garage(words: &mut Words<'_>) -> Option<Command> {
+    Some(Command::Garage {
+        name: next_name(words)?,
+        address: next_small_number(words)?,
+        window: next_number(words)?,
+        grant: next_small_number(words)?,
+        limit: next_number(words)?,
+    })
+}
+
+fn read_join(words: &mut Words<'_>) -> Option<Command> {
+    Some(Command::Join {
+        name: next_name(words)?,
+        address: next_small_number(words)?,
+        kind: next_unit_kind(words)?,
+    })
+}
+
+fn read_set(seat: u32, words: &mut Words<'_>) -> Option<Command> {
+    Some(Command::Set {
+        seat,
+        spn: next_number(words)?,
+        fmi: next_small_number(words)?,
+        count: next_count(words)?,
+    })
+}
+
+fn read_heal(seat: u32, words: &mut Words<'_>) -> Option<Command> {
+    Some(Command::Heal {
+        seat,
+        spn: next_number(words)?,
+        fmi: next_small_number(words)?,
+        count: next_count(words)?,
+    })
+}
+
+fn read_ask(words: &mut Words<'_>) -> Option<Command> {
+    let receiver = match words.next_word()? {
+        "all" => Receiver::All,
+        name => Receiver::Unit {
+            name: Name::read_hex(name),
+        },
+    };
+    let asked = match words.next_word()? {
+        "dm1" => Asked::Dm1,
+        "dm2" => Asked::Dm2,
+        "dm3" => Asked::Dm3,
+        "dm11" => Asked::Dm11,
+        "claim" => Asked::Claim,
+        number => Asked::Other {
+            pgn: Pgn::new(read_number(number)?),
+        },
+    };
+    Some(Command::Ask { receiver, asked })
+}
+
+fn read_shown(words: &mut Words<'_>) -> Option<Command> {
+    let name = next_name(words)?;
+    let kind = match words.next_word()? {
+        "dm1" => Kind::Dm1,
+        "dm2" => Kind::Dm2,
+        _ => return None,
+    };
+    Some(Command::Shown { name, kind })
+}
+
+fn next_unit_kind(words: &mut Words<'_>) -> Option<UnitKind> {
+    match words.next_word()? {
+        "plain" => Some(UnitKind::Plain),
+        "guarded" => Some(UnitKind::Guarded),
+        "flicker" => Some(UnitKind::Flicker {
+            spn: next_number(words)?,
+            fmi: next_small_number(words)?,
+        }),
+        _ => None,
+    }
+}
+
+fn next_name(words: &mut Words<'_>) -> Option<NameWord> {
+    Some(Name::read_hex(words.next_word()?))
+}
+
+fn next_number(words: &mut Words<'_>) -> Option<u32> {
+    read_number(words.next_word()?)
+}
+
+fn next_small_number(words: &mut Words<'_>) -> Option<u8> {
+    read_small_number(words.next_word()?)
+}
+
+/// A number that may be left out, and is then 1.
+fn next_count(words: &mut Words<'_>) -> Option<u32> {
+    match words.next_word() {
+        None => Some(1),
+        Some(word) => read_number(word),
+    }
+}

@@ -1,0 +1,177 @@
+use crate::{Asked, Command, Kind, NameWord, Receiver, UnitKind, is_silent, read_command};
+use can_frame::{Pgn, PgnTooLarge};
+use name_field::{Name, NameError};
+use std::process::Abort;
+use trouble_code::Lamps;
+
+#[test]
+fn silent_lines(rt: HostRuntime) {
+    for (line, silent) in [
+        ("", true),
+        ("#", true),
+        ("# a comment", true),
+        (" ", false),
+        (" # a word", false),
+        ("stats", false),
+    ] {
+        assert_eq!(rt; is_silent(line), silent, "{line}");
+    }
+}
+
+fn name() -> NameWord {
+    Ok(Name::from_number(0xA0))
+}
+
+fn reads(rt: &impl Abort, line: &str, wanted: Command) {
+    assert_eq!(rt; read_command(line), Some(wanted), "{line}");
+}
+
+#[test]
+fn commands_of_the_bus(rt: HostRuntime) {
+    reads(
+        &rt,
+        "garage 00000000000000a0 249 64 16 100000",
+        Command::Garage {
+            name: name(),
+            address: 249,
+            window: 64,
+            grant: 16,
+            limit: 100_000,
+        },
+    );
+    reads(
+        &rt,
+        "  join 00000000000000A0   010 plain  ",
+        Command::Join {
+            name: name(),
+            address: 10,
+            kind: UnitKind::Plain,
+        },
+    );
+    reads(
+        &rt,
+        "join XY 0 flicker 524288 32",
+        Command::Join {
+            name: Err(NameError::BadName),
+            address: 0,
+            kind: UnitKind::Flicker {
+                spn: 524_288,
+                fmi: 32,
+            },
+        },
+    );
+    reads(&rt, "carry 0", Command::Carry { most: 0 });
+    reads(&rt, "read", Command::Read { most: 1 });
+    reads(&rt, "round 4294967295", Command::Round { count: u32::MAX });
+    reads(
+        &rt,
+        "ask all 65259",
+        Command::Ask {
+            receiver: Receiver::All,
+            asked: Asked::Other {
+                pgn: Pgn::new(65259),
+            },
+        },
+    );
+    reads(
+        &rt,
+        "ask 01 16777216",
+        Command::Ask {
+            receiver: Receiver::Unit {
+                name: Err(NameError::BadName),
+            },
+            asked: Asked::Other {
+                pgn: Err(PgnTooLarge),
+            },
+        },
+    );
+}
+
+#[test]
+fn commands_of_a_seat(rt: HostRuntime) {
+    reads(
+        &rt,
+        "set 1 100 1",
+        Command::Set {
+            seat: 1,
+            spn: 100,
+            fmi: 1,
+            count: 1,
+        },
+    );
+    reads(
+        &rt,
+        "heal 1 100 1 445",
+        Command::Heal {
+            seat: 1,
+            spn: 100,
+            fmi: 1,
+            count: 445,
+        },
+    );
+    reads(
+        &rt,
+        "lamps 1 04fF",
+        Command::Lamps {
+            seat: 1,
+            lamps: Lamps::from_bytes(0x04, 0xFF),
+        },
+    );
+    reads(&rt, "hear 2", Command::Hear { seat: 2, most: 1 });
+    reads(&rt, "counts 0", Command::Counts { seat: 0 });
+}
+
+#[test]
+fn queries(rt: HostRuntime) {
+    reads(
+        &rt,
+        "shown 00000000000000A0 dm2",
+        Command::Shown {
+            name: name(),
+            kind: Kind::Dm2,
+        },
+    );
+    reads(&rt, "stats", Command::Stats);
+    reads(&rt, "frame 2", Command::Frame { index: 2 });
+}
+
+#[test]
+fn bad_lines(rt: HostRuntime) {
+    for line in [
+        "",
+        "   ",
+        " # no",
+        "fly",
+        "Stats",
+        "stats now",
+        "stats\t",
+        "stats\r",
+        "garage 01 249 64 16",
+        "garage 01 256 64 16 100",
+        "join 01 0",
+        "join 01 0 plain 3",
+        "join 01 0 Plain",
+        "join 01 0 flicker 100",
+        "set 1 100",
+        "set 1 100 256",
+        "set +1 100 1",
+        "set 1 -100 1",
+        "set 1 4294967296 1",
+        "set 1 100 1 1 1",
+        "lamps 1 04F",
+        "lamps 1 04FF0",
+        "lamps 1 +4FF",
+        "round",
+        "hear",
+        "ask dm1",
+        "ask all dm4x",
+        "ask all 4294967296",
+        "shown 00000000000000A0",
+        "shown 00000000000000A0 claim",
+        "command 00000000000000A0 256",
+        "frame",
+        "frame 1 2",
+    ] {
+        assert_eq!(rt; read_command(line), None, "{line}");
+    }
+}

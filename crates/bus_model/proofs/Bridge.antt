@@ -19,9 +19,9 @@ use Rattle.dm_messages.specs.declared.kind.Kind.TheVariants.{Dm1, Dm2}
 use Rattle.name_field.specs.Fields.{arbitrary_capable_of}
 use Rattle.parameter_group.specs.Group.{AddressClaimed, CannotClaim, ConnectionManagement, DataTransfer, Diagnostic, Group, group_by, group_of}
 use Rattle.transport.specs.Assembling.{is_next}
-use Rattle.transport.specs.ControlMessage.{control_bytes, control_of, is_message_size}
+use Rattle.transport.specs.ControlMessage.{control_bytes, control_of}
 use Rattle.transport.specs.Messages.{control_frame, packet_frame}
-use Rattle.transport.specs.Pieces.{joined, packet, packet_count, pieces}
+use Rattle.transport.specs.Pieces.{is_message_size, joined, packet, packet_count, pieces}
 use Rattle.transport.specs.declared.control.Control.{Control}
 use Rattle.transport.specs.declared.control.Control.TheVariants.{Bam, Rts}
 use Rattle.bus_model.specs.Heard.{Settings, address_heard, claimer_after, claimer_heard, is_contest, kind_of}

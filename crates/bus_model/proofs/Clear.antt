@@ -2,14 +2,14 @@
 use Rattle.std.proofs.Common.{◌≡◌, ◌≢◌, ℕ, suc, zero, ◌≤◌, Bool, true, false, ◌==◌, List, [], ◌∷◌, ◌++◌, Option, Some, None, if◌then◌else◌, sym, refl, ap, ◌∙◌, subst, inl, inr, arith, append_assoc}
 use Rattle.bus_model.specs.ClearPath.{IsOnClearPath, IsReceived, NoClaim, NoneMissed}
 use Rattle.bus_model.specs.Expected.{Missed, Own, Received, Reception, is_anchored, is_claim, is_clear, is_part, is_unbroken, passed}
-use Rattle.bus_model.specs.Messages.{Message, last_part_of}
+use Rattle.bus_model.specs.Messages.{IsAmong, Message, last_part_of}
 use Rattle.bus_model.specs.Order.{IsBefore}
 use Rattle.bus_model.specs.Traffic.{Item, Tag, says}
 use Rattle.bus_model.proofs.Lawful.{Follows, Lawful, is_of, last_of, tag_of}
 use Rattle.bus_model.proofs.Lookback.{EachTag, Every, HasTag, and_parts, every_rest, lawful_rest, pick_cases, same_kind_self, same_test, true_test}
 use Rattle.bus_model.proofs.Order.{all_before}
 use Rattle.bus_model.proofs.Path.{Marked, later_part, same_message}
-use Rattle.bus_model.proofs.Units.{IsBooked, IsIn, Numbered}
+use Rattle.bus_model.proofs.Units.{IsBooked, Numbered}
 
 pub record Anchor (a : ℕ) (path : List Reception) : Type 0 where
   pub lower : List Reception
@@ -72,7 +72,7 @@ follows_back m j (Some s) f = elim f [ inl w ↦ cc w.1 | inr w ↦ (let p : s.p
     both s a b = (let f : Message → ℕ → Tag = λ x y. tag_of x y in let g : f s.message s.part ≡ f m j = cc in g)
 
 -- back from a part on an unbroken path each earlier part was read
-pub parts_back : (st : ℕ) (begun : List Message) (m : Message) (j i : ℕ) (path : List Reception) → Numbered begun → IsIn m begun → Lawful st (passed path) → Marked st path → Every (IsBooked begun) (passed path) → last_of m.name m.kind (passed path) ≡ Some (tag_of m j) → is_unbroken m path ≡ true → i ≤ j → IsReceived m i path
+pub parts_back : (st : ℕ) (begun : List Message) (m : Message) (j i : ℕ) (path : List Reception) → Numbered begun → IsAmong m begun → Lawful st (passed path) → Marked st path → Every (IsBooked begun) (passed path) → last_of m.name m.kind (passed path) ≡ Some (tag_of m j) → is_unbroken m path ≡ true → i ≤ j → IsReceived m i path
 parts_back st begun m j i [] num isin law mk booked l u le = cc
 parts_back st begun m j i (Missed es ∷ path) num isin law mk booked l u le = cc
 parts_back st begun m j i (Own e ∷ path) num isin law mk booked l u le =
@@ -121,7 +121,7 @@ later_clear m x path h = record {
   upper_whole = h.upper_whole; lower_whole = h.lower_whole; latest = h.latest;
 }
 
-pub part_is : (begun : List Message) (m : Message) (j : ℕ) (o : Option Tag) → Numbered begun → IsIn m begun → ((t : Tag) → o ≡ Some t → IsIn t.message begun) → is_part m j o ≡ true → o ≡ Some (tag_of m j)
+pub part_is : (begun : List Message) (m : Message) (j : ℕ) (o : Option Tag) → Numbered begun → IsAmong m begun → ((t : Tag) → o ≡ Some t → IsAmong t.message begun) → is_part m j o ≡ true → o ≡ Some (tag_of m j)
 part_is begun m j None num isin b h = cc
 part_is begun m j (Some t) num isin b h =
     let q = and_parts (t.message.number == m.number) (t.part == j) h in
@@ -131,7 +131,7 @@ part_is begun m j (Some t) num isin b h =
     ap Some g
 
 -- the walk back finds a clear path
-pub clear_is : (st : ℕ) (begun : List Message) (m : Message) (path : List Reception) → Numbered begun → IsIn m begun → Lawful st (passed path) → Marked st path → Every (IsBooked begun) (passed path) → is_clear m path ≡ true → IsOnClearPath m path
+pub clear_is : (st : ℕ) (begun : List Message) (m : Message) (path : List Reception) → Numbered begun → IsAmong m begun → Lawful st (passed path) → Marked st path → Every (IsBooked begun) (passed path) → is_clear m path ≡ true → IsOnClearPath m path
 clear_is st begun m [] num isin law mk booked h = cc
 clear_is st begun m (Missed es ∷ path) num isin law mk booked h =
     later_clear m (Missed es) path (clear_is st begun m path num isin (lawful_rest st es (passed path) law) mk (every_rest (IsBooked begun) es (passed path) booked) h)
@@ -180,7 +180,7 @@ anchored_from a (Received e ∷ lower) before claim w c = rw (anchored_from a lo
     same true = refl
     same false = refl
 
-pub unbroken_from : (st : ℕ) (begun : List Message) (m : Message) (upper older : List Reception) (first : Item) → Numbered begun → IsIn m begun → Lawful st (passed (upper ++ Received first ∷ older)) → Every (IsBooked begun) (passed (upper ++ Received first ∷ older)) → NoneMissed upper → is_part m 0 first.tag ≡ true → first.tag ≡ Some (tag_of m 0) → is_anchored m.source older ≡ true → is_unbroken m (upper ++ Received first ∷ older) ≡ true
+pub unbroken_from : (st : ℕ) (begun : List Message) (m : Message) (upper older : List Reception) (first : Item) → Numbered begun → IsAmong m begun → Lawful st (passed (upper ++ Received first ∷ older)) → Every (IsBooked begun) (passed (upper ++ Received first ∷ older)) → NoneMissed upper → is_part m 0 first.tag ≡ true → first.tag ≡ Some (tag_of m 0) → is_anchored m.source older ≡ true → is_unbroken m (upper ++ Received first ∷ older) ≡ true
 unbroken_from st begun m [] older first num isin law b w f g a = rw (f, a) refl
 unbroken_from st begun m (Own e ∷ upper) older first num isin law b w f g a = unbroken_from st begun m upper older first num isin law.1 b.1 w f g a
 unbroken_from st begun m (Missed es ∷ upper) older first num isin law b w f g a = absurd w
@@ -191,7 +191,7 @@ unbroken_from st begun m (Received e ∷ upper) older first num isin law b w f g
     go true i ih = absurd (not_twice st m 0 e first upper older law (part_is begun m 0 e.tag num isin b.0 i) g)
     go false i ih = ih
 
-pub clear_from : (st : ℕ) (begun : List Message) (m : Message) (after older : List Reception) (last : Item) → Numbered begun → IsIn m begun → Lawful st (passed (after ++ Received last ∷ older)) → Every (IsBooked begun) (passed (after ++ Received last ∷ older)) → is_part m (last_part_of m) last.tag ≡ true → last.tag ≡ Some (tag_of m (last_part_of m)) → is_unbroken m (Received last ∷ older) ≡ true → is_clear m (after ++ Received last ∷ older) ≡ true
+pub clear_from : (st : ℕ) (begun : List Message) (m : Message) (after older : List Reception) (last : Item) → Numbered begun → IsAmong m begun → Lawful st (passed (after ++ Received last ∷ older)) → Every (IsBooked begun) (passed (after ++ Received last ∷ older)) → is_part m (last_part_of m) last.tag ≡ true → last.tag ≡ Some (tag_of m (last_part_of m)) → is_unbroken m (Received last ∷ older) ≡ true → is_clear m (after ++ Received last ∷ older) ≡ true
 clear_from st begun m [] older last num isin law b i g u = rw i u
 clear_from st begun m (Own e ∷ after) older last num isin law b i g u = clear_from st begun m after older last num isin law.1 b.1 i g u
 clear_from st begun m (Missed es ∷ after) older last num isin law b i g u =
@@ -204,7 +204,7 @@ clear_from st begun m (Received e ∷ after) older last num isin law b i g u =
     go false c ih = ih
 
 -- a clear path is found by the walk back
-pub found_clear : (st : ℕ) (begun : List Message) (m : Message) (path : List Reception) → Numbered begun → IsIn m begun → Lawful st (passed path) → Every (IsBooked begun) (passed path) → IsOnClearPath m path → is_clear m path ≡ true
+pub found_clear : (st : ℕ) (begun : List Message) (m : Message) (path : List Reception) → Numbered begun → IsAmong m begun → Lawful st (passed path) → Every (IsBooked begun) (passed path) → IsOnClearPath m path → is_clear m path ≡ true
 found_clear st begun m path num isin law b h =
     let lawful = subst (λ (v : List Reception). Lawful st (passed v)) h.split law in
     let booked = subst (λ (v : List Reception). Every (IsBooked begun) (passed v)) h.split b in

@@ -11,3 +11,6 @@ pub mod Shows
 pub mod Tells
 pub mod Worlds
 pub mod Clear
+pub mod Wire
+pub mod Grows
+pub mod Quiet

@@ -6,13 +6,13 @@ use Rattle.transport.specs.Pieces.{packet, pieces}
 use Rattle.transport.specs.declared.control.Control.TheVariants.{Bam}
 use Rattle.bus_model.specs.Expected.{Missed, Own, Received, Reception, is_anchored, is_claim, is_part, is_unbroken, passed, readings}
 use Rattle.bus_model.specs.Heard.{Joining, broadcast_after, broadcast_heard, is_whole, kept_under, kind_of, owner_heard, started, unfinished, with_packet}
-use Rattle.bus_model.specs.Messages.{Broadcast, IsProper, Message, One, Session, Way, payload_of, way_of}
+use Rattle.bus_model.specs.Messages.{Broadcast, IsAmong, IsProper, Message, One, Session, Way, payload_of, way_of}
 use Rattle.bus_model.specs.Traffic.{Item, Tag, claimed_by, owner_after, says}
 use Rattle.bus_model.proofs.Bridge.{count_of, count_taken, kind_back, many_last, next_is, next_pieces, session_to}
 use Rattle.bus_model.proofs.Lawful.{Allowed, Continues, IsHonest, IsPlain, Lawful, PartLaw, cast, group_at, is_cast, is_foreign, tag_of}
 use Rattle.bus_model.proofs.Lookback.{Every, and_parts, ne_test, pick_cases, same_test, true_test}
 use Rattle.bus_model.proofs.Seats.{part_says}
-use Rattle.bus_model.proofs.Units.{IsBooked, IsIn, Numbered, number_below}
+use Rattle.bus_model.proofs.Units.{IsBooked, Numbered, number_below}
 
 -- a frame of the station: untagged
 pub record IsStations (st : ℕ) (e : Item) : Type 0 where
@@ -71,7 +71,7 @@ cast_claimed st m j (e ∷ xs) law h =
         | inr v ↦ cast_claimed st m j xs law.1 v.1 ]) ]
 
 -- two messages of the book with one number are one
-pub same_message : (x y : Message) (begun : List Message) → Numbered begun → IsIn x begun → IsIn y begun → x.number ≡ y.number → x ≡ y
+pub same_message : (x y : Message) (begun : List Message) → Numbered begun → IsAmong x begun → IsAmong y begun → x.number ≡ y.number → x ≡ y
 same_message x y [] num i j e = absurd i
 same_message x y (z ∷ begun) num i j e =
     elim i [
@@ -200,7 +200,7 @@ continues_is st Broadcast older m i e h = h
 continues_is st (Session d) older m i e h = cc
 
 -- a frame that is no part of the message's way is not its first part
-pub not_first : (begun : List Message) (m : Message) (e : Item) → Numbered begun → IsIn m begun → IsBooked begun e → ((t : Tag) → e.tag ≡ Some t → t.message ≡ m → ⊥) → is_part m 0 e.tag ≡ false
+pub not_first : (begun : List Message) (m : Message) (e : Item) → Numbered begun → IsAmong m begun → IsBooked begun e → ((t : Tag) → e.tag ≡ Some t → t.message ≡ m → ⊥) → is_part m 0 e.tag ≡ false
 not_first begun m e num isin booked never = go (is_part m 0 e.tag) refl
   where
     at : (tag : Option Tag) → e.tag ≡ tag → is_part m 0 tag ≡ true → ⊥
@@ -213,7 +213,7 @@ not_first begun m e num isin booked never = go (is_part m 0 e.tag) refl
     go false i = i
 
 -- the path back from part j + 1: what the station has half joined
-pub joined_path : (st : ℕ) (begun : List Message) (m : Message) (j : ℕ) (path : List Reception) → Numbered begun → IsIn m begun → (way_of m) ≡ Broadcast → j ≤ count_of m → Lawful st (passed path) → Marked st path → Every (IsBooked begun) (passed path) → cast m.name m.source (passed path) ≡ Some (tag_of m j) → broadcast_heard m.source (readings path) ≡ half m j (is_unbroken m path)
+pub joined_path : (st : ℕ) (begun : List Message) (m : Message) (j : ℕ) (path : List Reception) → Numbered begun → IsAmong m begun → (way_of m) ≡ Broadcast → j ≤ count_of m → Lawful st (passed path) → Marked st path → Every (IsBooked begun) (passed path) → cast m.name m.source (passed path) ≡ Some (tag_of m j) → broadcast_heard m.source (readings path) ≡ half m j (is_unbroken m path)
 joined_path st begun m j [] num isin w le law mk booked c = cc
 joined_path st begun m j (Missed es ∷ path) num isin w le law mk booked c = refl
 joined_path st begun m j (Own e ∷ path) num isin w le law mk booked c =

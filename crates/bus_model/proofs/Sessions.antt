@@ -12,14 +12,14 @@ use Rattle.transport.specs.declared.control.Control.TheVariants.{Abort, Bam, Cts
 use Rattle.bus_model.specs.Expected.{Missed, Own, Received, Reception, is_anchored, is_unbroken, passed, readings}
 use Rattle.bus_model.specs.Heard.{Joining, Settings, address_heard, is_contest, is_kind, is_whole, kept_under, kind_of, or_else, owner_heard, session_after, session_heard, started, unfinished, with_packet, without_kind}
 use Rattle.bus_model.specs.Machine.{CanHold, IsFit}
-use Rattle.bus_model.specs.Messages.{Broadcast, IsProper, Message, One, Session, Way, is_session, last_part_of, payload_of, way_of}
+use Rattle.bus_model.specs.Messages.{Broadcast, IsAmong, IsProper, Message, One, Session, Way, is_session, last_part_of, payload_of, way_of}
 use Rattle.bus_model.specs.Traffic.{Item, Tag, claimed_by, owner_after, says}
 use Rattle.bus_model.proofs.Bridge.{address_hold, address_read, count_of, many_last}
 use Rattle.bus_model.proofs.Lawful.{Allowed, Continues, IsPlain, IsVoiced, Lawful, PartLaw, breaks, group_at, is_foreign, is_sess, sess, tag_of}
 use Rattle.bus_model.proofs.Lookback.{Every, and_parts, or_parts, pick_cases, same_test, true_test}
 use Rattle.bus_model.proofs.Path.{IsStations, Marked, claim_keeps, first_is_part, half, half_open, kept, later_part, next_piece, not_first, owner_anchored, started_half}
 use Rattle.bus_model.proofs.Seats.{part_says, swap_test}
-use Rattle.bus_model.proofs.Units.{IsBooked, IsIn, Numbered}
+use Rattle.bus_model.proofs.Units.{IsBooked, Numbered}
 
 pub break_foreign : (n a d by : ℕ) (f : Group) → breaks n a d by f ≡ false → is_foreign n a f ≡ false
 break_foreign n a d by (AddressClaimed s m) h = (or_parts (s == a && not (m == n)) (s == d) h).0
@@ -307,7 +307,7 @@ sessions_read r fit begun e path num law mk booked only before m d j w c =
           inl u ↦ session_part r m d j e path mk.1 mk.0 w (law.0.tagged (tag_of m j) u.1) u.1 only before
         | inr u ↦ other v.0 u.0 u.1 (before m d j w u.1) ] ]
   where
-    in_book : (xs : List Item) → Every (IsBooked begun) xs → sess m.name m.source d xs ≡ Some (tag_of m j) → IsIn m begun
+    in_book : (xs : List Item) → Every (IsBooked begun) xs → sess m.name m.source d xs ≡ Some (tag_of m j) → IsAmong m begun
     in_book [] h i = cc
     in_book (x ∷ xs) h i =
         elim (pick_cases (breaks m.name m.source d x.name (says x)) None (if is_sess m.name x.tag then x.tag else sess m.name m.source d xs) (Some (tag_of m j)) i) [

@@ -8,7 +8,7 @@ use Rattle.transport.specs.Pieces.{joined, packet, pieces}
 use Rattle.transport.specs.declared.control.Control.TheVariants.{Bam, Rts}
 use Rattle.bus_model.specs.Expected.{Received, Reception, is_anchored, is_part, is_unbroken, passed, readings}
 use Rattle.bus_model.specs.Heard.{Entry, Settings, address_heard, ended_by, entry_under, finished, with_packet}
-use Rattle.bus_model.specs.Messages.{Broadcast, IsProper, Message, One, Session, Way, last_part_of, payload_of, way_of}
+use Rattle.bus_model.specs.Messages.{Broadcast, IsAmong, IsProper, Message, One, Session, Way, last_part_of, payload_of, way_of}
 use Rattle.bus_model.specs.Traffic.{Item, says}
 use Rattle.bus_model.proofs.Bridge.{all_pieces, count_of, many_last, one_last, session_to}
 use Rattle.bus_model.proofs.Lawful.{IsPlain, Lawful, PartLaw, group_at, tag_of}
@@ -16,7 +16,7 @@ use Rattle.bus_model.proofs.Lookback.{Every, ne_test, same_test, true_test}
 use Rattle.bus_model.proofs.Path.{Marked, continues_is, grown, half, joined_path, later_part, next_piece, not_one, owner_anchored, whole_is}
 use Rattle.bus_model.proofs.Seats.{part_says}
 use Rattle.bus_model.proofs.Sessions.{SessionsLaw, continues_session, no_one}
-use Rattle.bus_model.proofs.Units.{IsBooked, IsIn, Numbered}
+use Rattle.bus_model.proofs.Units.{IsBooked, Numbered}
 
 abbrev pub entry : Message → Entry
 entry m = record { name = m.name; kind = m.kind; bytes = payload_of m }
@@ -42,7 +42,7 @@ not_start m b ok w =
     let last = many_last m ok w in
     rw (last.0, ne_test 0 (count_of m) (let l = last.1 in omega arith)) refl
 
-pub ended_at : (w : Way) (r : Settings) (begun : List Message) (m : Message) (j : ℕ) (e : Item) (path : List Reception) → way_of m ≡ w → Numbered begun → IsIn m begun → Lawful r.name (e ∷ passed path) → Marked r.name (Received e ∷ path) → Every (IsBooked begun) (passed path) → SessionsLaw r path → e.tag ≡ Some (tag_of m j) → PartLaw r.name e (tag_of m j) (passed path) → ended_by r (says e) (readings path) ≡ gained m j (is_unbroken m (Received e ∷ path))
+pub ended_at : (w : Way) (r : Settings) (begun : List Message) (m : Message) (j : ℕ) (e : Item) (path : List Reception) → way_of m ≡ w → Numbered begun → IsAmong m begun → Lawful r.name (e ∷ passed path) → Marked r.name (Received e ∷ path) → Every (IsBooked begun) (passed path) → SessionsLaw r path → e.tag ≡ Some (tag_of m j) → PartLaw r.name e (tag_of m j) (passed path) → ended_by r (says e) (readings path) ≡ gained m j (is_unbroken m (Received e ∷ path))
 ended_at One r begun m j e path w num isin law mk booked sl tag p =
     let last = one_last m w in
     let zero_j : j ≡ 0 = (let q : j ≤ last_part_of m = p.upto in omega arith) in

@@ -5,7 +5,7 @@ use Rattle.dm_messages.specs.declared.kind.Kind.{Kind}
 use Rattle.dm_messages.specs.declared.shown.Shown.{Shown}
 use Rattle.bus_model.specs.Expected.{Missed, Own, Received, Reception, expected, is_clear, is_part, is_unbroken, passed, readings}
 use Rattle.bus_model.specs.Heard.{Settings, entries_heard, put, same_kind}
-use Rattle.bus_model.specs.Messages.{IsProper, Message, last_part_of, way_of}
+use Rattle.bus_model.specs.Messages.{IsAmong, IsProper, Message, last_part_of, way_of}
 use Rattle.bus_model.specs.Order.{IsBefore}
 use Rattle.bus_model.specs.Traffic.{Item, Tag, says}
 use Rattle.bus_model.proofs.Bridge.{reads_back}
@@ -15,7 +15,7 @@ use Rattle.bus_model.proofs.Order.{all_before}
 use Rattle.bus_model.proofs.Path.{Marked, same_message}
 use Rattle.bus_model.proofs.Sessions.{SessionsLaw}
 use Rattle.bus_model.proofs.Shows.{ended_at, ended_plain, entry, gained}
-use Rattle.bus_model.proofs.Units.{IsBooked, IsIn, Numbered, number_below}
+use Rattle.bus_model.proofs.Units.{IsBooked, Numbered, number_below}
 
 -- what the message shows
 abbrev pub shown_by : Message → Shown
@@ -47,7 +47,7 @@ not_clear x (Received e ∷ path) h = rw (not_part x e.tag h.0) (not_clear x pat
 pub clear_same : (x : Message) (e : Item) (path : List Reception) → is_part x (last_part_of x) e.tag ≡ false → is_clear x (Received e ∷ path) ≡ is_clear x path
 clear_same x e path h = rw h refl
 
-pub told_same : (n : ℕ) (k : Kind) (begun : List Message) (p q : List Reception) → ((x : Message) → IsIn x begun → (is_listed n k x && is_clear x q) ≡ (is_listed n k x && is_clear x p)) → expected n k begun q ≡ expected n k begun p
+pub told_same : (n : ℕ) (k : Kind) (begun : List Message) (p q : List Reception) → ((x : Message) → IsAmong x begun → (is_listed n k x && is_clear x q) ≡ (is_listed n k x && is_clear x p)) → expected n k begun q ≡ expected n k begun p
 told_same n k [] p q h = refl
 told_same n k (x ∷ begun) p q h = rw (h x (inl refl), told_same n k begun p q (λ y i. h y (inr i))) refl
 
@@ -58,7 +58,7 @@ pub gain_tail : (b c d e : Bool) (v u : Shown) (l r : List Shown) → d ≡ c �
 gain_tail false c d e v u l r i j g = g
 gain_tail true c d e v u l r i j g = rw (i, j refl) g
 
-pub told_gain : (n : ℕ) (k : Kind) (begun : List Message) (m : Message) (p q : List Reception) → Numbered begun → IsIn m begun → is_listed n k m ≡ true → is_clear m p ≡ false → ((x : Message) → IsIn x begun → x.number ≢ m.number → is_clear x q ≡ is_clear x p) → ((x : Message) → IsIn x begun → m.number < x.number → is_listed n k x ≡ true → is_clear x p ≡ false) → expected n k begun q ≡ (if is_clear m q then shown_by m ∷ expected n k begun p else expected n k begun p)
+pub told_gain : (n : ℕ) (k : Kind) (begun : List Message) (m : Message) (p q : List Reception) → Numbered begun → IsAmong m begun → is_listed n k m ≡ true → is_clear m p ≡ false → ((x : Message) → IsAmong x begun → x.number ≢ m.number → is_clear x q ≡ is_clear x p) → ((x : Message) → IsAmong x begun → m.number < x.number → is_listed n k x ≡ true → is_clear x p ≡ false) → expected n k begun q ≡ (if is_clear m q then shown_by m ∷ expected n k begun p else expected n k begun p)
 told_gain n k [] m p q num i li c same new = absurd i
 told_gain n k (x ∷ begun) m p q num i li c same new =
     elim i [
@@ -83,7 +83,7 @@ abbrev pub AllProper : List Message → Type 0
 AllProper [] = Unit {0}
 AllProper (m ∷ older) = IsProper m × AllProper older
 
-pub proper_in : (m : Message) (begun : List Message) → IsIn m begun → AllProper begun → IsProper m
+pub proper_in : (m : Message) (begun : List Message) → IsAmong m begun → AllProper begun → IsProper m
 proper_in m [] i h = absurd i
 proper_in m (x ∷ begun) i h = elim i [ inl g ↦ subst IsProper g h.0 | inr j ↦ proper_in m begun j h.1 ]
 
@@ -102,7 +102,7 @@ put_listed n k m false l ok h = refl
 pub part_told : (st : ℕ) (begun : List Message) (e : Item) (path : List Reception) (t : Tag) (n : ℕ) (k : Kind) → Numbered begun → Lawful st (e ∷ passed path) → Every (IsBooked begun) (e ∷ passed path) → e.tag ≡ Some t → expected n k begun (Received e ∷ path) ≡ put n k (gained t.message t.part (is_unbroken t.message (Received e ∷ path))) (expected n k begun path)
 part_told st begun e path t n k num law booked tag = by_last (t.part == last_part_of t.message) refl
   where
-    isin : IsIn t.message begun
+    isin : IsAmong t.message begun
     isin = booked.0 t tag
     before : EachTag (IsBefore t) (passed path)
     before = all_before st t (passed path) law.1 (law.0.tagged t tag).order
@@ -110,11 +110,11 @@ part_told st begun e path t n k num law booked tag = by_last (t.part == last_par
     other : (x : Message) → x.number ≢ t.message.number → is_clear x (Received e ∷ path) ≡ is_clear x path
     other x ne = clear_same x e path (not_part x e.tag (λ s g i l. let q : t ≡ s = cc in ne (sym i ∙ ap (λ (v : Tag). v.message.number) (sym q))))
     -- no later message of the NAME and kind, nor this one, has its last part on the path
-    later : (x : Message) → IsIn x begun → t.message.number ≤ x.number → x.name ≡ t.message.name → x.kind ≡ t.message.kind → (x.number ≡ t.message.number → t.part ≡ last_part_of x) → is_clear x path ≡ false
+    later : (x : Message) → IsAmong x begun → t.message.number ≤ x.number → x.name ≡ t.message.name → x.kind ≡ t.message.kind → (x.number ≡ t.message.number → t.part ≡ last_part_of x) → is_clear x path ≡ false
     later x i le nm kd at =
         not_clear x path (no_last (passed path) before booked.1)
       where
-        one : (s : Tag) → IsBefore t s → IsIn s.message begun → IsNotLast x s
+        one : (s : Tag) → IsBefore t s → IsAmong s.message begun → IsNotLast x s
         one s b j c d =
             let same : s.message ≡ x = same_message s.message x begun num j i c in
             elim (b (ap (λ (v : Message). v.name) same ∙ nm) (ap (λ (v : Message). v.kind) same ∙ kd)) [
@@ -127,10 +127,10 @@ part_told st begun e path t n k num law booked tag = by_last (t.part == last_par
     by_last false h =
         rw (h) (told_same n k begun path (Received e ∷ path) (λ x i. ap (λ (b : Bool). is_listed n k x && b) (clear_same x e path (not_part x e.tag (λ s g c l. not_last x i s g c l)))))
       where
-        not_last : (x : Message) → IsIn x begun → (s : Tag) → e.tag ≡ Some s → s.message.number ≡ x.number → s.part ≡ last_part_of x → ⊥
+        not_last : (x : Message) → IsAmong x begun → (s : Tag) → e.tag ≡ Some s → s.message.number ≡ x.number → s.part ≡ last_part_of x → ⊥
         not_last x i s g c l =
             let q : t ≡ s = cc in
-            let same : s.message ≡ x = same_message s.message x begun num (subst (λ (v : Tag). IsIn v.message begun) q isin) i c in
+            let same : s.message ≡ x = same_message s.message x begun num (subst (λ (v : Tag). IsAmong v.message begun) q isin) i c in
             let w : t.part ≡ last_part_of t.message = ap (λ (v : Tag). v.part) q ∙ (l ∙ ap last_part_of (sym same ∙ ap (λ (v : Tag). v.message) (sym q))) in
             let yes : (t.part == last_part_of t.message) ≡ true = rw w (same_test (last_part_of t.message)) in
             cc
@@ -147,7 +147,7 @@ part_told st begun e path t n k num law booked tag = by_last (t.part == last_par
             told_same n k begun path (Received e ∷ path) (λ x i. one x i (x.number == t.message.number) refl)
             ∙ sym (put_other n k t.message t.part (is_unbroken t.message (Received e ∷ path)) (expected n k begun path) g)
           where
-            one : (x : Message) → IsIn x begun → (b : Bool) → (x.number == t.message.number) ≡ b → (is_listed n k x && is_clear x (Received e ∷ path)) ≡ (is_listed n k x && is_clear x path)
+            one : (x : Message) → IsAmong x begun → (b : Bool) → (x.number == t.message.number) ≡ b → (is_listed n k x && is_clear x (Received e ∷ path)) ≡ (is_listed n k x && is_clear x path)
             one x i true c =
                 let same : x ≡ t.message = same_message x t.message begun num i isin (true_test x.number t.message.number c) in
                 let f : is_listed n k x ≡ false = ap (is_listed n k) same ∙ g in
@@ -158,7 +158,7 @@ part_told st begun e path t n k num law booked tag = by_last (t.part == last_par
             let gain = told_gain n k begun t.message path (Received e ∷ path) num isin g old (λ x i ne. other x ne) (λ x i lt li. newer x i lt li) in
             rw h (gain ∙ (rw now (sym (put_listed n k t.message (is_unbroken t.message (Received e ∷ path)) (expected n k begun path) (law.0.tagged t tag).proper g))))
           where
-            newer : (x : Message) → IsIn x begun → t.message.number < x.number → is_listed n k x ≡ true → is_clear x path ≡ false
+            newer : (x : Message) → IsAmong x begun → t.message.number < x.number → is_listed n k x ≡ true → is_clear x path ≡ false
             newer x i lt li =
                 let a = and_parts (x.name == n) (same_kind x.kind k) li in
                 let b = and_parts (t.message.name == n) (same_kind t.message.kind k) g in

@@ -1,5 +1,5 @@
 -- What each unit's event keeps of a seat.
-use Rattle.std.proofs.Common.{◌≡◌, ◌≢◌, ◌⊎◌, ℕ, suc, zero, ◌<◌, ◌≤◌, ◌+◌, ◌^◌, Bool, true, false, not, ◌&&◌, ◌==◌, List, [], ◌∷◌, ◌++◌, length, Option, Some, None, if◌then◌else◌, sym, refl, ap, ◌∙◌, subst, inl, inr, arith, append_assoc, le_refl}
+use Rattle.std.proofs.Common.{◌≡◌, ◌≢◌, ℕ, suc, zero, ◌<◌, ◌≤◌, ◌+◌, ◌^◌, Bool, true, false, not, ◌&&◌, ◌==◌, List, [], ◌∷◌, ◌++◌, length, Option, Some, None, if◌then◌else◌, sym, refl, ap, ◌∙◌, subst, inl, inr, arith, append_assoc, le_refl}
 use Rattle.std.proofs.lemmas.List.{append_cancel_right}
 use Rattle.address_claim.specs.Frames.{claim_frame_value}
 use Rattle.can_frame.specs.FrameValue.{FrameValue}
@@ -9,7 +9,7 @@ use Rattle.transport.specs.declared.control.Control.TheVariants.{Abort, Bam, Cts
 use Rattle.bus_model.specs.Expected.{is_claim}
 use Rattle.bus_model.specs.Heard.{is_contest}
 use Rattle.bus_model.specs.Machine.{CanHold, IsCalm, IsNotOpen, IsRequestFrom, IsRtsFrom, MayReply, Seat, claim_alone, cuts, first_parts, granted, granted_one, is_destination, is_of_session, item_of_part, parts_upto, plain, session_ended, session_opened, with_heard, with_message, without_session, yielded}
-use Rattle.bus_model.specs.Messages.{Broadcast, IsProper, Message, One, Session, Way, is_session, last_part_of, way_of}
+use Rattle.bus_model.specs.Messages.{Broadcast, IsAmong, IsProper, Message, One, Session, Way, is_session, last_part_of, way_of}
 use Rattle.bus_model.specs.Traffic.{Item, Tag, claimed_by, owner_after, says}
 use Rattle.bus_model.proofs.Bridge.{claim_group, says_claim, says_part}
 use Rattle.bus_model.proofs.Lawful.{Allowed, Continues, IsNoStart, IsPlain, IsVoiced, Lawful, PartLaw, breaks, group_at, is_sess, last_of, sess, tag_of}
@@ -19,16 +19,12 @@ use Rattle.bus_model.proofs.Seats.{IsReply, claim_from, claim_honest, claim_owns
 abbrev pub IsNotNamed : ℕ → Item → Type 0
 IsNotNamed n e = e.name ≢ n
 
-abbrev pub IsIn : Message → List Message → Type 0
-IsIn m [] = ⊥
-IsIn m (x ∷ xs) = (x ≡ m) ⊎ IsIn m xs
-
 -- each message's number is the number of older ones
 abbrev pub Numbered : List Message → Type 0
 Numbered [] = Unit {0}
 Numbered (m ∷ older) = (m.number ≡ length older) × Numbered older
 
-pub number_below : (m : Message) (begun : List Message) → IsIn m begun → Numbered begun → m.number < length begun
+pub number_below : (m : Message) (begun : List Message) → IsAmong m begun → Numbered begun → m.number < length begun
 number_below m [] i h = absurd i
 number_below m (x ∷ xs) i h =
     elim i [
@@ -36,7 +32,7 @@ number_below m (x ∷ xs) i h =
     | inr j ↦ (let g = number_below m xs j h.1 in omega arith) ]
 
 abbrev pub IsBooked : List Message → Item → Type 0
-IsBooked begun e = HasTag (λ t. IsIn t.message begun) e
+IsBooked begun e = HasTag (λ t. IsAmong t.message begun) e
 
 -- the open session: the last part queued of it is the last of its NAME and kind, and nothing broke it
 pub record OpenLaw (begun : List Message) (s : Seat) (t : Tag) : Type 0 where
@@ -47,7 +43,7 @@ pub record OpenLaw (begun : List Message) (s : Seat) (t : Tag) : Type 0 where
   pub apart : dest ≢ t.message.source
   pub name : t.message.name ≡ s.name
   pub held : s.held ≡ Some t.message.source
-  pub booked : IsIn t.message begun
+  pub booked : IsAmong t.message begun
   pub last : last_of t.message.name t.message.kind (s.queue ++ s.heard) ≡ Some t
   pub sofar : sess t.message.name t.message.source dest (s.queue ++ s.heard) ≡ Some t
 
@@ -347,7 +343,7 @@ grants_one st wire begun s t law o le =
       own = λ a h. rw (says_part m (suc t.part) p.proper le) (part_no_claim a (way_of m) m (suc t.part) (claimed_by a (s.queue ++ s.heard)) ∙ law.own a h);
       mine = (part_mine s.name s.held (Some (tag_of m (suc t.part))) m (suc t.part) p.proper le p.name p.held (goes (way_of m) m refl),
         every_weaker (IsMine s.name s.held s.session) (IsMine s.name s.held (Some (tag_of m (suc t.part)))) s.queue (λ x i. on x i) law.mine);
-      booked = (λ u g. let q : m ≡ u.message = cc in subst (λ (v : Message). IsIn v begun) q p.booked, law.booked);
+      booked = (λ u g. let q : m ≡ u.message = cc in subst (λ (v : Message). IsAmong v begun) q p.booked, law.booked);
       session = λ u g.
         let i : tag_of m (suc t.part) ≡ u = cc in
         subst (OpenLaw begun _) i (record {

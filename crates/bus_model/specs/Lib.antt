@@ -5,3 +5,5 @@ pub mod Expected
 pub mod Machine
 pub mod Order
 pub mod ClearPath
+pub mod LawfulTraffic
+pub mod Whole

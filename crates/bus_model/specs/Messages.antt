@@ -1,5 +1,5 @@
 -- The diagnostic messages that units begin (SAE J1939-73), and the frames that carry each of them (SAE J1939-21).
-use Rattle.std.specs.Prelude.{◌≡◌, ◌≢◌, ◌⊎◌, ℕ, ◌≤◌, ◌==◌, Bool, true, false, List, length, if◌then◌else◌}
+use Rattle.std.specs.Prelude.{◌≡◌, ◌≢◌, ◌⊎◌, ℕ, ◌≤◌, ◌==◌, Bool, true, false, List, [], ◌∷◌, length, if◌then◌else◌}
 use Rattle.can_frame.specs.FrameValue.{FrameValue}
 use Rattle.dm_messages.specs.View.{view, encoding, pgn_of_kind}
 use Rattle.dm_messages.specs.declared.kind.Kind.{Kind}
@@ -53,3 +53,8 @@ abbrev pub is_session : Way → Bool
 is_session One = false
 is_session Broadcast = false
 is_session (Session d) = true
+
+-- the message is one of those begun
+abbrev pub IsAmong : Message → List Message → Type 0
+IsAmong m [] = ⊥
+IsAmong m (x ∷ begun) = (x ≡ m) ⊎ IsAmong m begun

@@ -1,12 +1,17 @@
 //! The law of the station's lists: what they must be, and that they are, over every list of events.
 #![tactic(auto)]
 
-ghost use Rattle.std.specs.Prelude.{◌≡◌, ℕ, List, ◌∷◌, ◌++◌, Some};
+ghost use Rattle.std.specs.Prelude.{◌≡◌, ℕ, List, ◌∷◌, ◌++◌, ◌↔◌, Some, true};
 ghost use Rattle.dm_messages.specs.declared.kind.Kind.{Kind};
+ghost use Rattle.dm_messages.specs.declared.shown.Shown.{Shown};
+ghost use Rattle.bus_model.specs.Messages.{Message, IsAmong};
 ghost use Rattle.bus_model.specs.Traffic.{Tag, Item, claimed_by};
-ghost use Rattle.bus_model.specs.Heard.{Settings, entries_heard};
-ghost use Rattle.bus_model.specs.Expected.{expected, readings};
-ghost use Rattle.bus_model.specs.Machine.{World, Event, IsFit, Run, start};
+ghost use Rattle.bus_model.specs.LawfulTraffic.{IsLawfulTraffic};
+ghost use Rattle.bus_model.specs.Heard.{Settings, entries_heard, unread_count};
+ghost use Rattle.bus_model.specs.Expected.{expected, readings, is_clear};
+ghost use Rattle.bus_model.specs.ClearPath.{IsOnClearPath, NoneMissed};
+ghost use Rattle.bus_model.specs.Whole.{received_whole};
+ghost use Rattle.bus_model.specs.Machine.{World, Event, IsFit, Step, Run, start};
 
 /// The lists are exact: after every list of events, under each NAME and kind, the entries heard are the entries expected.
 pub fn lists_are_exact()
@@ -17,5 +22,37 @@ pub fn lists_are_exact()
 /// Who sends holds the address: before each frame of a message the last claim of its source bears the NAME of its seat.
 pub fn who_sends_holds_the_address()
     ensures { (settings : Settings) → IsFit settings → (events : List Event) (w : World) → Run (start settings) events w → (after before : List Item) (e : Item) (t : Tag) → w.wire ≡ after ++ e ∷ before → e.tag ≡ Some t → claimed_by t.message.source before ≡ Some e.name }
+{
+}
+
+/// Lawful traffic: each frame of a message is that part of it and comes from its seat, and parts stand in their order.
+pub fn traffic_is_lawful()
+    ensures { (settings : Settings) → IsFit settings → (events : List Event) (w : World) → Run (start settings) events w → IsLawfulTraffic w.begun w.wire }
+{
+}
+
+/// Nothing unreadable: each message of a unit that ends can be read.
+pub fn nothing_is_unreadable()
+    ensures { (settings : Settings) → IsFit settings → (events : List Event) (w : World) → Run (start settings) events w → unread_count settings (readings w.path) ≡ 0 }
+{
+}
+
+/// A list only grows: at every step each list of entries, newest first, keeps its entries and gets new ones in front.
+pub fn lists_only_grow()
+    ensures { (old new : World) (event : Event) → Step old event new → (settings : Settings) (n : ℕ) (k : Kind) → (more : List Shown) × (entries_heard settings n k (readings new.path) ≡ more ++ entries_heard settings n k (readings old.path)) }
+{
+}
+
+/// Quiet addresses: where nothing was missed, the entries heard are the views of all messages whose last part was
+/// received, in the order begun. That each address is claimed under one NAME only need not be said: a unit that loses
+/// its address sends no further part, so such a message has no last part.
+pub fn nothing_missed_shows_all()
+    ensures { (settings : Settings) → IsFit settings → (events : List Event) (w : World) → Run (start settings) events w → NoneMissed w.path → (n : ℕ) (k : Kind) → entries_heard settings n k (readings w.path) ≡ received_whole n k w.begun w.path }
+{
+}
+
+/// Clear path: for the messages begun, the walk back along what was received is the clear path said by looking back.
+pub fn clear_path_looks_back()
+    ensures { (settings : Settings) → IsFit settings → (events : List Event) (w : World) → Run (start settings) events w → (m : Message) → IsAmong m w.begun → (is_clear m w.path ≡ true) ↔ IsOnClearPath m w.path }
 {
 }

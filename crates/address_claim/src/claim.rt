@@ -5,8 +5,6 @@ use crate::error::ClaimError;
 use can_frame::{Frame, Id, Pgn};
 use name_field::Name;
 
-const ADDRESS_CLAIMED: u32 = 60928;
-
 const TO_ALL: u8 = 255;
 
 const NULL_ADDRESS: u8 = 254;
@@ -30,8 +28,10 @@ pub fn claim_frame(name: Name, address: Option<u8>) -> Frame
     ensures { result ≡ claim_frame_value name address }
 {
     let source = address.unwrap_or(NULL_ADDRESS);
-    let group = Pgn::new(ADDRESS_CLAIMED).unwrap();
-    Frame::of(Id::pdu1(PRIORITY, group, TO_ALL, source), &name.to_bytes())
+    Frame::of(
+        Id::pdu1(PRIORITY, Pgn::ADDRESS_CLAIMED, TO_ALL, source),
+        &name.to_bytes(),
+    )
 }
 
 /// What a claim or a cannot claim says, whatever its priority.
@@ -46,7 +46,7 @@ pub fn read_claim(frame: &Frame) -> Result<Claim, ClaimError>
 {
     let id = frame.id();
     let source = id.source();
-    if id.pgn().number() != ADDRESS_CLAIMED || id.dest() != Some(TO_ALL) || source == 255 {
+    if id.pgn() != Pgn::ADDRESS_CLAIMED || id.dest() != Some(TO_ALL) || source == 255 {
         return Err(ClaimError::NotThis);
     }
     match <[u8; 8]>::try_from(frame.bytes()) {

@@ -1,23 +1,19 @@
 -- Which bytes carry a request, an acknowledgment and a commanded address (SAE J1939-21 and -81, in this project's profile).
-use Rattle.std.specs.Prelude.{ℕ, ◌≡◌, ◌≤◌, ◌<◌, ◌^◌, ◌+◌, ◌*◌, ◌/◌, ◌%◌, List, [], ◌∷◌, ◌++◌, length, take, slice_index}
+use Rattle.std.specs.Prelude.{ℕ, ◌≡◌, ◌≤◌, ◌<◌, ◌^◌, ◌+◌, List, [], ◌∷◌, ◌++◌, length, take, slice_index}
 use Rattle.std.specs.Int.{to_le_bytes, from_le_bytes, w64}
-use Rattle.can_frame.specs.Fields.{source_of, pgn_of, pdu_specific_of, pdu1_number}
+use Rattle.can_frame.specs.Fields.{source_of, pgn_of, pdu_specific_of, pdu1_number, pgn_bytes, pgn_of_bytes}
 use Rattle.can_frame.specs.FrameValue.{FrameValue, frame}
 use Rattle.requests.specs.declared.request.Request.{Request}
 use Rattle.requests.specs.declared.acknowledgment.Ack.{Ack}
 use Rattle.requests.specs.declared.commanded.Commanded.{Commanded}
 
--- the three bytes of a parameter group number, lowest first
-abbrev pub group_bytes : ℕ → List ℕ
-group_bytes pgn = pgn % 256 ∷ pgn / 256 % 256 ∷ pgn / 65536 ∷ []
-
--- the parameter group number in three bytes from a place on
+-- the parameter group number in the three bytes from a place on
 abbrev pub group_at : ℕ → List ℕ → ℕ
-group_at i bytes = slice_index bytes i + 256 * slice_index bytes (i + 1) + 65536 * slice_index bytes (i + 2)
+group_at i bytes = pgn_of_bytes (slice_index bytes i) (slice_index bytes (i + 1)) (slice_index bytes (i + 2))
 
 -- a request as it is written: group 59904 of priority 6, with the group that is asked for
 abbrev pub request_frame_value : Request → FrameValue
-request_frame_value r = frame (pdu1_number 6 59904 r.dest r.source) (group_bytes r.pgn)
+request_frame_value r = frame (pdu1_number 6 59904 r.dest r.source) (pgn_bytes r.pgn)
 
 -- a frame that is read as a request: of that group, of any priority, with three bytes or more
 pub record IsRequestFrame (f : FrameValue) : Type 0 where
@@ -36,7 +32,7 @@ pub record IsRequest (r : Request) : Type 0 where
 
 -- an acknowledgment as it is written: group 59392 of priority 6, with eight bytes
 abbrev pub ack_frame_value : Ack → FrameValue
-ack_frame_value a = frame (pdu1_number 6 59392 a.dest a.source) (a.control ∷ 255 ∷ 255 ∷ 255 ∷ a.requester ∷ group_bytes a.pgn)
+ack_frame_value a = frame (pdu1_number 6 59392 a.dest a.source) (a.control ∷ 255 ∷ 255 ∷ 255 ∷ a.requester ∷ pgn_bytes a.pgn)
 
 -- a frame that is read as an acknowledgment: of that group, of any priority, with eight bytes
 pub record IsAckFrame (f : FrameValue) : Type 0 where

@@ -1,11 +1,8 @@
 ghost use Rattle.std.specs.Prelude.{◌≡◌, ◌↔◌, IfOk, IsOk, IsErr};
 ghost use Rattle.requests.specs.Layouts.{IsAck, IsAckFrame, ack_frame_value, ack_of};
 
-use crate::group;
 use crate::not_this::NotThis;
 use can_frame::{Frame, Id, Pgn};
-
-const ACKNOWLEDGMENT: u32 = 59392;
 
 const PRIORITY: u8 = 6;
 
@@ -37,14 +34,14 @@ impl Ack {
         ensures reads_back { (a : Ack) → IsAck a → frame.now ≡ ack_frame_value a → result ≡ Ok a }
     {
         let id = frame.id();
-        if id.pgn().number() != ACKNOWLEDGMENT {
+        if id.pgn() != Pgn::ACKNOWLEDGMENT {
             return Err(NotThis);
         }
         match (id.dest(), frame.bytes()) {
             (Some(dest), [control, _, _, _, requester, low, middle, high]) => Ok(Ack {
                 control: *control,
                 requester: *requester,
-                pgn: group::from_bytes(*low, *middle, *high),
+                pgn: Pgn::from_bytes([*low, *middle, *high]),
                 dest,
                 source: id.source(),
             }),
@@ -56,9 +53,8 @@ impl Ack {
     pub fn frame(self) -> Frame
         ensures { result ≡ ack_frame_value self }
     {
-        let group = Pgn::new(ACKNOWLEDGMENT).unwrap();
-        let id = Id::pdu1(PRIORITY, group, self.dest, self.source);
-        let [low, middle, high] = group::to_bytes(self.pgn);
+        let id = Id::pdu1(PRIORITY, Pgn::ACKNOWLEDGMENT, self.dest, self.source);
+        let [low, middle, high] = self.pgn.to_bytes();
         let bytes = [
             self.control,
             FILLER,

@@ -4,7 +4,6 @@
 
 mod acknowledgment;
 mod commanded;
-mod group;
 mod not_this;
 mod request;
 

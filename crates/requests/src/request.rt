@@ -1,11 +1,8 @@
 ghost use Rattle.std.specs.Prelude.{◌≡◌, ◌↔◌, IfOk, IsOk, IsErr};
 ghost use Rattle.requests.specs.Layouts.{IsRequest, IsRequestFrame, request_frame_value, request_of};
 
-use crate::group;
 use crate::not_this::NotThis;
 use can_frame::{Frame, Id, Pgn};
-
-const REQUEST: u32 = 59904;
 
 const PRIORITY: u8 = 6;
 
@@ -32,12 +29,12 @@ impl Request {
         ensures reads_back { (r : Request) → IsRequest r → frame.now ≡ request_frame_value r → result ≡ Ok r }
     {
         let id = frame.id();
-        if id.pgn().number() != REQUEST {
+        if id.pgn() != Pgn::REQUEST {
             return Err(NotThis);
         }
         match (id.dest(), frame.bytes()) {
             (Some(dest), [low, middle, high, ..]) => Ok(Request {
-                pgn: group::from_bytes(*low, *middle, *high),
+                pgn: Pgn::from_bytes([*low, *middle, *high]),
                 dest,
                 source: id.source(),
             }),
@@ -49,7 +46,7 @@ impl Request {
     pub fn frame(self) -> Frame
         ensures { result ≡ request_frame_value self }
     {
-        let id = Id::pdu1(PRIORITY, Pgn::new(REQUEST).unwrap(), self.dest, self.source);
-        Frame::of(id, &group::to_bytes(self.pgn))
+        let id = Id::pdu1(PRIORITY, Pgn::REQUEST, self.dest, self.source);
+        Frame::of(id, &self.pgn.to_bytes())
     }
 }

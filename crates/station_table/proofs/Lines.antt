@@ -1,0 +1,248 @@
+-- After each thing that a frame can say, the tables have at each address what was then heard of it.
+use Rattle.std.proofs.Common.{◌≡◌, ◌≢◌, ℕ, ◌+◌, ◌<◌, Bool, true, false, ◌==◌, not, ◌&&◌, ◌||◌, List, [], ◌∷◌, ◌++◌, Option, Some, None, is_some, if◌then◌else◌, unwrap_or, length, map, reverse, refl, sym, ap, ◌∙◌, subst, ⊎_elim, ◌⊎◌, inl, inr}
+use Rattle.std.specs.Prelude.{slice_set}
+use Rattle.std.specs.Option.{option_map, option_map_or}
+use Rattle.std.proofs.lemmas.Bool.{eq-eqb, eqb-true, cases_Bool}
+use Rattle.std.proofs.lemmas.Grind.{reverse_onto}
+use Rattle.std.proofs.lemmas.List.{length-set, length-replicate}
+use Rattle.address_claim.specs.Claiming.{is_held}
+use Rattle.can_frame.specs.declared.reading.Reading.{Reading}
+use Rattle.dm_messages.specs.declared.kind.Kind.{Kind}
+use Rattle.dm_messages.specs.declared.kind.Kind.TheVariants.{Dm1, Dm2}
+use Rattle.dm_messages.specs.declared.shown.Shown.{Shown}
+use Rattle.dm_messages.specs.View.{decoding}
+use Rattle.transport.specs.declared.control.Control.{Control}
+use Rattle.transport.specs.declared.control.Control.TheVariants.{Rts, Cts, EndAck, Bam, Abort}
+use Rattle.parameter_group.specs.Group.{Group, AddressClaimed, CannotClaim, Request, Acknowledgment, Diagnostic, ConnectionManagement, DataTransfer, Other, group_of}
+use Rattle.bus_model.specs.Traffic.{owner_after}
+use Rattle.bus_model.specs.Heard.{Settings, Joining, Entry, AckHeard, RowHeard, same_kind, is_contest, kind_of, started, with_packet, unfinished, finished, entry_under, is_whole, or_else, without_kind, without_address, with_ack as with_ack_heard, is_answer, ack_of, counted, owner_heard, claimer_heard, claimer_after, address_heard, broadcast_after, broadcast_heard, session_after, session_heard, row_after, row_heard, names_after, names_heard, with_name, ended_by, put, put_read, entries_heard, is_unreadable, unread_count, missed_count, kept_under as joining_under}
+use Rattle.station_table.specs.declared.row.AckSeen.{AckSeen}
+use Rattle.station_table.specs.KeptValue.{KeptValue, nothing_kept, kept_under, entries_of, entries_under, with_claimed, with_ack, with_entry, with_row, changed_under}
+use Rattle.station_table.specs.StationValue.{SessionValue, StationValue, at}
+use Rattle.station_table.specs.Steps.{empty_table, session_with, joining_of, at_once_of, rejoined, packets_at_once, or_older, with_reading, with_ended, with_answer, with_claim, packet_joined, with_broadcast_packet, with_session_packet, after_group}
+use Rattle.station_table.specs.StandsFor.{StandsFor, session_known, most_after, most_heard, still_owned, ack_known, row_known}
+use Rattle.station_table.proofs.Tables.{at-set, at-empty}
+use Rattle.station_table.proofs.RowLemmas.{named, kept_under-changed, names-changed, kept_under-with_row, names-with_row}
+
+-- the tables after one frame that says this
+pub record StandsAfter (r : Settings) (grant : ℕ) (g : Group) (s : StationValue) (h : List Reading) : Type 0 where
+  pub grants : s.grant ≡ grant
+  pub claims : s.claimer ≡ claimer_after g (claimer_heard r h)
+  pub places : (length s.owners ≡ 256) × (length s.broadcasts ≡ 256) × (length s.sessions ≡ 256)
+  pub owners : (a : ℕ) → a < 256 → at s.owners a ≡ owner_after a g (owner_heard a h)
+  pub broadcasts : (a : ℕ) → a < 256 → at s.broadcasts a ≡ broadcast_after a g (owner_heard a h) (broadcast_heard a h)
+  pub sessions :
+      (a : ℕ) → a < 256
+      → at s.sessions a
+      ≡ session_with (packets_at_once grant (most_after a g (address_heard r h) (owner_heard a h) (most_heard r a h)))
+      (session_after r.name a g (address_heard r h) (owner_heard a h) (session_heard r a h))
+  pub rows : (n : ℕ) → row_known s.owners n (kept_under s.rows n) ≡ row_after r n g h (row_heard r n h)
+  pub names : map named s.rows ≡ names_after g (names_heard h)
+  pub entries : (n : ℕ) (k : Kind) → entries_under s.rows n k ≡ reverse (put n k (ended_by r g h) (entries_heard r n k h))
+  pub missed : s.missed ≡ missed_count h
+  pub unread : s.unread ≡ (if is_unreadable (ended_by r g h) then counted (unread_count r h + 1) else unread_count r h)
+
+-- the station's own address
+pub held_same : (r : Settings) (grant : ℕ) (s : StationValue) (h : List Reading) → StandsFor r grant s h → s.claimer.held ≡ address_heard r h
+unfolding address_heard
+held_same r grant s h st = rw (st.claims) refl
+
+-- two tests of one number
+pub and_true : (b : Bool) → (b && true) ≡ b
+and_true true = refl
+and_true false = refl
+
+pub and_false : (b : Bool) → (b && false) ≡ false
+and_false true = refl
+and_false false = refl
+
+-- at the place that is tested for, one number is the other
+at_place : {X : Type 0} (f : ℕ → X) (i a : ℕ) (y : X) → (if i == a then f i else y) ≡ (if i == a then f a else y)
+at_place {X} f i a y = go (i == a) refl
+  where
+    go : (b : Bool) → (i == a) ≡ b → (if b then f i else y) ≡ (if b then f a else y)
+    go true e = ap f (eqb-true i a e)
+    go false e = refl
+
+-- one place of a table is changed
+pub changed_place : {X : Type 0} (t : List (Option X)) (known : ℕ → Option X) (change : Option X → Option X) (i : ℕ) → length t ≡ 256 → i < 256
+    → ((a : ℕ) → a < 256 → at t a ≡ known a) → (a : ℕ) → a < 256 → at (slice_set t i (change (at t i))) a ≡ (if i == a then change (known a) else known a)
+changed_place t known change i len lt same a below =
+    at-set t i a (change (at t i)) (subst (λ (v : ℕ). i < v) (sym len) lt)
+    ∙ (rw (same i lt, same a below) (at_place (λ v. change (known v)) i a (known a)))
+
+-- one place of a table is written
+pub written_place : {X : Type 0} (t : List (Option X)) (known new : ℕ → Option X) (i : ℕ) (v : Option X) → length t ≡ 256 → i < 256 → v ≡ new i
+    → ((a : ℕ) → a < 256 → at t a ≡ known a) → (a : ℕ) → a < 256 → at (slice_set t i v) a ≡ (if i == a then new a else known a)
+written_place t known new i v len lt e same a below =
+    at-set t i a v (subst (λ (x : ℕ). i < x) (sym len) lt) ∙ (rw (e, same a below) (at_place new i a (known a)))
+
+-- a change of what a session has joined
+pub rejoined_lem : (change : Option Joining → Option Joining) (p : ℕ) (j : Option Joining) → change None ≡ None → rejoined change (session_with p j) ≡ session_with p (change j)
+rejoined_lem change p None e = rw (e) refl
+rejoined_lem change p (Some j) e = refl
+
+pub if_session : (b : Bool) (p : ℕ) (x y : Option Joining) → (if b then session_with p x else session_with p y) ≡ session_with p (if b then x else y)
+if_session true p x y = refl
+if_session false p x y = refl
+
+-- one session is changed
+pub changed_session : (r : Settings) (grant : ℕ) (s : StationValue) (h : List Reading) (change : Option Joining → Option Joining) (i : ℕ)
+    → StandsFor r grant s h → i < 256 → change None ≡ None → (a : ℕ) → a < 256
+    → at (slice_set s.sessions i (rejoined change (at s.sessions i))) a
+    ≡ session_with (packets_at_once grant (most_heard r a h)) (if i == a then change (session_heard r a h) else session_heard r a h)
+changed_session r grant s h change i st lt e a below =
+    changed_place s.sessions (λ v. session_known r grant v h) (rejoined change) i st.places.2 lt st.sessions a below
+    ∙ (rw (rejoined_lem change (packets_at_once grant (most_heard r a h)) (session_heard r a h) e)
+    (if_session (i == a) (packets_at_once grant (most_heard r a h)) (change (session_heard r a h)) (session_heard r a h)))
+
+-- nothing is said that the tables keep
+quiet : (r : Settings) (grant : ℕ) (s : StationValue) (h : List Reading) → StandsFor r grant s h → StandsAfter r grant Other s h
+quiet r grant s h st = record {
+  grants = st.grants;
+  claims = st.claims;
+  places = st.places;
+  owners = st.owners;
+  broadcasts = st.broadcasts;
+  sessions = st.sessions;
+  rows = st.rows;
+  names = st.names;
+  entries = st.entries;
+  missed = st.missed;
+  unread = st.unread;
+}
+
+-- the tables before a message that ended is read: what else the frame says is there already
+pub record Midway (r : Settings) (grant : ℕ) (g : Group) (s : StationValue) (h : List Reading) : Type 0 where
+  pub grants : s.grant ≡ grant
+  pub claims : s.claimer ≡ claimer_after g (claimer_heard r h)
+  pub places : (length s.owners ≡ 256) × (length s.broadcasts ≡ 256) × (length s.sessions ≡ 256)
+  pub owners : (a : ℕ) → a < 256 → at s.owners a ≡ owner_after a g (owner_heard a h)
+  pub broadcasts : (a : ℕ) → a < 256 → at s.broadcasts a ≡ broadcast_after a g (owner_heard a h) (broadcast_heard a h)
+  pub sessions :
+      (a : ℕ) → a < 256
+      → at s.sessions a
+      ≡ session_with (packets_at_once grant (most_after a g (address_heard r h) (owner_heard a h) (most_heard r a h)))
+      (session_after r.name a g (address_heard r h) (owner_heard a h) (session_heard r a h))
+  pub before : (n : ℕ) → row_known s.owners n (kept_under s.rows n) ≡ row_heard r n h
+  pub rows : (n : ℕ) → row_heard r n h ≡ row_after r n g h (row_heard r n h)
+  pub names : map named s.rows ≡ names_after g (names_heard h)
+  pub entries : (n : ℕ) (k : Kind) → entries_under s.rows n k ≡ reverse (entries_heard r n k h)
+  pub missed : s.missed ≡ missed_count h
+  pub unread : s.unread ≡ unread_count r h
+
+-- a NAME with a row in the tables
+has_row : (owners : List (Option ℕ)) (n : ℕ) (o : Option KeptValue) → is_some (row_known owners n o) ≡ true → (k : KeptValue) × (o ≡ Some k)
+has_row owners n None h = absurd cc
+has_row owners n (Some k) h = (k, refl)
+
+-- an entry leaves address and acknowledgment
+row_with_entry : (owners : List (Option ℕ)) (n : ℕ) (k : Kind) (v : Shown) (o : Option KeptValue) → row_known owners n (option_map (with_entry k v) o) ≡ row_known owners n o
+row_with_entry owners n k v None = refl
+row_with_entry owners n Dm1 v (Some x) = refl
+row_with_entry owners n Dm2 v (Some x) = refl
+
+row_if_entry : (owners : List (Option ℕ)) (n : ℕ) (k : Kind) (v : Shown) (o : Option KeptValue) (b : Bool)
+    → row_known owners n (if b then option_map (with_entry k v) o else o) ≡ row_known owners n o
+row_if_entry owners n k v o true = row_with_entry owners n k v o
+row_if_entry owners n k v o false = refl
+
+-- one more entry of a kind, newest last
+entries_with : (k l : Kind) (v : Shown) (x : KeptValue) → entries_of (with_entry k v x) l ≡ (if same_kind k l then entries_of x l ++ v ∷ [] else entries_of x l)
+entries_with Dm1 Dm1 v x = refl
+entries_with Dm1 Dm2 v x = refl
+entries_with Dm2 Dm1 v x = refl
+entries_with Dm2 Dm2 v x = refl
+
+-- of what was heard newest first, one more stands last when turned round
+turned_push : (v : Shown) (shown : List Shown) (heard : List Shown) (b : Bool) → shown ≡ reverse heard
+    → (if b then shown ++ v ∷ [] else shown) ≡ reverse (if b then v ∷ heard else heard)
+turned_push v shown heard true e = rw (e) (sym (reverse_onto heard v []))
+turned_push v shown heard false e = e
+
+-- the entries of each NAME and kind once one was added
+entries_added : (rows : List (ℕ × KeptValue)) (m n : ℕ) (k l : Kind) (v : Shown) (heard : List Shown)
+    → ((x : KeptValue) × (kept_under rows m ≡ Some x)) → entries_under rows n l ≡ reverse heard
+    → entries_under (changed_under (with_entry k v) rows m) n l ≡ reverse (if m == n && same_kind k l then v ∷ heard else heard)
+entries_added rows m n k l v heard there e =
+    ap (λ (o : Option KeptValue). option_map_or (λ kept. entries_of kept l) o []) (kept_under-changed (with_entry k v) rows m n)
+    ∙ go (m == n) refl
+  where
+    of_other : (b : Bool) → reverse heard ≡ reverse (if false && b then v ∷ heard else heard)
+    of_other b = refl
+
+    of_same : (x : KeptValue) → kept_under rows n ≡ Some x → entries_of (with_entry k v x) l ≡ reverse (if true && same_kind k l then v ∷ heard else heard)
+    of_same x i =
+        let now : entries_of x l ≡ reverse heard = (let q : entries_under rows n l ≡ entries_of x l = (rw (i) refl) in sym q ∙ e) in
+        entries_with k l v x ∙ turned_push v (entries_of x l) heard (same_kind k l) now
+
+    go : (b : Bool) → (m == n) ≡ b
+        → option_map_or (λ kept. entries_of kept l) (if b then option_map (with_entry k v) (kept_under rows n) else kept_under rows n) []
+        ≡ reverse (if b && same_kind k l then v ∷ heard else heard)
+    go false i = e
+    go true i =
+        let found : kept_under rows n ≡ Some there.0 = subst (λ (x : ℕ). kept_under rows x ≡ Some there.0) (eqb-true m n i) there.1 in
+        rw (found) (of_same there.0 found)
+
+if_same : {X : Type 0} (b : Bool) (x : X) → x ≡ (if b then x else x)
+if_same true x = refl
+if_same false x = refl
+
+-- a message that ends is read
+pub ending : (r : Settings) (grant : ℕ) (g : Group) (s : StationValue) (h : List Reading) (o : Option Entry) → Midway r grant g s h → o ≡ ended_by r g h
+    → ((e : Entry) → o ≡ Some e → is_some (row_heard r e.name h) ≡ true) → StandsAfter r grant g (with_ended s o) h
+ending r grant g s h None mid e there = record {
+  grants = mid.grants;
+  claims = mid.claims;
+  places = mid.places;
+  owners = mid.owners;
+  broadcasts = mid.broadcasts;
+  sessions = mid.sessions;
+  rows = λ n. mid.before n ∙ mid.rows n;
+  names = mid.names;
+  entries = λ n k. rw (← e) (mid.entries n k);
+  missed = mid.missed;
+  unread = rw (← e) (mid.unread);
+}
+ending r grant g s h (Some m) mid e there = go (decoding m.bytes) refl
+  where
+    unread_now : (o : Option Shown) → decoding m.bytes ≡ o
+        → (if is_unreadable (ended_by r g h) then counted (unread_count r h + 1) else unread_count r h) ≡ (if not (is_some o) then counted (unread_count r h + 1) else unread_count r h)
+    unread_now o i = rw (← e, i) refl
+
+    put_now : (o : Option Shown) → decoding m.bytes ≡ o → (n : ℕ) (k : Kind)
+        → put n k (ended_by r g h) (entries_heard r n k h) ≡ (if m.name == n && same_kind m.kind k then put_read o (entries_heard r n k h) else entries_heard r n k h)
+    put_now o i n k = rw (← e, i) refl
+
+    go : (o : Option Shown) → decoding m.bytes ≡ o → StandsAfter r grant g (with_reading s m.name m.kind o) h
+    go None i = record {
+      grants = mid.grants;
+      claims = mid.claims;
+      places = mid.places;
+      owners = mid.owners;
+      broadcasts = mid.broadcasts;
+      sessions = mid.sessions;
+      rows = λ n. mid.before n ∙ mid.rows n;
+      names = mid.names;
+      entries = λ n k. mid.entries n k ∙ ap (λ (x : List Shown). reverse x) (if_same (m.name == n && same_kind m.kind k) (entries_heard r n k h) ∙ sym (put_now None i n k));
+      missed = mid.missed;
+      unread = ap (λ (x : ℕ). counted (x + 1)) mid.unread ∙ sym (unread_now None i);
+    }
+    go (Some v) i = record {
+      grants = mid.grants;
+      claims = mid.claims;
+      places = mid.places;
+      owners = mid.owners;
+      broadcasts = mid.broadcasts;
+      sessions = mid.sessions;
+      rows = λ n.
+          ap (row_known s.owners n) (kept_under-changed (with_entry m.kind v) s.rows m.name n)
+          ∙ (row_if_entry s.owners n m.kind v (kept_under s.rows n) (m.name == n) ∙ (mid.before n ∙ mid.rows n));
+      names = names-changed (with_entry m.kind v) s.rows m.name ∙ mid.names;
+      entries = λ n k.
+          entries_added s.rows m.name n m.kind k v (entries_heard r n k h)
+          (has_row s.owners m.name (kept_under s.rows m.name) (rw (mid.before m.name) (there m refl))) (mid.entries n k)
+          ∙ ap (λ (x : List Shown). reverse x) (sym (put_now (Some v) i n k));
+      missed = mid.missed;
+      unread = mid.unread ∙ sym (unread_now (Some v) i);
+    }

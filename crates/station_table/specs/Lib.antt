@@ -1,0 +1,7 @@
+pub mod Halves
+pub mod KeptValue
+pub mod Reactions
+pub mod Refusals
+pub mod StandsFor
+pub mod StationValue
+pub mod Steps

@@ -1,0 +1,118 @@
+-- What the station withdraws and queues in answer to each reading and order.
+use Rattle.std.specs.Prelude.{ℕ, ◌+◌, ◌-◌, ◌%◌, min, List, [], ◌∷◌, Option, Some, None, Bool, true, false, ◌&&◌, ◌||◌, ◌==◌, nat_lt, length, if◌then◌else◌}
+use Rattle.can_frame.specs.FrameValue.{FrameValue}
+use Rattle.can_frame.specs.declared.reading.Reading.{Reading}
+use Rattle.can_frame.specs.declared.reading.Reading.TheVariants.{Frame, Gap, Empty}
+use Rattle.address_claim.specs.Claiming.{ClaimerValue, is_held, claim_step, after_claim}
+use Rattle.address_claim.specs.Frames.{claim_frame_value, claim_source}
+use Rattle.address_claim.specs.declared.claimer.ClaimStep.{ClaimStep}
+use Rattle.address_claim.specs.declared.claimer.ClaimStep.TheVariants.{Nothing}
+use Rattle.dm_messages.specs.View.{pgn_of_kind}
+use Rattle.requests.specs.Layouts.{request_frame_value, ack_frame_value, commanded_bytes}
+use Rattle.transport.specs.declared.control.Control.{Control}
+use Rattle.transport.specs.declared.control.Control.TheVariants.{Rts, Cts, EndAck, Abort}
+use Rattle.transport.specs.Messages.{control_frame, frames_of_message}
+use Rattle.transport.specs.Pieces.{packet_count}
+use Rattle.parameter_group.specs.Group.{Group, AddressClaimed, Request, ConnectionManagement, DataTransfer, group_of}
+use Rattle.bus_model.specs.Heard.{Joining, is_whole, kind_of, started, with_packet}
+use Rattle.station_table.specs.declared.reaction.Ask.{Ask}
+use Rattle.station_table.specs.declared.reaction.Ask.TheVariants.{Dm1, Dm2, Dm3, Dm11, Claim, Other}
+use Rattle.station_table.specs.declared.reaction.Reaction.{Reaction}
+use Rattle.station_table.specs.StationValue.{SessionValue, StationValue, at}
+use Rattle.station_table.specs.Steps.{packets_at_once}
+
+-- nothing is withdrawn, and nothing is queued
+abbrev pub silent : Reaction
+silent = record { withdraw = false; put = [] }
+
+-- one frame is queued
+abbrev pub answering : FrameValue → Reaction
+answering f = record { withdraw = false; put = f ∷ [] }
+
+-- all that waits is withdrawn, and one frame is queued
+abbrev pub claiming_again : FrameValue → Reaction
+claiming_again f = record { withdraw = true; put = f ∷ [] }
+
+-- the station's claim, or where it holds no address its cannot claim
+abbrev pub own_claim : ClaimerValue → FrameValue
+own_claim c = claim_frame_value c.name c.held
+
+-- a request from the station for the claims of all
+abbrev pub request_for_claims : ClaimerValue → FrameValue
+request_for_claims c = request_frame_value (record { pgn = 60928; dest = 255; source = claim_source c.held })
+
+-- a claim that is defended, or makes the station move or go without address, is answered by a claim in place of all that waits
+abbrev pub claim_reaction : ClaimStep → ClaimerValue → Reaction
+claim_reaction Nothing c = silent
+claim_reaction _ c = claiming_again (own_claim c)
+
+-- a request for claims, to the station or to all, is answered by its claim; any other, to it from an address that can be
+-- held, by a negative acknowledgment
+abbrev pub request_reaction : ClaimerValue → ℕ → ℕ → ℕ → Reaction
+request_reaction c pgn destination source =
+    if pgn == 60928 then (if is_held c.held destination || destination == 255 then answering (own_claim c) else silent)
+    else if is_held c.held destination && nat_lt source 254
+    then answering (ack_frame_value (record { control = 1; requester = source; pgn = pgn; dest = 255; source = destination }))
+    else silent
+
+-- an Rts that starts a session is granted the first packets; any other is aborted
+abbrev pub start_reaction : Option Joining → ℕ → ℕ → ℕ → Control
+start_reaction None at_once packets pgn = Abort 2 pgn
+start_reaction (Some j) at_once packets pgn = Cts (min at_once packets) 1 pgn
+
+-- after the last packet that was granted the next ones are granted
+abbrev pub next_grant : ℕ → Joining → ℕ → ℕ → Reaction
+next_grant at_once j own source =
+    if length j.pieces % at_once == 0
+    then answering (control_frame (Cts (min at_once (packet_count j.size - length j.pieces)) (length j.pieces + 1) (pgn_of_kind j.kind)) own source)
+    else silent
+
+-- a packet that is not the next one aborts the session, the last one ends it, any other is counted
+abbrev pub packet_reaction : SessionValue → Option Joining → ℕ → ℕ → Reaction
+packet_reaction x None own source = answering (control_frame (Abort 2 (pgn_of_kind x.joining.kind)) own source)
+packet_reaction x (Some j) own source =
+    if is_whole j then answering (control_frame (EndAck j.size (packet_count j.size) (pgn_of_kind j.kind)) own source)
+    else next_grant x.at_once j own source
+
+-- a packet for the station is answered only within a session
+abbrev pub session_reaction : Option SessionValue → List ℕ → ℕ → ℕ → Reaction
+session_reaction None bytes own source = silent
+session_reaction (Some x) bytes own source = packet_reaction x (with_packet bytes (Some x.joining)) own source
+
+-- what one frame makes the station do
+abbrev pub group_reaction : StationValue → Group → Reaction
+group_reaction s (AddressClaimed source name) = claim_reaction (claim_step source name s.claimer) (after_claim source name s.claimer)
+group_reaction s (Request pgn destination source) = request_reaction s.claimer pgn destination source
+group_reaction s (ConnectionManagement source destination (Rts size packets most pgn)) =
+    if is_held s.claimer.held destination && nat_lt source 254
+    then answering (control_frame
+    (start_reaction (started (kind_of pgn) size (at s.owners source)) (packets_at_once s.grant most) packets pgn) destination source)
+    else silent
+group_reaction s (DataTransfer source destination bytes) =
+    if destination == 255 then silent
+    else (if is_held s.claimer.held destination then session_reaction (at s.sessions source) bytes destination source else silent)
+group_reaction s _ = silent
+
+-- what a reading makes the station do
+abbrev pub reaction : StationValue → Reading → Reaction
+reaction s Empty = silent
+reaction s (Gap count) = record { withdraw = true; put = own_claim s.claimer ∷ request_for_claims s.claimer ∷ [] }
+reaction s (Frame f) = group_reaction s (group_of f)
+
+-- the parameter group that is asked for
+abbrev pub group_asked : Ask → ℕ
+group_asked Dm1 = 65226
+group_asked Dm2 = 65227
+group_asked Dm3 = 65228
+group_asked Dm11 = 65235
+group_asked Claim = 60928
+group_asked (Other pgn) = pgn
+
+-- the station asks one address, or all
+abbrev pub asking : ℕ → Ask → ℕ → Reaction
+asking own ask destination = answering (request_frame_value (record { pgn = group_asked ask; dest = destination; source = own }))
+
+-- the station commands a NAME to hold an address: a broadcast of nine bytes
+abbrev pub commanding : ℕ → ℕ → ℕ → Reaction
+commanding own name address =
+    record { withdraw = false; put = frames_of_message (commanded_bytes (record { name = name; address = address })) 65240 own 255 }

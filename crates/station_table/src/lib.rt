@@ -1,0 +1,13 @@
+//! The diagnostic station: what it keeps of the frames that it reads, and what it answers (SAE J1939-21, -73 and -81).
+#![tactic(auto)]
+
+mod error;
+mod half;
+mod kept;
+mod reaction;
+mod row;
+mod rows;
+
+pub use error::StationError;
+pub use reaction::{Ask, Reaction};
+pub use row::{AckSeen, Row};

@@ -1,0 +1,121 @@
+ghost use Rattle.std.specs.Prelude.{◌≡◌, ℕ, [], length, map, slice_get, OnOk, OnErr};
+ghost use Rattle.std.specs.Option.{option_map};
+
+use crate::kept::Kept;
+use crate::row::AckSeen;
+use dm_messages::{Kind, Shown};
+use indexmap::IndexMap;
+use name_field::Name;
+use std::alloc::{AllocError, Global};
+use std::marker::Model;
+
+/// What the station keeps under each NAME, in the order in which the NAMEs first claimed.
+#[derive(Drop)]
+pub struct Rows {
+    rows: IndexMap<Name, Kept>,
+}
+
+impl Model for Rows {
+    ghost use Rattle.std.specs.Prelude.{List, ℕ};
+    ghost use Rattle.station_table.specs.KeptValue.{KeptValue};
+
+    ghost Value = { List (ℕ × KeptValue) };
+
+    ghost view = { λ r. r.rows.entries };
+}
+
+impl Rows {
+    ghost use Rattle.station_table.specs.KeptValue.{KeptValue, kept_under, entries_under, with_claimed, with_ack, with_entry, with_row, changed_under};
+
+    /// No rows.
+    pub fn new(alloc: Global) -> Rows
+        ensures { result ≡ [] }
+    {
+        Rows {
+            rows: IndexMap::new(alloc),
+        }
+    }
+
+    /// How many NAMEs there are.
+    pub fn len(&self) -> usize
+        ensures { result ≡ length self.now }
+    {
+        self.rows.len()
+    }
+
+    /// The NAME at this place, from 0.
+    pub fn name_at(&self, place: usize) -> Option<Name>
+        ensures { result ≡ slice_get (map (λ e. e.0) self.now) place }
+    {
+        match self.rows.get_index(place) {
+            Some((name, _)) => Some(*name),
+            None => None,
+        }
+    }
+
+    /// Gives the NAME a row at the end, where it has none. Where memory is refused, nothing changes.
+    #[tactic(auto, using(crate::proofs::RowLemmas::name_added))]
+    pub fn add(&mut self, alloc: Global, name: Name) -> Result<(), AllocError>
+        ensures ok { OnOk result (self.new ≡ with_row self.old name) }
+        ensures err { OnErr result (self.new ≡ self.old) }
+    {
+        if self.rows.contains_key(&name) {
+            return Ok(());
+        }
+        self.rows.insert(name, Kept::new(alloc))?;
+        Ok(())
+    }
+
+    /// The NAME claims this address, or none; a NAME without a row does nothing.
+    #[tactic(auto, using(std::proofs::lemmas::Map::Steps::set_value_same))]
+    pub fn claim(&mut self, name: Name, address: Option<u8>)
+        ensures { self.new ≡ changed_under (with_claimed address) self.old name }
+    {
+        if let Some(kept) = self.rows.get_mut(&name) {
+            kept.claim(address);
+        }
+    }
+
+    /// The NAME acknowledges; a NAME without a row does nothing.
+    #[tactic(auto, using(std::proofs::lemmas::Map::Steps::set_value_same))]
+    pub fn acknowledge(&mut self, name: Name, ack: AckSeen)
+        ensures { self.new ≡ changed_under (with_ack ack) self.old name }
+    {
+        if let Some(kept) = self.rows.get_mut(&name) {
+            kept.acknowledge(ack);
+        }
+    }
+
+    /// Puts an entry at the end of the NAME's list of that kind; a NAME without a row does nothing. Where memory is
+    /// refused, nothing changes.
+    #[tactic(auto, using(std::proofs::lemmas::Map::Steps::set_value_same))]
+    pub fn push(&mut self, name: Name, kind: Kind, shown: Shown) -> Result<(), AllocError>
+        ensures ok { OnOk result (self.new ≡ changed_under (with_entry kind shown) self.old name) }
+        ensures err { OnErr result (self.new ≡ self.old) }
+    {
+        if let Some(kept) = self.rows.get_mut(&name) {
+            kept.push(kind, shown)?;
+        }
+        Ok(())
+    }
+
+    /// The address last claimed under the NAME and its last acknowledgment, where it has a row.
+    pub fn get(&self, name: Name) -> Option<(Option<u8>, Option<AckSeen>)>
+        ensures { result ≡ option_map (λ (k : KeptValue). (k.claimed, k.ack)) (kept_under self.now name) }
+    {
+        match self.rows.get(&name) {
+            Some(kept) => Some((kept.claimed(), kept.ack())),
+            None => None,
+        }
+    }
+
+    /// The entries of a kind under the NAME, oldest first; none where it has no row.
+    pub fn shown(&self, name: Name, kind: Kind) -> &[Shown]
+        ensures { result.now ≡ entries_under self.now name kind }
+    {
+        match self.rows.get(&name) {
+            Some(kept) => kept.shown(kind),
+            None => &[],
+        }
+    }
+}

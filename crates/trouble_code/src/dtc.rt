@@ -1,4 +1,4 @@
-ghost use Rattle.std.specs.Prelude.{◌≡◌, ◌∷◌, [], ◌+◌, ◌*◌, All, List, Ok, ℕ, ◌<◌, ◌≤◌, ◌^◌, ◌↔◌, IfOk, IsErrOf, slice_index};
+ghost use Rattle.std.specs.Prelude.{◌≡◌, ◌∷◌, [], ◌+◌, ◌*◌, All, List, Ok, ℕ, ◌<◌, ◌≤◌, ◌^◌, ◌↔◌, ◌⊎◌, IfOk, IfErr, IsErrOf, slice_index};
 
 use crate::error::DtcError;
 use std::marker::Model;
@@ -121,6 +121,7 @@ impl Dtc {
         ensures written { (d : Code) → IsCode d → bytes ≡ code_bytes d → result ≡ Ok d }
         ensures no_code { IsErrOf result DtcError.NoCode ↔ (bytes ≡ 0 ∷ 0 ∷ 0 ∷ 0 ∷ []) }
         ensures old { IsErrOf result DtcError.OldConversion ↔ (128 ≤ slice_index bytes 3) }
+        ensures no_other { IfErr result (λ e. (e ≡ DtcError.NoCode) ⊎ (e ≡ DtcError.OldConversion)) }
     {
         if bytes == [0, 0, 0, 0] {
             return Err(DtcError::NoCode);

@@ -10,10 +10,13 @@ use Rattle.transport.specs.declared.took.Took.TheVariants.{More, Whole}
 pub length-pieces : (bytes : List ℕ) → length (pieces bytes) ≡ packet_count (length bytes)
 length-pieces bytes = length-first_pieces (packet_count (length bytes)) bytes
 
-is_next_true : (size : ℕ) (taken : List (List ℕ)) (part : List ℕ) → IsNext part (length taken) (packet_count size) → is_next size taken part ≡ true
+pub length_of_pieces : (size count : ℕ) (payload : List ℕ) → length payload ≡ size → count ≡ packet_count size → length (pieces payload) ≡ count
+length_of_pieces size count payload h e = length-pieces payload ∙ ap packet_count h ∙ sym e
+
+pub is_next_true : (size : ℕ) (taken : List (List ℕ)) (part : List ℕ) → IsNext part (length taken) (packet_count size) → is_next size taken part ≡ true
 is_next_true size taken part h = grind (arith, nat_tests, h.len, h.number, h.missing)
 
-is_next_facts : (size : ℕ) (taken : List (List ℕ)) (part : List ℕ) → is_next size taken part ≡ true → IsNext part (length taken) (packet_count size)
+pub is_next_facts : (size : ℕ) (taken : List (List ℕ)) (part : List ℕ) → is_next size taken part ≡ true → IsNext part (length taken) (packet_count size)
 is_next_facts size taken part h = record { len = grind (arith, nat_tests); number = grind (arith, nat_tests); missing = grind (arith, nat_tests) }
 
 is_next_false : (size : ℕ) (taken : List (List ℕ)) (part : List ℕ) → ¬ IsNext part (length taken) (packet_count size) → is_next size taken part ≡ false

@@ -1,6 +1,6 @@
 -- Joining packets in their order.
-use Rattle.std.specs.Prelude.{ℕ, ◌+◌, Bool, ◌&&◌, nat_eq, nat_lt, if◌then◌else◌, List, [], ◌∷◌, ◌++◌, length, drop, slice_index, Option, Some, None}
-use Rattle.transport.specs.Pieces.{packet_count}
+use Rattle.std.specs.Prelude.{◌≡◌, ℕ, suc, ◌+◌, Bool, ◌&&◌, nat_eq, nat_lt, if◌then◌else◌, List, [], ◌∷◌, ◌++◌, length, drop, slice_index, Option, Some, None}
+use Rattle.transport.specs.Pieces.{packet_count, IsNext}
 use Rattle.transport.specs.declared.took.Took.{Took}
 use Rattle.transport.specs.declared.took.Took.TheVariants.{More, Whole, Broken}
 
@@ -37,3 +37,17 @@ after_parts a (part ∷ parts) = after_parts (after_part a part) parts
 abbrev pub took_of : ℕ → Option (List (List ℕ)) → Took
 took_of size None = Broken
 took_of size (Some taken) = if nat_eq (length taken) (packet_count size) then Whole else More
+
+-- what is answered to the last of these packets, from the start on
+abbrev pub took_after : ℕ → ℕ → List (List ℕ) → Took
+took_after size pgn parts = took_of size (after_parts (new_assembly size pgn) parts).taken
+
+-- packets in order: eight bytes each, numbered on after those taken, and no more than there are
+abbrev pub AreInOrder : ℕ → ℕ → List (List ℕ) → Type 0
+AreInOrder count taken [] = Unit {0}
+AreInOrder count taken (part ∷ parts) = IsNext part taken count × AreInOrder count (suc taken) parts
+
+-- packets in order from number 1 on, as many as the size takes
+pub record AreAllPackets (size : ℕ) (parts : List (List ℕ)) : Type 0 where
+  pub in_order : AreInOrder (packet_count size) 0 parts
+  pub all : length parts ≡ packet_count size

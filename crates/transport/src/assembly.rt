@@ -1,6 +1,6 @@
-ghost use Rattle.std.specs.Prelude.{◌≡◌, ℕ, ◌≤◌, ◌↔◌, IfOk, IsTrue, Some, List, length};
+ghost use Rattle.std.specs.Prelude.{◌≡◌, ℕ, ◌≤◌, ◌↔◌, IfOk, IsTrue, Some, List, length, nat_eq, if◌then◌else◌};
 ghost use Rattle.transport.specs.Pieces.{IsNext};
-ghost use Rattle.transport.specs.Pieces.{packet_count, pieces, joined};
+ghost use Rattle.transport.specs.Pieces.{packet_count, pieces, packets_of, joined};
 
 use crate::payload::Payload;
 use crate::pieces::packets;
@@ -33,13 +33,20 @@ impl Model for Assembly {
 }
 
 impl Assembly {
-    ghost use Rattle.transport.specs.Assembling.{new_assembly, after_part, with_part, took_of};
+    ghost use Rattle.transport.specs.Assembling.{new_assembly, after_part, after_parts, with_part, took_of, took_after, AreInOrder, AreAllPackets};
 
     /// A message of this size, 9 to 1,785 bytes, of which nothing was taken yet. It takes all the memory that it will need.
+    ///
+    /// From it on, Whole is answered exactly to the packets numbered 1 to the last in order with eight bytes each, Broken
+    /// exactly to packets that are not in order, and the packets of a payload give its pieces.
+    #[tactic(auto, using(crate::proofs::Order::whole_exactly, crate::proofs::Order::broken_exactly, crate::proofs::Order::packets_give_pieces))]
     pub fn start(alloc: Global, size: u16, pgn: Pgn) -> Result<Assembly, AllocError>
         requires least { 9 ≤ size }
         requires most { size ≤ 1785 }
-        ensures { IfOk result (λ a. a ≡ new_assembly size pgn) }
+        ensures value { IfOk result (λ a. a ≡ new_assembly size pgn) }
+        ensures whole { (parts : List (List ℕ)) → (took_after size pgn parts ≡ Took.Whole) ↔ AreAllPackets size parts }
+        ensures broken { (parts : List (List ℕ)) → (took_after size pgn parts ≡ Took.Broken) ↔ (¬ AreInOrder (packet_count size) 0 parts) }
+        ensures packets { (payload : List ℕ) → length payload ≡ size → (after_parts (new_assembly size pgn) (packets_of payload)).taken ≡ Some (pieces payload) }
     {
         Ok(Assembly {
             size,
@@ -66,11 +73,7 @@ impl Assembly {
         if self.bytes.extend_from_slice(&part[1..]).is_err() {
             unreachable!()
         }
-        if taken + 1 == count {
-            Took::Whole
-        } else {
-            Took::More
-        }
+        answered(taken + 1, count)
     }
 
     /// What `take` would answer to a packet; it changes nothing.
@@ -82,11 +85,7 @@ impl Assembly {
         if self.broken || !is_next(part, taken, count) {
             return Took::Broken;
         }
-        if taken + 1 == count {
-            Took::Whole
-        } else {
-            Took::More
-        }
+        answered(taken + 1, count)
     }
 
     /// The same message with the same packets taken, in memory of its own.
@@ -131,4 +130,15 @@ fn is_next(part: &[u8], taken: usize, count: usize) -> bool
     ensures { IsTrue result ↔ IsNext part.now taken count }
 {
     part.len() == 8 && usize::from(part[0]) == taken.saturating_add(1) && taken < count
+}
+
+/// Whole once as many packets were taken as there are.
+fn answered(taken: usize, count: usize) -> Took
+    ensures { result ≡ (if nat_eq taken count then Took.Whole else Took.More) }
+{
+    if taken == count {
+        Took::Whole
+    } else {
+        Took::More
+    }
 }

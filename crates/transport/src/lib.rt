@@ -16,3 +16,6 @@ pub use payload::Payload;
 pub use pieces::{packets, part};
 pub use sending::Sending;
 pub use took::Took;
+
+#[cfg(test)]
+mod tests;

@@ -1,11 +1,13 @@
-ghost use Rattle.std.specs.Prelude.{◌≡◌, ◌≤◌, length};
-ghost use Rattle.transport.specs.Pieces.{packet_count, packet};
+ghost use Rattle.std.specs.Prelude.{◌≡◌, ℕ, ◌-◌, ◌≤◌, List, [], length, drop, slice_index_or};
+ghost use Rattle.transport.specs.Pieces.{packet_count, pieces, packet};
 
 /// The number of packets that carry this many bytes, 9 to 1,785: seven to a packet, 2 to 255 packets.
+#[tactic(auto, using(crate::proofs::Steps::length_of_pieces))]
 pub fn packets(size: u16) -> u8
     requires least { 9 ≤ size }
     requires most { size ≤ 1785 }
-    ensures { result ≡ packet_count size }
+    ensures count { result ≡ packet_count size }
+    ensures pieces { (payload : List ℕ) → length payload ≡ size → length (pieces payload) ≡ result }
 {
     ((size + 6) / 7) as u8
 }
@@ -18,7 +20,8 @@ pub fn part(payload: &[u8], number: u8) -> [u8; 8]
     requires most { length payload.now ≤ 1785 }
     requires from_one { 1 ≤ number }
     requires to_count { number ≤ packet_count (length payload.now) }
-    ensures { result ≡ packet payload.now number }
+    ensures value { result ≡ packet payload.now number }
+    ensures piece { drop 1 result ≡ slice_index_or (pieces payload.now) (number - 1) [] }
 {
     let start = 7 * (usize::from(number) - 1);
     let piece = &payload[start..payload.len().min(start + 7)];

@@ -53,12 +53,21 @@ impl Sending {
         ensures after { self.new ≡ after_queueing self.old result }
         ensures within { self.old.queued + result ≤ packet_count (length self.old.payload) }
     {
+        let count = self.granted(granted, next);
+        self.queued += count;
+        count
+    }
+
+    /// What `grant` would answer to a clear to send; it changes nothing.
+    pub fn granted(&self, granted: u8, next: u8) -> u8
+        ensures count { result ≡ packets_granted self.now granted next }
+        ensures within { self.now.queued + result ≤ packet_count (length self.now.payload) }
+    {
+        let left = self.packets() - self.queued;
         if u16::from(next) != self.next_unsent() {
             return 0;
         }
-        let count = granted.min(self.packets() - self.queued);
-        self.queued += count;
-        count
+        granted.min(left)
     }
 
     /// The number of the first packet not yet queued: 256 where all of 255 are queued.

@@ -1,8 +1,5 @@
-use Rattle.std.proofs.Common.{◌≡◌, ◌+◌, ◌/◌, ◌++◌, length, drop, nat_eq, true, false, arith, refl, sym, ap, ◌∙◌, rules, length-drop}
-use Rattle.std.proofs.lemmas.Grind.{common_steps}
-use Rattle.std.proofs.lemmas.Bool.Decides.{nat_tests}
+use Rattle.std.proofs.Common.{◌≡◌, ◌/◌, length, drop, arith, refl, rules, length-drop}
 use Rattle.transport.specs.Pieces.{packet_count, IsNext}
-use Rattle.transport.specs.Assembling.{AssemblyValue, took_of, with_part}
 use Rattle.transport.proofs.Steps.{with_next, with_other, took_next}
 use Rattle.transport.proofs.assembly.Assembly.answer.Goals as goal
 use Rattle.transport.proofs.assembly.Assembly.answer.Goals.{then-self-via-then-self, then-self-via-else-self+then-not-is_next}
@@ -12,22 +9,13 @@ returns-then-self c = rw (← c.self.view_is) (elim c.then-self.branch [
   | then-self-via-then-self w ↦ rw w.if-self.true refl
   | then-self-via-else-self+then-not-is_next w ↦
       let raw : ¬ IsNext c.args.part.now (c.len-taken.result / 7) c.from-count.result = search rules in
-      let other : ¬ IsNext c.args.part.now (c.self.inside.bytes.len / 7) (packet_count c.self.inside.size) = rw (c.len-taken.ensures, c.from-count.ensures, c.packets.ensures) at raw in
+      let other : ¬ IsNext c.args.part.now (c.self.inside.bytes.len / 7) (packet_count c.self.inside.size) = rw (c.len-taken.ensures, c.from-count.ensures, c.packets.ensures.count) at raw in
       rw (w.if-self.false, with_other c.self.inside.size _ c.self.inside.bytes.items c.args.part.now c.self.inside.bytes.ok.0 c.self.invariant.whole other) refl
 ])
 
-pub returns-then-taken-count : goal.returns-then-taken-count
-returns-then-taken-count c =
+pub returns : goal.returns
+returns c =
     let raw : IsNext c.args.part.now (c.len-taken.result / 7) c.from-count.result = search rules in
-    let next : IsNext c.args.part.now (c.self.inside.bytes.len / 7) (packet_count c.self.inside.size) = rw (c.len-taken.ensures, c.from-count.ensures, c.packets.ensures) at raw in
+    let next : IsNext c.args.part.now (c.self.inside.bytes.len / 7) (packet_count c.self.inside.size) = rw (c.len-taken.ensures, c.from-count.ensures, c.packets.ensures.count) at raw in
     let seven : length (drop 1 c.args.part.now) ≡ 7 = omega (arith, length-drop 1 c.args.part.now, raw.len) in
-    let all : nat_eq (c.self.inside.bytes.len / 7 + 1) (packet_count c.self.inside.size) ≡ true = grind (arith, nat_tests) in
-    rw (← c.self.view_is, c.if-self.false, with_next c.self.inside.size _ c.self.inside.bytes.items c.args.part.now c.self.inside.bytes.ok.0 c.self.invariant.whole next, took_next c.self.inside.size _ c.self.inside.bytes.items c.self.inside.bytes.ok.0 c.self.invariant.whole (drop 1 c.args.part.now) seven, all) refl
-
-pub returns-else-taken-count : goal.returns-else-taken-count
-returns-else-taken-count c =
-    let raw : IsNext c.args.part.now (c.len-taken.result / 7) c.from-count.result = search rules in
-    let next : IsNext c.args.part.now (c.self.inside.bytes.len / 7) (packet_count c.self.inside.size) = rw (c.len-taken.ensures, c.from-count.ensures, c.packets.ensures) at raw in
-    let seven : length (drop 1 c.args.part.now) ≡ 7 = omega (arith, length-drop 1 c.args.part.now, raw.len) in
-    let some : nat_eq (c.self.inside.bytes.len / 7 + 1) (packet_count c.self.inside.size) ≡ false = grind (arith, nat_tests) in
-    rw (← c.self.view_is, c.if-self.false, with_next c.self.inside.size _ c.self.inside.bytes.items c.args.part.now c.self.inside.bytes.ok.0 c.self.invariant.whole next, took_next c.self.inside.size _ c.self.inside.bytes.items c.self.inside.bytes.ok.0 c.self.invariant.whole (drop 1 c.args.part.now) seven, some) refl
+    rw (← c.self.view_is, c.if-self.false, with_next c.self.inside.size _ c.self.inside.bytes.items c.args.part.now c.self.inside.bytes.ok.0 c.self.invariant.whole next, took_next c.self.inside.size _ c.self.inside.bytes.items c.self.inside.bytes.ok.0 c.self.invariant.whole (drop 1 c.args.part.now) seven, c.answered.ensures, c.len-taken.ensures, c.from-count.ensures, c.packets.ensures.count) refl

@@ -1,17 +1,16 @@
-use Rattle.std.proofs.Common.{◌≡◌, ◌+◌, ◌/◌, ◌++◌, length, drop, nat_eq, true, false, arith, refl, rules, length-drop}
+use Rattle.std.proofs.Common.{◌≡◌, ◌/◌, ◌++◌, length, drop, arith, refl, rules, length-drop}
 use Rattle.std.proofs.lemmas.Grind.{common_steps}
-use Rattle.std.proofs.lemmas.Bool.Decides.{nat_tests}
 use Rattle.transport.specs.Pieces.{packet_count, IsNext}
 use Rattle.transport.proofs.Steps.{with_next, with_other, took_next}
 use Rattle.transport.proofs.assembly.Assembly.take.Goals as goal
-use Rattle.transport.proofs.assembly.Assembly.take.Goals.{then-self-via-then-self, then-self-via-else-self+then-not-is_next, then-taken-count, else-taken-count}
+use Rattle.transport.proofs.assembly.Assembly.take.Goals.{then-self-via-then-self, then-self-via-else-self+then-not-is_next}
 
 pub returns-then-self-clause-after : goal.returns-then-self-clause-after
 returns-then-self-clause-after c = rw (← c.self.view_is) (elim c.then-self.branch [
   | then-self-via-then-self w ↦ rw w.if-self.true refl
   | then-self-via-else-self+then-not-is_next w ↦
       let raw : ¬ IsNext c.args.part.now (c.len-taken.result / 7) c.from-count.result = search rules in
-      let other : ¬ IsNext c.args.part.now (c.self.inside.bytes.len / 7) (packet_count c.self.inside.size) = rw (c.len-taken.ensures, c.from-count.ensures, c.packets.ensures) at raw in
+      let other : ¬ IsNext c.args.part.now (c.self.inside.bytes.len / 7) (packet_count c.self.inside.size) = rw (c.len-taken.ensures, c.from-count.ensures, c.packets.ensures.count) at raw in
       rw (w.if-self.false, with_other c.self.inside.size _ c.self.inside.bytes.items c.args.part.now c.self.inside.bytes.ok.0 c.self.invariant.whole other) refl
 ])
 
@@ -19,7 +18,7 @@ pub returns-clause-after : goal.returns-clause-after
 returns-clause-after c =
     let items : c.extend_from_slice.new.self.items ≡ c.self.inside.bytes.items ++ drop 1 c.args.part.now = grind (arith, common_steps) in
     let raw : IsNext c.args.part.now (c.len-taken.result / 7) c.from-count.result = search rules in
-    let next : IsNext c.args.part.now (c.self.inside.bytes.len / 7) (packet_count c.self.inside.size) = rw (c.len-taken.ensures, c.from-count.ensures, c.packets.ensures) at raw in
+    let next : IsNext c.args.part.now (c.self.inside.bytes.len / 7) (packet_count c.self.inside.size) = rw (c.len-taken.ensures, c.from-count.ensures, c.packets.ensures.count) at raw in
     rw (← c.self.view_is, items, c.if-self.false, with_next c.self.inside.size _ c.self.inside.bytes.items c.args.part.now c.self.inside.bytes.ok.0 c.self.invariant.whole next) refl
 
 pub returns-clause-answer : goal.returns-clause-answer
@@ -27,11 +26,4 @@ returns-clause-answer c =
     let items : c.extend_from_slice.new.self.items ≡ c.self.inside.bytes.items ++ drop 1 c.args.part.now = grind (arith, common_steps) in
     let raw : IsNext c.args.part.now (c.len-taken.result / 7) c.from-count.result = search rules in
     let seven : length (drop 1 c.args.part.now) ≡ 7 = omega (arith, length-drop 1 c.args.part.now, raw.len) in
-    rw (items, c.if-self.false, took_next c.self.inside.size _ c.self.inside.bytes.items c.self.inside.bytes.ok.0 c.self.invariant.whole (drop 1 c.args.part.now) seven) (elim c.if-taken-count.branch [
-      | then-taken-count w ↦
-          let all : nat_eq (c.self.inside.bytes.len / 7 + 1) (packet_count c.self.inside.size) ≡ true = grind (arith, nat_tests) in
-          rw (w.result-is, all) refl
-      | else-taken-count w ↦
-          let some : nat_eq (c.self.inside.bytes.len / 7 + 1) (packet_count c.self.inside.size) ≡ false = grind (arith, nat_tests) in
-          rw (w.result-is, some) refl
-    ])
+    rw (items, c.if-self.false, took_next c.self.inside.size _ c.self.inside.bytes.items c.self.inside.bytes.ok.0 c.self.invariant.whole (drop 1 c.args.part.now) seven, c.answered.ensures, c.len-taken.ensures, c.from-count.ensures, c.packets.ensures.count) refl

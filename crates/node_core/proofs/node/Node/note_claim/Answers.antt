@@ -1,0 +1,15 @@
+use Rattle.std.proofs.Common.{◌≡◌, true, false, not, refl, rules, arith, sym, ◌∙◌}
+use Rattle.std.proofs.lemmas.Grind.{common_steps}
+use Rattle.node_core.proofs.node.Node.note_claim.Goals as goal
+
+pub returns-then-not-is_of_another : goal.returns-then-not-is_of_another
+returns-then-not-is_of_another c =
+    let test = rw (← c.self.view_is) at c.is_of_another-is_of_another.ensures in
+    let no : c.is_of_another-is_of_another.result ≡ false = search rules in
+    rw (← c.self.view_is, c.hear_claim.ensures.after, ← test, no) refl
+
+pub returns : goal.returns
+returns c =
+    let test = rw (← c.self.view_is) at c.is_of_another-is_of_another.ensures in
+    let yes : c.is_of_another-is_of_another.result ≡ true = search rules in
+    rw (← c.self.view_is, c.hear_claim.ensures.after, ← test, yes) refl

@@ -1,0 +1,16 @@
+-- What comes of beginning a message of one's own accord.
+use Rattle.std.specs.Prelude.{ℕ, Option, if◌then◌else◌}
+use Rattle.fault_memory.specs.Memory.{MemoryValue}
+use Rattle.dm_messages.specs.View.{pgn_of_kind}
+use Rattle.dm_messages.specs.declared.kind.Kind.{Kind}
+use Rattle.node_core.specs.NodeValue.{is_open}
+use Rattle.node_core.specs.Deed.{payload_of, parts_begun}
+use Rattle.node_core.specs.declared.session.OpenSession.{OpenSession}
+use Rattle.node_core.specs.declared.heard.Started.{Started}
+use Rattle.node_core.specs.declared.heard.Started.TheVariants.{Held, Begun}
+
+-- a unit that holds `source` begins a message of that kind to all, unless a session of that kind is open
+abbrev pub begins : Option OpenSession → Kind → MemoryValue → ℕ → Started
+begins session kind memory source =
+    if is_open session kind then Held
+    else Begun (record { kind = kind; source = source; dest = 255 }) (parts_begun (payload_of kind memory) (pgn_of_kind kind) source 255)

@@ -1,0 +1,7 @@
+pub mod NodeValue
+pub mod Deed
+pub mod Commanding
+pub mod Requested
+pub mod Reaction
+pub mod Beginning
+pub mod Refusals

@@ -1,0 +1,221 @@
+-- What a unit owes to a frame that it hears, by what the frame says; a frame that no case names owes nothing.
+-- `agrees` is the unit's own choice: whether it clears or obeys, where that is put to it.
+use Rattle.std.specs.Prelude.{◌≡◌, ℕ, Bool, ◌&&◌, ◌||◌, ◌==◌, not, false, nat_le, is_some, List, length, slice_index_or, slice_set, Option, Some, None, if◌then◌else◌}
+use Rattle.can_frame.specs.FrameValue.{FrameValue}
+use Rattle.transport.specs.declared.control.Control.{Control}
+use Rattle.transport.specs.declared.control.Control.TheVariants.{Rts, Cts, EndAck, Bam, Abort}
+use Rattle.transport.specs.Messages.{control_frame}
+use Rattle.transport.specs.Pieces.{packet_count}
+use Rattle.transport.specs.Sending.{SendingValue, packets_granted}
+use Rattle.address_claim.specs.Claiming.{claim_step, after_claim, held_after, is_held}
+use Rattle.address_claim.specs.Frames.{claim_frame_value}
+use Rattle.address_claim.specs.declared.claimer.ClaimStep.{ClaimStep}
+use Rattle.address_claim.specs.declared.claimer.ClaimStep.TheVariants as step
+use Rattle.requests.specs.Layouts.{commanded_of}
+use Rattle.requests.specs.declared.commanded.Commanded.{Commanded}
+use Rattle.parameter_group.specs.Group.{Group, AddressClaimed, Request, ConnectionManagement, DataTransfer, group_of}
+use Rattle.fault_memory.specs.Memory.{MemoryValue}
+use Rattle.dm_messages.specs.View.{pgn_of_kind}
+use Rattle.dm_messages.specs.declared.kind.Kind.{Kind}
+use Rattle.node_core.specs.NodeValue.{NodeValue, is_open, is_destination}
+use Rattle.node_core.specs.Deed.{Deed, Nothing, Replies, Begins, Sends, EndsSession, Claims, payload_of, heard_of, after}
+use Rattle.node_core.specs.Commanding.{started, continued, completed, half_from, is_broadcast}
+use Rattle.node_core.specs.Requested.{wanted_by, is_concerned, counts_from, cleared_by, acknowledgment}
+use Rattle.node_core.specs.declared.commanding.HalfCommand.{HalfCommand}
+use Rattle.node_core.specs.declared.commanding.HalfCommand.TheVariants as half
+use Rattle.node_core.specs.declared.session.OpenSession.{OpenSession}
+use Rattle.node_core.specs.declared.heard.Heard.{Heard}
+use Rattle.node_core.specs.declared.requested.Wanted.{Wanted}
+use Rattle.node_core.specs.declared.requested.Wanted.TheVariants as wanted
+
+-- ---- claims
+
+-- one that is not contested ends the session of which it claims the destination
+abbrev pub on_uncontested : Option OpenSession → ℕ → Deed
+on_uncontested session source = if is_destination session source then EndsSession else Nothing
+
+-- contested, the unit defends its address, moves, or has none
+abbrev pub on_step : NodeValue → ℕ → ClaimStep → Deed
+on_step node source step.Nothing = on_uncontested node.session source
+on_step node source step = Claims node.claimer.name (held_after step node.claimer.held)
+
+abbrev pub on_claim : NodeValue → ℕ → ℕ → Deed
+on_claim node source name = on_step node source (claim_step source name node.claimer)
+
+-- ---- requests
+
+-- DM1 or DM2 asked for at the unit's address: not while a session of that kind is open; one frame to all if eight bytes
+-- suffice; else a session, one at a time
+abbrev pub asked_for_message : Option OpenSession → Kind → MemoryValue → ℕ → ℕ → ℕ → Deed
+asked_for_message session kind memory pgn address source =
+    if is_open session kind then Replies (acknowledgment 3 source pgn address)
+    else if length (payload_of kind memory) == 8 then Begins kind memory address 255
+    else if is_some session then Replies (acknowledgment 3 source pgn address)
+    else Begins kind memory address source
+
+-- asked at the unit's own address
+abbrev pub asked_at_address : NodeValue → MemoryValue → Bool → ℕ → ℕ → ℕ → Wanted → Deed
+asked_at_address node memory agrees pgn address source (wanted.Message kind) = asked_for_message node.session kind memory pgn address source
+asked_at_address node memory agrees pgn address source (wanted.Clear which) = Replies (acknowledgment (if agrees then 0 else 1) source pgn address)
+asked_at_address node memory agrees pgn address source wanted.Unsupported = Replies (acknowledgment 1 source pgn address)
+
+-- asked of all: a message, but not while a session of that kind is open; a clear is not answered
+abbrev pub asked_of_all : NodeValue → MemoryValue → ℕ → Wanted → Deed
+asked_of_all node memory address (wanted.Message kind) = if is_open node.session kind then Nothing else Begins kind memory address 255
+asked_of_all node memory address _ = Nothing
+
+-- asked for more than the claim: only by who may hold another address
+abbrev pub asked_for_more : NodeValue → MemoryValue → Bool → ℕ → ℕ → ℕ → Option ℕ → Deed
+asked_for_more node memory agrees pgn destination source None = Nothing
+asked_for_more node memory agrees pgn destination source (Some address) =
+    if counts_from address source
+    then (if destination == 255 then asked_of_all node memory address (wanted_by pgn) else asked_at_address node memory agrees pgn address source (wanted_by pgn))
+    else Nothing
+
+-- a request for the claim is answered with it, or with cannot claim
+abbrev pub on_request : NodeValue → MemoryValue → Bool → ℕ → ℕ → ℕ → Deed
+on_request node memory agrees pgn destination source =
+    if not (is_concerned node.claimer.held destination) then Nothing
+    else if pgn == 60928 then Replies (claim_frame_value node.claimer.name node.claimer.held)
+    else asked_for_more node memory agrees pgn destination source node.claimer.held
+
+-- the memory after what was asked of it
+abbrev pub memory_asked : Wanted → Bool → MemoryValue → MemoryValue
+memory_asked (wanted.Clear which) agrees memory = if agrees then cleared_by which memory else memory
+memory_asked _ agrees memory = memory
+
+-- a clear is put to the unit where it is asked at its address or of all, by who may hold another
+abbrev pub memory_asked_from : MemoryValue → Bool → ℕ → ℕ → Option ℕ → MemoryValue
+memory_asked_from memory agrees pgn source None = memory
+memory_asked_from memory agrees pgn source (Some address) =
+    if counts_from address source then memory_asked (wanted_by pgn) agrees memory else memory
+
+abbrev pub memory_after_request : NodeValue → MemoryValue → Bool → ℕ → ℕ → ℕ → MemoryValue
+memory_after_request node memory agrees pgn destination source =
+    if is_concerned node.claimer.held destination then memory_asked_from memory agrees pgn source node.claimer.held else memory
+
+-- ---- sessions
+
+-- from the session's destination, about its group
+abbrev pub is_with : OpenSession → ℕ → ℕ → Bool
+is_with s source pgn = (s.sending.dest == source) && (s.sending.pgn == pgn)
+
+-- a clear to send: the packets that it grants are queued, none where it is not honoured
+abbrev pub on_cts : Option OpenSession → ℕ → ℕ → ℕ → ℕ → ℕ → Deed
+on_cts None address source granted next pgn = Nothing
+on_cts (Some s) address source granted next pgn =
+    if is_with s source pgn then Sends s address (packets_granted s.sending granted next) else Nothing
+
+-- every packet was queued
+abbrev pub is_all_queued : SendingValue → Bool
+is_all_queued s = s.queued == packet_count (length s.payload)
+
+-- a session with the source about the group is open
+abbrev pub is_open_with : Option OpenSession → ℕ → ℕ → Bool
+is_open_with None source pgn = false
+is_open_with (Some s) source pgn = is_with s source pgn
+
+-- such a session is open, and every packet of it was queued
+abbrev pub is_all_queued_with : Option OpenSession → ℕ → ℕ → Bool
+is_all_queued_with None source pgn = false
+is_all_queued_with (Some s) source pgn = is_with s source pgn && is_all_queued s.sending
+
+-- an end of message acknowledgment ends the session once every packet was queued
+abbrev pub on_end_ack : Option OpenSession → ℕ → ℕ → Deed
+on_end_ack session source pgn = if is_all_queued_with session source pgn then EndsSession else Nothing
+
+-- an abort ends it at once
+abbrev pub on_abort : Option OpenSession → ℕ → ℕ → Deed
+on_abort session source pgn = if is_open_with session source pgn then EndsSession else Nothing
+
+-- a connection management message to the address held. A request to send, from an address that can be held, is refused
+-- with reason 2, "resources needed elsewhere"
+abbrev pub on_control : NodeValue → ℕ → ℕ → Control → Deed
+on_control node source destination (Rts size packets most pgn) =
+    if is_held node.claimer.held destination && nat_le source 253 then Replies (control_frame (Abort 2 pgn) destination source) else Nothing
+on_control node source destination (Cts granted next pgn) =
+    if is_held node.claimer.held destination then on_cts node.session destination source granted next pgn else Nothing
+on_control node source destination (EndAck size packets pgn) =
+    if is_held node.claimer.held destination then on_end_ack node.session source pgn else Nothing
+on_control node source destination (Abort reason pgn) =
+    if is_held node.claimer.held destination then on_abort node.session source pgn else Nothing
+on_control node source destination (Bam size packets pgn) = Nothing
+
+-- ---- commanded address
+
+-- the command is for this NAME, and the address can be held
+abbrev pub is_command_for : ℕ → Commanded → Bool
+is_command_for name c = (c.name == name) && nat_le c.address 253
+
+-- a whole command is obeyed, if the unit agrees
+abbrev pub on_command : NodeValue → Bool → Option (List ℕ) → Deed
+on_command node agrees None = Nothing
+on_command node agrees (Some bytes) =
+    if is_command_for node.claimer.name (commanded_of bytes) && agrees then Claims node.claimer.name (Some (commanded_of bytes).address) else Nothing
+
+abbrev pub on_packet : NodeValue → Bool → ℕ → ℕ → List ℕ → Deed
+on_packet node agrees source destination bytes =
+    if is_broadcast destination source then on_command node agrees (completed (half_from node.half_commands source) bytes) else Nothing
+
+-- ---- all of it
+
+-- the unit's deed, by what was said
+abbrev pub reaction_to : NodeValue → MemoryValue → Bool → Group → Deed
+reaction_to node memory agrees (AddressClaimed source name) = on_claim node source name
+reaction_to node memory agrees (Request pgn destination source) = on_request node memory agrees pgn destination source
+reaction_to node memory agrees (ConnectionManagement source destination control) = on_control node source destination control
+reaction_to node memory agrees (DataTransfer source destination bytes) = on_packet node agrees source destination bytes
+reaction_to node memory agrees _ = Nothing
+
+-- the deed of a unit of this value, with this memory, that hears this frame
+abbrev pub reaction : NodeValue → MemoryValue → Bool → FrameValue → Deed
+reaction node memory agrees f = reaction_to node memory agrees (group_of f)
+
+-- an address was last claimed under another NAME
+abbrev pub is_of_another : Option ℕ → ℕ → Bool
+is_of_another None name = false
+is_of_another (Some last) name = not (last == name)
+
+-- a half command from such an address is dropped
+abbrev pub halves_after_claim : NodeValue → ℕ → ℕ → List HalfCommand
+halves_after_claim node source name =
+    if is_of_another (slice_index_or node.claimer.noted source None) name then slice_set node.half_commands source half.Nothing
+    else node.half_commands
+
+-- an announced broadcast drops what is half joined from its source, and may start a commanded address
+abbrev pub announced : NodeValue → ℕ → ℕ → ℕ → ℕ → NodeValue
+announced node source destination size pgn =
+    if is_broadcast destination source then record node { half_commands = slice_set node.half_commands source (started size pgn) } else node
+
+-- a broadcast packet goes on with what is half joined from its source
+abbrev pub packet_joined : NodeValue → ℕ → ℕ → List ℕ → NodeValue
+packet_joined node source destination bytes =
+    if is_broadcast destination source
+    then record node { half_commands = slice_set node.half_commands source (continued (half_from node.half_commands source) bytes) }
+    else node
+
+-- what the unit takes note of before any deed: who claims which address, and commanded addresses on their way
+abbrev pub noted_from : NodeValue → Group → NodeValue
+noted_from node (AddressClaimed source name) =
+    record node { claimer = after_claim source name node.claimer; half_commands = halves_after_claim node source name }
+noted_from node (ConnectionManagement source destination (Bam size packets pgn)) = announced node source destination size pgn
+noted_from node (DataTransfer source destination bytes) = packet_joined node source destination bytes
+noted_from node _ = node
+
+-- what the unit keeps afterwards
+abbrev pub node_after : NodeValue → MemoryValue → Bool → FrameValue → NodeValue
+node_after node memory agrees f = after (noted_from node (group_of f)) (reaction node memory agrees f)
+
+-- the unit's memory afterwards: only a clear changes it
+abbrev pub memory_after_group : NodeValue → MemoryValue → Bool → Group → MemoryValue
+memory_after_group node memory agrees (Request pgn destination source) = memory_after_request node memory agrees pgn destination source
+memory_after_group node memory agrees _ = memory
+
+abbrev pub memory_after : NodeValue → MemoryValue → Bool → FrameValue → MemoryValue
+memory_after node memory agrees f = memory_after_group node memory agrees (group_of f)
+
+-- a frame heard, with what came of it: exactly what is owed, by what the unit chose
+pub record Reacts (f : FrameValue) (node : NodeValue) (memory : MemoryValue) (heard : Heard) (node' : NodeValue) (memory' : MemoryValue) : Type 0 where
+  pub heard_is : heard ≡ heard_of heard.agreed (reaction node memory heard.agreed f)
+  pub node_is : node' ≡ node_after node memory heard.agreed f
+  pub memory_is : memory' ≡ memory_after node memory heard.agreed f

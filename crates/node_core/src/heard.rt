@@ -1,0 +1,78 @@
+ghost use Rattle.std.specs.Prelude.{◌≡◌, IfOk, true};
+
+use crate::out::Outs;
+use can_frame::Frame;
+use dm_messages::Kind;
+use std::alloc::{AllocError, Global};
+
+/// What a unit withdraws from its queue before it puts anything in.
+#[derive(Clone, Copy, Debug, PartialEq, Eq)]
+pub enum Withdraw {
+    /// Nothing.
+    Keep,
+    /// The frames of the session that has ended.
+    Session,
+    /// All frames.
+    All,
+}
+
+/// A message that a unit begins: its payload encodes the view of the unit's fault memory in that very call.
+#[derive(Clone, Copy, Debug, PartialEq, Eq)]
+pub struct Begun {
+    /// DM1 or DM2.
+    pub kind: Kind,
+    /// The address that the unit holds, 0 to 253.
+    pub source: u8,
+    /// 255 for one frame to all and for a broadcast, else the requester's address, 0 to 253.
+    pub dest: u8,
+}
+
+/// What a unit does on hearing a frame: first it withdraws, then it queues.
+#[derive(Debug, Drop)]
+pub struct Heard {
+    /// What it withdraws.
+    pub withdraw: Withdraw,
+    /// What it queues after that, in order.
+    pub put: Outs,
+    /// The message that begins with this, if one does.
+    pub begun: Option<Begun>,
+    /// Where a clear or a commanded address was put to the unit: whether it cleared or obeyed. Else true.
+    pub agreed: bool,
+}
+
+impl Heard {
+    ghost use Rattle.node_core.specs.Deed.{heard_of, Nothing, Replies};
+
+    /// Nothing is done. Takes no memory.
+    pub(crate) fn nothing(alloc: Global) -> Heard
+        ensures { result ≡ heard_of true Nothing }
+    {
+        Heard {
+            withdraw: Withdraw::Keep,
+            put: Outs::new(alloc),
+            begun: None,
+            agreed: true,
+        }
+    }
+
+    /// One frame is queued.
+    pub(crate) fn replies(alloc: Global, frame: Frame) -> Result<Heard, AllocError>
+        ensures { IfOk result (λ h. h ≡ heard_of true (Replies frame)) }
+    {
+        Ok(Heard {
+            withdraw: Withdraw::Keep,
+            put: Outs::plain(alloc, frame)?,
+            begun: None,
+            agreed: true,
+        })
+    }
+}
+
+/// What came of beginning a message.
+#[derive(Debug, Drop)]
+pub enum Started {
+    /// A session of that kind is open: nothing was begun.
+    Held,
+    /// The message has begun, and these are its frames.
+    Begun { begun: Begun, put: Outs },
+}

@@ -1,0 +1,17 @@
+//! A unit on the bus: what it owes to each frame that it hears, and the messages that it begins
+//! (SAE J1939-21, -73, -81).
+#![tactic(auto)]
+
+mod commanding;
+mod error;
+mod heard;
+mod node;
+mod out;
+mod parts;
+mod requested;
+mod session;
+
+pub use error::NodeError;
+pub use heard::{Begun, Heard, Started, Withdraw};
+pub use node::Node;
+pub use out::{Out, Outs, Part};

@@ -1,0 +1,91 @@
+ghost use Rattle.std.specs.Prelude.{◌≡◌, ◌≤◌, ◌<◌, IfOk, OnOk, OnErr, true, [], vec_len, vec_capacity, slice_index_or, None};
+
+use crate::commanding::HalfCommand;
+use crate::heard::{Heard, Withdraw};
+use crate::node::Node;
+use crate::out::{Out, Outs};
+use address_claim::ClaimStep;
+use name_field::Name;
+use std::alloc::{AllocError, Global};
+
+impl Node {
+    ghost use Rattle.node_core.specs.Deed.{heard_of, after, Claims};
+    ghost use Rattle.node_core.specs.Reaction.{on_claim, on_uncontested, noted_from, is_of_another};
+    ghost use Rattle.parameter_group.specs.Group.{AddressClaimed};
+
+    /// Hears a claim of an address, 0 to 253 (SAE J1939-81, contention).
+    pub(super) fn hear_claim(
+        &mut self,
+        alloc: Global,
+        source: u8,
+        name: Name,
+    ) -> Result<Heard, AllocError>
+        requires { source ≤ 253 }
+        ensures heard { IfOk result (λ h. h ≡ heard_of true (on_claim self.old source name)) }
+        ensures node { OnOk result (self.new ≡ after (noted_from self.old (AddressClaimed source name)) (on_claim self.old source name)) }
+        ensures kept { OnErr result (self.new ≡ self.old) }
+    {
+        if self.claimer.answer(source, name) == ClaimStep::Nothing {
+            self.note_claim(source, name);
+            return Ok(self.end_session_with(alloc, source));
+        }
+        let room = Vec::with_capacity(alloc, 1)?;
+        self.note_claim(source, name);
+        Ok(self.claim_again(room))
+    }
+
+    /// Takes note of a claim; a half command from an address that was last claimed under another NAME is dropped.
+    fn note_claim(&mut self, source: u8, name: Name)
+        requires { source ≤ 253 }
+        ensures { self.new ≡ noted_from self.old (AddressClaimed source name) }
+    {
+        let is_of_another = self.is_of_another(source, name);
+        let _ = self.claimer.hear_claim(source, name);
+        if !is_of_another {
+            return;
+        }
+        self.half_commands[source as usize] = HalfCommand::Nothing;
+    }
+
+    /// Whether the address was last claimed under another NAME.
+    fn is_of_another(&self, source: u8, name: Name) -> bool
+        requires { source ≤ 253 }
+        ensures { result ≡ is_of_another (slice_index_or self.now.claimer.noted source None) name }
+    {
+        match self.claimer.last_claim(source) {
+            Some(last) => last != name,
+            None => false,
+        }
+    }
+
+    /// Ends the open session if this is its destination.
+    fn end_session_with(&mut self, alloc: Global, source: u8) -> Heard
+        ensures heard { result ≡ heard_of true (on_uncontested self.old.session source) }
+        ensures node { self.new ≡ after self.old (on_uncontested self.old.session source) }
+    {
+        if !self.is_destination(source) {
+            return Heard::nothing(alloc);
+        }
+        self.end_session(alloc)
+    }
+
+    /// Withdraws all, ends the session, and claims the address held, or says that none is. There is room for one frame.
+    pub(super) fn claim_again(&mut self, mut room: Vec<Out>) -> Heard
+        requires empty { room.items ≡ [] }
+        requires fits { vec_len room < vec_capacity room }
+        ensures heard { result ≡ heard_of true (Claims self.old.claimer.name self.old.claimer.held) }
+        ensures node { self.new ≡ after self.old (Claims self.old.claimer.name self.old.claimer.held) }
+    {
+        self.session = None;
+        room.push_reserved(Out {
+            frame: self.start(),
+            part: None,
+        });
+        Heard {
+            withdraw: Withdraw::All,
+            put: Outs::from_vec(room),
+            begun: None,
+            agreed: true,
+        }
+    }
+}

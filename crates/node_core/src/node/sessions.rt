@@ -1,0 +1,156 @@
+ghost use Rattle.std.specs.Prelude.{◌≡◌, ◌≤◌, ◌&&◌, nat_le, IfOk, OnOk, OnErr, if◌then◌else◌, option_map, true};
+ghost use Rattle.transport.specs.Messages as message;
+ghost use Rattle.transport.specs.Sending.{packets_granted};
+ghost use Rattle.transport.specs.declared.control.Control.TheVariants as control;
+
+use crate::heard::{Heard, Withdraw};
+use crate::node::Node;
+use crate::parts::parts_of_session;
+use can_frame::Pgn;
+use std::alloc::{AllocError, Global};
+use transport::{Control, control_frame};
+
+/// Why a request to send is refused: resources are needed elsewhere.
+const RESOURCES_NEEDED: u8 = 2;
+
+impl Node {
+    ghost use Rattle.address_claim.specs.Claiming.{is_held};
+    ghost use Rattle.node_core.specs.Deed.{heard_of, after, further, Nothing, Replies};
+    ghost use Rattle.node_core.specs.Reaction.{on_control, on_cts, on_end_ack, on_abort, is_open_with, is_all_queued_with, noted_from};
+    ghost use Rattle.parameter_group.specs.Group.{ConnectionManagement};
+
+    /// Hears a connection management message (SAE J1939-21, TP.CM).
+    pub(super) fn hear_control(
+        &mut self,
+        alloc: Global,
+        source: u8,
+        destination: u8,
+        control: Control,
+    ) -> Result<Heard, AllocError>
+        ensures heard { IfOk result (λ h. h ≡ heard_of true (on_control self.old source destination control)) }
+        ensures node { OnOk result (self.new ≡ after (noted_from self.old (ConnectionManagement source destination control)) (on_control self.old source destination control)) }
+        ensures kept { OnErr result (self.new ≡ self.old) }
+    {
+        match control {
+            Control::Rts { pgn, .. } => self.hear_rts(alloc, source, destination, pgn),
+            Control::Cts { granted, next, pgn } => {
+                self.hear_cts(alloc, source, destination, granted, next, pgn)
+            }
+            Control::EndAck { pgn, .. } => Ok(self.hear_end_ack(alloc, source, destination, pgn)),
+            Control::Abort { pgn, .. } => Ok(self.hear_abort(alloc, source, destination, pgn)),
+            Control::Bam { size, pgn, .. } => {
+                self.note_announcement(source, destination, size, pgn);
+                Ok(Heard::nothing(alloc))
+            }
+        }
+    }
+
+    /// A request to send: this unit receives no sessions.
+    fn hear_rts(
+        &self,
+        alloc: Global,
+        source: u8,
+        destination: u8,
+        pgn: Pgn,
+    ) -> Result<Heard, AllocError>
+        ensures { IfOk result (λ h. h ≡ heard_of true (if is_held self.now.claimer.held destination && nat_le source 253 then Replies (message.control_frame (control.Abort 2 pgn) destination source) else Nothing)) }
+    {
+        if !self.is_held(destination) || source > 253 {
+            return Ok(Heard::nothing(alloc));
+        }
+        let abort = Control::Abort {
+            reason: RESOURCES_NEEDED,
+            pgn,
+        };
+        Heard::replies(alloc, control_frame(abort, destination, source))
+    }
+
+    /// A clear to send: the packets that it grants are queued.
+    fn hear_cts(
+        &mut self,
+        alloc: Global,
+        source: u8,
+        destination: u8,
+        granted: u8,
+        next: u8,
+        pgn: Pgn,
+    ) -> Result<Heard, AllocError>
+        ensures heard { IfOk result (λ h. h ≡ heard_of true (if is_held self.old.claimer.held destination then on_cts self.old.session destination source granted next pgn else Nothing)) }
+        ensures node { OnOk result (self.new ≡ after self.old (if is_held self.old.claimer.held destination then on_cts self.old.session destination source granted next pgn else Nothing)) }
+        ensures kept { OnErr result (self.new ≡ self.old) }
+    {
+        if !self.is_held(destination) {
+            return Ok(Heard::nothing(alloc));
+        }
+        let Some(session) = &self.session else {
+            return Ok(Heard::nothing(alloc));
+        };
+        if !session.is_with(source, pgn) {
+            return Ok(Heard::nothing(alloc));
+        }
+        let count = session.granted(granted, next);
+        let put = parts_of_session(alloc, session, destination, count)?;
+        self.grant(granted, next);
+        Ok(Heard {
+            withdraw: Withdraw::Keep,
+            put,
+            begun: None,
+            agreed: true,
+        })
+    }
+
+    /// The packets that a clear to send grants count as queued.
+    fn grant(&mut self, granted: u8, next: u8)
+        ensures { self.new ≡ record self.old { session = option_map (λ s. further s (packets_granted s.sending granted next)) self.old.session } }
+    {
+        self.session = match self.session.take() {
+            Some(mut session) => {
+                let _ = session.sending.grant(granted, next);
+                Some(session)
+            }
+            None => None,
+        };
+    }
+
+    /// An end of message acknowledgment ends the session once every packet was queued.
+    fn hear_end_ack(&mut self, alloc: Global, source: u8, destination: u8, pgn: Pgn) -> Heard
+        ensures heard { result ≡ heard_of true (if is_held self.old.claimer.held destination then on_end_ack self.old.session source pgn else Nothing) }
+        ensures node { self.new ≡ after self.old (if is_held self.old.claimer.held destination then on_end_ack self.old.session source pgn else Nothing) }
+    {
+        if !self.is_held(destination) || !self.is_all_queued_with(source, pgn) {
+            return Heard::nothing(alloc);
+        }
+        self.end_session(alloc)
+    }
+
+    /// An abort ends the session.
+    fn hear_abort(&mut self, alloc: Global, source: u8, destination: u8, pgn: Pgn) -> Heard
+        ensures heard { result ≡ heard_of true (if is_held self.old.claimer.held destination then on_abort self.old.session source pgn else Nothing) }
+        ensures node { self.new ≡ after self.old (if is_held self.old.claimer.held destination then on_abort self.old.session source pgn else Nothing) }
+    {
+        if !self.is_held(destination) || !self.is_open_with(source, pgn) {
+            return Heard::nothing(alloc);
+        }
+        self.end_session(alloc)
+    }
+
+    /// Whether a session about this group is open with this address.
+    fn is_open_with(&self, source: u8, pgn: Pgn) -> bool
+        ensures { result ≡ is_open_with self.now.session source pgn }
+    {
+        match &self.session {
+            Some(session) => session.is_with(source, pgn),
+            None => false,
+        }
+    }
+
+    /// Whether such a session is open, and every packet of it was queued.
+    fn is_all_queued_with(&self, source: u8, pgn: Pgn) -> bool
+        ensures { result ≡ is_all_queued_with self.now.session source pgn }
+    {
+        match &self.session {
+            Some(session) => session.is_with(source, pgn) && session.sending.all_sent(),
+            None => false,
+        }
+    }
+}

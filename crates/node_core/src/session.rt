@@ -1,0 +1,41 @@
+ghost use Rattle.std.specs.Prelude.{◌≡◌, ◌≤◌};
+ghost use Rattle.transport.specs.Sending.{packets_granted, packets_left};
+
+use can_frame::Pgn;
+use dm_messages::Kind;
+use transport::{Sending, packets};
+
+/// An open session: the kind of its message, and what is still to be sent of it.
+#[derive(Debug, Drop)]
+pub struct OpenSession {
+    /// DM1 or DM2.
+    pub kind: Kind,
+    /// The payload with which it began, its destination, and how many of its packets were queued.
+    pub sending: Sending,
+}
+
+impl OpenSession {
+    ghost use Rattle.node_core.specs.Reaction.{is_with};
+
+    /// Whether it goes to this address, about this group.
+    pub fn is_with(&self, source: u8, pgn: Pgn) -> bool
+        ensures { result ≡ is_with self.now source pgn }
+    {
+        self.sending.dest() == source && self.sending.pgn() == pgn
+    }
+
+    /// How many packets a clear to send lets go: the lesser of the grant and the rest where it names the first packet not yet
+    /// queued, else none.
+    pub fn granted(&self, granted: u8, next: u8) -> u8
+        ensures count { result ≡ packets_granted self.now.sending granted next }
+        ensures left { result ≤ packets_left self.now.sending }
+    {
+        let sending = &self.sending;
+        let next_unsent = sending.next_unsent();
+        let count = u16::from(packets(sending.payload().len() as u16));
+        if u16::from(next) != next_unsent {
+            return 0;
+        }
+        u16::from(granted).min((count + 1).saturating_sub(next_unsent)) as u8
+    }
+}

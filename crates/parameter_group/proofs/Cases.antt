@@ -1,12 +1,10 @@
 -- What a frame of each parameter group says.
-use Rattle.std.proofs.Common.{◌≡◌, ◌≢◌, ℕ, ◌+◌, ◌*◌, ◌/◌, ◌%◌, ◌<◌, ◌^◌, ◌==◌, Bool, true, false, Option, Some, None, refl, arith, ◌∙◌, if◌then◌else◌, ne_eqb}
-use Rattle.std.specs.Prelude.{nat_lt, length, nat_le}
-use Rattle.std.proofs.lemmas.Bool.{lt-ltb, cases_lt}
-use Rattle.can_frame.specs.Fields.{pgn_of, pdu_specific_of, pdu_format_of, source_of, destination_of}
+use Rattle.std.proofs.Common.{◌≡◌, ◌≢◌, ℕ, ◌<◌, Some, refl, arith, ne_eqb}
+use Rattle.can_frame.specs.Fields.{pgn_of, pdu_specific_of, source_of, destination_of}
 use Rattle.can_frame.specs.FrameValue.{FrameValue}
 use Rattle.transport.specs.ControlMessage.{control_of}
 use Rattle.dm_messages.specs.declared.kind.Kind.TheVariants.{Dm1, Dm2}
-use Rattle.parameter_group.specs.Group.{Group, Other, Diagnostic, DataTransfer, claim_group, request_group, acknowledgment_group, control_group, group_of}
+use Rattle.parameter_group.specs.Group.{Other, Diagnostic, DataTransfer, claim_group, request_group, acknowledgment_group, control_group, group_of}
 
 pub of_claim : (f : FrameValue) → pgn_of f.id ≡ 60928 → group_of f ≡ claim_group (pdu_specific_of f.id) (source_of f.id) f.bytes
 unfolding group_of

@@ -1,12 +1,10 @@
 -- What is written is read back: the proofs.
-use Rattle.std.proofs.Common.{◌≡◌, ℕ, ◌+◌, ◌*◌, ◌/◌, ◌%◌, ◌<◌, ◌≤◌, ◌^◌, List, [], ◌∷◌, Option, Some, None, true, refl, arith, ◌∙◌}
-use Rattle.std.specs.Prelude.{nat_lt, IfSome}
-use Rattle.std.specs.Int.{to_le_bytes, from_le_bytes, w64}
+use Rattle.std.proofs.Common.{◌≡◌, ℕ, ◌+◌, ◌*◌, ◌/◌, ◌%◌, ◌<◌, ◌^◌, List, Some, None, refl, arith, ◌∙◌}
 use Rattle.std.proofs.lemmas.Nat.{from_le_bytes-to_le_bytes_8}
 use Rattle.std.proofs.lemmas.Bool.{lt-ltb}
-use Rattle.can_frame.specs.Fields.{pgn_of, pdu_specific_of, source_of, pdu1_number, pdu2_number, pgn_bytes, pgn_of_bytes}
+use Rattle.can_frame.specs.Fields.{pgn_of, pdu_specific_of, source_of, pdu1_number, pdu2_number}
 use Rattle.can_frame.specs.FrameValue.{FrameValue, frame}
-use Rattle.address_claim.specs.Frames.{claim_frame_value, claim_source}
+use Rattle.address_claim.specs.Frames.{claim_frame_value}
 use Rattle.requests.specs.Layouts.{request_frame_value, ack_frame_value, IsRequest, IsAck}
 use Rattle.requests.specs.declared.request.Request.{Request as RequestValue}
 use Rattle.requests.specs.declared.acknowledgment.Ack.{Ack}
@@ -17,7 +15,7 @@ use Rattle.transport.specs.ControlMessage.{control_bytes, control_of}
 use Rattle.transport.specs.Messages.{control_frame, packet_frame}
 use Rattle.transport.specs.declared.control.Control.{Control}
 use Rattle.parameter_group.specs.Written.{ReadsBack}
-use Rattle.parameter_group.specs.Group.{AddressClaimed, CannotClaim, Request, Acknowledgment, Diagnostic, ConnectionManagement, DataTransfer, Group, group_by, group_of}
+use Rattle.parameter_group.specs.Group.{AddressClaimed, CannotClaim, Request, Acknowledgment, Diagnostic, ConnectionManagement, DataTransfer, group_by, group_of}
 
 -- by the fields of the identifier
 by_fields : (id : ℕ) (bytes : List ℕ) (pgn destination source : ℕ) → pgn_of id ≡ pgn → pdu_specific_of id ≡ destination → source_of id ≡ source → group_of (frame id bytes) ≡ group_by pgn destination source bytes

@@ -1,5 +1,5 @@
 -- What the program's answer says, in the words of the definition.
-use Rattle.std.specs.Prelude.{◌≡◌, ℕ, ◌<◌, ◌^◌, ◌≤◌, IfSome, Option, Some, None}
+use Rattle.std.specs.Prelude.{◌<◌}
 use Rattle.transport.specs.ControlMessage.{HasLawfulSize}
 use Rattle.parameter_group.specs.Group as group
 use Rattle.parameter_group.specs.Group.{Group}

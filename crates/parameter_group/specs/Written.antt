@@ -1,5 +1,5 @@
 -- What is written is read back: each frame that this station and these units write says what it was written for.
-use Rattle.std.specs.Prelude.{◌≡◌, ℕ, ◌<◌, ◌^◌, List, Option, Some, None}
+use Rattle.std.specs.Prelude.{◌≡◌, ℕ, ◌<◌, ◌^◌, List, Some, None}
 use Rattle.can_frame.specs.Fields.{pdu2_number}
 use Rattle.can_frame.specs.FrameValue.{FrameValue, frame}
 use Rattle.address_claim.specs.Frames.{claim_frame_value}

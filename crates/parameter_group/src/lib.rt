@@ -134,3 +134,6 @@ fn acknowledged(frame: &Frame) -> ParameterGroup<'static>
         Err(_) => ParameterGroup::Other,
     }
 }
+
+#[cfg(test)]
+mod tests;

@@ -1,4 +1,4 @@
-ghost use Rattle.std.specs.Prelude.{◌≡◌, ℕ, ◌≤◌, ◌<◌, ◌↔◌, Option, Some, None, IfSome, IsErrOf, OnOk, OnErr, slice_index_or, length, position};
+ghost use Rattle.std.specs.Prelude.{◌≡◌, ℕ, ◌≤◌, ◌<◌, ◌↔◌, Option, Some, None, IfSome, IsErrOf, IsOk, OnOk, OnErr, slice_index_or, length, position};
 ghost use Rattle.address_claim.specs.Claiming.{ClaimerValue, new_claimer, claim_step, after_claim, after_command, is_free, free_address, noted_after, next_address, IsOwnChoice, IsLawfulStep};
 
 use crate::error::ClaimError;
@@ -111,6 +111,7 @@ impl Claimer {
 
     /// Holds this address from now on; `NotAnAddress`, with nothing changed, where it is 254 or 255.
     pub fn command(&mut self, address: u8) -> Result<(), ClaimError>
+        ensures accepted { IsOk result ↔ (address ≤ 253) }
         ensures ok { OnOk result (self.new ≡ after_command address self.old) }
         ensures err { OnErr result (self.new ≡ self.old) }
         ensures not_an_address { IsErrOf result ClaimError.NotAnAddress ↔ (254 ≤ address) }

@@ -8,7 +8,7 @@ use Rattle.fault_memory.specs.Memory.{MemoryValue, IsLawfulMemory, IsKeptCode}
 use Rattle.dm_messages.specs.declared.kind.Kind.{Kind}
 use Rattle.dm_messages.specs.declared.kind.Kind.TheVariants.{Dm1, Dm2}
 use Rattle.dm_messages.specs.declared.shown.Shown.{Shown}
-use Rattle.dm_messages.specs.View.{view, IsShowable, EncodesEach, EncodesCodes, Encodes, codes_bytes, written_codes, encoding, code_of_bytes, code_before, codes_of_bytes, no_code_or, codes_read, shown_with, decoding}
+use Rattle.dm_messages.specs.View.{view, IsShowable, EncodesEach, EncodesCodes, Encodes, codes_bytes, written_codes, encoding, code_of_bytes, code_before, codes_of_bytes, no_code_or_one, codes_read, shown_with, decoding}
 
 -- ---- one code
 
@@ -164,7 +164,7 @@ one_read (Some c) cs h = (c, refl, (cc))
 one_read None cs h = cc
 
 -- one group and two more bytes
-six_bytes_read : (a b c d : ℕ) (bytes : List ℕ) (cs : List Code) → length (a ∷ b ∷ c ∷ d ∷ bytes) ≡ 6 → no_code_or (a ∷ b ∷ c ∷ d ∷ []) (codes_of_bytes (a ∷ b ∷ c ∷ d ∷ [])) ≡ Some cs → EncodesCodes cs (a ∷ b ∷ c ∷ d ∷ bytes)
+six_bytes_read : (a b c d : ℕ) (bytes : List ℕ) (cs : List Code) → length (a ∷ b ∷ c ∷ d ∷ bytes) ≡ 6 → no_code_or_one (a ∷ b ∷ c ∷ d ∷ []) ≡ Some cs → EncodesCodes cs (a ∷ b ∷ c ∷ d ∷ bytes)
 six_bytes_read a b c d bytes cs l h =
     let group : List ℕ = a ∷ b ∷ c ∷ d ∷ [] in
     let all : List ℕ = a ∷ b ∷ c ∷ d ∷ bytes in
@@ -178,7 +178,7 @@ six_bytes_read a b c d bytes cs l h =
           subst (λ v. EncodesCodes v all) w.2 (l, EncodesCode-from_read a b c d w.0 w.1))
     ]
 
-six_bytes : (bytes : List ℕ) (cs : List Code) → length bytes ≡ 6 → no_code_or (take 4 bytes) (codes_of_bytes (take 4 bytes)) ≡ Some cs → EncodesCodes cs bytes
+six_bytes : (bytes : List ℕ) (cs : List Code) → length bytes ≡ 6 → no_code_or_one (take 4 bytes) ≡ Some cs → EncodesCodes cs bytes
 six_bytes [] cs l h = absurd (omega arith)
 six_bytes (a ∷ []) cs l h = absurd (omega arith)
 six_bytes (a ∷ b ∷ []) cs l h = absurd (omega arith)

@@ -1,4 +1,4 @@
-use Rattle.std.specs.Prelude.{◌≡◌, ℕ, ◌+◌, ◌*◌, ◌/◌, ◌%◌, ◌≤◌, ◌⊎◌, ◌&&◌, ◌||◌, ◌==◌, nat_le, nat_lt, List, [], ◌∷◌, ◌++◌, length, take, drop, if◌then◌else◌, Option, Some, None}
+use Rattle.std.specs.Prelude.{◌≡◌, ℕ, Bool, ◌+◌, ◌*◌, ◌/◌, ◌%◌, ◌≤◌, ◌⊎◌, ◌&&◌, ◌||◌, ◌==◌, nat_le, nat_lt, List, [], ◌∷◌, ◌++◌, length, take, drop, if◌then◌else◌, Option, Some, None}
 use Rattle.std.specs.List.{All, list_all}
 use Rattle.trouble_code.specs.Code.{Code, code, IsCode, EncodesCode, code_bytes}
 use Rattle.trouble_code.specs.LampBytes.{LampsValue, lamps_value, lamps_bytes, IsLamps}
@@ -76,15 +76,18 @@ codes_of_bytes [] = Some []
 codes_of_bytes (low ∷ middle ∷ top ∷ last ∷ bytes) = code_before (code_of_bytes low middle top last) (codes_of_bytes bytes)
 codes_of_bytes _ = None
 
--- no code where the four bytes are all 00 or all FF, else what is read of them
-abbrev pub no_code_or : List ℕ → Option (List Code) → Option (List Code)
-no_code_or group else_read =
-    if list_all (λ b. b == 0) group || list_all (λ b. b == 255) group then Some [] else else_read
+-- four bytes that stand for no code: all 00 or all FF
+abbrev pub is_no_code : List ℕ → Bool
+is_no_code group = list_all (λ b. b == 0) group || list_all (λ b. b == 255) group
+
+-- no code, or the code that four bytes encode
+abbrev pub no_code_or_one : List ℕ → Option (List Code)
+no_code_or_one group = if is_no_code group then Some [] else codes_of_bytes group
 
 -- the codes that the bytes after the lamps encode, if they encode any list
 abbrev pub codes_read : List ℕ → Option (List Code)
 codes_read bytes =
-    if length bytes == 6 then no_code_or (take 4 bytes) (codes_of_bytes (take 4 bytes))
+    if length bytes == 6 then no_code_or_one (take 4 bytes)
     else (if nat_le 8 (length bytes) && nat_le (length bytes) 1780 then codes_of_bytes bytes else None)
 
 -- the lamps before the codes, where these were read

@@ -2,8 +2,16 @@
 //! writes them in bytes.
 #![tactic(auto)]
 
+mod error;
 mod kind;
+mod reading;
 mod shown;
+#[cfg(test)]
+mod tests;
+mod writing;
 
+pub use error::ReadError;
 pub use kind::Kind;
+pub use reading::read;
 pub use shown::Shown;
+pub use writing::payload;

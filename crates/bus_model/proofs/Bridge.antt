@@ -222,6 +222,10 @@ pub address_gap : (r : Settings) (n : ℕ) (rs : List Reading) → address_heard
 unfolding address_heard
 address_gap r n rs = refl
 
+pub address_empty : (r : Settings) (rs : List Reading) → address_heard r (Empty ∷ rs) ≡ address_heard r rs
+unfolding address_heard
+address_empty r rs = refl
+
 pub claimer_name : (r : Settings) (rs : List Reading) → (claimer_heard r rs).name ≡ r.name
 claimer_name r [] = refl
 claimer_name r (Gap n ∷ rs) = claimer_name r rs

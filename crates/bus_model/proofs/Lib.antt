@@ -14,3 +14,6 @@ pub mod Clear
 pub mod Wire
 pub mod Grows
 pub mod Quiet
+pub mod Half
+pub mod HalfSession
+pub mod Ends

@@ -7,3 +7,4 @@ pub mod Order
 pub mod ClearPath
 pub mod LawfulTraffic
 pub mod Whole
+pub mod LookBack

@@ -7,7 +7,9 @@ ghost use Rattle.dm_messages.specs.declared.shown.Shown.{Shown};
 ghost use Rattle.bus_model.specs.Messages.{Message, IsAmong};
 ghost use Rattle.bus_model.specs.Traffic.{Tag, Item, claimed_by};
 ghost use Rattle.bus_model.specs.LawfulTraffic.{IsLawfulTraffic};
-ghost use Rattle.bus_model.specs.Heard.{Settings, entries_heard, unread_count};
+ghost use Rattle.can_frame.specs.declared.reading.Reading.{Reading};
+ghost use Rattle.bus_model.specs.Heard.{Settings, Entry, owner_heard, ended, entries_heard, unread_count};
+ghost use Rattle.bus_model.specs.LookBack.{IsOwner, EndsMessage};
 ghost use Rattle.bus_model.specs.Expected.{expected, readings, is_clear};
 ghost use Rattle.bus_model.specs.ClearPath.{IsOnClearPath, NoneMissed};
 ghost use Rattle.bus_model.specs.Whole.{received_whole};
@@ -54,5 +56,17 @@ pub fn nothing_missed_shows_all()
 /// Clear path: for the messages begun, the walk back along what was received is the clear path said by looking back.
 pub fn clear_path_looks_back()
     ensures { (settings : Settings) → IsFit settings → (events : List Event) (w : World) → Run (start settings) events w → (m : Message) → IsAmong m w.begun → (is_clear m w.path ≡ true) ↔ IsOnClearPath m w.path }
+{
+}
+
+/// Look-back form of an owner: over any list of readings it is the NAME in the address's last claim, with no gap since.
+pub fn owner_looks_back()
+    ensures { (a n : ℕ) (readings : List Reading) → (owner_heard a readings ≡ Some n) ↔ IsOwner a n readings }
+{
+}
+
+/// Look-back form of the messages that end, over any list of readings: in one frame, by broadcast and by session.
+pub fn messages_look_back()
+    ensures { (settings : Settings) → IsFit settings → (reading : Reading) (older : List Reading) (entry : Entry) → (ended settings reading older ≡ Some entry) ↔ EndsMessage settings reading older entry }
 {
 }

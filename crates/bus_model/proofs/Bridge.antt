@@ -30,7 +30,6 @@ use Rattle.bus_model.specs.Messages.{Broadcast, IsProper, Message, One, Session,
 use Rattle.bus_model.proofs.Cuts.{joined_back, length_packet, length_pieces, next_true, one_more, piece_of_packet}
 use Rattle.bus_model.proofs.Lawful.{group_at}
 
-
 abbrev pub claim_group : ℕ → Option ℕ → Group
 claim_group n None = CannotClaim n
 claim_group n (Some a) = AddressClaimed a n
@@ -73,7 +72,6 @@ says_packet bytes s d l k = says_by (pdu1_number 7 60160 d s) bytes 60160 d s (p
 pub says_control : (c : Control) (s d : ℕ) → d ≤ 255 → s ≤ 255 → control_of (control_bytes c) ≡ Some c → group_of (control_frame c s d) ≡ ConnectionManagement s d c
 says_control c s d l k e = says_by (pdu1_number 7 60416 d s) (control_bytes c) 60416 d s (control_pgn d s l k) (omega arith) (omega arith) ∙ rw e refl
 
-
 -- a diagnostic message in one frame
 pub says_single : (k : Kind) (bytes : List ℕ) (s : ℕ) → s ≤ 253 → group_of (frame (pdu2_number 6 (pgn_of_kind k) s) bytes) ≡ Diagnostic k s bytes
 says_single Dm1 bytes s l = says_by (pdu2_number 6 65226 s) bytes 65226 202 s (pdu2_pgn (pdu2_number 6 65226 s) 254 202 (omega arith) (omega arith) (omega arith) (omega arith) (omega arith)) (omega arith) (omega arith)
@@ -100,8 +98,9 @@ payload_size m proper = length-encoding (view m.kind m.memory) (IsShowable-view 
 
 pub long_size : (m : Message) → IsProper m → (length (payload_of m) == 8) ≡ false → (9 ≤ length (payload_of m)) × (length (payload_of m) ≤ 1785)
 long_size m proper h = elim (payload_size m proper) [
-    inl e ↦ absurd (let i : (length (payload_of m) == 8) ≡ true = rw e refl in cc)
-  | inr w ↦ w ]
+  | inl e ↦ absurd (let i : (length (payload_of m) == 8) ≡ true = rw e refl in cc)
+  | inr w ↦ w
+]
 
 pub destination_le : (m : Message) → IsProper m → m.destination ≤ 255
 destination_le m proper = elim (proper.destination) [ inl e ↦ omega arith | inr w ↦ (let l = w.0 in omega arith) ]
@@ -132,6 +131,7 @@ says_part m (suc j) proper le = go (length (payload_of m) == 8) refl (m.destinat
   where
     small : m.source ≤ 255
     small = (let l = proper.source in omega arith)
+
     go : (b : Bool) → (length (payload_of m) == 8) ≡ b → (c : Bool) → (m.destination == 255) ≡ c → suc j ≤ (if b then 0 else count_of m)
         → group_of (packet_frame (packet (payload_of m) (suc j)) m.source m.destination) ≡ group_at (if b then One else (if c then Broadcast else Session m.destination)) m (suc j)
     go true i c k l = absurd (omega arith)
@@ -275,6 +275,7 @@ claim_holds s n c h = go (not (is_held c.held s) || (n == c.name)) (nat_lt c.nam
     moved : (o : Option ℕ) → CanHold o → CanHold (held_after (move_step o) c.held)
     moved None g = tt
     moved (Some a) g = g
+
     go : (a b d : Bool) → CanHold (held_after (if a then Nothing else (if b then Defend else move_step (if d then free_address c.name (noted_after s n c.noted) else None))) c.held)
     go true b d = h
     go false true d = h

@@ -28,10 +28,11 @@ anchor a (Own e ∷ path) h =
     record { lower = Own e ∷ p.lower; claim = p.claim; before = p.before; split = ap (λ (v : List Reception). Own e ∷ v) p.split; is_it = p.is_it; whole = p.whole; latest = p.latest }
 anchor a (Received e ∷ path) h =
     elim (pick_cases (is_claim a (says e)) true (is_anchored a path) true h) [
-      inl w ↦ record { lower = []; claim = e; before = path; split = refl; is_it = w.0; whole = tt; latest = tt }
-    | inr w ↦
-        (let p = anchor a path w.1 in
-         record { lower = Received e ∷ p.lower; claim = p.claim; before = p.before; split = ap (λ (v : List Reception). Received e ∷ v) p.split; is_it = p.is_it; whole = p.whole; latest = (w.0, p.latest) }) ]
+      | inl w ↦ record { lower = []; claim = e; before = path; split = refl; is_it = w.0; whole = tt; latest = tt }
+      | inr w ↦
+          (let p = anchor a path w.1 in
+          record { lower = Received e ∷ p.lower; claim = p.claim; before = p.before; split = ap (λ (v : List Reception). Received e ∷ v) p.split; is_it = p.is_it; whole = p.whole; latest = (w.0, p.latest) })
+    ]
 
 pub record Stretch (m : Message) (path : List Reception) : Type 0 where
   pub upper : List Reception
@@ -50,10 +51,11 @@ stretch m (Own e ∷ path) h =
     record { upper = Own e ∷ p.upper; first = p.first; older = p.older; split = ap (λ (v : List Reception). Own e ∷ v) p.split; is_it = p.is_it; whole = p.whole; anchor = p.anchor }
 stretch m (Received e ∷ path) h =
     elim (pick_cases (is_part m 0 e.tag) (is_anchored m.source path) (is_unbroken m path) true h) [
-      inl w ↦ record { upper = []; first = e; older = path; split = refl; is_it = w.0; whole = tt; anchor = w.1 }
-    | inr w ↦
-        (let p = stretch m path w.1 in
-         record { upper = Received e ∷ p.upper; first = p.first; older = p.older; split = ap (λ (v : List Reception). Received e ∷ v) p.split; is_it = p.is_it; whole = p.whole; anchor = p.anchor }) ]
+      | inl w ↦ record { upper = []; first = e; older = path; split = refl; is_it = w.0; whole = tt; anchor = w.1 }
+      | inr w ↦
+          (let p = stretch m path w.1 in
+          record { upper = Received e ∷ p.upper; first = p.first; older = p.older; split = ap (λ (v : List Reception). Received e ∷ v) p.split; is_it = p.is_it; whole = p.whole; anchor = p.anchor })
+    ]
 
 pub false_test : (m n : ℕ) → (m == n) ≡ false → m ≢ n
 false_test m n h e = let i : (m == n) ≡ true = rw e (same_test n) in cc
@@ -80,23 +82,27 @@ parts_back st begun m j i (Own e ∷ path) num isin law mk booked l u le =
     later_read m i (Own e) path (parts_back st begun m j i path num isin law.1 mk.1 booked.1 l2 u le)
 parts_back st begun m j i (Received e ∷ path) num isin law mk booked l u le =
     elim (pick_cases (is_of m.name m.kind e.tag) e.tag (last_of m.name m.kind (passed path)) (Some (tag_of m j)) l) [
-      inl w ↦ here j i (i == j) refl w.1 le (law.0.tagged (tag_of m j) w.1).order (λ k f v q. parts_back st begun m k i path num isin law.1 mk.1 booked.1 f v q)
-    | inr w ↦ later_read m i (Received e) path (parts_back st begun m j i path num isin law.1 mk.1 booked.1 w.1 (rest (other w.0)) le) ]
+      | inl w ↦ here j i (i == j) refl w.1 le (law.0.tagged (tag_of m j) w.1).order (λ k f v q. parts_back st begun m k i path num isin law.1 mk.1 booked.1 f v q)
+      | inr w ↦ later_read m i (Received e) path (parts_back st begun m j i path num isin law.1 mk.1 booked.1 w.1 (rest (other w.0)) le)
+    ]
   where
     rest : is_part m 0 e.tag ≡ false → is_unbroken m path ≡ true
     rest h = rw h at u
+
     at : (o : Option Tag) → e.tag ≡ o → is_part m 0 o ≡ true → is_of m.name m.kind o ≡ true
     at None g h = cc
     at (Some t) g h =
         let q = and_parts (t.message.number == m.number) (t.part == 0) h in
         let same = same_message t.message m begun num (booked.0 t g) isin (true_test t.message.number m.number q.0) in
         rw (same, same_test m.name) (same_kind_self m.kind)
+
     other : is_of m.name m.kind e.tag ≡ false → is_part m 0 e.tag ≡ false
     other h = go (is_part m 0 e.tag) refl
       where
         go : (b : Bool) → is_part m 0 e.tag ≡ b → is_part m 0 e.tag ≡ false
         go true p = absurd (let y = at e.tag refl p in cc)
         go false p = p
+
     here : (j i : ℕ) (b : Bool) → (i == j) ≡ b → e.tag ≡ Some (tag_of m j) → i ≤ j → Follows (last_of m.name m.kind (passed path)) (tag_of m j) → ((k : ℕ) → last_of m.name m.kind (passed path) ≡ Some (tag_of m k) → is_unbroken m path ≡ true → i ≤ k → IsReceived m i path) → IsReceived m i (Received e ∷ path)
     here j i true c g le f ih = record { later = []; item = e; earlier = path; split = refl; is_it = rw (true_test i j c) (is_part_self m j e.tag g) }
     here zero i false c g le f ih = absurd (let z : i ≡ 0 = omega arith in let y : (i == 0) ≡ true = rw z refl in cc)
@@ -106,6 +112,7 @@ parts_back st begun m j i (Received e ∷ path) num isin law mk booked l u le =
       where
         not0 : (o : Option Tag) → o ≡ Some (tag_of m (suc j)) → is_part m 0 o ≡ false
         not0 o q = later_part m j o q
+
         lower : (b : Bool) → (i == suc j) ≡ b → i ≤ j
         lower true q = absurd (let y : (i == suc j) ≡ false = c in cc)
         lower false q = (let ne : i ≢ suc j = false_test i (suc j) q in omega arith)
@@ -113,12 +120,22 @@ parts_back st begun m j i (Received e ∷ path) num isin law mk booked l u le =
 pub later_clear : (m : Message) (x : Reception) (path : List Reception) → IsOnClearPath m path → IsOnClearPath m (x ∷ path)
 later_clear m x path h = record {
   parts = λ j le. later_read m j x path (h.parts j le);
-  after = x ∷ h.after; last = h.last; older = h.older;
+  after = x ∷ h.after;
+  last = h.last;
+  older = h.older;
   split = ap (λ (v : List Reception). x ∷ v) h.split;
   is_last = h.is_last;
-  upper = h.upper; first = h.first; lower = h.lower; claim = h.claim; before = h.before;
-  stretch = h.stretch; is_first = h.is_first; is_claim' = h.is_claim';
-  upper_whole = h.upper_whole; lower_whole = h.lower_whole; latest = h.latest;
+  upper = h.upper;
+  first = h.first;
+  lower = h.lower;
+  claim = h.claim;
+  before = h.before;
+  stretch = h.stretch;
+  is_first = h.is_first;
+  is_claim' = h.is_claim';
+  upper_whole = h.upper_whole;
+  lower_whole = h.lower_whole;
+  latest = h.latest;
 }
 
 pub part_is : (begun : List Message) (m : Message) (j : ℕ) (o : Option Tag) → Numbered begun → IsAmong m begun → ((t : Tag) → o ≡ Some t → IsAmong t.message begun) → is_part m j o ≡ true → o ≡ Some (tag_of m j)
@@ -139,23 +156,33 @@ clear_is st begun m (Own e ∷ path) num isin law mk booked h =
     later_clear m (Own e) path (clear_is st begun m path num isin law.1 mk.1 booked.1 h)
 clear_is st begun m (Received e ∷ path) num isin law mk booked h =
     elim (pick_cases (is_part m (last_part_of m) e.tag) (is_unbroken m (Received e ∷ path)) (is_clear m path) true h) [
-      inl w ↦
-        (let tag = part_is begun m (last_part_of m) e.tag num isin booked.0 w.0 in
-         let of : is_of m.name m.kind e.tag ≡ true = rw (tag, same_test m.name) (same_kind_self m.kind) in
-         let l : last_of m.name m.kind (passed (Received e ∷ path)) ≡ Some (tag_of m (last_part_of m)) = rw of tag in
-         let p = stretch m (Received e ∷ path) w.1 in
-         let q = anchor m.source p.older p.anchor in
-         record {
-           parts = λ j le. parts_back st begun m (last_part_of m) j (Received e ∷ path) num isin law mk booked l w.1 le;
-           after = []; last = e; older = path;
-           split = refl;
-           is_last = w.0;
-           upper = p.upper; first = p.first; lower = q.lower; claim = q.claim; before = q.before;
-           stretch = p.split ∙ ap (λ (v : List Reception). p.upper ++ Received p.first ∷ v) q.split;
-           is_first = p.is_it; is_claim' = q.is_it;
-           upper_whole = p.whole; lower_whole = q.whole; latest = q.latest;
-         })
-    | inr w ↦ later_clear m (Received e) path (clear_is st begun m path num isin law.1 mk.1 booked.1 w.1) ]
+      | inl w ↦
+          (let tag = part_is begun m (last_part_of m) e.tag num isin booked.0 w.0 in
+          let of : is_of m.name m.kind e.tag ≡ true = rw (tag, same_test m.name) (same_kind_self m.kind) in
+          let l : last_of m.name m.kind (passed (Received e ∷ path)) ≡ Some (tag_of m (last_part_of m)) = rw of tag in
+          let p = stretch m (Received e ∷ path) w.1 in
+          let q = anchor m.source p.older p.anchor in
+          record {
+            parts = λ j le. parts_back st begun m (last_part_of m) j (Received e ∷ path) num isin law mk booked l w.1 le;
+            after = [];
+            last = e;
+            older = path;
+            split = refl;
+            is_last = w.0;
+            upper = p.upper;
+            first = p.first;
+            lower = q.lower;
+            claim = q.claim;
+            before = q.before;
+            stretch = p.split ∙ ap (λ (v : List Reception). p.upper ++ Received p.first ∷ v) q.split;
+            is_first = p.is_it;
+            is_claim' = q.is_it;
+            upper_whole = p.whole;
+            lower_whole = q.whole;
+            latest = q.latest;
+          })
+      | inr w ↦ later_clear m (Received e) path (clear_is st begun m path num isin law.1 mk.1 booked.1 w.1)
+    ]
 
 pub passed_append : (xs ys : List Reception) → passed (xs ++ ys) ≡ passed xs ++ passed ys
 passed_append [] ys = refl

@@ -1,5 +1,5 @@
 -- A message that ends is what looking back finds.
-use Rattle.std.proofs.Common.{◌≡◌, ◌≢◌, ◌⊎◌, ℕ, suc, zero, ◌+◌, ◌<◌, ◌≤◌, Bool, true, false, not, ◌&&◌, ◌==◌, List, [], ◌∷◌, ◌++◌, length, drop, slice_index, Option, Some, None, if◌then◌else◌, sym, refl, ap, ◌∙◌, subst, inl, inr, arith, length-append}
+use Rattle.std.proofs.Common.{◌≡◌, ℕ, suc, ◌<◌, ◌≤◌, true, false, ◌==◌, List, [], ◌∷◌, ◌++◌, length, drop, Option, Some, None, if◌then◌else◌, sym, refl, ap, ◌∙◌, subst, inl, inr, arith, length-append}
 use Rattle.address_claim.specs.Claiming.{is_held}
 use Rattle.can_frame.specs.FrameValue.{FrameValue}
 use Rattle.can_frame.specs.declared.reading.Reading.{Reading}
@@ -14,7 +14,6 @@ use Rattle.bus_model.proofs.Bridge.{address_hold}
 use Rattle.bus_model.proofs.Half.{IsNext, Taken, add_packet, half_back, half_from, joining, length_pieces_of, taken_of}
 use Rattle.bus_model.proofs.HalfSession.{held_at, quiet_address, session_back, session_from}
 use Rattle.bus_model.proofs.Lookback.{ne_test, pick_cases, same_test, true_test}
-use Rattle.bus_model.proofs.Path.{grown}
 
 -- a message that was finished by a packet
 pub record Finished (q : List ℕ) (before : Option Joining) (e : Entry) : Type 0 where
@@ -39,12 +38,13 @@ finished_of q before e h = go (with_packet q before) refl h
             let grown : Joining = record old { pieces = old.pieces ++ drop 1 q ∷ [] } in
             let f : (if is_whole grown then Some (record { name = old.owner; kind = old.kind; bytes = joined old.size (old.pieces ++ drop 1 q ∷ []) }) else None) ≡ Some e = subst (λ (v : Joining). finished (Some v) ≡ Some e) t.grown g in
             elim (pick_cases (is_whole grown) (Some (record { name = old.owner; kind = old.kind; bytes = joined old.size (old.pieces ++ drop 1 q ∷ []) })) None (Some e) f) [
-              inl w ↦
-                (let len = length-append old.pieces (drop 1 q ∷ []) in
-                 let c = true_test (length (old.pieces ++ drop 1 q ∷ [])) (packet_count old.size) w.0 in
-                 let i : ◌≡◌ {A = Entry} (record { name = old.owner; kind = old.kind; bytes = joined old.size (old.pieces ++ drop 1 q ∷ []) }) e = cc in
-                 record { old = old; was = t.was; next = t.next; all = omega arith; name = sym (ap (λ (v : Entry). v.name) i); kind = sym (ap (λ (v : Entry). v.kind) i); bytes = sym (ap (λ (v : Entry). v.bytes) i) })
-            | inr w ↦ cc w.1 ]
+              | inl w ↦
+                  (let len = length-append old.pieces (drop 1 q ∷ []) in
+                  let c = true_test (length (old.pieces ++ drop 1 q ∷ [])) (packet_count old.size) w.0 in
+                  let i : ◌≡◌ {A = Entry} (record { name = old.owner; kind = old.kind; bytes = joined old.size (old.pieces ++ drop 1 q ∷ []) }) e = cc in
+                  record { old = old; was = t.was; next = t.next; all = omega arith; name = sym (ap (λ (v : Entry). v.name) i); kind = sym (ap (λ (v : Entry). v.kind) i); bytes = sym (ap (λ (v : Entry). v.bytes) i) })
+              | inr w ↦ cc w.1
+            ]
 
 pub finish : (n : ℕ) (k : Kind) (size : ℕ) (q : List ℕ) (ps : List (List ℕ)) → AreNumbered (q ∷ ps) → suc (length ps) ≡ packet_count size → finished (with_packet q (Some (joining n k size ps))) ≡ Some (record { name = n; kind = k; bytes = joined size (pieces_of (q ∷ ps)) })
 finish n k size q ps num all =
@@ -71,8 +71,17 @@ broadcast_back_from f older e s q g h =
     let ps = packets_from s 255 b.since in
     let len : length t.old.pieces ≡ length ps = ap (λ (v : List (List ℕ)). length v) b.pieces ∙ length_pieces_of ps in
     record {
-      source = s; size = t.old.size; count = b.count; pgn = b.pgn; packet = q; last = g;
-      since = b.since; start = b.start; before = b.before; split = b.split; starts = b.starts;
+      source = s;
+      size = t.old.size;
+      count = b.count;
+      pgn = b.pgn;
+      packet = q;
+      last = g;
+      since = b.since;
+      start = b.start;
+      before = b.before;
+      split = b.split;
+      starts = b.starts;
       kind = b.kind ∙ ap Some (sym t.kind);
       owned = b.owned ∙ ap Some (sym t.name);
       quiet = subst (λ (v : ℕ). IsQuiet s v b.since) (sym t.name) b.quiet;
@@ -89,8 +98,19 @@ session_back_from r f older e s d q g held h =
     let ps = packets_from s b.to b.since in
     let len : length t.old.pieces ≡ length ps = ap (λ (v : List (List ℕ)). length v) b.pieces ∙ length_pieces_of ps in
     record {
-      source = s; destination = b.to; size = t.old.size; count = b.count; most = b.most; pgn = b.pgn; packet = q; last = g ∙ ap (λ (v : ℕ). DataTransfer s v q) to;
-      since = b.since; start = b.start; before = b.before; split = b.split; starts = b.starts;
+      source = s;
+      destination = b.to;
+      size = t.old.size;
+      count = b.count;
+      most = b.most;
+      pgn = b.pgn;
+      packet = q;
+      last = g ∙ ap (λ (v : ℕ). DataTransfer s v q) to;
+      since = b.since;
+      start = b.start;
+      before = b.before;
+      split = b.split;
+      starts = b.starts;
       kind = b.kind ∙ ap Some (sym t.kind);
       owned = b.owned ∙ ap Some (sym t.name);
       held = b.held;
@@ -109,11 +129,13 @@ ends_back r (Frame f) older e h = go (group_of f) refl h
     go (Diagnostic k s bytes) i h = inl (one_back f older e k s bytes i h)
     go (DataTransfer s d q) i h =
         elim (pick_cases (d == 255) (finished (with_packet q (broadcast_heard s older))) (if is_held (address_heard r older) d then finished (with_packet q (session_heard r s older)) else None) (Some e) h) [
-          inl w ↦ inr (inl (broadcast_back_from f older e s q (i ∙ ap (λ (v : ℕ). DataTransfer s v q) (true_test d 255 w.0)) w.1))
-        | inr w ↦
-            elim (pick_cases (is_held (address_heard r older) d) (finished (with_packet q (session_heard r s older))) None (Some e) w.1) [
-              inl v ↦ inr (inr (session_back_from r f older e s d q i v.0 v.1))
-            | inr v ↦ cc v.1 ] ]
+          | inl w ↦ inr (inl (broadcast_back_from f older e s q (i ∙ ap (λ (v : ℕ). DataTransfer s v q) (true_test d 255 w.0)) w.1))
+          | inr w ↦
+              elim (pick_cases (is_held (address_heard r older) d) (finished (with_packet q (session_heard r s older))) None (Some e) w.1) [
+                | inl v ↦ inr (inr (session_back_from r f older e s d q i v.0 v.1))
+                | inr v ↦ cc v.1
+              ]
+        ]
     go (AddressClaimed s n) i h = cc
     go (CannotClaim n) i h = cc
     go (Request p d s) i h = cc
@@ -128,7 +150,7 @@ pub broadcast_end : (r : Settings) (f : FrameValue) (older : List Reading) (e : 
 broadcast_end r f older e h =
     let l : length (packets_from h.source 255 h.since) < packet_count h.size = (let a = h.all in omega arith) in
     let b : broadcast_heard h.source older ≡ Some (joining e.name e.kind h.size (packets_from h.source 255 h.since)) =
-        ap (broadcast_heard h.source) h.split ∙ half_from h.source e.name e.kind h.size h.count h.pgn h.start h.since h.before h.starts h.kind h.owned h.quiet h.numbered.2 l in
+    ap (broadcast_heard h.source) h.split ∙ half_from h.source e.name e.kind h.size h.count h.pgn h.start h.since h.before h.starts h.kind h.owned h.quiet h.numbered.2 l in
     rw (h.last, b) (finish e.name e.kind h.size h.packet (packets_from h.source 255 h.since) h.numbered h.all ∙ ap Some (entry_is e e.name e.kind (joined h.size (pieces_of (h.packet ∷ packets_from h.source 255 h.since))) refl refl h.payload))
 
 pub not_to_all : (r : Settings) (rs : List Reading) (d : ℕ) → IsFit r → address_heard r rs ≡ Some d → (d == 255) ≡ false
@@ -140,14 +162,15 @@ pub session_end : (r : Settings) (f : FrameValue) (older : List Reading) (e : En
 session_end r f older e fit h =
     let l : length (packets_from h.source h.destination h.since) < packet_count h.size = (let a = h.all in omega arith) in
     let b : session_heard r h.source older ≡ Some (joining e.name e.kind h.size (packets_from h.source h.destination h.since)) =
-        ap (session_heard r h.source) h.split ∙ session_from r h.source h.destination e.name e.kind h.size h.count h.most h.pgn h.start h.since h.before h.starts h.kind h.owned h.held h.quiet h.numbered.2 l in
+    ap (session_heard r h.source) h.split ∙ session_from r h.source h.destination e.name e.kind h.size h.count h.most h.pgn h.start h.since h.before h.starts h.kind h.owned h.held h.quiet h.numbered.2 l in
     let at : address_heard r older ≡ Some h.destination =
-        ap (address_heard r) h.split ∙ quiet_address r h.source h.destination e.name e.kind h.since h.start h.before h.size h.count h.most h.pgn h.starts h.held h.quiet in
+    ap (address_heard r) h.split ∙ quiet_address r h.source h.destination e.name e.kind h.since h.start h.before h.size h.count h.most h.pgn h.starts h.held h.quiet in
     rw (h.last, not_to_all r older h.destination fit at, at, same_test h.destination, b) (finish e.name e.kind h.size h.packet (packets_from h.source h.destination h.since) h.numbered h.all ∙ ap Some (entry_is e e.name e.kind (joined h.size (pieces_of (h.packet ∷ packets_from h.source h.destination h.since))) refl refl h.payload))
 
 pub ends_from : (r : Settings) (x : Reading) (older : List Reading) (e : Entry) → IsFit r → EndsMessage r x older e → ended r x older ≡ Some e
 ends_from r (Gap n) older e fit h = absurd h
 ends_from r Empty older e fit h = absurd h
 ends_from r (Frame f) older e fit h = elim h [
-    inl o ↦ one_from r f older e o
-  | inr w ↦ (elim w [ inl b ↦ broadcast_end r f older e b | inr s ↦ session_end r f older e fit s ]) ]
+  | inl o ↦ one_from r f older e o
+  | inr w ↦ (elim w [ inl b ↦ broadcast_end r f older e b | inr s ↦ session_end r f older e fit s ])
+]

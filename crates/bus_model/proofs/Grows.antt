@@ -96,6 +96,7 @@ readable_step old event new law step zero' = go (path_step old event new step)
   where
     r : Settings
     r = old.settings
+
     go : PathStep old new → unread_count old.settings (readings new.path) ≡ 0
     go (Stays e) = ap (λ (p : List Reception). unread_count old.settings (readings p)) e ∙ zero'
     go (Sends x e) = ap (λ (p : List Reception). unread_count old.settings (readings p)) e ∙ zero'

@@ -1,5 +1,5 @@
 -- What is half joined by broadcast is what looking back finds.
-use Rattle.std.proofs.Common.{◌≡◌, ◌≢◌, ℕ, suc, zero, ◌+◌, ◌<◌, ◌≤◌, Bool, true, false, not, ◌&&◌, ◌==◌, List, [], ◌∷◌, ◌++◌, length, drop, slice_index, Option, Some, None, if◌then◌else◌, sym, refl, ap, ◌∙◌, subst, inl, inr, arith, length-append}
+use Rattle.std.proofs.Common.{◌≡◌, ℕ, suc, ◌+◌, ◌<◌, ◌≤◌, Bool, true, false, ◌&&◌, ◌==◌, List, [], ◌∷◌, ◌++◌, length, drop, slice_index, Option, Some, None, if◌then◌else◌, sym, refl, ap, ◌∙◌, subst, inl, inr, arith, length-append}
 use Rattle.std.specs.Prelude.{nat_eq, nat_lt}
 use Rattle.std.proofs.lemmas.Bool.{ltb-true}
 use Rattle.can_frame.specs.FrameValue.{FrameValue}
@@ -29,11 +29,13 @@ owner_back a n (Frame f ∷ rs) h = go (group_of f) refl h (owner_back a n rs)
   where
     skip : is_claim a (group_of f) ≡ false → IsOwner a n rs → IsOwner a n (Frame f ∷ rs)
     skip i p = record { since = Frame f ∷ p.since; claim = p.claim; before = p.before; split = ap (λ (v : List Reading). Frame f ∷ v) p.split; claims = p.claims; latest = (i, p.latest) }
+
     go : (g : Group) → group_of f ≡ g → owner_after a g (owner_heard a rs) ≡ Some n → (owner_heard a rs ≡ Some n → IsOwner a n rs) → IsOwner a n (Frame f ∷ rs)
     go (AddressClaimed s m) e h ih =
         elim (pick_cases (s == a) (Some m) (owner_heard a rs) (Some n) h) [
-          inl w ↦ (let i : s ≡ a = true_test s a w.0 in let j : m ≡ n = cc in record { since = []; claim = f; before = rs; split = refl; claims = e ∙ rw (i, j) refl; latest = tt })
-        | inr w ↦ skip (ap (is_claim a) e ∙ w.0) (ih w.1) ]
+          | inl w ↦ (let i : s ≡ a = true_test s a w.0 in let j : m ≡ n = cc in record { since = []; claim = f; before = rs; split = refl; claims = e ∙ rw (i, j) refl; latest = tt })
+          | inr w ↦ skip (ap (is_claim a) e ∙ w.0) (ih w.1)
+        ]
     go (CannotClaim m) e h ih = skip (ap (is_claim a) e) (ih h)
     go (Request p d s) e h ih = skip (ap (is_claim a) e) (ih h)
     go (Acknowledgment c q p d s) e h ih = skip (ap (is_claim a) e) (ih h)
@@ -86,8 +88,9 @@ pub taken_of : (q : List ℕ) (before : Option Joining) (j : Joining) → with_p
 taken_of q None j h = cc
 taken_of q (Some b) j h =
     elim (pick_cases (is_next b.size b.pieces q) (Some (record b { pieces = b.pieces ++ drop 1 q ∷ [] })) None (Some j) h) [
-      inl w ↦ record { old = b; was = refl; next = next_facts b.size b.pieces q w.0; grown = cc }
-    | inr w ↦ cc w.1 ]
+      | inl w ↦ record { old = b; was = refl; next = next_facts b.size b.pieces q w.0; grown = cc }
+      | inr w ↦ cc w.1
+    ]
 
 pub open_of : (o : Option Joining) (j : Joining) → unfinished o ≡ Some j → o ≡ Some j
 open_of None j h = cc
@@ -114,9 +117,15 @@ half_empty a j rs h = record { count = h.count; pgn = h.pgn; since = Empty ∷ h
 -- a frame that leaves it as it is
 pub half_more : (a : ℕ) (j : Joining) (f : FrameValue) (rs : List Reading) → IsQuietGroup a j.owner (group_of f) → ((l : List (List ℕ)) → packet_before a 255 (group_of f) l ≡ l) → Half a j rs → Half a j (Frame f ∷ rs)
 half_more a j f rs q p h = record {
-  count = h.count; pgn = h.pgn; since = Frame f ∷ h.since; start = h.start; before = h.before;
+  count = h.count;
+  pgn = h.pgn;
+  since = Frame f ∷ h.since;
+  start = h.start;
+  before = h.before;
   split = ap (λ (v : List Reading). Frame f ∷ v) h.split;
-  starts = h.starts; kind = h.kind; owned = h.owned;
+  starts = h.starts;
+  kind = h.kind;
+  owned = h.owned;
   quiet = (q, h.quiet);
   numbered = subst AreNumbered (sym (p (packets_from a 255 h.since))) h.numbered;
   pieces = h.pieces ∙ ap pieces_of (sym (p (packets_from a 255 h.since)));
@@ -129,9 +138,15 @@ half_taken a b f q rs e next h =
     let len : length b.pieces ≡ length (packets_from a 255 h.since) = ap (λ (v : List (List ℕ)). length v) h.pieces ∙ length_pieces_of (packets_from a 255 h.since) in
     let number : slice_index q 0 ≡ suc (length (packets_from a 255 h.since)) = next.number ∙ ap suc len in
     record {
-      count = h.count; pgn = h.pgn; since = Frame f ∷ h.since; start = h.start; before = h.before;
+      count = h.count;
+      pgn = h.pgn;
+      since = Frame f ∷ h.since;
+      start = h.start;
+      before = h.before;
       split = ap (λ (v : List Reading). Frame f ∷ v) h.split;
-      starts = h.starts; kind = h.kind; owned = h.owned;
+      starts = h.starts;
+      kind = h.kind;
+      owned = h.owned;
       quiet = (subst (IsQuietGroup a b.owner) (sym e) tt, h.quiet);
       numbered = subst AreNumbered (sym ps) (next.len, number, h.numbered);
       pieces = ap (λ (v : List (List ℕ)). v ++ drop 1 q ∷ []) h.pieces ∙ ap pieces_of (sym ps);
@@ -140,8 +155,9 @@ half_taken a b f q rs e next h =
 pub half_step : (a : ℕ) (j : Joining) (f : FrameValue) (rs : List Reading) → ((i : Joining) → broadcast_heard a rs ≡ Some i → Half a i rs) → (g : Group) → group_of f ≡ g → broadcast_after a g (owner_heard a rs) (broadcast_heard a rs) ≡ Some j → Half a j (Frame f ∷ rs)
 half_step a j f rs ih (ConnectionManagement s d (Bam x y p)) e h =
     elim (pick_cases (s == a && d == 255) (started (kind_of p) x (owner_heard a rs)) (broadcast_heard a rs) (Some j) h) [
-      inl w ↦ (let t = and_parts (s == a) (d == 255) w.0 in begin (kind_of p) (owner_heard a rs) refl refl w.1 (true_test s a t.0) (true_test d 255 t.1))
-    | inr w ↦ half_more a j f rs (subst (IsQuietGroup a j.owner) (sym e) (λ i k. let y : (s == a && d == 255) ≡ true = rw (i, k, same_test a) refl in cc)) (λ l. rw e refl) (ih j w.1) ]
+      | inl w ↦ (let t = and_parts (s == a) (d == 255) w.0 in begin (kind_of p) (owner_heard a rs) refl refl w.1 (true_test s a t.0) (true_test d 255 t.1))
+      | inr w ↦ half_more a j f rs (subst (IsQuietGroup a j.owner) (sym e) (λ i k. let y : (s == a && d == 255) ≡ true = rw (i, k, same_test a) refl in cc)) (λ l. rw e refl) (ih j w.1)
+    ]
   where
     begin : (k : Option Kind) (o : Option ℕ) → kind_of p ≡ k → owner_heard a rs ≡ o → started k x o ≡ Some j → s ≡ a → d ≡ 255 → Half a j (Frame f ∷ rs)
     begin None o i m g u v = cc
@@ -149,28 +165,41 @@ half_step a j f rs ih (ConnectionManagement s d (Bam x y p)) e h =
     begin (Some k) (Some n) i m g u v =
         let q : ◌≡◌ {A = Joining} (record { owner = n; kind = k; size = x; pieces = [] }) j = cc in
         subst (λ (z : Joining). Half a z (Frame f ∷ rs)) q (record {
-          count = y; pgn = p; since = []; start = f; before = rs; split = refl;
-          starts = e ∙ rw (u, v) refl; kind = i; owned = m; quiet = tt; numbered = tt; pieces = refl;
+          count = y;
+          pgn = p;
+          since = [];
+          start = f;
+          before = rs;
+          split = refl;
+          starts = e ∙ rw (u, v) refl;
+          kind = i;
+          owned = m;
+          quiet = tt;
+          numbered = tt;
+          pieces = refl;
         })
 half_step a j f rs ih (DataTransfer s d q) e h =
     elim (pick_cases (s == a && d == 255) (unfinished (with_packet q (broadcast_heard a rs))) (broadcast_heard a rs) (Some j) h) [
-      inl w ↦
-        (let t = and_parts (s == a) (d == 255) w.0 in
-         let k = taken_of q (broadcast_heard a rs) j (open_of (with_packet q (broadcast_heard a rs)) j w.1) in
-         let at : group_of f ≡ DataTransfer a 255 q = e ∙ rw (true_test s a t.0, true_test d 255 t.1) refl in
-         subst (λ (z : Joining). Half a z (Frame f ∷ rs)) (sym k.grown) (half_taken a k.old f q rs at k.next (ih k.old k.was)))
-    | inr w ↦ half_more a j f rs (subst (IsQuietGroup a j.owner) (sym e) tt) (λ l. rw (e, w.0) refl) (ih j w.1) ]
+      | inl w ↦
+          (let t = and_parts (s == a) (d == 255) w.0 in
+          let k = taken_of q (broadcast_heard a rs) j (open_of (with_packet q (broadcast_heard a rs)) j w.1) in
+          let at : group_of f ≡ DataTransfer a 255 q = e ∙ rw (true_test s a t.0, true_test d 255 t.1) refl in
+          subst (λ (z : Joining). Half a z (Frame f ∷ rs)) (sym k.grown) (half_taken a k.old f q rs at k.next (ih k.old k.was)))
+      | inr w ↦ half_more a j f rs (subst (IsQuietGroup a j.owner) (sym e) tt) (λ l. rw (e, w.0) refl) (ih j w.1)
+    ]
 half_step a j f rs ih (AddressClaimed s n) e h =
     elim (pick_cases (s == a) (kept_under n (broadcast_heard a rs)) (broadcast_heard a rs) (Some j) h) [
-      inl w ↦ keep (broadcast_heard a rs) refl w.1
-    | inr w ↦ half_more a j f rs (subst (IsQuietGroup a j.owner) (sym e) (λ i. let y : (s == a) ≡ true = rw i (same_test a) in cc)) (λ l. rw e refl) (ih j w.1) ]
+      | inl w ↦ keep (broadcast_heard a rs) refl w.1
+      | inr w ↦ half_more a j f rs (subst (IsQuietGroup a j.owner) (sym e) (λ i. let y : (s == a) ≡ true = rw i (same_test a) in cc)) (λ l. rw e refl) (ih j w.1)
+    ]
   where
     keep : (o : Option Joining) → broadcast_heard a rs ≡ o → kept_under n o ≡ Some j → Half a j (Frame f ∷ rs)
     keep None i g = cc
     keep (Some b) i g =
         elim (pick_cases (n == b.owner) (Some b) None (Some j) g) [
-          inl w ↦ (let q : b ≡ j = cc in subst (λ (z : Joining). Half a z (Frame f ∷ rs)) q (half_more a b f rs (subst (IsQuietGroup a b.owner) (sym e) (λ u. true_test n b.owner w.0)) (λ l. rw e refl) (ih b i)))
-        | inr w ↦ cc w.1 ]
+          | inl w ↦ (let q : b ≡ j = cc in subst (λ (z : Joining). Half a z (Frame f ∷ rs)) q (half_more a b f rs (subst (IsQuietGroup a b.owner) (sym e) (λ u. true_test n b.owner w.0)) (λ l. rw e refl) (ih b i)))
+          | inr w ↦ cc w.1
+        ]
 half_step a j f rs ih (ConnectionManagement s d (Rts x y z p)) e h = half_more a j f rs (subst (IsQuietGroup a j.owner) (sym e) tt) (λ l. rw e refl) (ih j h)
 half_step a j f rs ih (ConnectionManagement s d (Cts x y p)) e h = half_more a j f rs (subst (IsQuietGroup a j.owner) (sym e) tt) (λ l. rw e refl) (ih j h)
 half_step a j f rs ih (ConnectionManagement s d (EndAck x y p)) e h = half_more a j f rs (subst (IsQuietGroup a j.owner) (sym e) tt) (λ l. rw e refl) (ih j h)
@@ -212,16 +241,22 @@ half_from a n k size count pgn start (Frame f ∷ since) before st kd own quiet 
   where
     rs : List Reading
     rs = since ++ Frame start ∷ before
+
     ps : List (List ℕ)
     ps = packets_from a 255 since
+
     Goal : Group → Type 0
     Goal g = broadcast_after a g (owner_heard a rs) (broadcast_heard a rs) ≡ Some (joining n k size (packet_before a 255 g ps))
+
     quiet_at : (g : Group) → group_of f ≡ g → IsQuietGroup a n g
     quiet_at g e = subst (IsQuietGroup a n) e quiet.0
+
     num_at : (g : Group) → group_of f ≡ g → AreNumbered (packet_before a 255 g ps)
     num_at g e = subst (λ (v : Group). AreNumbered (packet_before a 255 v ps)) e num
+
     len_at : (g : Group) → group_of f ≡ g → length (packet_before a 255 g ps) < packet_count size
     len_at g e = subst (λ (v : Group). length (packet_before a 255 v ps) < packet_count size) e l
+
     go : (g : Group) → group_of f ≡ g → (AreNumbered ps → length ps < packet_count size → broadcast_heard a rs ≡ Some (joining n k size ps)) → broadcast_after a (group_of f) (owner_heard a rs) (broadcast_heard a rs) ≡ Some (joining n k size (packet_before a 255 (group_of f) ps))
     go (ConnectionManagement s d (Bam x y p)) e ih = rw e (test (s == a && d == 255) refl)
       where

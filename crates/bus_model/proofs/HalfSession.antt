@@ -1,5 +1,5 @@
 -- What is half joined by a session is what looking back finds.
-use Rattle.std.proofs.Common.{◌≡◌, ◌≢◌, ℕ, suc, zero, ◌+◌, ◌<◌, ◌≤◌, Bool, true, false, not, ◌&&◌, ◌==◌, List, [], ◌∷◌, ◌++◌, length, drop, slice_index, Option, Some, None, if◌then◌else◌, sym, refl, ap, ◌∙◌, subst, inl, inr, arith}
+use Rattle.std.proofs.Common.{◌≡◌, ◌≢◌, ℕ, suc, ◌<◌, Bool, true, false, ◌&&◌, ◌==◌, List, [], ◌∷◌, ◌++◌, length, drop, slice_index, Option, Some, None, if◌then◌else◌, sym, refl, ap, ◌∙◌, subst, inl, inr, arith}
 use Rattle.address_claim.specs.Claiming.{is_held}
 use Rattle.can_frame.specs.FrameValue.{FrameValue}
 use Rattle.can_frame.specs.declared.reading.Reading.{Reading}
@@ -42,9 +42,18 @@ session_empty r a j rs h = record { to = h.to; count = h.count; most = h.most; p
 -- a frame that leaves it as it is
 pub session_more : (r : Settings) (a : ℕ) (j : Joining) (f : FrameValue) (rs : List Reading) → (h : HalfSession r a j rs) → is_contest r.name (Some h.to) (group_of f) ≡ false → IsSessionQuietGroup r.name a h.to j.owner j.kind (group_of f) → ((l : List (List ℕ)) → packet_before a h.to (group_of f) l ≡ l) → HalfSession r a j (Frame f ∷ rs)
 session_more r a j f rs h calm q p = record {
-  to = h.to; count = h.count; most = h.most; pgn = h.pgn; since = Frame f ∷ h.since; start = h.start; before = h.before;
+  to = h.to;
+  count = h.count;
+  most = h.most;
+  pgn = h.pgn;
+  since = Frame f ∷ h.since;
+  start = h.start;
+  before = h.before;
   split = ap (λ (v : List Reading). Frame f ∷ v) h.split;
-  starts = h.starts; kind = h.kind; owned = h.owned; held = h.held;
+  starts = h.starts;
+  kind = h.kind;
+  owned = h.owned;
+  held = h.held;
   now = address_read r f rs (ap (λ (v : Option ℕ). is_contest r.name v (group_of f)) h.now ∙ calm) ∙ h.now;
   quiet = (q, h.quiet);
   numbered = subst AreNumbered (sym (p (packets_from a h.to h.since))) h.numbered;
@@ -58,9 +67,18 @@ session_taken r a b f q rs h e next =
     let len : length b.pieces ≡ length (packets_from a h.to h.since) = ap (λ (v : List (List ℕ)). length v) h.pieces ∙ length_pieces_of (packets_from a h.to h.since) in
     let number : slice_index q 0 ≡ suc (length (packets_from a h.to h.since)) = next.number ∙ ap suc len in
     record {
-      to = h.to; count = h.count; most = h.most; pgn = h.pgn; since = Frame f ∷ h.since; start = h.start; before = h.before;
+      to = h.to;
+      count = h.count;
+      most = h.most;
+      pgn = h.pgn;
+      since = Frame f ∷ h.since;
+      start = h.start;
+      before = h.before;
       split = ap (λ (v : List Reading). Frame f ∷ v) h.split;
-      starts = h.starts; kind = h.kind; owned = h.owned; held = h.held;
+      starts = h.starts;
+      kind = h.kind;
+      owned = h.owned;
+      held = h.held;
       now = address_read r f rs (rw e refl) ∙ h.now;
       quiet = (subst (IsSessionQuietGroup r.name a h.to b.owner b.kind) (sym e) tt, h.quiet);
       numbered = subst AreNumbered (sym ps) (next.len, number, h.numbered);
@@ -88,48 +106,71 @@ kind_apart k (Some l) h = go (same_kind k l) refl
 pub session_step : (r : Settings) (a : ℕ) (j : Joining) (f : FrameValue) (rs : List Reading) → ((i : Joining) → session_heard r a rs ≡ Some i → HalfSession r a i rs) → (g : Group) → group_of f ≡ g → session_after r.name a g (address_heard r rs) (owner_heard a rs) (session_heard r a rs) ≡ Some j → HalfSession r a j (Frame f ∷ rs)
 session_step r a j f rs ih (ConnectionManagement s d (Rts x y z p)) e h =
     elim (pick_cases (s == a && is_held (address_heard r rs) d) (or_else (started (kind_of p) x (owner_heard a rs)) (session_heard r a rs)) (session_heard r a rs) (Some j) h) [
-      inl w ↦ (let t = and_parts (s == a) (is_held (address_heard r rs) d) w.0 in begin (kind_of p) (owner_heard a rs) refl refl w.1 (true_test s a t.0) (held_is (address_heard r rs) d t.1))
-    | inr w ↦ away (ih j w.1) w.0 ]
+      | inl w ↦ (let t = and_parts (s == a) (is_held (address_heard r rs) d) w.0 in begin (kind_of p) (owner_heard a rs) refl refl w.1 (true_test s a t.0) (held_is (address_heard r rs) d t.1))
+      | inr w ↦ away (ih j w.1) w.0
+    ]
   where
     calm : (k : HalfSession r a j rs) → is_contest r.name (Some k.to) (group_of f) ≡ false
     calm k = rw e refl
+
     stays : (k : HalfSession r a j rs) → (s ≡ a → d ≡ k.to → kind_of p ≡ None) → HalfSession r a j (Frame f ∷ rs)
     stays k q = session_more r a j f rs k (calm k) (subst (IsSessionQuietGroup r.name a k.to j.owner j.kind) (sym e) q) (λ l. rw e refl)
+
     away : HalfSession r a j rs → (s == a && is_held (address_heard r rs) d) ≡ false → HalfSession r a j (Frame f ∷ rs)
     away k w = stays k (λ u v. let y : (s == a && is_held (address_heard r rs) d) ≡ true = rw (k.now, u, v, same_test a) (same_test k.to) in cc)
+
     begin : (k : Option Kind) (o : Option ℕ) → kind_of p ≡ k → owner_heard a rs ≡ o → or_else (started k x o) (session_heard r a rs) ≡ Some j → s ≡ a → address_heard r rs ≡ Some d → HalfSession r a j (Frame f ∷ rs)
     begin None o i m g u at = stays (ih j g) (λ v v2. i)
     begin (Some k) None i m g u at = (let c = session_owned r a rs j g in absurd cc)
     begin (Some k) (Some n) i m g u at =
         let q : ◌≡◌ {A = Joining} (record { owner = n; kind = k; size = x; pieces = [] }) j = cc in
         subst (λ (v : Joining). HalfSession r a v (Frame f ∷ rs)) q (record {
-          to = d; count = y; most = z; pgn = p; since = []; start = f; before = rs; split = refl;
-          starts = e ∙ rw u refl; kind = i; owned = m; held = at; now = address_read r f rs (rw e refl) ∙ at; quiet = tt; numbered = tt; pieces = refl;
+          to = d;
+          count = y;
+          most = z;
+          pgn = p;
+          since = [];
+          start = f;
+          before = rs;
+          split = refl;
+          starts = e ∙ rw u refl;
+          kind = i;
+          owned = m;
+          held = at;
+          now = address_read r f rs (rw e refl) ∙ at;
+          quiet = tt;
+          numbered = tt;
+          pieces = refl;
         })
 session_step r a j f rs ih (ConnectionManagement s d (Abort x p)) e h =
     elim (pick_cases (s == a && is_held (address_heard r rs) d) (without_kind (kind_of p) (session_heard r a rs)) (session_heard r a rs) (Some j) h) [
-      inl w ↦ drops (session_heard r a rs) refl w.1
-    | inr w ↦ away (ih j w.1) w.0 ]
+      | inl w ↦ drops (session_heard r a rs) refl w.1
+      | inr w ↦ away (ih j w.1) w.0
+    ]
   where
     stays : (k : HalfSession r a j rs) → (s ≡ a → d ≡ k.to → kind_of p ≢ Some j.kind) → HalfSession r a j (Frame f ∷ rs)
     stays k q = session_more r a j f rs k (rw e refl) (subst (IsSessionQuietGroup r.name a k.to j.owner j.kind) (sym e) q) (λ l. rw e refl)
+
     away : HalfSession r a j rs → (s == a && is_held (address_heard r rs) d) ≡ false → HalfSession r a j (Frame f ∷ rs)
     away k w = stays k (λ u v. let y : (s == a && is_held (address_heard r rs) d) ≡ true = rw (k.now, u, v, same_test a) (same_test k.to) in absurd cc)
+
     drops : (o : Option Joining) → session_heard r a rs ≡ o → without_kind (kind_of p) o ≡ Some j → HalfSession r a j (Frame f ∷ rs)
     drops None i g = cc
     drops (Some b) i g =
         elim (pick_cases (is_kind b.kind (kind_of p)) None (Some b) (Some j) g) [
-          inl w ↦ cc w.1
-        | inr w ↦ (let q : b ≡ j = cc in stays (ih j (i ∙ w.1)) (λ u v. subst (λ (z : Joining). kind_of p ≢ Some z.kind) q (is_kind_self b.kind (kind_of p) w.0))) ]
+          | inl w ↦ cc w.1
+          | inr w ↦ (let q : b ≡ j = cc in stays (ih j (i ∙ w.1)) (λ u v. subst (λ (z : Joining). kind_of p ≢ Some z.kind) q (is_kind_self b.kind (kind_of p) w.0)))
+        ]
 session_step r a j f rs ih (DataTransfer s d q) e h =
     elim (pick_cases (s == a && is_held (address_heard r rs) d) (unfinished (with_packet q (session_heard r a rs))) (session_heard r a rs) (Some j) h) [
-      inl w ↦
-        (let t = and_parts (s == a) (is_held (address_heard r rs) d) w.0 in
-         let k = taken_of q (session_heard r a rs) j (open_of (with_packet q (session_heard r a rs)) j w.1) in
-         let p = ih k.old k.was in
-         let at : group_of f ≡ DataTransfer a p.to q = e ∙ rw (true_test s a t.0, held_at (address_heard r rs) p.to d p.now t.1) refl in
-         subst (λ (z : Joining). HalfSession r a z (Frame f ∷ rs)) (sym k.grown) (session_taken r a k.old f q rs p at k.next))
-    | inr w ↦ away (ih j w.1) w.0 ]
+      | inl w ↦
+          (let t = and_parts (s == a) (is_held (address_heard r rs) d) w.0 in
+          let k = taken_of q (session_heard r a rs) j (open_of (with_packet q (session_heard r a rs)) j w.1) in
+          let p = ih k.old k.was in
+          let at : group_of f ≡ DataTransfer a p.to q = e ∙ rw (true_test s a t.0, held_at (address_heard r rs) p.to d p.now t.1) refl in
+          subst (λ (z : Joining). HalfSession r a z (Frame f ∷ rs)) (sym k.grown) (session_taken r a k.old f q rs p at k.next))
+      | inr w ↦ away (ih j w.1) w.0
+    ]
   where
     away : HalfSession r a j rs → (s == a && is_held (address_heard r rs) d) ≡ false → HalfSession r a j (Frame f ∷ rs)
     away k w =
@@ -137,22 +178,26 @@ session_step r a j f rs ih (DataTransfer s d q) e h =
         session_more r a j f rs k (rw e refl) (subst (IsSessionQuietGroup r.name a k.to j.owner j.kind) (sym e) tt) (λ l. rw (e, test) refl)
 session_step r a j f rs ih (AddressClaimed s n) e h =
     elim (pick_cases (is_contest r.name (address_heard r rs) (AddressClaimed s n)) None (if s == a then kept_under n (session_heard r a rs) else session_heard r a rs) (Some j) h) [
-      inl v ↦ cc v.1
-    | inr v ↦
-        elim (pick_cases (s == a) (kept_under n (session_heard r a rs)) (session_heard r a rs) (Some j) v.1) [
-          inl w ↦ keep (session_heard r a rs) refl w.1 v.0
-        | inr w ↦ stays j (ih j w.1) v.0 (λ u. let y : (s == a) ≡ true = rw u (same_test a) in absurd cc) ] ]
+      | inl v ↦ cc v.1
+      | inr v ↦
+          elim (pick_cases (s == a) (kept_under n (session_heard r a rs)) (session_heard r a rs) (Some j) v.1) [
+            | inl w ↦ keep (session_heard r a rs) refl w.1 v.0
+            | inr w ↦ stays j (ih j w.1) v.0 (λ u. let y : (s == a) ≡ true = rw u (same_test a) in absurd cc)
+          ]
+    ]
   where
     stays : (i : Joining) (k : HalfSession r a i rs) → is_contest r.name (address_heard r rs) (AddressClaimed s n) ≡ false → (s ≡ a → n ≡ i.owner) → HalfSession r a i (Frame f ∷ rs)
     stays i k c q =
         let calm : is_contest r.name (Some k.to) (AddressClaimed s n) ≡ false = ap (λ (v : Option ℕ). is_contest r.name v (AddressClaimed s n)) (sym k.now) ∙ c in
         session_more r a i f rs k (ap (is_contest r.name (Some k.to)) e ∙ calm) (subst (IsSessionQuietGroup r.name a k.to i.owner i.kind) (sym e) (calm, q)) (λ l. rw e refl)
+
     keep : (o : Option Joining) → session_heard r a rs ≡ o → kept_under n o ≡ Some j → is_contest r.name (address_heard r rs) (AddressClaimed s n) ≡ false → HalfSession r a j (Frame f ∷ rs)
     keep None i g c = cc
     keep (Some b) i g c =
         elim (pick_cases (n == b.owner) (Some b) None (Some j) g) [
-          inl w ↦ (let q : b ≡ j = cc in subst (λ (z : Joining). HalfSession r a z (Frame f ∷ rs)) q (stays b (ih b i) c (λ u. true_test n b.owner w.0)))
-        | inr w ↦ cc w.1 ]
+          | inl w ↦ (let q : b ≡ j = cc in subst (λ (z : Joining). HalfSession r a z (Frame f ∷ rs)) q (stays b (ih b i) c (λ u. true_test n b.owner w.0)))
+          | inr w ↦ cc w.1
+        ]
 session_step r a j f rs ih (ConnectionManagement s d (Bam x y p)) e h = (let k = ih j h in session_more r a j f rs k (rw e refl) (subst (IsSessionQuietGroup r.name a k.to j.owner j.kind) (sym e) tt) (λ l. rw e refl))
 session_step r a j f rs ih (ConnectionManagement s d (Cts x y p)) e h = (let k = ih j h in session_more r a j f rs k (rw e refl) (subst (IsSessionQuietGroup r.name a k.to j.owner j.kind) (sym e) tt) (λ l. rw e refl))
 session_step r a j f rs ih (ConnectionManagement s d (EndAck x y p)) e h = (let k = ih j h in session_more r a j f rs k (rw e refl) (subst (IsSessionQuietGroup r.name a k.to j.owner j.kind) (sym e) tt) (λ l. rw e refl))
@@ -190,14 +235,19 @@ session_from r a to n k size count most pgn start (Frame f ∷ since) before st 
   where
     rs : List Reading
     rs = since ++ Frame start ∷ before
+
     ps : List (List ℕ)
     ps = packets_from a to since
+
     quiet_at : (g : Group) → group_of f ≡ g → IsSessionQuietGroup r.name a to n k g
     quiet_at g e = subst (IsSessionQuietGroup r.name a to n k) e quiet.0
+
     num_at : (g : Group) → group_of f ≡ g → AreNumbered (packet_before a to g ps)
     num_at g e = subst (λ (v : Group). AreNumbered (packet_before a to v ps)) e num
+
     len_at : (g : Group) → group_of f ≡ g → length (packet_before a to g ps) < packet_count size
     len_at g e = subst (λ (v : Group). length (packet_before a to v ps) < packet_count size) e l
+
     go : (g : Group) → group_of f ≡ g → address_heard r rs ≡ Some to → (AreNumbered ps → length ps < packet_count size → session_heard r a rs ≡ Some (joining n k size ps)) → session_after r.name a (group_of f) (address_heard r rs) (owner_heard a rs) (session_heard r a rs) ≡ Some (joining n k size (packet_before a to (group_of f) ps))
     go (ConnectionManagement s d (Rts x y z p)) e at ih = rw (e, at, ih (num_at (ConnectionManagement s d (Rts x y z p)) e) (len_at (ConnectionManagement s d (Rts x y z p)) e)) (test (s == a && to == d) refl)
       where
@@ -214,6 +264,7 @@ session_from r a to n k size count most pgn start (Frame f ∷ since) before st 
         test : (t : Bool) → AreNumbered (if t then q ∷ ps else ps) → length (if t then q ∷ ps else ps) < packet_count size → (if t then unfinished (with_packet q (session_heard r a rs)) else session_heard r a rs) ≡ Some (joining n k size (if t then q ∷ ps else ps))
         test false nm len = ih nm len
         test true nm len = rw (ih nm.2 (omega arith), add_packet n k size q ps nm (omega arith)) (still_open n k size (q ∷ ps) len)
+
         swapped : (u v : Bool) → u ≡ v → AreNumbered (if s == a && u then q ∷ ps else ps) → length (if s == a && u then q ∷ ps else ps) < packet_count size → (if s == a && v then unfinished (with_packet q (session_heard r a rs)) else session_heard r a rs) ≡ Some (joining n k size (if s == a && u then q ∷ ps else ps))
         swapped u v i nm len = rw (← i) (test (s == a && u) nm len)
     go (AddressClaimed s m) e at ih = rw (e, at, ih (num_at (AddressClaimed s m) e) (len_at (AddressClaimed s m) e), (quiet_at (AddressClaimed s m) e).0) (test (s == a) refl)

@@ -17,3 +17,4 @@ pub mod Quiet
 pub mod Half
 pub mod HalfSession
 pub mod Ends
+pub mod Runs

@@ -159,17 +159,18 @@ insert_same n held session m xs e h name from in' apart =
       owned = claimed_skip m.source xs e h quiet;
       casts = cast_skip m.name m.source xs e h (foreign_from_claim m.name m.source (says e) quiet) (cast_apart m.name e.tag tags);
       sessions = λ d w.
-        let uncut = session_uncut (way_of m) d session m e w in' refl apart.uncut in
-        (sess_skip m.name m.source d xs e h (breaks_from_claim m.name m.source d e.name (says e) quiet uncut (λ i. apart.name (i ∙ name))) (sess_apart m.name e.tag tags),
-         claimed_skip d xs e h uncut);
+          let uncut = session_uncut (way_of m) d session m e w in' refl apart.uncut in (
+            sess_skip m.name m.source d xs e h (breaks_from_claim m.name m.source d e.name (says e) quiet uncut (λ i. apart.name (i ∙ name))) (sess_apart m.name e.tag tags),
+            claimed_skip d xs e h uncut,
+          );
     }
 
 -- a foreign frame that is no claim of the address held or of the open session's destination may stand in the middle
 pub insert : (st n : ℕ) (held : Option ℕ) (session : Option Tag) (q : List Item) (e : Item) (h : List Item) → Lawful st (q ++ h) → Every (IsMine n held session) q → IsApart n held session e → Allowed st e h → Lawful st (q ++ e ∷ h)
 insert st n held session [] e h law mine apart allowed = (allowed, law)
-insert st n held session (x ∷ xs) e h law mine apart allowed =
-    (record {
-      tagged = λ t g.
+insert st n held session (x ∷ xs) e h law mine apart allowed = (
+  record {
+    tagged = λ t g.
         let m = mine.0.tags t g in
         let p = law.0.tagged t g in
         let tags : IsNotOf t.message.name e = λ u i j. apart.tags u i (j ∙ m.0) in
@@ -177,11 +178,13 @@ insert st n held session (x ∷ xs) e h law mine apart allowed =
         (insert_same n held session t.message xs e h m.0 m.1 m.2 apart)
         (subst (λ (v : Option Tag). Follows v t) (sym (last_of_skip t.message.name t.message.kind xs e h (of_apart t.message.name t.message.kind e.tag tags))) p.order)
         p;
-      plain = law.0.plain;
-      starts = law.0.starts;
-      honest = law.0.honest;
-      voiced = voiced_skip x.name held (says x) xs e h mine.0.voice apart.quiet law.0.voiced;
-    }, insert st n held session xs e h law.1 mine.1 apart allowed)
+    plain = law.0.plain;
+    starts = law.0.starts;
+    honest = law.0.honest;
+    voiced = voiced_skip x.name held (says x) xs e h mine.0.voice apart.quiet law.0.voiced;
+  },
+  insert st n held session xs e h law.1 mine.1 apart allowed,
+)
 
 pub lawful_rest : (st : ℕ) (xs ys : List Item) → Lawful st (xs ++ ys) → Lawful st ys
 lawful_rest st [] ys h = h
@@ -214,15 +217,17 @@ pub last_of_each : (P : Tag → Type 0) (n : ℕ) (k : Kind) (xs : List Item) (t
 last_of_each P n k [] t h e = cc
 last_of_each P n k (x ∷ xs) t h e =
     elim (pick_cases (is_of n k x.tag) x.tag (last_of n k xs) (Some t) e) [
-      inl w ↦ h.0 t w.1
-    | inr w ↦ last_of_each P n k xs t h.1 w.1 ]
+      | inl w ↦ h.0 t w.1
+      | inr w ↦ last_of_each P n k xs t h.1 w.1
+    ]
 
 pub last_of_is : (n : ℕ) (k : Kind) (xs : List Item) (t : Tag) → last_of n k xs ≡ Some t → is_of n k (Some t) ≡ true
 last_of_is n k [] t e = cc
 last_of_is n k (x ∷ xs) t e =
     elim (pick_cases (is_of n k x.tag) x.tag (last_of n k xs) (Some t) e) [
-      inl w ↦ ap (is_of n k) (sym w.1) ∙ w.0
-    | inr w ↦ last_of_is n k xs t w.1 ]
+      | inl w ↦ ap (is_of n k) (sym w.1) ∙ w.0
+      | inr w ↦ last_of_is n k xs t w.1
+    ]
 
 pub follows_first : (o : Option Tag) (m : Message) → ((s : Tag) → o ≡ Some s → s.message.number < m.number) → Follows o (tag_of (m) (0))
 follows_first None m h = refl

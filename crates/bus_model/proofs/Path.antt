@@ -63,24 +63,29 @@ pub cast_claimed : (st : ℕ) (m : Message) (j : ℕ) (xs : List Item) → Lawfu
 cast_claimed st m j [] law h = cc
 cast_claimed st m j (e ∷ xs) law h =
     elim (pick_cases (is_foreign m.name m.source (says e)) None (if is_cast m.name e.tag then e.tag else cast m.name m.source xs) (Some (tag_of m j)) h) [
-      inl w ↦ cc w.1
-    | inr w ↦
-        claim_keeps m.name m.source (says e) (claimed_by m.source xs) w.0
-        (elim (pick_cases (is_cast m.name e.tag) e.tag (cast m.name m.source xs) (Some (tag_of m j)) w.1) [
-          inl v ↦ (law.0.tagged (tag_of m j) v.1).owned
-        | inr v ↦ cast_claimed st m j xs law.1 v.1 ]) ]
+      | inl w ↦ cc w.1
+      | inr w ↦
+          claim_keeps m.name m.source (says e) (claimed_by m.source xs) w.0
+          (elim (pick_cases (is_cast m.name e.tag) e.tag (cast m.name m.source xs) (Some (tag_of m j)) w.1) [
+            | inl v ↦ (law.0.tagged (tag_of m j) v.1).owned
+            | inr v ↦ cast_claimed st m j xs law.1 v.1
+          ])
+    ]
 
 -- two messages of the book with one number are one
 pub same_message : (x y : Message) (begun : List Message) → Numbered begun → IsAmong x begun → IsAmong y begun → x.number ≡ y.number → x ≡ y
 same_message x y [] num i j e = absurd i
 same_message x y (z ∷ begun) num i j e =
     elim i [
-      inl a ↦ (elim j [
-        inl b ↦ sym a ∙ b
-      | inr d ↦ absurd (let g = number_below y begun d num.1 in let q : x.number ≡ length begun = subst (λ (v : Message). v.number ≡ length begun) a num.0 in omega arith) ])
-    | inr c ↦ (elim j [
-        inl b ↦ absurd (let g = number_below x begun c num.1 in let q : y.number ≡ length begun = subst (λ (v : Message). v.number ≡ length begun) b num.0 in omega arith)
-      | inr d ↦ same_message x y begun num.1 c d e ]) ]
+      | inl a ↦ (elim j [
+        | inl b ↦ sym a ∙ b
+        | inr d ↦ absurd (let g = number_below y begun d num.1 in let q : x.number ≡ length begun = subst (λ (v : Message). v.number ≡ length begun) a num.0 in omega arith)
+      ])
+      | inr c ↦ (elim j [
+        | inl b ↦ absurd (let g = number_below x begun c num.1 in let q : y.number ≡ length begun = subst (λ (v : Message). v.number ≡ length begun) b num.0 in omega arith)
+        | inr d ↦ same_message x y begun num.1 c d e
+      ])
+    ]
 
 -- what its packets up to the j-th give
 abbrev pub so_far : Message → ℕ → Joining
@@ -141,17 +146,20 @@ skip_frame st m j e xs o b allowed law unit c foreign notcast = by_frame (says e
         let yes : is_cast m.name (Some t) ≡ true = rw (w, n, same_test m.name) refl in
         let nos : is_cast m.name (Some t) ≡ false = rw g at notcast in
         cc
+
     no_bam : (s d x y p : ℕ) (tag : Option Tag) → e.tag ≡ tag → says e ≡ ConnectionManagement s d (Bam x y p) → s ≡ m.source → ⊥
     no_bam s d x y p None g f i = subst IsPlain f (allowed.plain g unit)
     no_bam s d x y p (Some t) g f i =
         let w = bam_way (way_of t.message) t.message t.part s d x y p (sym f ∙ part_says st e t xs (allowed.tagged t g)) in
         of_name t g w.0 (w.1 ∙ i)
+
     no_dt : (s d : ℕ) (q : List ℕ) (tag : Option Tag) → e.tag ≡ tag → says e ≡ DataTransfer s d q → s ≡ m.source → d ≡ 255 → ⊥
     no_dt s d q None g f i k = subst IsPlain f (allowed.plain g unit)
     no_dt s d q (Some t) g f i k =
         let p = allowed.tagged t g in
         let w = dt_way (way_of t.message) t.message t.part s d q (λ b c. session_to t.message b p.proper c) k (sym f ∙ part_says st e t xs p) in
         of_name t g w.0 (w.1 ∙ i)
+
     by_frame : (f : Group) → says e ≡ f → broadcast_after m.source f o (half m j b) ≡ half m j b
     by_frame (AddressClaimed s n) g = kept m j n b (s == m.source) (n == m.name) refl (subst (λ (v : Group). is_foreign m.name m.source v ≡ false) g foreign)
     by_frame (ConnectionManagement s d (Bam x y p)) g = test (s == m.source && d == 255) refl
@@ -208,6 +216,7 @@ not_first begun m e num isin booked never = go (is_part m 0 e.tag) refl
     at (Some t) g h =
         let q = and_parts (t.message.number == m.number) (t.part == 0) h in
         never t g (same_message t.message m begun num (booked t g) isin (true_test t.message.number m.number q.0))
+
     go : (b : Bool) → is_part m 0 e.tag ≡ b → is_part m 0 e.tag ≡ false
     go true i = absurd (at e.tag refl i)
     go false i = i
@@ -218,26 +227,30 @@ joined_path st begun m j [] num isin w le law mk booked c = cc
 joined_path st begun m j (Missed es ∷ path) num isin w le law mk booked c = refl
 joined_path st begun m j (Own e ∷ path) num isin w le law mk booked c =
     elim (pick_cases (is_foreign m.name m.source (says e)) None (if is_cast m.name e.tag then e.tag else cast m.name m.source (passed path)) (Some (tag_of m j)) c) [
-      inl v ↦ cc v.1
-    | inr v ↦
-        joined_path st begun m j path num isin w le law.1 mk.1 booked.1
-        (subst (λ (o : Option Tag). (if is_cast m.name o then o else cast m.name m.source (passed path)) ≡ Some (tag_of m j)) mk.0.tag v.1) ]
+      | inl v ↦ cc v.1
+      | inr v ↦
+          joined_path st begun m j path num isin w le law.1 mk.1 booked.1
+          (subst (λ (o : Option Tag). (if is_cast m.name o then o else cast m.name m.source (passed path)) ≡ Some (tag_of m j)) mk.0.tag v.1)
+    ]
 joined_path st begun m j (Received e ∷ path) num isin w le law mk booked c =
     elim (pick_cases (is_foreign m.name m.source (says e)) None (if is_cast m.name e.tag then e.tag else cast m.name m.source (passed path)) (Some (tag_of m j)) c) [
-      inl v ↦ cc v.1
-    | inr v ↦
-        elim (pick_cases (is_cast m.name e.tag) e.tag (cast m.name m.source (passed path)) (Some (tag_of m j)) v.1) [
-          inl u ↦
-            (let p = law.0.tagged (tag_of m j) u.1 in
-             joined_part st m j e path mk.1 mk.0 w le p u.1 (λ i q. joined_path st begun m i path num isin w (omega arith) law.1 mk.1 booked.1 (back i q p)))
-        | inr u ↦ other v.0 u.0 u.1 (joined_path st begun m j path num isin w le law.1 mk.1 booked.1 u.1) ] ]
+      | inl v ↦ cc v.1
+      | inr v ↦
+          elim (pick_cases (is_cast m.name e.tag) e.tag (cast m.name m.source (passed path)) (Some (tag_of m j)) v.1) [
+            | inl u ↦
+                (let p = law.0.tagged (tag_of m j) u.1 in
+                joined_part st m j e path mk.1 mk.0 w le p u.1 (λ i q. joined_path st begun m i path num isin w (omega arith) law.1 mk.1 booked.1 (back i q p)))
+            | inr u ↦ other v.0 u.0 u.1 (joined_path st begun m j path num isin w le law.1 mk.1 booked.1 u.1)
+          ]
+    ]
   where
     back : (i : ℕ) → suc i ≡ j → PartLaw st e (tag_of m j) (passed path) → cast m.name m.source (passed path) ≡ Some (tag_of m i)
     back i q p = continues_is st (way_of m) (passed path) m i w (subst (λ (v : ℕ). Continues st (way_of m) (passed path) m v) (sym q) p.joined)
+
     other : is_foreign m.name m.source (says e) ≡ false → is_cast m.name e.tag ≡ false → cast m.name m.source (passed path) ≡ Some (tag_of m j) → broadcast_heard m.source (readings path) ≡ half m j (is_unbroken m path) → broadcast_heard m.source (readings (Received e ∷ path)) ≡ half m j (is_unbroken m (Received e ∷ path))
     other f n c ih =
         let p = not_first begun m e num isin booked.0 (λ t g same.
-            let yes : is_cast m.name (Some t) ≡ true = rw (same, same_test m.name, w) refl in
-            let nos : is_cast m.name (Some t) ≡ false = rw g at n in
-            cc) in
+        let yes : is_cast m.name (Some t) ≡ true = rw (same, same_test m.name, w) refl in
+        let nos : is_cast m.name (Some t) ≡ false = rw g at n in
+        cc) in
         rw (ih, p) (skip_frame st m j e (passed path) (owner_heard m.source (readings path)) (is_unbroken m path) law.0 law.1 mk.0 c f n)

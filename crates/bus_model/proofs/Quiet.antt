@@ -32,14 +32,16 @@ unbroken_whole st begun m j (Own e ∷ path) num isin whole law mk booked l =
     (subst (λ (o : Option Tag). (if is_of m.name m.kind o then o else last_of m.name m.kind (passed path)) ≡ Some (tag_of m j)) mk.0.tag l)
 unbroken_whole st begun m j (Received e ∷ path) num isin whole law mk booked l =
     elim (pick_cases (is_of m.name m.kind e.tag) e.tag (last_of m.name m.kind (passed path)) (Some (tag_of m j)) l) [
-      inl w ↦ here j w.1 (λ k f. unbroken_whole st begun m k path num isin whole law.1 mk.1 booked.1 f)
-    | inr w ↦ rw (other w.0) (unbroken_whole st begun m j path num isin whole law.1 mk.1 booked.1 w.1) ]
+      | inl w ↦ here j w.1 (λ k f. unbroken_whole st begun m k path num isin whole law.1 mk.1 booked.1 f)
+      | inr w ↦ rw (other w.0) (unbroken_whole st begun m j path num isin whole law.1 mk.1 booked.1 w.1)
+    ]
   where
     other : is_of m.name m.kind e.tag ≡ false → is_part m 0 e.tag ≡ false
     other h = not_first begun m e num isin booked.0 (λ t g same.
         let y : is_of m.name m.kind (Some t) ≡ true = rw (same, same_test m.name) (same_kind_self m.kind) in
         let z : is_of m.name m.kind (Some t) ≡ false = rw g at h in
         cc)
+
     here : (j : ℕ) → e.tag ≡ Some (tag_of m j) → ((k : ℕ) → last_of m.name m.kind (passed path) ≡ Some (tag_of m k) → is_unbroken m path ≡ true) → (if is_part m 0 e.tag then is_anchored m.source path else is_unbroken m path) ≡ true
     here zero g ih =
         let p = law.0.tagged (tag_of m 0) g in

@@ -115,42 +115,48 @@ part_allowed st m j older law = record {
 
 -- a new message's parts may stand behind what its seat has
 pub parts_lawful : (st : ℕ) (m : Message) (j : ℕ) (track : List Item) → IsProper m → m.name ≢ st → j ≤ last_part_of m → Lawful st track → claimed_by m.source track ≡ Some m.name → Continues st (way_of m) track m 0 → EachTag (λ t. t.message.number < m.number) track → Lawful st (parts_upto m j ++ track)
-parts_lawful st m zero track ok unit le law own first older =
-    (part_allowed st m 0 track (record {
-      proper = ok;
-      frame = refl;
-      name = refl;
-      unit = unit;
-      upto = le;
-      owned = own;
-      order = follows_first (last_of m.name m.kind track) m (λ s e. last_of_each (λ t. t.message.number < m.number) m.name m.kind track s older e);
-      joined = first;
-    }), law)
-parts_lawful st m (suc j) track ok unit le law own first older =
-    (part_allowed st m (suc j) (parts_upto m j ++ track) (record {
-      proper = ok;
-      frame = refl;
-      name = refl;
-      unit = unit;
-      upto = le;
-      owned = claimed_parts m.source m j track ok (omega arith) ∙ own;
-      order = subst (λ (v : Option Tag). Follows v (tag_of m (suc j))) (sym (last_of_parts m j track)) (inr (refl, refl));
-      joined = continues_parts st m j track ok (omega arith);
-    }), parts_lawful st m j track ok unit (omega arith) law own first older)
+parts_lawful st m zero track ok unit le law own first older = (
+  part_allowed st m 0 track (record {
+    proper = ok;
+    frame = refl;
+    name = refl;
+    unit = unit;
+    upto = le;
+    owned = own;
+    order = follows_first (last_of m.name m.kind track) m (λ s e. last_of_each (λ t. t.message.number < m.number) m.name m.kind track s older e);
+    joined = first;
+  }),
+  law,
+)
+parts_lawful st m (suc j) track ok unit le law own first older = (
+  part_allowed st m (suc j) (parts_upto m j ++ track) (record {
+    proper = ok;
+    frame = refl;
+    name = refl;
+    unit = unit;
+    upto = le;
+    owned = claimed_parts m.source m j track ok (omega arith) ∙ own;
+    order = subst (λ (v : Option Tag). Follows v (tag_of m (suc j))) (sym (last_of_parts m j track)) (inr (refl, refl));
+    joined = continues_parts st m j track ok (omega arith);
+  }),
+  parts_lawful st m j track ok unit (omega arith) law own first older,
+)
 
 -- the next part of the open session
 pub next_lawful : (st : ℕ) (m : Message) (d j : ℕ) (track : List Item) → IsProper m → m.name ≢ st → (way_of m) ≡ Session d → suc j ≤ last_part_of m → Lawful st track → claimed_by m.source track ≡ Some m.name → last_of m.name m.kind track ≡ Some (tag_of m j) → sess m.name m.source d track ≡ Some (tag_of m j) → Lawful st (item_of_part m (suc j) ∷ track)
-next_lawful st m d j track ok unit w le law own last sofar =
-    (part_allowed st m (suc j) track (record {
-      proper = ok;
-      frame = refl;
-      name = refl;
-      unit = unit;
-      upto = le;
-      owned = own;
-      order = subst (λ (v : Option Tag). Follows v (tag_of m (suc j))) (sym last) (inr (refl, refl));
-      joined = subst (λ (v : Way). Continues st v track m (suc j)) (sym w) sofar;
-    }), law)
+next_lawful st m d j track ok unit w le law own last sofar = (
+  part_allowed st m (suc j) track (record {
+    proper = ok;
+    frame = refl;
+    name = refl;
+    unit = unit;
+    upto = le;
+    owned = own;
+    order = subst (λ (v : Option Tag). Follows v (tag_of m (suc j))) (sym last) (inr (refl, refl));
+    joined = subst (λ (v : Way). Continues st v track m (suc j)) (sym w) sofar;
+  }),
+  law,
+)
 
 -- an untagged frame of a unit
 pub plain_no_start : (f : Group) → IsPlain f → IsNoStart f
@@ -350,30 +356,37 @@ follows_kept st t (x ∷ xs) h law nos f = go (is_of_session x.tag) refl (follow
   where
     n : ℕ
     n = t.message.name
+
     k : Kind
     k = t.message.kind
+
     dropped : (u : Tag) → x.tag ≡ Some u → is_session (way_of u.message) ≡ true → (u.message.name ≡ n) × (u.message.kind ≡ k) → Follows (Some u) t → Follows (last_of n k (without_session xs ++ h)) t
     dropped u g s same f =
         elim f [
-          inl v ↦ by_last (last_of n k (without_session xs ++ h)) refl v.0 v.1
-        | inr v ↦ absurd (let w : is_session (way_of u.message) ≡ false = ap (λ (y : Message). is_session (way_of y)) v.0 ∙ nos in cc) ]
+          | inl v ↦ by_last (last_of n k (without_session xs ++ h)) refl v.0 v.1
+          | inr v ↦ absurd (let w : is_session (way_of u.message) ≡ false = ap (λ (y : Message). is_session (way_of y)) v.0 ∙ nos in cc)
+        ]
       where
         before : EachTag (IsBefore u) (without_session xs ++ h)
         before = every_kept (HasTag (IsBefore u)) xs h (all_before st u (xs ++ h) law.1 (law.0.tagged u g).order)
+
         by_last : (o : Option Tag) → last_of n k (without_session xs ++ h) ≡ o → u.message.number < t.message.number → t.part ≡ 0 → Follows o t
         by_last None e lt z = z
         by_last (Some s) e lt z =
             let b = last_of_each (IsBefore u) n k (without_session xs ++ h) s before e in
             let q = and_parts (s.message.name == n) (same_kind s.message.kind k) (last_of_is n k (without_session xs ++ h) s e) in
             elim (b (true_test s.message.name n q.0 ∙ sym same.0) (kind_same s.message.kind k q.1 ∙ sym same.1)) [
-              inl v ↦ inl (omega arith, z)
-            | inr v ↦ inl (let g : s.message.number ≡ u.message.number = ap (λ (y : Message). y.number) v.0 in omega arith, z) ]
+              | inl v ↦ inl (omega arith, z)
+              | inr v ↦ inl (let g : s.message.number ≡ u.message.number = ap (λ (y : Message). y.number) v.0 in omega arith, z)
+            ]
+
     at_tag : (o : Option Tag) → x.tag ≡ o → is_of_session o ≡ true → (Follows (last_of n k (xs ++ h)) t → Follows (last_of n k (without_session xs ++ h)) t) → (b : Bool) → is_of n k o ≡ b → Follows (if b then o else last_of n k (xs ++ h)) t → Follows (last_of n k (without_session xs ++ h)) t
     at_tag None g s ih b i f = cc
     at_tag (Some u) g s ih true i f =
         let q = and_parts (u.message.name == n) (same_kind u.message.kind k) i in
         dropped u g s (true_test u.message.name n q.0, kind_same u.message.kind k q.1) f
     at_tag (Some u) g s ih false i f = ih f
+
     go : (b : Bool) → is_of_session x.tag ≡ b → (Follows (last_of n k (xs ++ h)) t → Follows (last_of n k (without_session xs ++ h)) t) → Follows (last_of n k ((if b then without_session xs else x ∷ without_session xs) ++ h)) t
     go true i ih = at_tag x.tag refl i ih (is_of n k x.tag) refl f
     go false i ih = both (is_of n k x.tag) f
@@ -403,9 +416,9 @@ lawful_kept st (x ∷ xs) h law = go (lawful_kept st xs h law.1) (is_of_session 
   where
     go : Lawful st (without_session xs ++ h) → (b : Bool) → is_of_session x.tag ≡ b → Lawful st ((if b then without_session xs else x ∷ without_session xs) ++ h)
     go ih true i = ih
-    go ih false i =
-        (record {
-          tagged = λ t g.
+    go ih false i = (
+      record {
+        tagged = λ t g.
             let nos = not_session x.tag t g i in
             let p = law.0.tagged t g in
             part_same st x t (xs ++ h) (without_session xs ++ h)
@@ -416,8 +429,10 @@ lawful_kept st (x ∷ xs) h law = go (lawful_kept st xs h law.1) (is_of_session 
             })
             (follows_kept st t xs h law.1 nos p.order)
             p;
-          plain = law.0.plain;
-          starts = law.0.starts;
-          honest = law.0.honest;
-          voiced = voiced_kept st x.name (says x) xs h law.1 law.0.voiced;
-        }, ih)
+        plain = law.0.plain;
+        starts = law.0.starts;
+        honest = law.0.honest;
+        voiced = voiced_kept st x.name (says x) xs h law.1 law.0.voiced;
+      },
+      ih,
+    )

@@ -30,12 +30,14 @@ pub sess_claimed : (st : ℕ) (m : Message) (d j : ℕ) (xs : List Item) → Law
 sess_claimed st m d j [] law h = cc
 sess_claimed st m d j (e ∷ xs) law h =
     elim (pick_cases (breaks m.name m.source d e.name (says e)) None (if is_sess m.name e.tag then e.tag else sess m.name m.source d xs) (Some (tag_of m j)) h) [
-      inl w ↦ cc w.1
-    | inr w ↦
-        claim_keeps m.name m.source (says e) (claimed_by m.source xs) (break_foreign m.name m.source d e.name (says e) w.0)
-        (elim (pick_cases (is_sess m.name e.tag) e.tag (sess m.name m.source d xs) (Some (tag_of m j)) w.1) [
-          inl v ↦ (law.0.tagged (tag_of m j) v.1).owned
-        | inr v ↦ sess_claimed st m d j xs law.1 v.1 ]) ]
+      | inl w ↦ cc w.1
+      | inr w ↦
+          claim_keeps m.name m.source (says e) (claimed_by m.source xs) (break_foreign m.name m.source d e.name (says e) w.0)
+          (elim (pick_cases (is_sess m.name e.tag) e.tag (sess m.name m.source d xs) (Some (tag_of m j)) w.1) [
+            | inl v ↦ (law.0.tagged (tag_of m j) v.1).owned
+            | inr v ↦ sess_claimed st m d j xs law.1 v.1
+          ])
+    ]
 
 pub continues_session : (st : ℕ) (w : Way) (older : List Item) (m : Message) (d i : ℕ) → w ≡ Session d → Continues st w older m (suc i) → sess m.name m.source d older ≡ Some (tag_of m i)
 continues_session st One older m d i e h = cc
@@ -80,6 +82,7 @@ skip_session r m d j e xs held own b can allowed law unit c at unbroke notsess =
   where
     mine : claimed_by m.source xs ≡ Some m.name
     mine = sess_claimed r.name m d j xs law c
+
     of_name : (t : Tag) → e.tag ≡ Some t → is_session (way_of t.message) ≡ true → t.message.source ≡ m.source → ⊥
     of_name t g w s =
         let p = allowed.tagged t g in
@@ -88,21 +91,25 @@ skip_session r m d j e xs held own b can allowed law unit c at unbroke notsess =
         let yes : is_sess m.name (Some t) ≡ true = rw (w, n, same_test m.name) refl in
         let nos : is_sess m.name (Some t) ≡ false = rw g at notsess in
         cc
+
     no_rts : (s a x y z k : ℕ) (tag : Option Tag) → e.tag ≡ tag → says e ≡ ConnectionManagement s a (Rts x y z k) → s ≡ m.source → ⊥
     no_rts s a x y z k None g f i = subst IsPlain f (allowed.plain g unit)
     no_rts s a x y z k (Some t) g f i =
         let w = rts_way (way_of t.message) t.message t.part s a x y z k (sym f ∙ part_says r.name e t xs (allowed.tagged t g)) in
         of_name t g w.0 (w.1 ∙ i)
+
     no_pack : (s a : ℕ) (q : List ℕ) (tag : Option Tag) → a ≤ 253 → e.tag ≡ tag → says e ≡ DataTransfer s a q → s ≡ m.source → ⊥
     no_pack s a q None le g f i = subst IsPlain f (allowed.plain g unit)
     no_pack s a q (Some t) le g f i =
         let w = pack_way (way_of t.message) t.message t.part s a q le (sym f ∙ part_says r.name e t xs (allowed.tagged t g)) in
         of_name t g w.0 (w.1 ∙ i)
+
     by_claim : (s n : ℕ) → breaks m.name m.source d e.name (AddressClaimed s n) ≡ false → session_after r.name m.source (AddressClaimed s n) held own (half m j b) ≡ half m j b
     by_claim s n h = go b at
       where
         p : ((s == m.source && not (n == m.name)) ≡ false) × ((s == d) ≡ false)
         p = or_parts (s == m.source && not (n == m.name)) (s == d) h
+
         go : (b : Bool) → (b ≡ true → held ≡ Some d) → session_after r.name m.source (AddressClaimed s n) held own (half m j b) ≡ half m j b
         go true at =
             let i : is_held held s ≡ false = (let q = at refl in rw q (swap_test d s ∙ p.1)) in
@@ -113,6 +120,7 @@ skip_session r m d j e xs held own b can allowed law unit c at unbroke notsess =
             none true u = refl
             none false true = refl
             none false false = refl
+
     by_abort : (s a x p : ℕ) → says e ≡ ConnectionManagement s a (Abort x p) → breaks m.name m.source d e.name (ConnectionManagement s a (Abort x p)) ≡ false → session_after r.name m.source (ConnectionManagement s a (Abort x p)) held own (half m j b) ≡ half m j b
     by_abort s a x p g h = test (s == m.source) refl
       where
@@ -122,12 +130,16 @@ skip_session r m d j e xs held own b can allowed law unit c at unbroke notsess =
           where
             same : s ≡ m.source
             same = true_test s m.source i
+
             voice : claimed_by s xs ≡ Some e.name
             voice = subst (λ (v : Group). IsVoiced e.name v xs) g allowed.voiced
+
             name : e.name ≡ m.name
             name = let q = mine in let v : claimed_by m.source xs ≡ Some e.name = subst (λ (u : ℕ). claimed_by u xs ≡ Some e.name) same voice in cc
+
             away : (a == d) ≡ false
             away = let q : (true && (true && (a == d))) ≡ false = rw (name, same_test m.name, i) at h in q
+
             go : (b : Bool) → (b ≡ true → held ≡ Some d) → (if true && is_held held a then without_kind (kind_of p) (half m j b) else half m j b) ≡ half m j b
             go true at =
                 let q = at refl in
@@ -138,12 +150,14 @@ skip_session r m d j e xs held own b can allowed law unit c at unbroke notsess =
                 none : (t : Bool) → (if t then without_kind (kind_of p) None else None) ≡ half m j false
                 none true = refl
                 none false = refl
+
     held_small : (a : ℕ) → is_held held a ≡ true → a ≤ 253
     held_small a h = by_held held can h
       where
         by_held : (o : Option ℕ) → CanHold o → is_held o a ≡ true → a ≤ 253
         by_held None c g = cc
         by_held (Some b) c g = subst (λ (v : ℕ). v ≤ 253) (true_test b a g) c
+
     by_frame : (f : Group) → says e ≡ f → session_after r.name m.source f held own (half m j b) ≡ half m j b
     by_frame (AddressClaimed s n) g = by_claim s n (subst (λ (v : Group). breaks m.name m.source d e.name v ≡ false) g unbroke)
     by_frame (ConnectionManagement s a (Rts x y z k)) g = test (s == m.source && is_held held a) refl
@@ -200,22 +214,26 @@ or_started m false before l none = none refl
 pub session_after_owned : (me a : ℕ) (g : Group) (held own : Option ℕ) (before : Option Joining) → ((j : Joining) → before ≡ Some j → own ≡ Some j.owner) → (j : Joining) → session_after me a g held own before ≡ Some j → owner_after a g own ≡ Some j.owner
 session_after_owned me a (AddressClaimed s n) held own before ih j h =
     elim (pick_cases (is_contest me held (AddressClaimed s n)) None (if s == a then kept_under n before else before) (Some j) h) [
-      inl v ↦ cc v.1
-    | inr v ↦
-        elim (pick_cases (s == a) (kept_under n before) before (Some j) v.1) [
-          inl u ↦ rw (u.0) (keep before u.1)
-        | inr u ↦ rw (u.0) (ih j u.1) ] ]
+      | inl v ↦ cc v.1
+      | inr v ↦
+          elim (pick_cases (s == a) (kept_under n before) before (Some j) v.1) [
+            | inl u ↦ rw (u.0) (keep before u.1)
+            | inr u ↦ rw (u.0) (ih j u.1)
+          ]
+    ]
   where
     keep : (o : Option Joining) → kept_under n o ≡ Some j → Some n ≡ Some j.owner
     keep None e = cc
     keep (Some b) e =
         elim (pick_cases (n == b.owner) (Some b) None (Some j) e) [
-          inl w ↦ (let q : b ≡ j = cc in ap Some (true_test n b.owner w.0 ∙ ap (λ (v : Joining). v.owner) q))
-        | inr w ↦ cc w.1 ]
+          | inl w ↦ (let q : b ≡ j = cc in ap Some (true_test n b.owner w.0 ∙ ap (λ (v : Joining). v.owner) q))
+          | inr w ↦ cc w.1
+        ]
 session_after_owned me a (ConnectionManagement s d (Rts x y z p)) held own before ih j h =
     elim (pick_cases (s == a && is_held held d) (or_else (started (kind_of p) x own) before) before (Some j) h) [
-      inl v ↦ start (kind_of p) own refl v.1
-    | inr v ↦ ih j v.1 ]
+      | inl v ↦ start (kind_of p) own refl v.1
+      | inr v ↦ ih j v.1
+    ]
   where
     start : (k : Option Kind) (o : Option ℕ) → own ≡ o → or_else (started k x o) before ≡ Some j → own ≡ Some j.owner
     start None o e g = ih j g
@@ -225,19 +243,22 @@ session_after_owned me a (ConnectionManagement s d (Rts x y z p)) held own befor
         e ∙ ap (λ (v : Joining). Some v.owner) q
 session_after_owned me a (ConnectionManagement s d (Abort x p)) held own before ih j h =
     elim (pick_cases (s == a && is_held held d) (without_kind (kind_of p) before) before (Some j) h) [
-      inl v ↦ drops before refl v.1
-    | inr v ↦ ih j v.1 ]
+      | inl v ↦ drops before refl v.1
+      | inr v ↦ ih j v.1
+    ]
   where
     drops : (o : Option Joining) → before ≡ o → without_kind (kind_of p) o ≡ Some j → own ≡ Some j.owner
     drops None i e = cc
     drops (Some b) i e =
         elim (pick_cases (is_kind b.kind (kind_of p)) None (Some b) (Some j) e) [
-          inl w ↦ cc w.1
-        | inr w ↦ ih j (i ∙ w.1) ]
+          | inl w ↦ cc w.1
+          | inr w ↦ ih j (i ∙ w.1)
+        ]
 session_after_owned me a (DataTransfer s d q) held own before ih j h =
     elim (pick_cases (s == a && is_held held d) (unfinished (with_packet q before)) before (Some j) h) [
-      inl v ↦ more before refl v.1
-    | inr v ↦ ih j v.1 ]
+      | inl v ↦ more before refl v.1
+      | inr v ↦ ih j v.1
+    ]
   where
     more : (o : Option Joining) → before ≡ o → unfinished (with_packet q o) ≡ Some j → own ≡ Some j.owner
     more None i e = cc
@@ -245,12 +266,14 @@ session_after_owned me a (DataTransfer s d q) held own before ih j h =
       where
         grew : Joining
         grew = record b { pieces = b.pieces ++ drop 1 q ∷ [] }
+
         next : (t : Bool) → unfinished (if t then Some (record b { pieces = b.pieces ++ drop 1 q ∷ [] }) else None) ≡ Some j → own ≡ Some j.owner
         next false e = cc
         next true e =
             elim (pick_cases (is_whole (record b { pieces = b.pieces ++ drop 1 q ∷ [] })) None (Some (record b { pieces = b.pieces ++ drop 1 q ∷ [] })) (Some j) e) [
-              inl w ↦ cc w.1
-            | inr w ↦ (let g : ◌≡◌ {A = Joining} (record b { pieces = b.pieces ++ drop 1 q ∷ [] }) j = cc in ih b i ∙ ap (λ (v : Joining). Some v.owner) g) ]
+              | inl w ↦ cc w.1
+              | inr w ↦ (let g : ◌≡◌ {A = Joining} (record b { pieces = b.pieces ++ drop 1 q ∷ [] }) j = cc in ih b i ∙ ap (λ (v : Joining). Some v.owner) g)
+            ]
 session_after_owned me a (ConnectionManagement s d (Bam x y p)) held own before ih j h = ih j h
 session_after_owned me a (ConnectionManagement s d (Cts x y p)) held own before ih j h = ih j h
 session_after_owned me a (ConnectionManagement s d (EndAck x y p)) held own before ih j h = ih j h
@@ -276,8 +299,8 @@ session_part r m d zero e path mk ne w p tag only law =
     record {
       held = λ h. address_part r e m 0 path p ∙ at;
       joined = rw (f, at, same_test m.source, same_test d, o, first_is_part m e.tag tag)
-        (ap (λ (v : Option Joining). or_else v (session_heard r m.source (readings path))) (started_half m (is_anchored m.source path) l)
-        ∙ or_started m (is_anchored m.source path) (session_heard r m.source (readings path)) l (λ u. none o u (session_heard r m.source (readings path)) refl));
+          (ap (λ (v : Option Joining). or_else v (session_heard r m.source (readings path))) (started_half m (is_anchored m.source path) l)
+          ∙ or_started m (is_anchored m.source path) (session_heard r m.source (readings path)) l (λ u. none o u (session_heard r m.source (readings path)) refl));
     }
   where
     none : owner_heard m.source (readings path) ≡ (if is_anchored m.source path then Some m.name else None) → is_anchored m.source path ≡ false → (x : Option Joining) → session_heard r m.source (readings path) ≡ x → x ≡ None
@@ -301,27 +324,32 @@ session_part r m d (suc i) e path mk ne w p tag only law =
 pub sessions_read : (r : Settings) → IsFit r → (begun : List Message) (e : Item) (path : List Reception) → Numbered begun → Lawful r.name (e ∷ passed path) → Marked r.name (Received e ∷ path) → Every (IsBooked begun) (e ∷ passed path) → OnlyHeld r path → SessionsLaw r path → SessionsLaw r (Received e ∷ path)
 sessions_read r fit begun e path num law mk booked only before m d j w c =
     elim (pick_cases (breaks m.name m.source d e.name (says e)) None (if is_sess m.name e.tag then e.tag else sess m.name m.source d (passed path)) (Some (tag_of m j)) c) [
-      inl v ↦ cc v.1
-    | inr v ↦
-        elim (pick_cases (is_sess m.name e.tag) e.tag (sess m.name m.source d (passed path)) (Some (tag_of m j)) v.1) [
-          inl u ↦ session_part r m d j e path mk.1 mk.0 w (law.0.tagged (tag_of m j) u.1) u.1 only before
-        | inr u ↦ other v.0 u.0 u.1 (before m d j w u.1) ] ]
+      | inl v ↦ cc v.1
+      | inr v ↦
+          elim (pick_cases (is_sess m.name e.tag) e.tag (sess m.name m.source d (passed path)) (Some (tag_of m j)) v.1) [
+            | inl u ↦ session_part r m d j e path mk.1 mk.0 w (law.0.tagged (tag_of m j) u.1) u.1 only before
+            | inr u ↦ other v.0 u.0 u.1 (before m d j w u.1)
+          ]
+    ]
   where
     in_book : (xs : List Item) → Every (IsBooked begun) xs → sess m.name m.source d xs ≡ Some (tag_of m j) → IsAmong m begun
     in_book [] h i = cc
     in_book (x ∷ xs) h i =
         elim (pick_cases (breaks m.name m.source d x.name (says x)) None (if is_sess m.name x.tag then x.tag else sess m.name m.source d xs) (Some (tag_of m j)) i) [
-          inl v ↦ cc v.1
-        | inr v ↦
-            elim (pick_cases (is_sess m.name x.tag) x.tag (sess m.name m.source d xs) (Some (tag_of m j)) v.1) [
-              inl u ↦ h.0 (tag_of m j) u.1
-            | inr u ↦ in_book xs h.1 u.1 ] ]
+          | inl v ↦ cc v.1
+          | inr v ↦
+              elim (pick_cases (is_sess m.name x.tag) x.tag (sess m.name m.source d xs) (Some (tag_of m j)) v.1) [
+                | inl u ↦ h.0 (tag_of m j) u.1
+                | inr u ↦ in_book xs h.1 u.1
+              ]
+        ]
+
     other : breaks m.name m.source d e.name (says e) ≡ false → is_sess m.name e.tag ≡ false → sess m.name m.source d (passed path) ≡ Some (tag_of m j) → SessionAt r path m d j → SessionAt r (Received e ∷ path) m d j
     other f n c ih =
         let p = not_first begun m e num (in_book (passed path) booked.1 c) booked.0 (λ t g same.
-            let yes : is_sess m.name (Some t) ≡ true = rw (same, same_test m.name, w) refl in
-            let nos : is_sess m.name (Some t) ≡ false = rw g at n in
-            cc) in
+        let yes : is_sess m.name (Some t) ≡ true = rw (same, same_test m.name, w) refl in
+        let nos : is_sess m.name (Some t) ≡ false = rw g at n in
+        cc) in
         record {
           held = λ h. (let u : is_unbroken m path ≡ true = rw p at h in address_read r e.frame (readings path) (unbreaking r.name m.name m.source d e.name (says e) (address_heard r (readings path)) f (ih.held u)) ∙ ih.held u);
           joined = rw (ih.joined, p) (skip_session r m d j e (passed path) (address_heard r (readings path)) (owner_heard m.source (readings path)) (is_unbroken m path) (address_hold r (readings path) fit) law.0 law.1 mk.0 c ih.held f n);
@@ -331,10 +359,11 @@ sessions_read r fit begun e path num law mk booked only before m d j w c =
 pub sessions_own : (r : Settings) (e : Item) (path : List Reception) → IsStations r.name e → SessionsLaw r path → SessionsLaw r (Own e ∷ path)
 sessions_own r e path own before m d j w c =
     elim (pick_cases (breaks m.name m.source d e.name (says e)) None (if is_sess m.name e.tag then e.tag else sess m.name m.source d (passed path)) (Some (tag_of m j)) c) [
-      inl v ↦ cc v.1
-    | inr v ↦
-        (let ih = before m d j w (subst (λ (o : Option Tag). (if is_sess m.name o then o else sess m.name m.source d (passed path)) ≡ Some (tag_of m j)) own.tag v.1) in
-         record { held = ih.held; joined = ih.joined }) ]
+      | inl v ↦ cc v.1
+      | inr v ↦
+          (let ih = before m d j w (subst (λ (o : Option Tag). (if is_sess m.name o then o else sess m.name m.source d (passed path)) ≡ Some (tag_of m j)) own.tag v.1) in
+          record { held = ih.held; joined = ih.joined })
+    ]
 
 -- frames are missed
 pub sessions_missed : (r : Settings) (es : List Item) (path : List Reception) → SessionsLaw r (Missed es ∷ path)

@@ -62,21 +62,22 @@ pub told_gain : (n : ℕ) (k : Kind) (begun : List Message) (m : Message) (p q :
 told_gain n k [] m p q num i li c same new = absurd i
 told_gain n k (x ∷ begun) m p q num i li c same new =
     elim i [
-      inl g ↦
-        (let rest : expected n k begun q ≡ expected n k begun p =
-            told_same n k begun p q (λ y j. ap (λ (b : Bool). is_listed n k y && b) (same y (inr j) (λ s.
-                let below = number_below y begun j num.1 in
-                let at : m.number ≡ length begun = subst (λ (v : Message). v.number ≡ length begun) g num.0 in
-                omega arith))) in
-         subst (λ (y : Message). expected n k (y ∷ begun) q ≡ (if is_clear m q then shown_by m ∷ expected n k (y ∷ begun) p else expected n k (y ∷ begun) p)) (sym g)
-         (gain_head (is_listed n k m) (is_clear m p) (is_clear m q) (shown_by m) (expected n k begun q) (expected n k begun p) li c rest))
-    | inr j ↦
-        (let below = number_below m begun j num.1 in
-         let at = num.0 in
-         gain_tail (is_listed n k x) (is_clear x p) (is_clear x q) (is_clear m q) (shown_by x) (shown_by m) (expected n k begun q) (expected n k begun p)
-         (same x (inl refl) (λ s. omega arith))
-         (λ b. new x (inl refl) (omega arith) b)
-         (told_gain n k begun m p q num.1 j li c (λ y l. same y (inr l)) (λ y l. new y (inr l)))) ]
+      | inl g ↦
+          (let rest : expected n k begun q ≡ expected n k begun p =
+          told_same n k begun p q (λ y j. ap (λ (b : Bool). is_listed n k y && b) (same y (inr j) (λ s.
+          let below = number_below y begun j num.1 in
+          let at : m.number ≡ length begun = subst (λ (v : Message). v.number ≡ length begun) g num.0 in
+          omega arith))) in
+          subst (λ (y : Message). expected n k (y ∷ begun) q ≡ (if is_clear m q then shown_by m ∷ expected n k (y ∷ begun) p else expected n k (y ∷ begun) p)) (sym g)
+          (gain_head (is_listed n k m) (is_clear m p) (is_clear m q) (shown_by m) (expected n k begun q) (expected n k begun p) li c rest))
+      | inr j ↦
+          (let below = number_below m begun j num.1 in
+          let at = num.0 in
+          gain_tail (is_listed n k x) (is_clear x p) (is_clear x q) (is_clear m q) (shown_by x) (shown_by m) (expected n k begun q) (expected n k begun p)
+          (same x (inl refl) (λ s. omega arith))
+          (λ b. new x (inl refl) (omega arith) b)
+          (told_gain n k begun m p q num.1 j li c (λ y l. same y (inr l)) (λ y l. new y (inr l))))
+    ]
 
 -- each message begun is proper
 abbrev pub AllProper : List Message → Type 0
@@ -104,11 +105,14 @@ part_told st begun e path t n k num law booked tag = by_last (t.part == last_par
   where
     isin : IsAmong t.message begun
     isin = booked.0 t tag
+
     before : EachTag (IsBefore t) (passed path)
     before = all_before st t (passed path) law.1 (law.0.tagged t tag).order
+
     -- another message's last part is not this part
     other : (x : Message) → x.number ≢ t.message.number → is_clear x (Received e ∷ path) ≡ is_clear x path
     other x ne = clear_same x e path (not_part x e.tag (λ s g i l. let q : t ≡ s = cc in ne (sym i ∙ ap (λ (v : Tag). v.message.number) (sym q))))
+
     -- no later message of the NAME and kind, nor this one, has its last part on the path
     later : (x : Message) → IsAmong x begun → t.message.number ≤ x.number → x.name ≡ t.message.name → x.kind ≡ t.message.kind → (x.number ≡ t.message.number → t.part ≡ last_part_of x) → is_clear x path ≡ false
     later x i le nm kd at =
@@ -118,11 +122,14 @@ part_told st begun e path t n k num law booked tag = by_last (t.part == last_par
         one s b j c d =
             let same : s.message ≡ x = same_message s.message x begun num j i c in
             elim (b (ap (λ (v : Message). v.name) same ∙ nm) (ap (λ (v : Message). v.kind) same ∙ kd)) [
-              inl u ↦ omega arith
-            | inr u ↦ (let g : x.number ≡ t.message.number = ap (λ (v : Message). v.number) (sym same ∙ u.0) in let f = at g in omega arith) ]
+              | inl u ↦ omega arith
+              | inr u ↦ (let g : x.number ≡ t.message.number = ap (λ (v : Message). v.number) (sym same ∙ u.0) in let f = at g in omega arith)
+            ]
+
         no_last : (xs : List Item) → EachTag (IsBefore t) xs → Every (IsBooked begun) xs → EachTag (IsNotLast x) xs
         no_last [] b c = tt
         no_last (y ∷ ys) b c = (λ s g. one s (b.0 s g) (c.0 s g), no_last ys b.1 c.1)
+
     by_last : (b : Bool) → (t.part == last_part_of t.message) ≡ b → expected n k begun (Received e ∷ path) ≡ put n k (gained t.message t.part (is_unbroken t.message (Received e ∷ path))) (expected n k begun path)
     by_last false h =
         rw (h) (told_same n k begun path (Received e ∷ path) (λ x i. ap (λ (b : Bool). is_listed n k x && b) (clear_same x e path (not_part x e.tag (λ s g c l. not_last x i s g c l)))))
@@ -138,10 +145,13 @@ part_told st begun e path t n k num law booked tag = by_last (t.part == last_par
       where
         at_last : t.part ≡ last_part_of t.message
         at_last = true_test t.part (last_part_of t.message) h
+
         now : is_clear t.message (Received e ∷ path) ≡ is_unbroken t.message (Received e ∷ path)
         now = let i : is_part t.message (last_part_of t.message) e.tag ≡ true = rw (tag, same_test t.message.number) h in rw i refl
+
         old : is_clear t.message path ≡ false
         old = later t.message isin (omega arith) refl refl (λ g. at_last)
+
         by_list : (b : Bool) → is_listed n k t.message ≡ b → expected n k begun (Received e ∷ path) ≡ put n k (gained t.message t.part (is_unbroken t.message (Received e ∷ path))) (expected n k begun path)
         by_list false g =
             told_same n k begun path (Received e ∷ path) (λ x i. one x i (x.number == t.message.number) refl)

@@ -28,8 +28,9 @@ pub number_below : (m : Message) (begun : List Message) → IsAmong m begun → 
 number_below m [] i h = absurd i
 number_below m (x ∷ xs) i h =
     elim i [
-      inl e ↦ (let g : m.number ≡ length xs = subst (λ (v : Message). v.number ≡ length xs) e h.0 in omega arith)
-    | inr j ↦ (let g = number_below m xs j h.1 in omega arith) ]
+      | inl e ↦ (let g : m.number ≡ length xs = subst (λ (v : Message). v.number ≡ length xs) e h.0 in omega arith)
+      | inr j ↦ (let g = number_below m xs j h.1 in omega arith)
+    ]
 
 abbrev pub IsBooked : List Message → Item → Type 0
 IsBooked begun e = HasTag (λ t. IsAmong t.message begun) e
@@ -86,13 +87,20 @@ pub open_heard : (begun : List Message) (s : Seat) (e : Item) (t : Tag) → IsAp
 open_heard begun s e t apart o law =
     let tags : IsNotOf t.message.name e = λ u i j. apart.tags u i (j ∙ law.name) in
     record {
-      dest = law.dest; way = law.way; proper = law.proper; upto = law.upto; apart = law.apart; name = law.name; held = law.held; booked = law.booked;
+      dest = law.dest;
+      way = law.way;
+      proper = law.proper;
+      upto = law.upto;
+      apart = law.apart;
+      name = law.name;
+      held = law.held;
+      booked = law.booked;
       last = last_of_skip t.message.name t.message.kind s.queue e s.heard (of_apart t.message.name t.message.kind e.tag tags) ∙ law.last;
       sofar =
-        sess_skip t.message.name t.message.source law.dest s.queue e s.heard
-        (breaks_from_claim t.message.name t.message.source law.dest e.name (says e) (apart.quiet t.message.source law.held) (apart.uncut t law.dest o law.way) (λ i. apart.name (i ∙ law.name)))
-        (sess_apart t.message.name e.tag tags)
-        ∙ law.sofar;
+          sess_skip t.message.name t.message.source law.dest s.queue e s.heard
+          (breaks_from_claim t.message.name t.message.source law.dest e.name (says e) (apart.quiet t.message.source law.held) (apart.uncut t law.dest o law.way) (λ i. apart.name (i ∙ law.name)))
+          (sess_apart t.message.name e.tag tags)
+          ∙ law.sofar;
     }
 
 -- the frame heard, with what stood ahead of the seat
@@ -106,7 +114,9 @@ heard_quiet st wire begun s ahead e lawful law i calm =
     let rest = heard_rest st wire ahead s.heard e lawful i in
     let apart = calm_apart st s e rest.0 next.1 calm in
     record {
-      unit = law.unit; small = law.small; hold = law.hold;
+      unit = law.unit;
+      small = law.small;
+      hold = law.hold;
       ahead = ahead;
       reach = i;
       foreign = next.0;
@@ -140,7 +150,9 @@ kept_closed n held o (x ∷ xs) h = go (kept_closed n held o xs h.1) (is_of_sess
 -- the session ends
 pub closes : (st : ℕ) (wire : List Item) (begun : List Message) (s : Seat) → SeatLaw st wire begun s → SeatLaw st wire begun (session_ended s)
 closes st wire begun s law = record {
-  unit = law.unit; small = law.small; hold = law.hold;
+  unit = law.unit;
+  small = law.small;
+  hold = law.hold;
   ahead = law.ahead;
   reach = law.reach;
   foreign = law.foreign;
@@ -166,7 +178,9 @@ heard_yields st wire begun s ahead e o hold lawful law i =
     let next = next_heard s.name wire s.heard law.ahead ahead e law.reach law.foreign i in
     let rest = heard_rest st wire ahead s.heard e lawful i in
     record {
-      unit = law.unit; small = law.small; hold = hold;
+      unit = law.unit;
+      small = law.small;
+      hold = hold;
       ahead = ahead;
       reach = i;
       foreign = next.0;
@@ -179,7 +193,9 @@ heard_yields st wire begun s ahead e o hold lawful law i =
 
 pub replied : (st : ℕ) (wire : List Item) (begun : List Message) (s : Seat) (f : FrameValue) → SeatLaw st wire begun s → IsReply s (group_of f) → SeatLaw st wire begun (record s { queue = plain s.name f ∷ s.queue })
 replied st wire begun s f law may = record {
-  unit = law.unit; small = law.small; hold = law.hold;
+  unit = law.unit;
+  small = law.small;
+  hold = law.hold;
   ahead = law.ahead;
   reach = law.reach;
   foreign = law.foreign;
@@ -188,12 +204,19 @@ replied st wire begun s f law may = record {
   mine = (record { name = refl; tags = λ t g. cc; voice = reply_from s (group_of f) may }, law.mine);
   booked = (λ t g. cc, law.booked);
   session = λ t o.
-    let p = law.session t o in
-    record {
-      dest = p.dest; way = p.way; proper = p.proper; upto = p.upto; apart = p.apart; name = p.name; held = p.held; booked = p.booked;
-      last = p.last;
-      sofar = rw (reply_breaks_none s (group_of f) t p.dest may o p.way p.held p.apart p.name) p.sofar;
-    };
+      let p = law.session t o in
+      record {
+        dest = p.dest;
+        way = p.way;
+        proper = p.proper;
+        upto = p.upto;
+        apart = p.apart;
+        name = p.name;
+        held = p.held;
+        booked = p.booked;
+        last = p.last;
+        sofar = rw (reply_breaks_none s (group_of f) t p.dest may o p.way p.held p.apart p.name) p.sofar;
+      };
 }
 
 -- a longer book
@@ -202,13 +225,29 @@ booked_more m begun xs h = every_weaker (IsBooked begun) (IsBooked (m ∷ begun)
 
 pub open_more : (m : Message) (begun : List Message) (s : Seat) (t : Tag) → OpenLaw begun s t → OpenLaw (m ∷ begun) s t
 open_more m begun s t p = record {
-  dest = p.dest; way = p.way; proper = p.proper; upto = p.upto; apart = p.apart; name = p.name; held = p.held; booked = inr p.booked; last = p.last; sofar = p.sofar;
+  dest = p.dest;
+  way = p.way;
+  proper = p.proper;
+  upto = p.upto;
+  apart = p.apart;
+  name = p.name;
+  held = p.held;
+  booked = inr p.booked;
+  last = p.last;
+  sofar = p.sofar;
 }
 
 pub seat_more : (st : ℕ) (wire : List Item) (m : Message) (begun : List Message) (s : Seat) → SeatLaw st wire begun s → SeatLaw st wire (m ∷ begun) s
 seat_more st wire m begun s law = record {
-  unit = law.unit; small = law.small; hold = law.hold;
-  ahead = law.ahead; reach = law.reach; foreign = law.foreign; track = law.track; own = law.own; mine = law.mine;
+  unit = law.unit;
+  small = law.small;
+  hold = law.hold;
+  ahead = law.ahead;
+  reach = law.reach;
+  foreign = law.foreign;
+  track = law.track;
+  own = law.own;
+  mine = law.mine;
   booked = booked_more m begun s.queue law.booked;
   session = λ t o. open_more m begun s t (law.session t o);
 }
@@ -278,7 +317,14 @@ open_begun begun s m One t st ok e name held none opens law o = others begun s m
     others begun s m j t ok le nos none p ne =
         let shape = append_assoc (parts_upto m j) s.queue s.heard in
         record {
-          dest = p.dest; way = p.way; proper = p.proper; upto = p.upto; apart = p.apart; name = p.name; held = p.held; booked = inr p.booked;
+          dest = p.dest;
+          way = p.way;
+          proper = p.proper;
+          upto = p.upto;
+          apart = p.apart;
+          name = p.name;
+          held = p.held;
+          booked = inr p.booked;
           last = ap (last_of t.message.name t.message.kind) shape ∙ (last_of_others t.message.name t.message.kind m j (s.queue ++ s.heard) (λ g. ne (sym g)) ∙ p.last);
           sofar = ap (sess t.message.name t.message.source p.dest) shape ∙ (sess_others t.message.name t.message.source p.dest m j (s.queue ++ s.heard) ok le nos ∙ p.sofar);
         }
@@ -288,7 +334,14 @@ open_begun begun s m Broadcast t st ok e name held none opens law o =
     let nos : is_session (way_of m) ≡ false = ap is_session e in
     let shape = append_assoc (parts_upto m (last_part_of m)) s.queue s.heard in
     record {
-      dest = p.dest; way = p.way; proper = p.proper; upto = p.upto; apart = p.apart; name = p.name; held = p.held; booked = inr p.booked;
+      dest = p.dest;
+      way = p.way;
+      proper = p.proper;
+      upto = p.upto;
+      apart = p.apart;
+      name = p.name;
+      held = p.held;
+      booked = inr p.booked;
       last = ap (last_of t.message.name t.message.kind) shape ∙ (last_of_others t.message.name t.message.kind m (last_part_of m) (s.queue ++ s.heard) (λ g. ne (sym g)) ∙ p.last);
       sofar = ap (sess t.message.name t.message.source p.dest) shape ∙ (sess_others t.message.name t.message.source p.dest m (last_part_of m) (s.queue ++ s.heard) ok (le_refl (last_part_of m)) nos ∙ p.sofar);
     }
@@ -296,7 +349,14 @@ open_begun begun s m (Session d) t st ok e name held none opens law o =
     let i : tag_of m 0 ≡ t = cc in
     let q = opens d refl in
     subst (OpenLaw (m ∷ begun) _) i (record {
-      dest = d; way = e; proper = ok; upto = omega arith; apart = q.apart; name = name; held = held; booked = inl refl;
+      dest = d;
+      way = e;
+      proper = ok;
+      upto = omega arith;
+      apart = q.apart;
+      name = name;
+      held = held;
+      booked = inl refl;
       last = rw (is_of_self m 0) refl;
       sofar = sess_self m d 0 (s.queue ++ s.heard) ok (omega arith) e;
     })
@@ -307,18 +367,20 @@ begins st wire begun s m ok law num booked number name held none opens =
     let p = first_parts (way_of m) m in
     let onwire : Every (IsBooked begun) s.heard = every_rest (IsBooked begun) law.ahead s.heard (subst (Every (IsBooked begun)) law.reach booked) in
     let old : EachTag (λ t. t.message.number < m.number) (s.queue ++ s.heard) =
-        subst (λ (v : ℕ). EachTag (λ t. t.message.number < v) (s.queue ++ s.heard)) (sym number) (older_number begun (s.queue ++ s.heard) num (every_append (IsBooked begun) s.queue s.heard law.booked onwire)) in
+    subst (λ (v : ℕ). EachTag (λ t. t.message.number < v) (s.queue ++ s.heard)) (sym number) (older_number begun (s.queue ++ s.heard) num (every_append (IsBooked begun) s.queue s.heard law.booked onwire)) in
     let shape : (parts_upto m p ++ s.queue) ++ s.heard ≡ parts_upto m p ++ (s.queue ++ s.heard) = append_assoc (parts_upto m p) s.queue s.heard in
     let o = session_opened (way_of m) m s.session in
     record {
-      unit = law.unit; small = law.small; hold = law.hold;
+      unit = law.unit;
+      small = law.small;
+      hold = law.hold;
       ahead = law.ahead;
       reach = law.reach;
       foreign = law.foreign;
       track = subst (Lawful st) (sym shape) (parts_lawful st m p (s.queue ++ s.heard) ok (λ g. law.unit (sym name ∙ g)) (first_le (way_of m) m) law.track (law.own m.source held ∙ ap Some (sym name)) (first_continues st s m (way_of m) opens) old);
       own = λ a h. ap (claimed_by a) shape ∙ (claimed_parts a m p (s.queue ++ s.heard) ok (first_le (way_of m) m) ∙ law.own a h);
       mine = every_append (IsMine s.name s.held o) (parts_upto m p) s.queue (parts_mine s.name s.held o m p ok (first_le (way_of m) m) name held (new_session (way_of m) m s.session))
-        (every_weaker (IsMine s.name s.held s.session) (IsMine s.name s.held o) s.queue (λ x i. mine_opened s.name s.held s.session m (way_of m) x (λ w. closed (way_of m) w opens) i) law.mine);
+          (every_weaker (IsMine s.name s.held s.session) (IsMine s.name s.held o) s.queue (λ x i. mine_opened s.name s.held s.session m (way_of m) x (λ w. closed (way_of m) w opens) i) law.mine);
       booked = every_append (IsBooked (m ∷ begun)) (parts_upto m p) s.queue (parts_booked m begun p) (booked_more m begun s.queue law.booked);
       session = λ t e. open_begun begun s m (way_of m) t st ok refl name held none opens law.session e;
     }
@@ -335,28 +397,40 @@ grants_one st wire begun s t law o le =
     let m = t.message in
     let own : claimed_by m.source (s.queue ++ s.heard) ≡ Some m.name = law.own m.source p.held ∙ ap Some (sym p.name) in
     record {
-      unit = law.unit; small = law.small; hold = law.hold;
+      unit = law.unit;
+      small = law.small;
+      hold = law.hold;
       ahead = law.ahead;
       reach = law.reach;
       foreign = law.foreign;
       track = next_lawful st m p.dest t.part (s.queue ++ s.heard) p.proper (λ g. law.unit (sym p.name ∙ g)) p.way le law.track own p.last p.sofar;
       own = λ a h. rw (says_part m (suc t.part) p.proper le) (part_no_claim a (way_of m) m (suc t.part) (claimed_by a (s.queue ++ s.heard)) ∙ law.own a h);
-      mine = (part_mine s.name s.held (Some (tag_of m (suc t.part))) m (suc t.part) p.proper le p.name p.held (goes (way_of m) m refl),
-        every_weaker (IsMine s.name s.held s.session) (IsMine s.name s.held (Some (tag_of m (suc t.part)))) s.queue (λ x i. on x i) law.mine);
+      mine = (
+        part_mine s.name s.held (Some (tag_of m (suc t.part))) m (suc t.part) p.proper le p.name p.held (goes (way_of m) m refl),
+        every_weaker (IsMine s.name s.held s.session) (IsMine s.name s.held (Some (tag_of m (suc t.part)))) s.queue (λ x i. on x i) law.mine,
+      );
       booked = (λ u g. let q : m ≡ u.message = cc in subst (λ (v : Message). IsAmong v begun) q p.booked, law.booked);
       session = λ u g.
-        let i : tag_of m (suc t.part) ≡ u = cc in
-        subst (OpenLaw begun _) i (record {
-          dest = p.dest; way = p.way; proper = p.proper; upto = le; apart = p.apart; name = p.name; held = p.held; booked = p.booked;
-          last = rw (is_of_self m (suc t.part)) refl;
-          sofar = sess_self m p.dest (suc t.part) (s.queue ++ s.heard) p.proper le p.way;
-        });
+          let i : tag_of m (suc t.part) ≡ u = cc in
+          subst (OpenLaw begun _) i (record {
+            dest = p.dest;
+            way = p.way;
+            proper = p.proper;
+            upto = le;
+            apart = p.apart;
+            name = p.name;
+            held = p.held;
+            booked = p.booked;
+            last = rw (is_of_self m (suc t.part)) refl;
+            sofar = sess_self m p.dest (suc t.part) (s.queue ++ s.heard) p.proper le p.way;
+          });
     }
   where
     goes : (w : Way) (y : Message) → y ≡ t.message → InSession w (Some (tag_of t.message (suc t.part))) y
     goes One y e = tt
     goes Broadcast y e = tt
     goes (Session d) y e = (suc t.part, cc)
+
     on : (x : Item) → IsMine s.name s.held s.session x → IsMine s.name s.held (Some (tag_of t.message (suc t.part))) x
     on x mine = record {
       name = mine.name;
@@ -381,7 +455,9 @@ pub carries : (st : ℕ) (wire : List Item) (begun : List Message) (s : Seat) (e
 carries st wire begun s e rest law q h =
     let shape : s.queue ++ s.heard ≡ rest ++ e ∷ wire = both q h ∙ append_assoc rest (e ∷ []) wire in
     record {
-      unit = law.unit; small = law.small; hold = law.hold;
+      unit = law.unit;
+      small = law.small;
+      hold = law.hold;
       ahead = [];
       reach = refl;
       foreign = tt;
@@ -390,12 +466,19 @@ carries st wire begun s e rest law q h =
       mine = every_front (IsMine s.name s.held s.session) rest (e ∷ []) (subst (Every (IsMine s.name s.held s.session)) q law.mine);
       booked = every_front (IsBooked begun) rest (e ∷ []) (subst (Every (IsBooked begun)) q law.booked);
       session = λ t o.
-        let p = law.session t o in
-        record {
-          dest = p.dest; way = p.way; proper = p.proper; upto = p.upto; apart = p.apart; name = p.name; held = p.held; booked = p.booked;
-          last = ap (last_of t.message.name t.message.kind) (sym shape) ∙ p.last;
-          sofar = ap (sess t.message.name t.message.source p.dest) (sym shape) ∙ p.sofar;
-        };
+          let p = law.session t o in
+          record {
+            dest = p.dest;
+            way = p.way;
+            proper = p.proper;
+            upto = p.upto;
+            apart = p.apart;
+            name = p.name;
+            held = p.held;
+            booked = p.booked;
+            last = ap (last_of t.message.name t.message.kind) (sym shape) ∙ p.last;
+            sofar = ap (sess t.message.name t.message.source p.dest) (sym shape) ∙ p.sofar;
+          };
     }
   where
     both : {xs ys us vs : List Item} → xs ≡ ys → us ≡ vs → xs ++ us ≡ ys ++ vs
@@ -404,11 +487,17 @@ carries st wire begun s e rest law q h =
 -- another's frame is carried
 pub others_carry : (st : ℕ) (wire : List Item) (begun : List Message) (s : Seat) (e : Item) → SeatLaw st wire begun s → e.name ≢ s.name → SeatLaw st (e ∷ wire) begun s
 others_carry st wire begun s e law ne = record {
-  unit = law.unit; small = law.small; hold = law.hold;
+  unit = law.unit;
+  small = law.small;
+  hold = law.hold;
   ahead = e ∷ law.ahead;
   reach = ap (λ (v : List Item). e ∷ v) law.reach;
   foreign = (ne, law.foreign);
-  track = law.track; own = law.own; mine = law.mine; booked = law.booked; session = law.session;
+  track = law.track;
+  own = law.own;
+  mine = law.mine;
+  booked = law.booked;
+  session = law.session;
 }
 
 -- a unit joins
@@ -452,8 +541,8 @@ request_no_part d (Session b) m (suc j) h = h
 pub asked_for : (st : ℕ) (s : Seat) (e : Item) (m : Message) (d : ℕ) → d ≤ 253 → Allowed st e s.heard → Every (IsMine s.name s.held s.session) s.queue → IsRequestFrom d (says e) → s.held ≡ Some m.source → d ≢ m.source → s.session ≡ None → OpensAt st (with_heard s e) m d
 asked_for st s e m d le allowed mine f held apart none = record {
   station =
-    claimed_other s.name s.held s.session m.source d s.queue (e ∷ s.heard) mine held apart
-    ∙ (request_keeps d d (claimed_by d s.heard) (says e) f ∙ (request_voice e.name d s.heard (says e) le f allowed.voiced ∙ ap Some (by_name (e.name == st) refl)));
+      claimed_other s.name s.held s.session m.source d s.queue (e ∷ s.heard) mine held apart
+      ∙ (request_keeps d d (claimed_by d s.heard) (says e) f ∙ (request_voice e.name d s.heard (says e) le f allowed.voiced ∙ ap Some (by_name (e.name == st) refl)));
   apart = apart;
   none = none;
 }
@@ -461,6 +550,7 @@ asked_for st s e m d le allowed mine f held apart none = record {
     by_tag : (o : Option Tag) → e.tag ≡ o → e.name ≢ st → ⊥
     by_tag None g ne = request_not_plain d (says e) f (allowed.plain g ne)
     by_tag (Some t) g ne = request_no_part d (way_of t.message) t.message t.part (subst (IsRequestFrom d) (part_says st e t s.heard (allowed.tagged t g)) f)
+
     by_name : (b : Bool) → (e.name == st) ≡ b → e.name ≡ st
     by_name true i = true_test e.name st i
     by_name false i = absurd (by_tag e.tag refl (λ g. let q : (e.name == st) ≡ true = rw g (same_test st) in cc))
@@ -470,21 +560,25 @@ pub sess_dest : (st : ℕ) (m : Message) (d j : ℕ) (xs : List Item) → (way_o
 sess_dest st m d j [] w law h = cc
 sess_dest st m d j (e ∷ xs) w law h =
     elim (pick_cases (breaks m.name m.source d e.name (says e)) None (if is_sess m.name e.tag then e.tag else sess m.name m.source d xs) (Some (tag_of m j)) h) [
-      inl u ↦ cc u.1
-    | inr u ↦
-        claimed_by_skip d (says e) (claimed_by d xs) (not_claim (says e) u.0)
-        ∙ elim (pick_cases (is_sess m.name e.tag) e.tag (sess m.name m.source d xs) (Some (tag_of m j)) u.1) [
-          inl v ↦ at j (law.0.tagged (tag_of m j) v.1) (λ i. sess_dest st m d i xs w law.1)
-        | inr v ↦ sess_dest st m d j xs w law.1 v.1 ] ]
+      | inl u ↦ cc u.1
+      | inr u ↦
+          claimed_by_skip d (says e) (claimed_by d xs) (not_claim (says e) u.0)
+          ∙ elim (pick_cases (is_sess m.name e.tag) e.tag (sess m.name m.source d xs) (Some (tag_of m j)) u.1) [
+            | inl v ↦ at j (law.0.tagged (tag_of m j) v.1) (λ i. sess_dest st m d i xs w law.1)
+            | inr v ↦ sess_dest st m d j xs w law.1 v.1
+          ]
+    ]
   where
     not_claim : (f : Group) → breaks m.name m.source d e.name f ≡ false → is_claim d f ≡ false
     not_claim (AddressClaimed b n) g = (or_parts (b == m.source && not (n == m.name)) (b == d) g).1
     not_claim _ g = refl
+
     by_way : (w : Way) (j : ℕ) → w ≡ Session d → Continues st w xs m j → ((i : ℕ) → sess m.name m.source d xs ≡ Some (tag_of m i) → claimed_by d xs ≡ Some st) → claimed_by d xs ≡ Some st
     by_way One j e h ih = cc
     by_way Broadcast j e h ih = cc
     by_way (Session b) zero e h ih = let g : b ≡ d = cc in subst (λ (v : ℕ). claimed_by v xs ≡ Some st) g h.0
     by_way (Session b) (suc i) e h ih = let g : b ≡ d = cc in ih i (subst (λ (v : ℕ). sess m.name m.source v xs ≡ Some (tag_of m i)) g h)
+
     at : (j : ℕ) → PartLaw st e (tag_of m j) xs → ((i : ℕ) → sess m.name m.source d xs ≡ Some (tag_of m i) → claimed_by d xs ≡ Some st) → claimed_by d xs ≡ Some st
     at j p ih = by_way (way_of m) j w p.joined ih
 
@@ -499,22 +593,27 @@ sender_apart st wire begun s e d law allowed rts = by_open s.session refl
       where
         p : OpenLaw begun (with_heard s e) t
         p = law.session t i
+
         of_rts : (f : Group) → IsRtsFrom d f → owner_after p.dest f (claimed_by p.dest s.heard) ≡ claimed_by p.dest s.heard
         of_rts (ConnectionManagement a b (Rts x y z k)) h = refl
         of_rts _ h = absurd h
+
         station : claimed_by p.dest s.heard ≡ Some st
         station =
             sym (claimed_other s.name s.held s.session t.message.source p.dest s.queue (e ∷ s.heard) law.mine p.held p.apart ∙ of_rts (says e) rts)
             ∙ sess_dest st t.message p.dest t.part (s.queue ++ e ∷ s.heard) p.way law.track p.sofar
+
         no_start : (f : Group) → IsRtsFrom d f → IsNoStart f → ⊥
         no_start (ConnectionManagement a b (Rts x y z k)) h g = g
         no_start _ h g = absurd h
+
         rts_source : (w : Way) (m : Message) (j : ℕ) → IsRtsFrom d (group_at w m j) → m.source ≡ d
         rts_source One m j h = absurd h
         rts_source Broadcast m zero h = absurd h
         rts_source Broadcast m (suc j) h = absurd h
         rts_source (Session b) m zero h = h
         rts_source (Session b) m (suc j) h = absurd h
+
         by_tag : (o : Option Tag) → e.tag ≡ o → p.dest ≡ d → ⊥
         by_tag None g same = no_start (says e) rts (allowed.starts g)
         by_tag (Some u) g same =
@@ -522,6 +621,7 @@ sender_apart st wire begun s e d law allowed rts = by_open s.session refl
             let r = rts_source (way_of u.message) u.message u.part (subst (IsRtsFrom d) (part_says st e u s.heard q) rts) in
             let own : claimed_by p.dest s.heard ≡ Some u.message.name = subst (λ (v : ℕ). claimed_by v s.heard ≡ Some u.message.name) (r ∙ sym same) q.owned in
             q.unit (let k = station in cc)
+
         away : p.dest ≢ d
         away = by_tag e.tag refl
 

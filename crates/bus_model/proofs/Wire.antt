@@ -15,10 +15,11 @@ pub last_of_split : (m : Message) (j : ℕ) (xs : List Item) → last_of m.name 
 last_of_split m j [] h = cc
 last_of_split m j (e ∷ xs) h =
     elim (pick_cases (is_of m.name m.kind e.tag) e.tag (last_of m.name m.kind xs) (Some (tag_of m j)) h) [
-      inl w ↦ record { since = []; item = e; before = xs; split = refl; is_it = w.1; none = tt }
-    | inr w ↦
-        (let r = last_of_split m j xs w.1 in
-         record { since = e ∷ r.since; item = r.item; before = r.before; split = ap (λ (v : List Item). e ∷ v) r.split; is_it = r.is_it; none = ((λ t g p. no t g p w.0), r.none) }) ]
+      | inl w ↦ record { since = []; item = e; before = xs; split = refl; is_it = w.1; none = tt }
+      | inr w ↦
+          (let r = last_of_split m j xs w.1 in
+          record { since = e ∷ r.since; item = r.item; before = r.before; split = ap (λ (v : List Item). e ∷ v) r.split; is_it = r.is_it; none = ((λ t g p. no t g p w.0), r.none) })
+    ]
   where
     no : (t : Tag) → e.tag ≡ Some t → IsAlike m t → is_of m.name m.kind e.tag ≡ false → ⊥
     no t g p f =
@@ -31,13 +32,15 @@ pub cast_split : (m : Message) (j : ℕ) (xs : List Item) → cast m.name m.sour
 cast_split m j [] h = cc
 cast_split m j (e ∷ xs) h =
     elim (pick_cases (is_foreign m.name m.source (says e)) None (if is_cast m.name e.tag then e.tag else cast m.name m.source xs) (Some (tag_of m j)) h) [
-      inl v ↦ cc v.1
-    | inr v ↦
-        elim (pick_cases (is_cast m.name e.tag) e.tag (cast m.name m.source xs) (Some (tag_of m j)) v.1) [
-          inl w ↦ record { since = []; item = e; before = xs; split = refl; is_it = w.1; none = tt }
-        | inr w ↦
-            (let r = cast_split m j xs w.1 in
-             record { since = e ∷ r.since; item = r.item; before = r.before; split = ap (λ (v : List Item). e ∷ v) r.split; is_it = r.is_it; none = ((λ t g p. no t g p w.0), r.none) }) ] ]
+      | inl v ↦ cc v.1
+      | inr v ↦
+          elim (pick_cases (is_cast m.name e.tag) e.tag (cast m.name m.source xs) (Some (tag_of m j)) v.1) [
+            | inl w ↦ record { since = []; item = e; before = xs; split = refl; is_it = w.1; none = tt }
+            | inr w ↦
+                (let r = cast_split m j xs w.1 in
+                record { since = e ∷ r.since; item = r.item; before = r.before; split = ap (λ (v : List Item). e ∷ v) r.split; is_it = r.is_it; none = ((λ t g p. no t g p w.0), r.none) })
+          ]
+    ]
   where
     no : (t : Tag) → e.tag ≡ Some t → IsCastOf m t → is_cast m.name e.tag ≡ false → ⊥
     no t g p f =
@@ -49,8 +52,9 @@ pub follows_last : (t : Tag) (j : ℕ) (o : Option Tag) → t.part ≡ suc j →
 follows_last t j None e f = cc
 follows_last t j (Some s) e f =
     elim f [
-      inl w ↦ (let z : t.part ≡ 0 = w.1 in absurd (omega arith))
-    | inr w ↦ (let p : s.part ≡ j = (let q : suc s.part ≡ t.part = w.1 in omega arith) in ap Some (both s w.0 p)) ]
+      | inl w ↦ (let z : t.part ≡ 0 = w.1 in absurd (omega arith))
+      | inr w ↦ (let p : s.part ≡ j = (let q : suc s.part ≡ t.part = w.1 in omega arith) in ap Some (both s w.0 p))
+    ]
   where
     both : (s : Tag) → s.message ≡ t.message → s.part ≡ j → s ≡ tag_of t.message j
     both s a b = (let f : Message → ℕ → Tag = λ x y. tag_of x y in let g : f s.message s.part ≡ f t.message j = cc in g)
@@ -61,16 +65,16 @@ broadcast_back st t j older e w c = continues_is st (way_of t.message) older t.m
 pub lawful_traffic : (st : ℕ) (begun : List Message) (wire : List Item) → Lawful st wire → Every (IsBooked begun) wire → IsLawfulTraffic begun wire
 lawful_traffic st begun wire law booked = record {
   parts = λ after before e t i g.
-    let p = at after before e i in
-    let q = p.tagged t g in
-    record { among = (every_rest (IsBooked begun) after (e ∷ before) (subst (Every (IsBooked begun)) i booked)).0 t g; upto = q.upto; frame = q.frame; seat = q.name };
+      let p = at after before e i in
+      let q = p.tagged t g in
+      record { among = (every_rest (IsBooked begun) after (e ∷ before) (subst (Every (IsBooked begun)) i booked)).0 t g; upto = q.upto; frame = q.frame; seat = q.name };
   ordered = λ after between before e d t s i g h.
-    let all = lawful_rest st after (e ∷ (between ++ d ∷ before)) (subst (Lawful st) i law) in
-    (every_rest (HasTag (IsBefore t)) between (d ∷ before) (all_before st t (between ++ d ∷ before) all.1 (all.0.tagged t g).order)).0 s h;
+      let all = lawful_rest st after (e ∷ (between ++ d ∷ before)) (subst (Lawful st) i law) in
+      (every_rest (HasTag (IsBefore t)) between (d ∷ before) (all_before st t (between ++ d ∷ before) all.1 (all.0.tagged t g).order)).0 s h;
   unskipped = λ after before e t j i g n.
-    last_of_split t.message j before (follows_last t j (last_of t.message.name t.message.kind before) n ((at after before e i).tagged t g).order);
+      last_of_split t.message j before (follows_last t j (last_of t.message.name t.message.kind before) n ((at after before e i).tagged t g).order);
   apart = λ after before e t j i g n w.
-    cast_split t.message j before (broadcast_back st t j before n w ((at after before e i).tagged t g).joined);
+      cast_split t.message j before (broadcast_back st t j before n w ((at after before e i).tagged t g).joined);
 }
   where
     at : (after before : List Item) (e : Item) → wire ≡ after ++ e ∷ before → Allowed st e before

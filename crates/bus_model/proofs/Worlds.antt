@@ -51,34 +51,42 @@ Apart seats = (x y : ℕ) (s t : Seat) → LiveAt seats x s → LiveAt seats y t
 pub each_set : (Q : Seat → Type 0) (seats : List Seat) (x : ℕ) (v : Seat) → ((y : ℕ) (t : Seat) → y ≢ x → LiveAt seats y t → Q t) → (v.live ≡ true → Q v) → EachLive Q (set seats x v)
 each_set Q seats x v old new y t h =
     elim (slice_get_set seats x y v t h.0) [
-      inl w ↦ subst Q (sym w.1) (new (ap (λ (u : Seat). u.live) (sym w.1) ∙ h.1))
-    | inr w ↦ old y t w.0 (w.1, h.1) ]
+      | inl w ↦ subst Q (sym w.1) (new (ap (λ (u : Seat). u.live) (sym w.1) ∙ h.1))
+      | inr w ↦ old y t w.0 (w.1, h.1)
+    ]
 
 pub each_push : (Q : Seat → Type 0) (seats : List Seat) (v : Seat) → ((y : ℕ) (t : Seat) → LiveAt seats y t → Q t) → Q v → EachLive Q (seats ++ v ∷ [])
 each_push Q seats v old new y t h =
     elim (slice_get_push seats y v t h.0) [
-      inl w ↦ old y t (w, h.1)
-    | inr w ↦ subst Q (sym w.1) new ]
+      | inl w ↦ old y t (w, h.1)
+      | inr w ↦ subst Q (sym w.1) new
+    ]
 
 pub apart_set : (seats : List Seat) (x : ℕ) (s v : Seat) → Apart seats → (v.live ≡ true → LiveAt seats x s) → v.name ≡ s.name → Apart (set seats x v)
 apart_set seats x s v apart at name y z t u h g e =
     elim (slice_get_set seats x y v t h.0) [
-      inl w ↦ (elim (slice_get_set seats x z v u g.0) [
-        inl p ↦ w.0 ∙ sym p.0
-      | inr p ↦ w.0 ∙ apart x z s u (at (ap (λ (q : Seat). q.live) (sym w.1) ∙ h.1)) (p.1, g.1) (sym name ∙ (ap (λ (q : Seat). q.name) (sym w.1) ∙ e)) ])
-    | inr w ↦ (elim (slice_get_set seats x z v u g.0) [
-        inl p ↦ apart y x t s (w.1, h.1) (at (ap (λ (q : Seat). q.live) (sym p.1) ∙ g.1)) (e ∙ (ap (λ (q : Seat). q.name) p.1 ∙ name)) ∙ sym p.0
-      | inr p ↦ apart y z t u (w.1, h.1) (p.1, g.1) e ]) ]
+      | inl w ↦ (elim (slice_get_set seats x z v u g.0) [
+        | inl p ↦ w.0 ∙ sym p.0
+        | inr p ↦ w.0 ∙ apart x z s u (at (ap (λ (q : Seat). q.live) (sym w.1) ∙ h.1)) (p.1, g.1) (sym name ∙ (ap (λ (q : Seat). q.name) (sym w.1) ∙ e))
+      ])
+      | inr w ↦ (elim (slice_get_set seats x z v u g.0) [
+        | inl p ↦ apart y x t s (w.1, h.1) (at (ap (λ (q : Seat). q.live) (sym p.1) ∙ g.1)) (e ∙ (ap (λ (q : Seat). q.name) p.1 ∙ name)) ∙ sym p.0
+        | inr p ↦ apart y z t u (w.1, h.1) (p.1, g.1) e
+      ])
+    ]
 
 pub apart_push : (seats : List Seat) (v : Seat) → Apart seats → EachLive (λ t. t.name ≢ v.name) seats → Apart (seats ++ v ∷ [])
 apart_push seats v apart free y z t u h g e =
     elim (slice_get_push seats y v t h.0) [
-      inl w ↦ (elim (slice_get_push seats z v u g.0) [
-        inl p ↦ apart y z t u (w, h.1) (p, g.1) e
-      | inr p ↦ absurd (free y t (w, h.1) (e ∙ ap (λ (q : Seat). q.name) p.1)) ])
-    | inr w ↦ (elim (slice_get_push seats z v u g.0) [
-        inl p ↦ absurd (free z u (p, g.1) (sym e ∙ ap (λ (q : Seat). q.name) w.1))
-      | inr p ↦ w.0 ∙ sym p.0 ]) ]
+      | inl w ↦ (elim (slice_get_push seats z v u g.0) [
+        | inl p ↦ apart y z t u (w, h.1) (p, g.1) e
+        | inr p ↦ absurd (free y t (w, h.1) (e ∙ ap (λ (q : Seat). q.name) p.1))
+      ])
+      | inr w ↦ (elim (slice_get_push seats z v u g.0) [
+        | inl p ↦ absurd (free z u (p, g.1) (sym e ∙ ap (λ (q : Seat). q.name) w.1))
+        | inr p ↦ w.0 ∙ sym p.0
+      ])
+    ]
 
 -- what holds of the station
 pub record StationLaw (r : Settings) (wire asked : List Item) (path : List Reception) : Type 0 where
@@ -136,14 +144,19 @@ station_reads w e ahead fit lawful law i = go (is_contest r.name held (says e)) 
   where
     r : Settings
     r = w.settings
+
     held : Option ℕ
     held = address_heard r (readings w.path)
+
     next : Every (IsNotNamed r.name) ahead × (e.name ≢ r.name)
     next = next_heard r.name w.wire (passed w.path) law.ahead ahead e law.reach law.foreign i
+
     rest : Lawful r.name (e ∷ passed w.path)
     rest = lawful_rest r.name ahead (e ∷ passed w.path) (subst (Lawful r.name) i lawful)
+
     only : OnlyHeld r (Received e ∷ w.path)
     only = only_read r e w.path rest.0 next.1 law.only
+
     go : (b : Bool) → is_contest r.name held (says e) ≡ b → StationLaw r w.wire (if b then claim_alone r.name (address_heard r (readings (Received e ∷ w.path))) else w.asked) (Received e ∷ w.path)
     go true c = claims_alone r w.wire ahead (Received e ∷ w.path) (address_heard r (readings (Received e ∷ w.path))) fit refl i next.0 rest only
     go false c =
@@ -265,7 +278,10 @@ pub record WorldLaw (w : World) : Type 0 where
 pub law_start : (r : Settings) → IsFit r → WorldLaw (start r)
 law_start r fit = record {
   settings = fit;
-  wire = tt; booked = tt; numbered = tt; proper = tt;
+  wire = tt;
+  booked = tt;
+  numbered = tt;
+  proper = tt;
   seats = λ x s h. cc h.0;
   apart = λ x y s t h g e. cc h.0;
   units = λ x s h. cc h.0;
@@ -278,11 +294,18 @@ law_start r fit = record {
 -- a seat changes, and nothing else
 pub law_seat : (w : World) (x : ℕ) (s v : Seat) → WorldLaw w → IsLive w x s → v.name ≡ s.name → (v.live ≡ true → SeatLaw w.settings.name w.wire w.begun v) → WorldLaw (with_seat w x v)
 law_seat w x s v law at name new = record {
-  settings = law.settings; wire = law.wire; booked = law.booked; numbered = law.numbered; proper = law.proper;
+  settings = law.settings;
+  wire = law.wire;
+  booked = law.booked;
+  numbered = law.numbered;
+  proper = law.proper;
   seats = each_set (SeatLaw w.settings.name w.wire w.begun) w.seats x v (λ y t ne h. law.seats y t h) new;
   apart = apart_set w.seats x s v law.apart (λ h. at) name;
   units = each_set (λ t. t.name ≢ w.settings.name) w.seats x v (λ y t ne h. law.units y t h) (λ l g. law.units x s at (sym name ∙ g));
-  station = law.station; marked = law.marked; sessions = law.sessions; same = law.same;
+  station = law.station;
+  marked = law.marked;
+  sessions = law.sessions;
+  same = law.same;
 }
 
 -- a message begins
@@ -300,14 +323,17 @@ passed_booked w law = every_rest (IsBooked w.begun) law.station.ahead (passed w.
 
 pub law_begun : (w : World) (x : ℕ) (s v : Seat) (m : Message) → WorldLaw w → IsLive w x s → v.name ≡ s.name → SeatLaw w.settings.name w.wire w.begun v → m.number ≡ length w.begun → m.name ≡ v.name → v.held ≡ Some m.source → IsProper m → IsNotOpen v.session m.kind → ((d : ℕ) → (way_of m) ≡ Session d → OpensAt w.settings.name v m d) → WorldLaw (with_begun w x v m)
 law_begun w x s v m law at name seat number mname held fit none opens = record {
-  settings = law.settings; wire = law.wire;
+  settings = law.settings;
+  wire = law.wire;
   booked = booked_more m w.begun w.wire law.booked;
   numbered = (number, law.numbered);
   proper = (fit, law.proper);
   seats = each_set (SeatLaw w.settings.name w.wire (m ∷ w.begun)) w.seats x _ (λ y t ne h. seat_more w.settings.name w.wire m w.begun t (law.seats y t h)) (λ l. begins w.settings.name w.wire w.begun v m fit seat law.numbered law.booked number mname held none opens);
   apart = apart_set w.seats x s _ law.apart (λ h. at) name;
   units = each_set (λ t. t.name ≢ w.settings.name) w.seats x _ (λ y t ne h. law.units y t h) (λ l g. law.units x s at (sym name ∙ g));
-  station = law.station; marked = law.marked; sessions = law.sessions;
+  station = law.station;
+  marked = law.marked;
+  sessions = law.sessions;
   same = λ n k. law.same n k ∙ sym (told_new w.begun w.path m n k number law.numbered (passed_booked w law));
 }
 
@@ -316,7 +342,11 @@ station_more r wire asked path e law ne = record {
   ahead = e ∷ law.ahead;
   reach = ap (λ (v : List Item). e ∷ v) law.reach;
   foreign = (ne, law.foreign);
-  track = law.track; own = law.own; mine = law.mine; stations = law.stations; only = law.only;
+  track = law.track;
+  own = law.own;
+  mine = law.mine;
+  stations = law.stations;
+  only = law.only;
 }
 
 pub law_carry : (w : World) (x : ℕ) (s : Seat) (e : Item) (rest : List Item) → WorldLaw w → IsLive w x s → s.queue ≡ rest ++ e ∷ [] → s.heard ≡ w.wire → WorldLaw (record w { wire = e ∷ w.wire; seats = set w.seats x (record s { queue = rest; heard = e ∷ w.wire }) })
@@ -329,12 +359,15 @@ law_carry w x s e rest law at q h =
       settings = law.settings;
       wire = lawful_rest w.settings.name rest (e ∷ w.wire) new.track;
       booked = (booked, law.booked);
-      numbered = law.numbered; proper = law.proper;
+      numbered = law.numbered;
+      proper = law.proper;
       seats = each_set (SeatLaw w.settings.name (e ∷ w.wire) w.begun) w.seats x _ (λ y t ne g. others_carry w.settings.name w.wire w.begun t e (law.seats y t g) (λ i. ne (law.apart y x t s g at (sym i ∙ name)))) (λ l. new);
       apart = apart_set w.seats x s _ law.apart (λ g. at) refl;
       units = each_set (λ t. t.name ≢ w.settings.name) w.seats x _ (λ y t ne g. law.units y t g) (λ l. law.units x s at);
       station = station_more w.settings w.wire w.asked w.path e law.station (λ g. law.units x s at (sym name ∙ g));
-      marked = law.marked; sessions = law.sessions; same = law.same;
+      marked = law.marked;
+      sessions = law.sessions;
+      same = law.same;
     }
 
 pub law_carry_station : (w : World) (e : Item) (rest : List Item) → WorldLaw w → w.asked ≡ rest ++ e ∷ [] → w.wire ≡ passed w.path → WorldLaw (record w { wire = e ∷ w.wire; asked = rest; path = Own e ∷ w.path })
@@ -345,9 +378,11 @@ law_carry_station w e rest law q h =
       settings = law.settings;
       wire = subst (λ (v : List Item). Lawful w.settings.name (e ∷ v)) (sym h) (lawful_rest w.settings.name rest (e ∷ passed w.path) new.track);
       booked = (λ t g. cc mine.tag, law.booked);
-      numbered = law.numbered; proper = law.proper;
+      numbered = law.numbered;
+      proper = law.proper;
       seats = λ y t g. others_carry w.settings.name w.wire w.begun t e (law.seats y t g) (λ i. law.units y t g (sym i ∙ mine.name));
-      apart = law.apart; units = law.units;
+      apart = law.apart;
+      units = law.units;
       station = new;
       marked = (mine, law.marked);
       sessions = sessions_own w.settings e w.path mine law.sessions;
@@ -356,11 +391,18 @@ law_carry_station w e rest law q h =
 
 pub law_join : (w : World) (n a : ℕ) → WorldLaw w → IsFree w n → n < 2 ^ 64 → a ≤ 253 → WorldLaw (record w { seats = w.seats ++ joined_seat w n a ∷ [] })
 law_join w n a law free small hold = record {
-  settings = law.settings; wire = law.wire; booked = law.booked; numbered = law.numbered; proper = law.proper;
+  settings = law.settings;
+  wire = law.wire;
+  booked = law.booked;
+  numbered = law.numbered;
+  proper = law.proper;
   seats = each_push (SeatLaw w.settings.name w.wire w.begun) w.seats (joined_seat w n a) law.seats (joins w.settings.name w.wire w.begun n a free.0 small hold law.wire);
   apart = apart_push w.seats (joined_seat w n a) law.apart free.1;
   units = each_push (λ t. t.name ≢ w.settings.name) w.seats (joined_seat w n a) law.units free.0;
-  station = law.station; marked = law.marked; sessions = law.sessions; same = law.same;
+  station = law.station;
+  marked = law.marked;
+  sessions = law.sessions;
+  same = law.same;
 }
 
 -- a frame is read
@@ -370,8 +412,14 @@ law_read w e ahead law h =
     let rest = lawful_rest w.settings.name ahead (e ∷ passed w.path) (subst (Lawful w.settings.name) h law.wire) in
     let booked = every_rest (IsBooked w.begun) ahead (e ∷ passed w.path) (subst (Every (IsBooked w.begun)) h law.booked) in
     record {
-      settings = law.settings; wire = law.wire; booked = law.booked; numbered = law.numbered; proper = law.proper;
-      seats = law.seats; apart = law.apart; units = law.units;
+      settings = law.settings;
+      wire = law.wire;
+      booked = law.booked;
+      numbered = law.numbered;
+      proper = law.proper;
+      seats = law.seats;
+      apart = law.apart;
+      units = law.units;
       station = station_reads w e ahead law.settings law.wire law.station h;
       marked = (next.1, law.marked);
       sessions = sessions_read w.settings law.settings w.begun e w.path law.numbered rest (next.1, law.marked) booked law.station.only law.sessions;
@@ -380,8 +428,14 @@ law_read w e ahead law h =
 
 pub law_miss : (w : World) (es ahead : List Item) → WorldLaw w → w.wire ≡ ahead ++ (es ++ passed w.path) → WorldLaw (missed w es)
 law_miss w es ahead law h = record {
-  settings = law.settings; wire = law.wire; booked = law.booked; numbered = law.numbered; proper = law.proper;
-  seats = law.seats; apart = law.apart; units = law.units;
+  settings = law.settings;
+  wire = law.wire;
+  booked = law.booked;
+  numbered = law.numbered;
+  proper = law.proper;
+  seats = law.seats;
+  apart = law.apart;
+  units = law.units;
   station = station_misses w es ahead law.settings law.wire law.station h;
   marked = law.marked;
   sessions = sessions_missed w.settings es w.path;
@@ -415,6 +469,7 @@ law_hear w x s e ahead (Grants n) law at h may =
     one_name : (s : Seat) (o : Option Tag) → (granted_one s o).name ≡ s.name
     one_name s None = refl
     one_name s (Some t) = refl
+
     granted_name : (n : ℕ) (s : Seat) → (granted s n).name ≡ s.name
     granted_name zero s = refl
     granted_name (suc n) s = granted_name n _ ∙ one_name s s.session
@@ -428,9 +483,18 @@ no_session st s m d to w = let q = session_destination m d w in absurd (q.1 (sym
 
 pub law_ask : (w : World) (frames : List FrameValue) → WorldLaw w → CanAsk w frames → WorldLaw (asking w frames)
 law_ask w frames law may = record {
-  settings = law.settings; wire = law.wire; booked = law.booked; numbered = law.numbered; proper = law.proper; seats = law.seats; apart = law.apart; units = law.units;
+  settings = law.settings;
+  wire = law.wire;
+  booked = law.booked;
+  numbered = law.numbered;
+  proper = law.proper;
+  seats = law.seats;
+  apart = law.apart;
+  units = law.units;
   station = station_asks w.settings w.wire w.asked w.path frames law.station may;
-  marked = law.marked; sessions = law.sessions; same = law.same;
+  marked = law.marked;
+  sessions = law.sessions;
+  same = law.same;
 }
 
 pub law_step : (old : World) (event : Event) (new : World) → WorldLaw old → Step old event new → WorldLaw new

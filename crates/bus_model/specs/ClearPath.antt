@@ -29,14 +29,14 @@ NoClaim a (Missed es ∷ path) = NoClaim a path
 -- part nothing was missed
 pub record IsOnClearPath (m : Message) (path : List Reception) : Type 0 where
   pub parts : (j : ℕ) → j ≤ last_part_of m → IsReceived m j path
-  pub after : List Reception      -- what came after the last part
+  pub after : List Reception  -- what came after the last part
   pub last : Item
-  pub older : List Reception      -- what came before the last part
+  pub older : List Reception  -- what came before the last part
   pub split : path ≡ after ++ Received last ∷ older
   pub is_last : is_part m (last_part_of m) last.tag ≡ true
-  pub upper : List Reception      -- from part 0 to the last part
+  pub upper : List Reception  -- from part 0 to the last part
   pub first : Item
-  pub lower : List Reception      -- from the claim to part 0
+  pub lower : List Reception  -- from the claim to part 0
   pub claim : Item
   pub before : List Reception
   pub stretch : ◌≡◌ {A = List Reception} (Received last ∷ older) (upper ++ Received first ∷ (lower ++ Received claim ∷ before))

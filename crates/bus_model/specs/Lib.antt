@@ -8,3 +8,4 @@ pub mod ClearPath
 pub mod LawfulTraffic
 pub mod Whole
 pub mod LookBack
+pub mod Example

@@ -24,20 +24,20 @@ pub record Seat : Type 0 where
 
 pub record World : Type 0 where
   pub settings : Settings
-  pub wire : List Item          -- the frames carried
+  pub wire : List Item  -- the frames carried
   pub seats : List Seat
-  pub asked : List Item         -- the station's queue
-  pub begun : List Message      -- the messages begun
-  pub path : List Reception     -- the wire as far as the station has it
+  pub asked : List Item  -- the station's queue
+  pub begun : List Message  -- the messages begun
+  pub path : List Reception  -- the wire as far as the station has it
 
 -- what a unit does with a frame that it hears
 pub data Answer : Type 0 where
   Quiet : Answer
   Replies : FrameValue → Answer
   Begins : (kind : Kind) (memory : MemoryValue) (source destination : ℕ) → Answer
-  Grants : ℕ → Answer             -- queues that many further packets of its session
-  Ends : Answer                   -- ends its session and withdraws what is left of it
-  Yields : Option ℕ → Answer      -- withdraws all, holds that address or none from now on, and says so
+  Grants : ℕ → Answer  -- queues that many further packets of its session
+  Ends : Answer  -- ends its session and withdraws what is left of it
+  Yields : Option ℕ → Answer  -- withdraws all, holds that address or none from now on, and says so
 
 pub data Event : Type 0 where
   Join : (name address : ℕ) → Event
@@ -46,9 +46,9 @@ pub data Event : Type 0 where
   Turned : (seat : ℕ) → Event
   Carry : (seat : ℕ) → Event
   Carry_station : Event
-  Ask : List FrameValue → Event          -- the station queues these frames, newest first
-  Read : List FrameValue → Event         -- the station receives a frame, and queues these in answer
-  Miss : ℕ → List FrameValue → Event     -- the station is told of so many missed frames, and queues these
+  Ask : List FrameValue → Event  -- the station queues these frames, newest first
+  Read : List FrameValue → Event  -- the station receives a frame, and queues these in answer
+  Miss : ℕ → List FrameValue → Event  -- the station is told of so many missed frames, and queues these
   Leave : (seat : ℕ) → Event
 
 -- a frame that is no part of a message

@@ -13,60 +13,59 @@ ghost use Rattle.bus_model.specs.LookBack.{IsOwner, EndsMessage};
 ghost use Rattle.bus_model.specs.Expected.{expected, readings, is_clear};
 ghost use Rattle.bus_model.specs.ClearPath.{IsOnClearPath, NoneMissed};
 ghost use Rattle.bus_model.specs.Whole.{received_whole};
+ghost use Rattle.bus_model.specs.Example.{example_settings, ShowsEachWay, ShowsAfterTakeover};
 ghost use Rattle.bus_model.specs.Machine.{World, Event, IsFit, Step, Run, start};
 
 /// The lists are exact: after every list of events, under each NAME and kind, the entries heard are the entries expected.
 pub fn lists_are_exact()
     ensures { (settings : Settings) → IsFit settings → (events : List Event) (w : World) → Run (start settings) events w → (n : ℕ) (k : Kind) → entries_heard settings n k (readings w.path) ≡ expected n k w.begun w.path }
-{
-}
+{}
 
 /// Who sends holds the address: before each frame of a message the last claim of its source bears the NAME of its seat.
 pub fn who_sends_holds_the_address()
     ensures { (settings : Settings) → IsFit settings → (events : List Event) (w : World) → Run (start settings) events w → (after before : List Item) (e : Item) (t : Tag) → w.wire ≡ after ++ e ∷ before → e.tag ≡ Some t → claimed_by t.message.source before ≡ Some e.name }
-{
-}
+{}
 
 /// Lawful traffic: each frame of a message is that part of it and comes from its seat, and parts stand in their order.
 pub fn traffic_is_lawful()
     ensures { (settings : Settings) → IsFit settings → (events : List Event) (w : World) → Run (start settings) events w → IsLawfulTraffic w.begun w.wire }
-{
-}
+{}
 
 /// Nothing unreadable: each message of a unit that ends can be read.
 pub fn nothing_is_unreadable()
     ensures { (settings : Settings) → IsFit settings → (events : List Event) (w : World) → Run (start settings) events w → unread_count settings (readings w.path) ≡ 0 }
-{
-}
+{}
 
 /// A list only grows: at every step each list of entries, newest first, keeps its entries and gets new ones in front.
 pub fn lists_only_grow()
     ensures { (old new : World) (event : Event) → Step old event new → (settings : Settings) (n : ℕ) (k : Kind) → (more : List Shown) × (entries_heard settings n k (readings new.path) ≡ more ++ entries_heard settings n k (readings old.path)) }
-{
-}
+{}
 
 /// Quiet addresses: where nothing was missed, the entries heard are the views of all messages whose last part was
 /// received, in the order begun. That each address is claimed under one NAME only need not be said: a unit that loses
 /// its address sends no further part, so such a message has no last part.
 pub fn nothing_missed_shows_all()
     ensures { (settings : Settings) → IsFit settings → (events : List Event) (w : World) → Run (start settings) events w → NoneMissed w.path → (n : ℕ) (k : Kind) → entries_heard settings n k (readings w.path) ≡ received_whole n k w.begun w.path }
-{
-}
+{}
 
 /// Clear path: for the messages begun, the walk back along what was received is the clear path said by looking back.
 pub fn clear_path_looks_back()
     ensures { (settings : Settings) → IsFit settings → (events : List Event) (w : World) → Run (start settings) events w → (m : Message) → IsAmong m w.begun → (is_clear m w.path ≡ true) ↔ IsOnClearPath m w.path }
-{
-}
+{}
 
 /// Look-back form of an owner: over any list of readings it is the NAME in the address's last claim, with no gap since.
 pub fn owner_looks_back()
     ensures { (a n : ℕ) (readings : List Reading) → (owner_heard a readings ≡ Some n) ↔ IsOwner a n readings }
-{
-}
+{}
 
 /// Look-back form of the messages that end, over any list of readings: in one frame, by broadcast and by session.
 pub fn messages_look_back()
     ensures { (settings : Settings) → IsFit settings → (reading : Reading) (older : List Reading) (entry : Entry) → (ended settings reading older ≡ Some entry) ↔ EndsMessage settings reading older entry }
-{
-}
+{}
+
+/// The machine is not empty: one run shows an entry by a single frame, one by a broadcast of two packets and one by a
+/// session; another shows none for a message with a gap inside, and one after a takeover of the address.
+pub fn machine_is_not_empty()
+    ensures each_way { (events : List Event) × (w : World) × Run (start example_settings) events w × ShowsEachWay w }
+    ensures after_takeover { (events : List Event) × (w : World) × Run (start example_settings) events w × ShowsAfterTakeover w }
+{}

@@ -1,5 +1,5 @@
 -- What comes of beginning a message of one's own accord.
-use Rattle.std.specs.Prelude.{ℕ, Option, if◌then◌else◌}
+use Rattle.std.specs.Prelude.{ℕ, ◌≤◌, Option, length, if◌then◌else◌}
 use Rattle.fault_memory.specs.Memory.{MemoryValue}
 use Rattle.dm_messages.specs.View.{pgn_of_kind}
 use Rattle.dm_messages.specs.declared.kind.Kind.{Kind}
@@ -14,3 +14,8 @@ abbrev pub begins : Option OpenSession → Kind → MemoryValue → ℕ → Star
 begins session kind memory source =
     if is_open session kind then Held
     else Begun (record { kind = kind; source = source; dest = 255 }) (parts_begun (payload_of kind memory) (pgn_of_kind kind) source 255)
+
+-- the frames are at most 256: the announcement and 255 packets
+abbrev pub IsFew : Started → Type 0
+IsFew Held = Unit {0}
+IsFew (Begun begun put) = length put ≤ 256

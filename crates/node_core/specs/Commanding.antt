@@ -1,6 +1,7 @@
 -- A commanded address (SAE J1939-81): nine bytes, broadcast in two packets.
-use Rattle.std.specs.Prelude.{ℕ, Bool, ◌&&◌, ◌==◌, nat_le, List, [], ◌∷◌, drop, length, slice_index, slice_index_or, slice_set, Option, Some, None, if◌then◌else◌}
-use Rattle.transport.specs.Pieces.{joined}
+use Rattle.std.specs.Prelude.{ℕ, Bool, ◌&&◌, ◌==◌, nat_le, List, [], ◌∷◌, ◌++◌, drop, length, slice_index, slice_index_or, slice_set, Option, Some, None, if◌then◌else◌}
+use Rattle.requests.specs.Layouts.{commanded_of}
+use Rattle.requests.specs.declared.commanded.Commanded.{Commanded}
 use Rattle.node_core.specs.declared.commanding.HalfCommand.{HalfCommand}
 use Rattle.node_core.specs.declared.commanding.HalfCommand.TheVariants.{Nothing, Started, First}
 
@@ -17,10 +18,20 @@ abbrev pub continued : HalfCommand → List ℕ → HalfCommand
 continued Started bytes = if is_packet 1 bytes then First (drop 1 bytes) else Nothing
 continued _ bytes = Nothing
 
--- the nine bytes that a packet makes whole
-abbrev pub completed : HalfCommand → List ℕ → Option (List ℕ)
-completed (First piece) bytes = if is_packet 2 bytes then Some (joined 9 (piece ∷ drop 1 bytes ∷ [])) else None
+-- the command that a packet makes whole: the seven bytes of the first packet and the first two of the second
+abbrev pub completed : HalfCommand → List ℕ → Option Commanded
+completed (First piece) bytes =
+    if is_packet 2 bytes then Some (commanded_of (piece ++ slice_index bytes 1 ∷ slice_index bytes 2 ∷ [])) else None
 completed _ bytes = None
+
+-- the command is for this NAME, and its address can be held
+abbrev pub is_command_for : ℕ → Commanded → Bool
+is_command_for name c = (c.name == name) && nat_le c.address 253
+
+-- a command counts only where it is for this NAME
+abbrev pub for_name : ℕ → Option Commanded → Option Commanded
+for_name name None = None
+for_name name (Some c) = if is_command_for name c then Some c else None
 
 -- what is half joined from the source
 abbrev pub half_from : List HalfCommand → ℕ → HalfCommand

@@ -1,6 +1,6 @@
 -- What a unit may do on hearing a frame, and what that comes to: what it withdraws, what it queues, what it begins, and
 -- what it keeps from then on.
-use Rattle.std.specs.Prelude.{ℕ, Bool, ◌+◌, ◌-◌, ◌==◌, List, [], ◌∷◌, map, Option, Some, None, if◌then◌else◌}
+use Rattle.std.specs.Prelude.{ℕ, Bool, true, ◌+◌, ◌-◌, ◌==◌, List, [], ◌∷◌, map, Option, Some, None, if◌then◌else◌}
 use Rattle.std.specs.List.{range_with_len}
 use Rattle.can_frame.specs.FrameValue.{FrameValue}
 use Rattle.transport.specs.Messages.{part_of_message, last_part}
@@ -82,6 +82,16 @@ begun_of _ = None
 -- what is withdrawn, queued and begun, with what the unit answered
 abbrev pub heard_of : Bool → Deed → Heard
 heard_of agrees deed = record { withdraw = withdraw_of deed; put = put_of deed; begun = begun_of deed; agreed = agrees }
+
+-- the answer by which a message of this payload begins
+abbrev pub beginning : List ℕ → Begun → Heard
+beginning payload begun =
+    record {
+      withdraw = withdraw.Keep;
+      put = parts_begun payload (pgn_of_kind begun.kind) begun.source begun.dest;
+      begun = Some begun;
+      agreed = true;
+    }
 
 -- a session whose first frame alone is queued
 abbrev pub opened : Kind → MemoryValue → ℕ → OpenSession

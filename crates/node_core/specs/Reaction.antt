@@ -11,7 +11,6 @@ use Rattle.address_claim.specs.Claiming.{claim_step, after_claim, held_after, is
 use Rattle.address_claim.specs.Frames.{claim_frame_value}
 use Rattle.address_claim.specs.declared.claimer.ClaimStep.{ClaimStep}
 use Rattle.address_claim.specs.declared.claimer.ClaimStep.TheVariants as step
-use Rattle.requests.specs.Layouts.{commanded_of}
 use Rattle.requests.specs.declared.commanded.Commanded.{Commanded}
 use Rattle.parameter_group.specs.Group.{Group, AddressClaimed, Request, ConnectionManagement, DataTransfer, group_of}
 use Rattle.fault_memory.specs.Memory.{MemoryValue}
@@ -19,7 +18,7 @@ use Rattle.dm_messages.specs.View.{pgn_of_kind}
 use Rattle.dm_messages.specs.declared.kind.Kind.{Kind}
 use Rattle.node_core.specs.NodeValue.{NodeValue, is_open, is_destination}
 use Rattle.node_core.specs.Deed.{Deed, Nothing, Replies, Begins, Sends, EndsSession, Claims, payload_of, heard_of, after}
-use Rattle.node_core.specs.Commanding.{started, continued, completed, half_from, is_broadcast}
+use Rattle.node_core.specs.Commanding.{started, continued, completed, half_from, is_broadcast, for_name}
 use Rattle.node_core.specs.Requested.{wanted_by, is_concerned, counts_from, cleared_by, acknowledgment}
 use Rattle.node_core.specs.declared.commanding.HalfCommand.{HalfCommand}
 use Rattle.node_core.specs.declared.commanding.HalfCommand.TheVariants as half
@@ -92,7 +91,9 @@ memory_asked_from memory agrees pgn source (Some address) =
 
 abbrev pub memory_after_request : NodeValue → MemoryValue → Bool → ℕ → ℕ → ℕ → MemoryValue
 memory_after_request node memory agrees pgn destination source =
-    if is_concerned node.claimer.held destination then memory_asked_from memory agrees pgn source node.claimer.held else memory
+    if not (is_concerned node.claimer.held destination) then memory
+    else if pgn == 60928 then memory
+    else memory_asked_from memory agrees pgn source node.claimer.held
 
 -- ---- sessions
 
@@ -143,19 +144,18 @@ on_control node source destination (Bam size packets pgn) = Nothing
 
 -- ---- commanded address
 
--- the command is for this NAME, and the address can be held
-abbrev pub is_command_for : ℕ → Commanded → Bool
-is_command_for name c = (c.name == name) && nat_le c.address 253
+-- the command for this NAME that a packet to all makes whole
+abbrev pub command_heard : NodeValue → ℕ → ℕ → List ℕ → Option Commanded
+command_heard node source destination bytes =
+    if is_broadcast destination source then for_name node.claimer.name (completed (half_from node.half_commands source) bytes) else None
 
--- a whole command is obeyed, if the unit agrees
-abbrev pub on_command : NodeValue → Bool → Option (List ℕ) → Deed
+-- it is obeyed, if the unit agrees
+abbrev pub on_command : NodeValue → Bool → Option Commanded → Deed
 on_command node agrees None = Nothing
-on_command node agrees (Some bytes) =
-    if is_command_for node.claimer.name (commanded_of bytes) && agrees then Claims node.claimer.name (Some (commanded_of bytes).address) else Nothing
+on_command node agrees (Some command) = if agrees then Claims node.claimer.name (Some command.address) else Nothing
 
 abbrev pub on_packet : NodeValue → Bool → ℕ → ℕ → List ℕ → Deed
-on_packet node agrees source destination bytes =
-    if is_broadcast destination source then on_command node agrees (completed (half_from node.half_commands source) bytes) else Nothing
+on_packet node agrees source destination bytes = on_command node agrees (command_heard node source destination bytes)
 
 -- ---- all of it
 

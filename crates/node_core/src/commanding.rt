@@ -1,9 +1,12 @@
-ghost use Rattle.std.specs.Prelude.{◌≡◌};
+ghost use Rattle.std.specs.Prelude.{◌≡◌, ◌≤◌, [], ◌∷◌, ◌++◌, length, IfSome};
 ghost use Rattle.node_core.specs.Commanding as commanding;
 
 use can_frame::Pgn;
+use name_field::Name;
+use requests::Commanded;
 
-const COMMANDED_ADDRESS_SIZE: u16 = 9;
+/// A commanded address has nine bytes.
+const COMMAND_SIZE: u16 = 9;
 
 /// What a unit has of a commanded address (SAE J1939-81) that one source broadcasts.
 ///
@@ -23,12 +26,75 @@ impl HalfCommand {
     pub fn started(size: u16, pgn: Pgn) -> HalfCommand
         ensures { result ≡ commanding.started size pgn }
     {
-        if size == COMMANDED_ADDRESS_SIZE && pgn == Pgn::COMMANDED_ADDRESS {
+        if size == COMMAND_SIZE && pgn == Pgn::COMMANDED_ADDRESS {
             HalfCommand::Started
         } else {
             HalfCommand::Nothing
         }
     }
+
+    /// What is half joined after a packet: one that is not the next one drops it, and so does the last one.
+    pub fn continued(self, bytes: &[u8]) -> HalfCommand
+        ensures { result ≡ commanding.continued self bytes.now }
+    {
+        match self {
+            HalfCommand::Started => first(bytes),
+            HalfCommand::First(_) | HalfCommand::Nothing => HalfCommand::Nothing,
+        }
+    }
+
+    /// The command that a packet makes whole.
+    pub fn completed(self, bytes: &[u8]) -> Option<Commanded>
+        ensures { result ≡ commanding.completed self bytes.now }
+    {
+        match self {
+            HalfCommand::First(piece) => whole(piece, bytes),
+            HalfCommand::Started | HalfCommand::Nothing => None,
+        }
+    }
+}
+
+/// What the first packet makes.
+fn first(bytes: &[u8]) -> HalfCommand
+    ensures { result ≡ commanding.continued HalfCommand.Started bytes.now }
+{
+    if !is_packet(1, bytes) {
+        return HalfCommand::Nothing;
+    }
+    match <[u8; 7]>::try_from(&bytes[1..]) {
+        Ok(piece) => HalfCommand::First(piece),
+        Err(_) => HalfCommand::Nothing,
+    }
+}
+
+/// What the second packet makes.
+fn whole(piece: [u8; 7], bytes: &[u8]) -> Option<Commanded>
+    ensures { result ≡ commanding.completed (HalfCommand.First piece) bytes.now }
+{
+    if !is_packet(2, bytes) {
+        return None;
+    }
+    Commanded::read(&nine_bytes(piece, bytes[1], bytes[2])).ok()
+}
+
+/// Seven bytes and two more.
+#[tactic(auto, using(crate::proofs::NineBytes::nine_bytes))]
+fn nine_bytes(piece: [u8; 7], eighth: u8, ninth: u8) -> [u8; 9]
+    ensures value { result ≡ piece ++ eighth ∷ ninth ∷ [] }
+    ensures size { length result ≡ 9 }
+{
+    let mut bytes = [0; 9];
+    bytes[..7].copy_from_slice(&piece);
+    bytes[7] = eighth;
+    bytes[8] = ninth;
+    bytes
+}
+
+/// Whether these are eight bytes, the first of which is this number.
+fn is_packet(number: u8, bytes: &[u8]) -> bool
+    ensures { result ≡ commanding.is_packet number bytes.now }
+{
+    bytes.len() == 8 && bytes[0] == number
 }
 
 /// Whether a frame goes to all, from an address that can be held.
@@ -36,4 +102,17 @@ pub fn is_broadcast(destination: u8, source: u8) -> bool
     ensures { result ≡ commanding.is_broadcast destination source }
 {
     destination == 255 && source <= 253
+}
+
+/// The command, if it is for this NAME and its address can be held.
+pub fn for_name(name: Name, command: Option<Commanded>) -> Option<Commanded>
+    ensures value { result ≡ commanding.for_name name command }
+    ensures fits { IfSome result (λ c. c.address ≤ 253) }
+{
+    let command = command?;
+    if command.name == name && command.address <= 253 {
+        Some(command)
+    } else {
+        None
+    }
 }

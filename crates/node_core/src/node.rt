@@ -1,19 +1,24 @@
-ghost use Rattle.std.specs.Prelude.{◌≡◌, ◌≤◌, ◌↔◌, IfOk, IfErr, OnErr, IfSome, IsErrOf, IsNone, Ok, Some, None, option_map, true};
+ghost use Rattle.std.specs.Prelude.{◌≡◌, ◌≤◌, ◌↔◌, IfOk, IfErr, OnErr, IfSome, IsSome, IsErrOf, IsNone, Ok, length, option_map, true};
 ghost use Rattle.address_claim.specs.Frames.{claim_frame_value};
 
 use crate::commanding::HalfCommand;
-use crate::heard::{Heard, Withdraw};
+use crate::error::NodeError;
+use crate::heard::{Begun, Heard, Started, Withdraw};
 use crate::out::Outs;
+use crate::parts::parts_begun;
 use crate::session::OpenSession;
 use address_claim::{Claimer, claim_frame};
 use can_frame::Frame;
-use dm_messages::Kind;
+use dm_messages::{Kind, payload};
 use name_field::Name;
+use parameter_group::ParameterGroup;
 use std::alloc::Global;
 use std::marker::Model;
+use unit_trait::Unit;
 
 mod claims;
 mod commands;
+mod requests;
 mod sessions;
 
 /// A unit's place on the bus: its NAME, the address that it holds, the claims that it has noted, what it has of commanded
@@ -35,7 +40,9 @@ impl Model for Node {
 
 impl Node {
     ghost use Rattle.address_claim.specs.Claiming.{is_held};
-    ghost use Rattle.node_core.specs.NodeValue.{new_node, is_destination};
+    ghost use Rattle.node_core.specs.Beginning.{IsFew, begins};
+    ghost use Rattle.node_core.specs.Reaction.{Reacts};
+    ghost use Rattle.node_core.specs.NodeValue.{new_node, is_destination, is_open};
     ghost use Rattle.node_core.specs.Deed.{heard_of, after, EndsSession};
 
     /// A unit of this NAME that holds the address it wants, 0 to 253. It has heard nothing. Takes no memory.
@@ -72,6 +79,83 @@ impl Node {
         match &self.session {
             Some(session) => Some(session.kind),
             None => None,
+        }
+    }
+
+    /// Begins a DM1 or a DM2 to all, in one frame or as a broadcast (SAE J1939-21, -73).
+    ///
+    /// Its payload encodes the view of the unit's fault memory in this very call. Refused with `Unclaimed` exactly where the
+    /// unit holds no address. Answers `Held` exactly where it holds one and a session of that kind is open.
+    #[tactic(auto, using(crate::proofs::Begins::starts_with_memory))]
+    pub fn begin(&self, alloc: Global, kind: Kind, unit: &dyn Unit) -> Result<Started, NodeError>
+        ensures unclaimed { IsErrOf result NodeError.Unclaimed ↔ IsNone self.now.claimer.held }
+        ensures held { (result ≡ Ok Started.Held) ↔ (IsSome self.now.claimer.held × (is_open self.now.session kind ≡ true)) }
+        ensures started { IfOk result (λ s. IfSome self.now.claimer.held (λ source. s ≡ begins self.now.session kind (memory_of unit.now) source)) }
+        ensures few { IfOk result IsFew }
+    {
+        let Some(source) = self.claimer.held() else {
+            return Err(NodeError::Unclaimed);
+        };
+        if self.is_open(kind) {
+            return Ok(Started::Held);
+        }
+        let payload = payload(alloc, kind, unit.memory())?;
+        let begun = Begun {
+            kind,
+            source,
+            dest: 255,
+        };
+        let put = parts_begun(alloc, payload.as_slice(), begun)?;
+        Ok(Started::Begun { begun, put })
+    }
+
+    /// Hears a frame, and puts to the unit what it asks.
+    ///
+    /// By what the unit answers where a clear or a commanded address is put to it, the answer, the node and the unit's memory
+    /// afterwards are exactly what is owed. Where memory is refused, node and unit's memory are as they were, and nothing was
+    /// put to the unit.
+    pub fn hear(
+        &mut self,
+        alloc: Global,
+        frame: &Frame,
+        unit: &mut dyn Unit,
+    ) -> Result<Heard, NodeError>
+        ensures name { name_of unit.new ≡ name_of unit.old }
+        ensures heard { IfOk result (λ h. Reacts frame.now self.old (memory_of unit.old) h self.new (memory_of unit.new)) }
+        ensures few { IfOk result (λ h. length h.put ≤ 256) }
+        ensures refused { IfErr result (λ e. e ≡ NodeError.OutOfMemory) }
+        ensures kept { OnErr result (self.new ≡ self.old) }
+        ensures memory_kept { OnErr result (memory_of unit.new ≡ memory_of unit.old) }
+    {
+        match ParameterGroup::read(frame) {
+            ParameterGroup::AddressClaimed { source, name } => Ok(self.hear_claim(
+                alloc, source, name,
+            )?),
+            ParameterGroup::Request(request) => self.hear_request(alloc, request, unit),
+            ParameterGroup::ConnectionManagement {
+                source,
+                dest,
+                control,
+            } => Ok(self.hear_control(alloc, source, dest, control)?),
+            ParameterGroup::DataTransfer {
+                source,
+                dest,
+                bytes,
+            } => Ok(self.hear_packet(alloc, source, dest, bytes, unit)?),
+            ParameterGroup::CannotClaim { .. }
+            | ParameterGroup::Acknowledgment(_)
+            | ParameterGroup::Diagnostic { .. }
+            | ParameterGroup::Other => Ok(Heard::nothing(alloc)),
+        }
+    }
+
+    /// Whether a session of that kind is open.
+    fn is_open(&self, kind: Kind) -> bool
+        ensures { result ≡ is_open self.now.session kind }
+    {
+        match &self.session {
+            Some(session) => session.kind == kind,
+            None => false,
         }
     }
 

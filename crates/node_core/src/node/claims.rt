@@ -1,4 +1,4 @@
-ghost use Rattle.std.specs.Prelude.{◌≡◌, ◌≤◌, ◌<◌, IfOk, OnOk, OnErr, true, [], vec_len, vec_capacity, slice_index_or, None};
+ghost use Rattle.std.specs.Prelude.{◌≡◌, ◌≤◌, ◌<◌, IfOk, OnOk, OnErr, true, [], length, vec_len, vec_capacity, slice_index_or, None};
 
 use crate::commanding::HalfCommand;
 use crate::heard::{Heard, Withdraw};
@@ -23,6 +23,7 @@ impl Node {
         requires { source ≤ 253 }
         ensures heard { IfOk result (λ h. h ≡ heard_of true (on_claim self.old source name)) }
         ensures node { OnOk result (self.new ≡ after (noted_from self.old (AddressClaimed source name)) (on_claim self.old source name)) }
+        ensures few { IfOk result (λ h. length h.put ≤ 256) }
         ensures kept { OnErr result (self.new ≡ self.old) }
     {
         if self.claimer.answer(source, name) == ClaimStep::Nothing {

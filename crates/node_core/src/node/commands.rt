@@ -1,13 +1,20 @@
-ghost use Rattle.std.specs.Prelude.{◌≡◌};
+ghost use Rattle.std.specs.Prelude.{◌≡◌, ◌≤◌, ◌<◌, IfOk, OnErr, IfSome, Some, true, [], length, vec_len, vec_capacity};
 
-use crate::commanding::{HalfCommand, is_broadcast};
+use crate::commanding::{HalfCommand, for_name, is_broadcast};
+use crate::heard::{Heard, Withdraw};
 use crate::node::Node;
+use crate::out::{Out, Outs};
 use can_frame::Pgn;
+use requests::Commanded;
+use std::alloc::{AllocError, Global};
+use unit_trait::Unit;
 
 impl Node {
-    ghost use Rattle.node_core.specs.Reaction.{announced};
+    ghost use Rattle.node_core.specs.Deed.{heard_of, after, Claims};
+    ghost use Rattle.node_core.specs.Reaction.{announced, command_heard, packet_joined, on_packet};
 
-    /// Takes note of a broadcast announcement: it drops what is half joined from its source, and may start a commanded address.
+    /// Takes note of a broadcast announcement: it drops what is half joined from its source, and may start a commanded
+    /// address.
     pub(super) fn note_announcement(&mut self, source: u8, destination: u8, size: u16, pgn: Pgn)
         ensures { self.new ≡ announced self.old source destination size pgn }
     {
@@ -15,5 +22,73 @@ impl Node {
             return;
         }
         self.half_commands[source as usize] = HalfCommand::started(size, pgn);
+    }
+
+    /// Hears a packet (SAE J1939-21, TP.DT); only one of a commanded address to all counts (SAE J1939-81).
+    pub(super) fn hear_packet(
+        &mut self,
+        alloc: Global,
+        source: u8,
+        destination: u8,
+        bytes: &[u8],
+        unit: &mut dyn Unit,
+    ) -> Result<Heard, AllocError>
+        ensures name { name_of unit.new ≡ name_of unit.old }
+        ensures heard { IfOk result (λ h. h ≡ heard_of h.agreed (on_packet self.old h.agreed source destination bytes.now)) }
+        ensures node { IfOk result (λ h. self.new ≡ after (packet_joined self.old source destination bytes.now) (on_packet self.old h.agreed source destination bytes.now)) }
+        ensures memory { memory_of unit.new ≡ memory_of unit.old }
+        ensures few { IfOk result (λ h. length h.put ≤ 256) }
+        ensures kept { OnErr result (self.new ≡ self.old) }
+    {
+        let Some(command) = self.command_heard(source, destination, bytes) else {
+            self.join_packet(source, destination, bytes);
+            return Ok(Heard::nothing(alloc));
+        };
+        let room = Vec::with_capacity(alloc, 1)?;
+        self.join_packet(source, destination, bytes);
+        if !unit.commanded(command.address) {
+            return Ok(Heard {
+                withdraw: Withdraw::Keep,
+                put: Outs::new(alloc),
+                begun: None,
+                agreed: false,
+            });
+        }
+        Ok(self.obey(command.address, room))
+    }
+
+    /// The command for this NAME that a packet makes whole.
+    fn command_heard(&self, source: u8, destination: u8, bytes: &[u8]) -> Option<Commanded>
+        ensures value { result ≡ command_heard self.now source destination bytes.now }
+        ensures fits { IfSome result (λ c. c.address ≤ 253) }
+    {
+        if !is_broadcast(destination, source) {
+            return None;
+        }
+        let half = self.half_commands[source as usize];
+        for_name(self.claimer.name(), half.completed(bytes))
+    }
+
+    /// A broadcast packet goes on with what is half joined from its source.
+    fn join_packet(&mut self, source: u8, destination: u8, bytes: &[u8])
+        ensures { self.new ≡ packet_joined self.old source destination bytes.now }
+    {
+        if !is_broadcast(destination, source) {
+            return;
+        }
+        let half = self.half_commands[source as usize];
+        self.half_commands[source as usize] = half.continued(bytes);
+    }
+
+    /// Holds the address from now on, and claims it. There is room for one frame.
+    fn obey(&mut self, address: u8, room: Vec<Out>) -> Heard
+        requires holdable { address ≤ 253 }
+        requires empty { room.items ≡ [] }
+        requires fits { vec_len room < vec_capacity room }
+        ensures heard { result ≡ heard_of true (Claims self.old.claimer.name (Some address)) }
+        ensures node { self.new ≡ after self.old (Claims self.old.claimer.name (Some address)) }
+    {
+        let _ = self.claimer.command(address);
+        self.claim_again(room)
     }
 }

@@ -1,4 +1,4 @@
-ghost use Rattle.std.specs.Prelude.{◌≡◌, ◌≤◌, ◌&&◌, nat_le, IfOk, OnOk, OnErr, if◌then◌else◌, option_map, true};
+ghost use Rattle.std.specs.Prelude.{◌≡◌, ◌≤◌, ◌&&◌, nat_le, IfOk, OnOk, OnErr, if◌then◌else◌, length, option_map, true};
 ghost use Rattle.transport.specs.Messages as message;
 ghost use Rattle.transport.specs.Sending.{packets_granted};
 ghost use Rattle.transport.specs.declared.control.Control.TheVariants as control;
@@ -29,6 +29,7 @@ impl Node {
     ) -> Result<Heard, AllocError>
         ensures heard { IfOk result (λ h. h ≡ heard_of true (on_control self.old source destination control)) }
         ensures node { OnOk result (self.new ≡ after (noted_from self.old (ConnectionManagement source destination control)) (on_control self.old source destination control)) }
+        ensures few { IfOk result (λ h. length h.put ≤ 256) }
         ensures kept { OnErr result (self.new ≡ self.old) }
     {
         match control {
@@ -53,7 +54,8 @@ impl Node {
         destination: u8,
         pgn: Pgn,
     ) -> Result<Heard, AllocError>
-        ensures { IfOk result (λ h. h ≡ heard_of true (if is_held self.now.claimer.held destination && nat_le source 253 then Replies (message.control_frame (control.Abort 2 pgn) destination source) else Nothing)) }
+        ensures heard { IfOk result (λ h. h ≡ heard_of true (if is_held self.now.claimer.held destination && nat_le source 253 then Replies (message.control_frame (control.Abort 2 pgn) destination source) else Nothing)) }
+        ensures few { IfOk result (λ h. length h.put ≤ 256) }
     {
         if !self.is_held(destination) || source > 253 {
             return Ok(Heard::nothing(alloc));
@@ -77,6 +79,7 @@ impl Node {
     ) -> Result<Heard, AllocError>
         ensures heard { IfOk result (λ h. h ≡ heard_of true (if is_held self.old.claimer.held destination then on_cts self.old.session destination source granted next pgn else Nothing)) }
         ensures node { OnOk result (self.new ≡ after self.old (if is_held self.old.claimer.held destination then on_cts self.old.session destination source granted next pgn else Nothing)) }
+        ensures few { IfOk result (λ h. length h.put ≤ 256) }
         ensures kept { OnErr result (self.new ≡ self.old) }
     {
         if !self.is_held(destination) {
@@ -114,6 +117,7 @@ impl Node {
 
     /// An end of message acknowledgment ends the session once every packet was queued.
     fn hear_end_ack(&mut self, alloc: Global, source: u8, destination: u8, pgn: Pgn) -> Heard
+        ensures few { length result.put ≤ 256 }
         ensures heard { result ≡ heard_of true (if is_held self.old.claimer.held destination then on_end_ack self.old.session source pgn else Nothing) }
         ensures node { self.new ≡ after self.old (if is_held self.old.claimer.held destination then on_end_ack self.old.session source pgn else Nothing) }
     {
@@ -125,6 +129,7 @@ impl Node {
 
     /// An abort ends the session.
     fn hear_abort(&mut self, alloc: Global, source: u8, destination: u8, pgn: Pgn) -> Heard
+        ensures few { length result.put ≤ 256 }
         ensures heard { result ≡ heard_of true (if is_held self.old.claimer.held destination then on_abort self.old.session source pgn else Nothing) }
         ensures node { self.new ≡ after self.old (if is_held self.old.claimer.held destination then on_abort self.old.session source pgn else Nothing) }
     {

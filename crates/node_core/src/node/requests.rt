@@ -1,0 +1,265 @@
+ghost use Rattle.std.specs.Prelude.{◌≡◌, ◌≤◌, IfOk, IfErr, OnOk, OnErr, length, true, if◌then◌else◌};
+ghost use Rattle.node_core.specs.Deed.{Replies, beginning, heard_of};
+ghost use Rattle.node_core.specs.Requested.{cleared_by};
+ghost use Rattle.node_core.specs.Requested as requested;
+
+use crate::error::NodeError;
+use crate::heard::{Begun, Heard, Withdraw};
+use crate::node::Node;
+use crate::out::{Out, Outs};
+use crate::parts::{group_of_kind, parts_begun};
+use crate::requested::{Clear, Wanted, acknowledgment, counts_from, put_clear};
+use crate::session::OpenSession;
+use can_frame::Pgn;
+use dm_messages::{Kind, payload};
+use fault_memory::FaultMemory;
+use requests::Request;
+use std::alloc::Global;
+use transport::Sending;
+use unit_trait::Unit;
+
+/// Acknowledged: done.
+const POSITIVE: u8 = 0;
+/// Not acknowledged: refused, or not supported.
+const NEGATIVE: u8 = 1;
+/// Cannot respond now.
+const BUSY: u8 = 3;
+
+impl Node {
+    ghost use Rattle.node_core.specs.Deed.{after};
+    ghost use Rattle.node_core.specs.Requested.{is_concerned};
+    ghost use Rattle.node_core.specs.Reaction.{on_request, asked_of_all, asked_at_address, asked_for_message, memory_asked, memory_after_request};
+    ghost use Rattle.node_core.specs.declared.requested.Wanted.TheVariants as wanted;
+
+    /// Hears a request (SAE J1939-21).
+    pub(super) fn hear_request(
+        &mut self,
+        alloc: Global,
+        request: Request,
+        unit: &mut dyn Unit,
+    ) -> Result<Heard, NodeError>
+        ensures name { name_of unit.new ≡ name_of unit.old }
+        ensures heard { IfOk result (λ h. h ≡ heard_of h.agreed (on_request self.old (memory_of unit.old) h.agreed request.pgn request.dest request.source)) }
+        ensures node { IfOk result (λ h. self.new ≡ after self.old (on_request self.old (memory_of unit.old) h.agreed request.pgn request.dest request.source)) }
+        ensures memory { IfOk result (λ h. memory_of unit.new ≡ memory_after_request self.old (memory_of unit.old) h.agreed request.pgn request.dest request.source) }
+        ensures few { IfOk result (λ h. length h.put ≤ 256) }
+        ensures refused { IfErr result (λ e. e ≡ NodeError.OutOfMemory) }
+        ensures kept { OnErr result (self.new ≡ self.old) }
+        ensures memory_kept { OnErr result (memory_of unit.new ≡ memory_of unit.old) }
+    {
+        if !self.is_concerned(request.dest) {
+            return Ok(Heard::nothing(alloc));
+        }
+        if request.pgn == Pgn::ADDRESS_CLAIMED {
+            return Ok(Heard::replies(alloc, self.start())?);
+        }
+        let Some(address) = self.claimer.held() else {
+            return Ok(Heard::nothing(alloc));
+        };
+        if !counts_from(address, request.source) {
+            return Ok(Heard::nothing(alloc));
+        }
+        let wanted = Wanted::by(request.pgn);
+        if request.dest == 255 {
+            self.asked_of_all(alloc, wanted, address, unit)
+        } else {
+            self.asked_at_address(alloc, wanted, request, address, unit)
+        }
+    }
+
+    /// Whether a frame to this destination goes to all, or to the address held.
+    fn is_concerned(&self, destination: u8) -> bool
+        ensures { result ≡ is_concerned self.now.claimer.held destination }
+    {
+        destination == 255 || self.is_held(destination)
+    }
+
+    /// Asked of all for more than the claim.
+    fn asked_of_all(
+        &self,
+        alloc: Global,
+        wanted: Wanted,
+        address: u8,
+        unit: &mut dyn Unit,
+    ) -> Result<Heard, NodeError>
+        ensures name { name_of unit.new ≡ name_of unit.old }
+        ensures heard { IfOk result (λ h. h ≡ heard_of h.agreed (asked_of_all self.now (memory_of unit.old) address wanted)) }
+        ensures same { self.now ≡ after self.now (asked_of_all self.now (memory_of unit.old) address wanted) }
+        ensures memory { IfOk result (λ h. memory_of unit.new ≡ memory_asked wanted h.agreed (memory_of unit.old)) }
+        ensures few { IfOk result (λ h. length h.put ≤ 256) }
+        ensures refused { IfErr result (λ e. e ≡ NodeError.OutOfMemory) }
+        ensures memory_kept { OnErr result (memory_of unit.new ≡ memory_of unit.old) }
+    {
+        match wanted {
+            Wanted::Message(kind) => self.message_to_all(alloc, kind, address, unit.memory()),
+            Wanted::Clear(which) => Ok(Heard {
+                withdraw: Withdraw::Keep,
+                put: Outs::new(alloc),
+                begun: None,
+                agreed: put_clear(which, unit),
+            }),
+            Wanted::Unsupported => Ok(Heard::nothing(alloc)),
+        }
+    }
+
+    /// A message asked of all: one frame or a broadcast, but not while a session of that kind is open.
+    #[tactic(auto, using(crate::proofs::Begins::begins_with_memory))]
+    fn message_to_all(
+        &self,
+        alloc: Global,
+        kind: Kind,
+        address: u8,
+        memory: &FaultMemory,
+    ) -> Result<Heard, NodeError>
+        ensures heard { IfOk result (λ h. h ≡ heard_of true (asked_of_all self.now memory.now address (wanted.Message kind))) }
+        ensures same { self.now ≡ after self.now (asked_of_all self.now memory.now address (wanted.Message kind)) }
+        ensures few { IfOk result (λ h. length h.put ≤ 256) }
+        ensures refused { IfErr result (λ e. e ≡ NodeError.OutOfMemory) }
+    {
+        if self.is_open(kind) {
+            return Ok(Heard::nothing(alloc));
+        }
+        let payload = payload(alloc, kind, memory)?;
+        let begun = Begun {
+            kind,
+            source: address,
+            dest: 255,
+        };
+        message_begun(alloc, payload.as_slice(), begun)
+    }
+
+    /// Asked at the unit's own address for more than the claim.
+    fn asked_at_address(
+        &mut self,
+        alloc: Global,
+        wanted: Wanted,
+        request: Request,
+        address: u8,
+        unit: &mut dyn Unit,
+    ) -> Result<Heard, NodeError>
+        requires { request.source ≤ 253 }
+        ensures name { name_of unit.new ≡ name_of unit.old }
+        ensures heard { IfOk result (λ h. h ≡ heard_of h.agreed (asked_at_address self.old (memory_of unit.old) h.agreed request.pgn address request.source wanted)) }
+        ensures node { IfOk result (λ h. self.new ≡ after self.old (asked_at_address self.old (memory_of unit.old) h.agreed request.pgn address request.source wanted)) }
+        ensures memory { IfOk result (λ h. memory_of unit.new ≡ memory_asked wanted h.agreed (memory_of unit.old)) }
+        ensures few { IfOk result (λ h. length h.put ≤ 256) }
+        ensures refused { IfErr result (λ e. e ≡ NodeError.OutOfMemory) }
+        ensures kept { OnErr result (self.new ≡ self.old) }
+        ensures memory_kept { OnErr result (memory_of unit.new ≡ memory_of unit.old) }
+    {
+        match wanted {
+            Wanted::Message(kind) => self.asked_for_message(
+                alloc,
+                kind,
+                request,
+                address,
+                unit.memory(),
+            ),
+            Wanted::Clear(which) => asked_to_clear(alloc, which, request, address, unit),
+            Wanted::Unsupported => Ok(Heard::replies(
+                alloc,
+                acknowledgment(NEGATIVE, request.source, request.pgn, address),
+            )?),
+        }
+    }
+
+    /// A message asked for at the unit's own address: not while a session of that kind is open; one frame to all if eight
+    /// bytes suffice; else a session with the requester, one at a time.
+    #[tactic(auto, using(crate::proofs::Begins::begins_with_memory, crate::proofs::Begins::opens_with_memory))]
+    fn asked_for_message(
+        &mut self,
+        alloc: Global,
+        kind: Kind,
+        request: Request,
+        address: u8,
+        memory: &FaultMemory,
+    ) -> Result<Heard, NodeError>
+        requires { request.source ≤ 253 }
+        ensures heard { IfOk result (λ h. h ≡ heard_of true (asked_for_message self.old.session kind memory.now request.pgn address request.source)) }
+        ensures node { OnOk result (self.new ≡ after self.old (asked_for_message self.old.session kind memory.now request.pgn address request.source)) }
+        ensures few { IfOk result (λ h. length h.put ≤ 256) }
+        ensures refused { IfErr result (λ e. e ≡ NodeError.OutOfMemory) }
+        ensures kept { OnErr result (self.new ≡ self.old) }
+    {
+        if self.is_open(kind) {
+            return busy(alloc, request, address);
+        }
+        let payload = payload(alloc, kind, memory)?;
+        if payload.len() == 8 {
+            let begun = Begun {
+                kind,
+                source: address,
+                dest: 255,
+            };
+            return message_begun(alloc, payload.as_slice(), begun);
+        }
+        if self.session.is_some() {
+            return busy(alloc, request, address);
+        }
+        let begun = Begun {
+            kind,
+            source: address,
+            dest: request.source,
+        };
+        let heard = message_begun(alloc, payload.as_slice(), begun)?;
+        let sending = Sending::start(payload, request.source, group_of_kind(kind));
+        self.session = Some(OpenSession { kind, sending });
+        Ok(heard)
+    }
+}
+
+/// Asked to clear at the unit's own address: the unit is asked once the answer has its memory.
+fn asked_to_clear(
+    alloc: Global,
+    which: Clear,
+    request: Request,
+    address: u8,
+    unit: &mut dyn Unit,
+) -> Result<Heard, NodeError>
+    ensures name { name_of unit.new ≡ name_of unit.old }
+    ensures heard { IfOk result (λ h. h ≡ heard_of h.agreed (Replies (requested.acknowledgment (if h.agreed then 0 else 1) request.source request.pgn address))) }
+    ensures memory { IfOk result (λ h. memory_of unit.new ≡ (if h.agreed then cleared_by which (memory_of unit.old) else memory_of unit.old)) }
+    ensures refused { IfErr result (λ e. e ≡ NodeError.OutOfMemory) }
+    ensures memory_kept { OnErr result (memory_of unit.new ≡ memory_of unit.old) }
+{
+    let mut room = Vec::with_capacity(alloc, 1)?;
+    let agreed = put_clear(which, unit);
+    let control = if agreed { POSITIVE } else { NEGATIVE };
+    room.push_reserved(Out {
+        frame: acknowledgment(control, request.source, request.pgn, address),
+        part: None,
+    });
+    Ok(Heard {
+        withdraw: Withdraw::Keep,
+        put: Outs::from_vec(room),
+        begun: None,
+        agreed,
+    })
+}
+
+/// The unit cannot respond now.
+fn busy(alloc: Global, request: Request, address: u8) -> Result<Heard, NodeError>
+    ensures heard { IfOk result (λ h. h ≡ heard_of true (Replies (requested.acknowledgment 3 request.source request.pgn address))) }
+    ensures refused { IfErr result (λ e. e ≡ NodeError.OutOfMemory) }
+{
+    Ok(Heard::replies(
+        alloc,
+        acknowledgment(BUSY, request.source, request.pgn, address),
+    )?)
+}
+
+/// A message begins.
+fn message_begun(alloc: Global, payload: &[u8], begun: Begun) -> Result<Heard, NodeError>
+    requires least { 8 ≤ length payload.now }
+    requires most { length payload.now ≤ 1785 }
+    ensures heard { IfOk result (λ h. h ≡ beginning payload.now begun) }
+    ensures few { IfOk result (λ h. length h.put ≤ 256) }
+    ensures refused { IfErr result (λ e. e ≡ NodeError.OutOfMemory) }
+{
+    Ok(Heard {
+        withdraw: Withdraw::Keep,
+        put: parts_begun(alloc, payload, begun)?,
+        begun: Some(begun),
+        agreed: true,
+    })
+}

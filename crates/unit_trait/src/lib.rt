@@ -6,3 +6,6 @@ mod unit;
 
 pub use refused::Refused;
 pub use unit::Unit;
+
+#[cfg(test)]
+mod tests;

@@ -1,6 +1,6 @@
 ghost use Rattle.std.specs.Prelude.{ℕ, Bool, ◌≡◌, ◌⊎◌, OnOk, OnErr, IfErr};
 ghost use Rattle.fault_memory.specs.Memory.{MemoryValue};
-ghost use Rattle.fault_memory.specs.Changes.{changed, cleared_active, cleared_previous};
+ghost use Rattle.fault_memory.specs.Changes.{Grows, changed, cleared_active, cleared_previous};
 
 use crate::refused::Refused;
 use fault_memory::{FaultChange, FaultError, FaultMemory};
@@ -32,11 +32,13 @@ pub trait Unit: Send + Drop {
     fn think(&mut self)
         ensures name { name_of self.new ≡ name_of self.old };
 
-    /// Makes the change in the fault memory, or refuses as the memory does, and then leaves it as it was.
+    /// Makes the change in the fault memory, or refuses it as the memory does: for the reason that is defined for the change, or
+    /// for want of the memory of a longer list. Refused, it leaves the fault memory as it was.
     fn apply(&mut self, change: FaultChange) -> Result<(), FaultError>
         ensures name { name_of self.new ≡ name_of self.old }
         ensures ok { OnOk result (changed (memory_of self.old) change ≡ Ok (memory_of self.new)) }
-        ensures refused { IfErr result (λ e. (e ≡ FaultError.OutOfMemory) ⊎ (changed (memory_of self.old) change ≡ Err e)) }
+        ensures refused { (e : FaultError) → changed (memory_of self.old) change ≡ Err e → result ≡ Err e }
+        ensures why { IfErr result (λ e. ((e ≡ FaultError.OutOfMemory) × Grows (changed (memory_of self.old) change) (memory_of self.old)) ⊎ (changed (memory_of self.old) change ≡ Err e)) }
         ensures err { OnErr result (memory_of self.new ≡ memory_of self.old) };
 
     /// Clears the active codes (DM11), or refuses (18) with the memory as it was. Takes no memory.

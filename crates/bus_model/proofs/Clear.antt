@@ -1,4 +1,4 @@
--- The walk back is the demand's clear path.
+-- The walk back along what was received is the clear path said by looking back.
 use Rattle.std.proofs.Common.{◌≡◌, ◌≢◌, ℕ, suc, zero, ◌≤◌, Bool, true, false, ◌==◌, List, [], ◌∷◌, ◌++◌, Option, Some, None, if◌then◌else◌, sym, refl, ap, ◌∙◌, subst, inl, inr, arith, append_assoc}
 use Rattle.bus_model.specs.ClearPath.{IsOnClearPath, IsReceived, NoClaim, NoneMissed}
 use Rattle.bus_model.specs.Expected.{Missed, Own, Received, Reception, is_anchored, is_claim, is_clear, is_part, is_unbroken, passed}
@@ -75,15 +75,15 @@ follows_back m j (Some s) f = elim f [ inl w ↦ cc w.1 | inr w ↦ (let p : s.p
 
 -- back from a part on an unbroken path each earlier part was read
 pub parts_back : (st : ℕ) (begun : List Message) (m : Message) (j i : ℕ) (path : List Reception) → Numbered begun → IsAmong m begun → Lawful st (passed path) → Marked st path → Every (IsBooked begun) (passed path) → last_of m.name m.kind (passed path) ≡ Some (tag_of m j) → is_unbroken m path ≡ true → i ≤ j → IsReceived m i path
-parts_back st begun m j i [] num isin law mk booked l u le = cc
-parts_back st begun m j i (Missed es ∷ path) num isin law mk booked l u le = cc
-parts_back st begun m j i (Own e ∷ path) num isin law mk booked l u le =
+parts_back st begun m j i [] num among law mk booked l u le = cc
+parts_back st begun m j i (Missed es ∷ path) num among law mk booked l u le = cc
+parts_back st begun m j i (Own e ∷ path) num among law mk booked l u le =
     let l2 : last_of m.name m.kind (passed path) ≡ Some (tag_of m j) = subst (λ (o : Option Tag). (if is_of m.name m.kind o then o else last_of m.name m.kind (passed path)) ≡ Some (tag_of m j)) mk.0.tag l in
-    later_read m i (Own e) path (parts_back st begun m j i path num isin law.1 mk.1 booked.1 l2 u le)
-parts_back st begun m j i (Received e ∷ path) num isin law mk booked l u le =
+    later_read m i (Own e) path (parts_back st begun m j i path num among law.1 mk.1 booked.1 l2 u le)
+parts_back st begun m j i (Received e ∷ path) num among law mk booked l u le =
     elim (pick_cases (is_of m.name m.kind e.tag) e.tag (last_of m.name m.kind (passed path)) (Some (tag_of m j)) l) [
-      | inl w ↦ here j i (i == j) refl w.1 le (law.0.tagged (tag_of m j) w.1).order (λ k f v q. parts_back st begun m k i path num isin law.1 mk.1 booked.1 f v q)
-      | inr w ↦ later_read m i (Received e) path (parts_back st begun m j i path num isin law.1 mk.1 booked.1 w.1 (rest (other w.0)) le)
+      | inl w ↦ here j i (i == j) refl w.1 le (law.0.tagged (tag_of m j) w.1).order (λ k f v q. parts_back st begun m k i path num among law.1 mk.1 booked.1 f v q)
+      | inr w ↦ later_read m i (Received e) path (parts_back st begun m j i path num among law.1 mk.1 booked.1 w.1 (rest (other w.0)) le)
     ]
   where
     rest : is_part m 0 e.tag ≡ false → is_unbroken m path ≡ true
@@ -93,7 +93,7 @@ parts_back st begun m j i (Received e ∷ path) num isin law mk booked l u le =
     at None g h = cc
     at (Some t) g h =
         let q = and_parts (t.message.number == m.number) (t.part == 0) h in
-        let same = same_message t.message m begun num (booked.0 t g) isin (true_test t.message.number m.number q.0) in
+        let same = same_message t.message m begun num (booked.0 t g) among (true_test t.message.number m.number q.0) in
         rw (same, same_test m.name) (same_kind_self m.kind)
 
     other : is_of m.name m.kind e.tag ≡ false → is_part m 0 e.tag ≡ false
@@ -139,31 +139,31 @@ later_clear m x path h = record {
 }
 
 pub part_is : (begun : List Message) (m : Message) (j : ℕ) (o : Option Tag) → Numbered begun → IsAmong m begun → ((t : Tag) → o ≡ Some t → IsAmong t.message begun) → is_part m j o ≡ true → o ≡ Some (tag_of m j)
-part_is begun m j None num isin b h = cc
-part_is begun m j (Some t) num isin b h =
+part_is begun m j None num among b h = cc
+part_is begun m j (Some t) num among b h =
     let q = and_parts (t.message.number == m.number) (t.part == j) h in
-    let same = same_message t.message m begun num (b t refl) isin (true_test t.message.number m.number q.0) in
+    let same = same_message t.message m begun num (b t refl) among (true_test t.message.number m.number q.0) in
     let f : Message → ℕ → Tag = λ x y. tag_of x y in
     let g : f t.message t.part ≡ f m j = ap (λ (v : Message). f v t.part) same ∙ ap (f m) (true_test t.part j q.1) in
     ap Some g
 
 -- the walk back finds a clear path
 pub clear_is : (st : ℕ) (begun : List Message) (m : Message) (path : List Reception) → Numbered begun → IsAmong m begun → Lawful st (passed path) → Marked st path → Every (IsBooked begun) (passed path) → is_clear m path ≡ true → IsOnClearPath m path
-clear_is st begun m [] num isin law mk booked h = cc
-clear_is st begun m (Missed es ∷ path) num isin law mk booked h =
-    later_clear m (Missed es) path (clear_is st begun m path num isin (lawful_rest st es (passed path) law) mk (every_rest (IsBooked begun) es (passed path) booked) h)
-clear_is st begun m (Own e ∷ path) num isin law mk booked h =
-    later_clear m (Own e) path (clear_is st begun m path num isin law.1 mk.1 booked.1 h)
-clear_is st begun m (Received e ∷ path) num isin law mk booked h =
+clear_is st begun m [] num among law mk booked h = cc
+clear_is st begun m (Missed es ∷ path) num among law mk booked h =
+    later_clear m (Missed es) path (clear_is st begun m path num among (lawful_rest st es (passed path) law) mk (every_rest (IsBooked begun) es (passed path) booked) h)
+clear_is st begun m (Own e ∷ path) num among law mk booked h =
+    later_clear m (Own e) path (clear_is st begun m path num among law.1 mk.1 booked.1 h)
+clear_is st begun m (Received e ∷ path) num among law mk booked h =
     elim (pick_cases (is_part m (last_part_of m) e.tag) (is_unbroken m (Received e ∷ path)) (is_clear m path) true h) [
       | inl w ↦
-          (let tag = part_is begun m (last_part_of m) e.tag num isin booked.0 w.0 in
+          (let tag = part_is begun m (last_part_of m) e.tag num among booked.0 w.0 in
           let of : is_of m.name m.kind e.tag ≡ true = rw (tag, same_test m.name) (same_kind_self m.kind) in
           let l : last_of m.name m.kind (passed (Received e ∷ path)) ≡ Some (tag_of m (last_part_of m)) = rw of tag in
           let p = stretch m (Received e ∷ path) w.1 in
           let q = anchor m.source p.older p.anchor in
           record {
-            parts = λ j le. parts_back st begun m (last_part_of m) j (Received e ∷ path) num isin law mk booked l w.1 le;
+            parts = λ j le. parts_back st begun m (last_part_of m) j (Received e ∷ path) num among law mk booked l w.1 le;
             after = [];
             last = e;
             older = path;
@@ -181,7 +181,7 @@ clear_is st begun m (Received e ∷ path) num isin law mk booked h =
             lower_whole = q.whole;
             latest = q.latest;
           })
-      | inr w ↦ later_clear m (Received e) path (clear_is st begun m path num isin law.1 mk.1 booked.1 w.1)
+      | inr w ↦ later_clear m (Received e) path (clear_is st begun m path num among law.1 mk.1 booked.1 w.1)
     ]
 
 pub passed_append : (xs ys : List Reception) → passed (xs ++ ys) ≡ passed xs ++ passed ys
@@ -208,31 +208,31 @@ anchored_from a (Received e ∷ lower) before claim w c = rw (anchored_from a lo
     same false = refl
 
 pub unbroken_from : (st : ℕ) (begun : List Message) (m : Message) (upper older : List Reception) (first : Item) → Numbered begun → IsAmong m begun → Lawful st (passed (upper ++ Received first ∷ older)) → Every (IsBooked begun) (passed (upper ++ Received first ∷ older)) → NoneMissed upper → is_part m 0 first.tag ≡ true → first.tag ≡ Some (tag_of m 0) → is_anchored m.source older ≡ true → is_unbroken m (upper ++ Received first ∷ older) ≡ true
-unbroken_from st begun m [] older first num isin law b w f g a = rw (f, a) refl
-unbroken_from st begun m (Own e ∷ upper) older first num isin law b w f g a = unbroken_from st begun m upper older first num isin law.1 b.1 w f g a
-unbroken_from st begun m (Missed es ∷ upper) older first num isin law b w f g a = absurd w
-unbroken_from st begun m (Received e ∷ upper) older first num isin law b w f g a =
-    go (is_part m 0 e.tag) refl (unbroken_from st begun m upper older first num isin law.1 b.1 w f g a)
+unbroken_from st begun m [] older first num among law b w f g a = rw (f, a) refl
+unbroken_from st begun m (Own e ∷ upper) older first num among law b w f g a = unbroken_from st begun m upper older first num among law.1 b.1 w f g a
+unbroken_from st begun m (Missed es ∷ upper) older first num among law b w f g a = absurd w
+unbroken_from st begun m (Received e ∷ upper) older first num among law b w f g a =
+    go (is_part m 0 e.tag) refl (unbroken_from st begun m upper older first num among law.1 b.1 w f g a)
   where
     go : (t : Bool) → is_part m 0 e.tag ≡ t → is_unbroken m (upper ++ Received first ∷ older) ≡ true → (if t then is_anchored m.source (upper ++ Received first ∷ older) else is_unbroken m (upper ++ Received first ∷ older)) ≡ true
-    go true i ih = absurd (not_twice st m 0 e first upper older law (part_is begun m 0 e.tag num isin b.0 i) g)
+    go true i ih = absurd (not_twice st m 0 e first upper older law (part_is begun m 0 e.tag num among b.0 i) g)
     go false i ih = ih
 
 pub clear_from : (st : ℕ) (begun : List Message) (m : Message) (after older : List Reception) (last : Item) → Numbered begun → IsAmong m begun → Lawful st (passed (after ++ Received last ∷ older)) → Every (IsBooked begun) (passed (after ++ Received last ∷ older)) → is_part m (last_part_of m) last.tag ≡ true → last.tag ≡ Some (tag_of m (last_part_of m)) → is_unbroken m (Received last ∷ older) ≡ true → is_clear m (after ++ Received last ∷ older) ≡ true
-clear_from st begun m [] older last num isin law b i g u = rw i u
-clear_from st begun m (Own e ∷ after) older last num isin law b i g u = clear_from st begun m after older last num isin law.1 b.1 i g u
-clear_from st begun m (Missed es ∷ after) older last num isin law b i g u =
-    clear_from st begun m after older last num isin (lawful_rest st es (passed (after ++ Received last ∷ older)) law) (every_rest (IsBooked begun) es (passed (after ++ Received last ∷ older)) b) i g u
-clear_from st begun m (Received e ∷ after) older last num isin law b i g u =
-    go (is_part m (last_part_of m) e.tag) refl (clear_from st begun m after older last num isin law.1 b.1 i g u)
+clear_from st begun m [] older last num among law b i g u = rw i u
+clear_from st begun m (Own e ∷ after) older last num among law b i g u = clear_from st begun m after older last num among law.1 b.1 i g u
+clear_from st begun m (Missed es ∷ after) older last num among law b i g u =
+    clear_from st begun m after older last num among (lawful_rest st es (passed (after ++ Received last ∷ older)) law) (every_rest (IsBooked begun) es (passed (after ++ Received last ∷ older)) b) i g u
+clear_from st begun m (Received e ∷ after) older last num among law b i g u =
+    go (is_part m (last_part_of m) e.tag) refl (clear_from st begun m after older last num among law.1 b.1 i g u)
   where
     go : (t : Bool) → is_part m (last_part_of m) e.tag ≡ t → is_clear m (after ++ Received last ∷ older) ≡ true → (if t then is_unbroken m (Received e ∷ (after ++ Received last ∷ older)) else is_clear m (after ++ Received last ∷ older)) ≡ true
-    go true c ih = absurd (not_twice st m (last_part_of m) e last after older law (part_is begun m (last_part_of m) e.tag num isin b.0 c) g)
+    go true c ih = absurd (not_twice st m (last_part_of m) e last after older law (part_is begun m (last_part_of m) e.tag num among b.0 c) g)
     go false c ih = ih
 
 -- a clear path is found by the walk back
 pub found_clear : (st : ℕ) (begun : List Message) (m : Message) (path : List Reception) → Numbered begun → IsAmong m begun → Lawful st (passed path) → Every (IsBooked begun) (passed path) → IsOnClearPath m path → is_clear m path ≡ true
-found_clear st begun m path num isin law b h =
+found_clear st begun m path num among law b h =
     let lawful = subst (λ (v : List Reception). Lawful st (passed v)) h.split law in
     let booked = subst (λ (v : List Reception). Every (IsBooked begun) (passed v)) h.split b in
     let inner = subst (λ (v : List Item). Lawful st v) (passed_append h.after (Received h.last ∷ h.older)) lawful in
@@ -243,6 +243,6 @@ found_clear st begun m path num isin law b h =
     let law2 = subst (λ (v : List Reception). Lawful st (passed v)) h.stretch lower in
     let b2 = subst (λ (v : List Reception). Every (IsBooked begun) (passed v)) h.stretch blower in
     let first_booked = (every_rest (IsBooked begun) (passed h.upper) (h.first ∷ passed rest) (subst (Every (IsBooked begun)) (passed_append h.upper (Received h.first ∷ rest)) b2)).0 in
-    let u = unbroken_from st begun m h.upper rest h.first num isin law2 b2 h.upper_whole h.is_first (part_is begun m 0 h.first.tag num isin first_booked h.is_first) (anchored_from m.source h.lower h.before h.claim h.lower_whole h.is_claim') in
+    let u = unbroken_from st begun m h.upper rest h.first num among law2 b2 h.upper_whole h.is_first (part_is begun m 0 h.first.tag num among first_booked h.is_first) (anchored_from m.source h.lower h.before h.claim h.lower_whole h.is_claim') in
     let u2 : is_unbroken m (Received h.last ∷ h.older) ≡ true = ap (is_unbroken m) h.stretch ∙ u in
-    ap (is_clear m) h.split ∙ clear_from st begun m h.after h.older h.last num isin lawful booked h.is_last (part_is begun m (last_part_of m) h.last.tag num isin blower.0 h.is_last) u2
+    ap (is_clear m) h.split ∙ clear_from st begun m h.after h.older h.last num among lawful booked h.is_last (part_is begun m (last_part_of m) h.last.tag num among blower.0 h.is_last) u2

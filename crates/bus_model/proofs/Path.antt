@@ -1,4 +1,4 @@
--- What the readings say of a path that is marked on a lawful wire.
+-- What the readings say of the station's path along a lawful wire.
 use Rattle.std.proofs.Common.{◌≡◌, ◌≢◌, ℕ, suc, zero, ◌<◌, ◌≤◌, Bool, true, false, not, ◌&&◌, ◌==◌, List, [], ◌∷◌, length, take, Option, Some, None, if◌then◌else◌, sym, refl, ap, ◌∙◌, subst, inl, inr, arith}
 use Rattle.dm_messages.specs.View.{pgn_of_kind}
 use Rattle.parameter_group.specs.Group.{AddressClaimed, ConnectionManagement, DataTransfer, Group}
@@ -72,7 +72,7 @@ cast_claimed st m j (e ∷ xs) law h =
           ])
     ]
 
--- two messages of the book with one number are one
+-- two messages begun with one number are one
 pub same_message : (x y : Message) (begun : List Message) → Numbered begun → IsAmong x begun → IsAmong y begun → x.number ≡ y.number → x ≡ y
 same_message x y [] num i j e = absurd i
 same_message x y (z ∷ begun) num i j e =
@@ -209,13 +209,13 @@ continues_is st (Session d) older m i e h = cc
 
 -- a frame that is no part of the message's way is not its first part
 pub not_first : (begun : List Message) (m : Message) (e : Item) → Numbered begun → IsAmong m begun → IsBooked begun e → ((t : Tag) → e.tag ≡ Some t → t.message ≡ m → ⊥) → is_part m 0 e.tag ≡ false
-not_first begun m e num isin booked never = go (is_part m 0 e.tag) refl
+not_first begun m e num among booked never = go (is_part m 0 e.tag) refl
   where
     at : (tag : Option Tag) → e.tag ≡ tag → is_part m 0 tag ≡ true → ⊥
     at None g h = cc
     at (Some t) g h =
         let q = and_parts (t.message.number == m.number) (t.part == 0) h in
-        never t g (same_message t.message m begun num (booked t g) isin (true_test t.message.number m.number q.0))
+        never t g (same_message t.message m begun num (booked t g) among (true_test t.message.number m.number q.0))
 
     go : (b : Bool) → is_part m 0 e.tag ≡ b → is_part m 0 e.tag ≡ false
     go true i = absurd (at e.tag refl i)
@@ -223,24 +223,24 @@ not_first begun m e num isin booked never = go (is_part m 0 e.tag) refl
 
 -- the path back from part j + 1: what the station has half joined
 pub joined_path : (st : ℕ) (begun : List Message) (m : Message) (j : ℕ) (path : List Reception) → Numbered begun → IsAmong m begun → (way_of m) ≡ Broadcast → j ≤ count_of m → Lawful st (passed path) → Marked st path → Every (IsBooked begun) (passed path) → cast m.name m.source (passed path) ≡ Some (tag_of m j) → broadcast_heard m.source (readings path) ≡ half m j (is_unbroken m path)
-joined_path st begun m j [] num isin w le law mk booked c = cc
-joined_path st begun m j (Missed es ∷ path) num isin w le law mk booked c = refl
-joined_path st begun m j (Own e ∷ path) num isin w le law mk booked c =
+joined_path st begun m j [] num among w le law mk booked c = cc
+joined_path st begun m j (Missed es ∷ path) num among w le law mk booked c = refl
+joined_path st begun m j (Own e ∷ path) num among w le law mk booked c =
     elim (pick_cases (is_foreign m.name m.source (says e)) None (if is_cast m.name e.tag then e.tag else cast m.name m.source (passed path)) (Some (tag_of m j)) c) [
       | inl v ↦ cc v.1
       | inr v ↦
-          joined_path st begun m j path num isin w le law.1 mk.1 booked.1
+          joined_path st begun m j path num among w le law.1 mk.1 booked.1
           (subst (λ (o : Option Tag). (if is_cast m.name o then o else cast m.name m.source (passed path)) ≡ Some (tag_of m j)) mk.0.tag v.1)
     ]
-joined_path st begun m j (Received e ∷ path) num isin w le law mk booked c =
+joined_path st begun m j (Received e ∷ path) num among w le law mk booked c =
     elim (pick_cases (is_foreign m.name m.source (says e)) None (if is_cast m.name e.tag then e.tag else cast m.name m.source (passed path)) (Some (tag_of m j)) c) [
       | inl v ↦ cc v.1
       | inr v ↦
           elim (pick_cases (is_cast m.name e.tag) e.tag (cast m.name m.source (passed path)) (Some (tag_of m j)) v.1) [
             | inl u ↦
                 (let p = law.0.tagged (tag_of m j) u.1 in
-                joined_part st m j e path mk.1 mk.0 w le p u.1 (λ i q. joined_path st begun m i path num isin w (omega arith) law.1 mk.1 booked.1 (back i q p)))
-            | inr u ↦ other v.0 u.0 u.1 (joined_path st begun m j path num isin w le law.1 mk.1 booked.1 u.1)
+                joined_part st m j e path mk.1 mk.0 w le p u.1 (λ i q. joined_path st begun m i path num among w (omega arith) law.1 mk.1 booked.1 (back i q p)))
+            | inr u ↦ other v.0 u.0 u.1 (joined_path st begun m j path num among w le law.1 mk.1 booked.1 u.1)
           ]
     ]
   where
@@ -249,7 +249,7 @@ joined_path st begun m j (Received e ∷ path) num isin w le law mk booked c =
 
     other : is_foreign m.name m.source (says e) ≡ false → is_cast m.name e.tag ≡ false → cast m.name m.source (passed path) ≡ Some (tag_of m j) → broadcast_heard m.source (readings path) ≡ half m j (is_unbroken m path) → broadcast_heard m.source (readings (Received e ∷ path)) ≡ half m j (is_unbroken m (Received e ∷ path))
     other f n c ih =
-        let p = not_first begun m e num isin booked.0 (λ t g same.
+        let p = not_first begun m e num among booked.0 (λ t g same.
         let yes : is_cast m.name (Some t) ≡ true = rw (same, same_test m.name, w) refl in
         let nos : is_cast m.name (Some t) ≡ false = rw g at n in
         cc) in

@@ -25,19 +25,19 @@ anchored_whole st a n (Received e ∷ path) whole mk ne h = go (is_claim a (says
 
 -- back from a part nothing was missed
 pub unbroken_whole : (st : ℕ) (begun : List Message) (m : Message) (j : ℕ) (path : List Reception) → Numbered begun → IsAmong m begun → NoneMissed path → Lawful st (passed path) → Marked st path → Every (IsBooked begun) (passed path) → last_of m.name m.kind (passed path) ≡ Some (tag_of m j) → is_unbroken m path ≡ true
-unbroken_whole st begun m j [] num isin whole law mk booked l = cc
-unbroken_whole st begun m j (Missed es ∷ path) num isin whole law mk booked l = absurd whole
-unbroken_whole st begun m j (Own e ∷ path) num isin whole law mk booked l =
-    unbroken_whole st begun m j path num isin whole law.1 mk.1 booked.1
+unbroken_whole st begun m j [] num among whole law mk booked l = cc
+unbroken_whole st begun m j (Missed es ∷ path) num among whole law mk booked l = absurd whole
+unbroken_whole st begun m j (Own e ∷ path) num among whole law mk booked l =
+    unbroken_whole st begun m j path num among whole law.1 mk.1 booked.1
     (subst (λ (o : Option Tag). (if is_of m.name m.kind o then o else last_of m.name m.kind (passed path)) ≡ Some (tag_of m j)) mk.0.tag l)
-unbroken_whole st begun m j (Received e ∷ path) num isin whole law mk booked l =
+unbroken_whole st begun m j (Received e ∷ path) num among whole law mk booked l =
     elim (pick_cases (is_of m.name m.kind e.tag) e.tag (last_of m.name m.kind (passed path)) (Some (tag_of m j)) l) [
-      | inl w ↦ here j w.1 (λ k f. unbroken_whole st begun m k path num isin whole law.1 mk.1 booked.1 f)
-      | inr w ↦ rw (other w.0) (unbroken_whole st begun m j path num isin whole law.1 mk.1 booked.1 w.1)
+      | inl w ↦ here j w.1 (λ k f. unbroken_whole st begun m k path num among whole law.1 mk.1 booked.1 f)
+      | inr w ↦ rw (other w.0) (unbroken_whole st begun m j path num among whole law.1 mk.1 booked.1 w.1)
     ]
   where
     other : is_of m.name m.kind e.tag ≡ false → is_part m 0 e.tag ≡ false
-    other h = not_first begun m e num isin booked.0 (λ t g same.
+    other h = not_first begun m e num among booked.0 (λ t g same.
         let y : is_of m.name m.kind (Some t) ≡ true = rw (same, same_test m.name) (same_kind_self m.kind) in
         let z : is_of m.name m.kind (Some t) ≡ false = rw g at h in
         cc)
@@ -51,18 +51,18 @@ unbroken_whole st begun m j (Received e ∷ path) num isin whole law mk booked l
         rw (later_part m i e.tag g) (ih i (follows_last (tag_of m (suc i)) i (last_of m.name m.kind (passed path)) refl p.order))
 
 pub clear_whole : (st : ℕ) (begun : List Message) (m : Message) (path : List Reception) → Numbered begun → IsAmong m begun → NoneMissed path → Lawful st (passed path) → Marked st path → Every (IsBooked begun) (passed path) → is_clear m path ≡ is_received m path
-clear_whole st begun m [] num isin whole law mk booked = refl
-clear_whole st begun m (Missed es ∷ path) num isin whole law mk booked = absurd whole
-clear_whole st begun m (Own e ∷ path) num isin whole law mk booked = clear_whole st begun m path num isin whole law.1 mk.1 booked.1
-clear_whole st begun m (Received e ∷ path) num isin whole law mk booked = go (is_part m (last_part_of m) e.tag) refl (clear_whole st begun m path num isin whole law.1 mk.1 booked.1)
+clear_whole st begun m [] num among whole law mk booked = refl
+clear_whole st begun m (Missed es ∷ path) num among whole law mk booked = absurd whole
+clear_whole st begun m (Own e ∷ path) num among whole law mk booked = clear_whole st begun m path num among whole law.1 mk.1 booked.1
+clear_whole st begun m (Received e ∷ path) num among whole law mk booked = go (is_part m (last_part_of m) e.tag) refl (clear_whole st begun m path num among whole law.1 mk.1 booked.1)
   where
     go : (b : Bool) → is_part m (last_part_of m) e.tag ≡ b → is_clear m path ≡ is_received m path → (if b then is_unbroken m (Received e ∷ path) else is_clear m path) ≡ (if b then true else is_received m path)
     go false i ih = ih
     go true i ih =
-        let g = part_is begun m (last_part_of m) e.tag num isin booked.0 i in
+        let g = part_is begun m (last_part_of m) e.tag num among booked.0 i in
         let o : is_of m.name m.kind e.tag ≡ true = rw (g, same_test m.name) (same_kind_self m.kind) in
         let l : last_of m.name m.kind (passed (Received e ∷ path)) ≡ Some (tag_of m (last_part_of m)) = rw o g in
-        unbroken_whole st begun m (last_part_of m) (Received e ∷ path) num isin whole law mk booked l
+        unbroken_whole st begun m (last_part_of m) (Received e ∷ path) num among whole law mk booked l
 
 pub expected_whole : (n : ℕ) (k : Kind) (begun : List Message) (path : List Reception) → ((m : Message) → IsAmong m begun → is_clear m path ≡ is_received m path) → expected n k begun path ≡ received_whole n k begun path
 expected_whole n k [] path h = refl

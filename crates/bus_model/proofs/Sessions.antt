@@ -332,21 +332,21 @@ sessions_read r fit begun e path num law mk booked only before m d j w c =
           ]
     ]
   where
-    in_book : (xs : List Item) → Every (IsBooked begun) xs → sess m.name m.source d xs ≡ Some (tag_of m j) → IsAmong m begun
-    in_book [] h i = cc
-    in_book (x ∷ xs) h i =
+    begun_of : (xs : List Item) → Every (IsBooked begun) xs → sess m.name m.source d xs ≡ Some (tag_of m j) → IsAmong m begun
+    begun_of [] h i = cc
+    begun_of (x ∷ xs) h i =
         elim (pick_cases (breaks m.name m.source d x.name (says x)) None (if is_sess m.name x.tag then x.tag else sess m.name m.source d xs) (Some (tag_of m j)) i) [
           | inl v ↦ cc v.1
           | inr v ↦
               elim (pick_cases (is_sess m.name x.tag) x.tag (sess m.name m.source d xs) (Some (tag_of m j)) v.1) [
                 | inl u ↦ h.0 (tag_of m j) u.1
-                | inr u ↦ in_book xs h.1 u.1
+                | inr u ↦ begun_of xs h.1 u.1
               ]
         ]
 
     other : breaks m.name m.source d e.name (says e) ≡ false → is_sess m.name e.tag ≡ false → sess m.name m.source d (passed path) ≡ Some (tag_of m j) → SessionAt r path m d j → SessionAt r (Received e ∷ path) m d j
     other f n c ih =
-        let p = not_first begun m e num (in_book (passed path) booked.1 c) booked.0 (λ t g same.
+        let p = not_first begun m e num (begun_of (passed path) booked.1 c) booked.0 (λ t g same.
         let yes : is_sess m.name (Some t) ≡ true = rw (same, same_test m.name, w) refl in
         let nos : is_sess m.name (Some t) ≡ false = rw g at n in
         cc) in

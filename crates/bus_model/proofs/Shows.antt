@@ -43,7 +43,7 @@ not_start m b ok w =
     rw (last.0, ne_test 0 (count_of m) (let l = last.1 in omega arith)) refl
 
 pub ended_at : (w : Way) (r : Settings) (begun : List Message) (m : Message) (j : ℕ) (e : Item) (path : List Reception) → way_of m ≡ w → Numbered begun → IsAmong m begun → Lawful r.name (e ∷ passed path) → Marked r.name (Received e ∷ path) → Every (IsBooked begun) (passed path) → SessionsLaw r path → e.tag ≡ Some (tag_of m j) → PartLaw r.name e (tag_of m j) (passed path) → ended_by r (says e) (readings path) ≡ gained m j (is_unbroken m (Received e ∷ path))
-ended_at One r begun m j e path w num isin law mk booked sl tag p =
+ended_at One r begun m j e path w num among law mk booked sl tag p =
     let last = one_last m w in
     let zero_j : j ≡ 0 = (let q : j ≤ last_part_of m = p.upto in omega arith) in
     let f : says e ≡ Diagnostic m.kind m.source (payload_of m) = part_says r.name e (tag_of m j) (passed path) p ∙ ap (λ (v : Way). group_at v m j) w in
@@ -54,21 +54,21 @@ ended_at One r begun m j e path w num isin law mk booked sl tag p =
     go : (b : Bool) → entry_under (if b then Some m.name else None) m.kind (payload_of m) ≡ (if b then Some (entry m) else None)
     go true = refl
     go false = refl
-ended_at Broadcast r begun m zero e path w num isin law mk booked sl tag p =
+ended_at Broadcast r begun m zero e path w num among law mk booked sl tag p =
     let f : says e ≡ ConnectionManagement m.source 255 (Bam (length (payload_of m)) (count_of m) (pgn_of_kind m.kind)) = part_says r.name e (tag_of m 0) (passed path) p ∙ ap (λ (v : Way). group_at v m 0) w in
     rw f (not_start m (is_unbroken m (Received e ∷ path)) p.proper (not_one m w))
-ended_at Broadcast r begun m (suc i) e path w num isin law mk booked sl tag p =
+ended_at Broadcast r begun m (suc i) e path w num among law mk booked sl tag p =
     let last = (many_last m p.proper (not_one m w)).0 in
     let le : suc i ≤ count_of m = (let q : suc i ≤ last_part_of m = p.upto in omega arith) in
     let f : says e ≡ DataTransfer m.source 255 (packet (payload_of m) (suc i)) = part_says r.name e (tag_of m (suc i)) (passed path) p ∙ ap (λ (v : Way). group_at v m (suc i)) w in
     let c = continues_is r.name (way_of m) (passed path) m i w p.joined in
-    let h = joined_path r.name begun m i path num isin w (omega arith) law.1 mk.1 booked c in
+    let h = joined_path r.name begun m i path num among w (omega arith) law.1 mk.1 booked c in
     let n = next_piece m i (is_unbroken m path) p.proper (not_one m w) le in
     rw (f, h, n, later_part m i e.tag tag) (whole_gained m (suc i) (is_unbroken m path) p.proper last le)
-ended_at (Session d) r begun m zero e path w num isin law mk booked sl tag p =
+ended_at (Session d) r begun m zero e path w num among law mk booked sl tag p =
     let f : says e ≡ ConnectionManagement m.source d (Rts (length (payload_of m)) (count_of m) 255 (pgn_of_kind m.kind)) = part_says r.name e (tag_of m 0) (passed path) p ∙ ap (λ (v : Way). group_at v m 0) w in
     rw f (not_start m (is_unbroken m (Received e ∷ path)) p.proper (no_one m d w))
-ended_at (Session d) r begun m (suc i) e path w num isin law mk booked sl tag p =
+ended_at (Session d) r begun m (suc i) e path w num among law mk booked sl tag p =
     let last = (many_last m p.proper (no_one m d w)).0 in
     let le : suc i ≤ count_of m = (let q : suc i ≤ last_part_of m = p.upto in omega arith) in
     let f : says e ≡ DataTransfer m.source d (packet (payload_of m) (suc i)) = part_says r.name e (tag_of m (suc i)) (passed path) p ∙ ap (λ (v : Way). group_at v m (suc i)) w in

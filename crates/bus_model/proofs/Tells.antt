@@ -1,4 +1,4 @@
--- What is told gains the message whose last part is read, and nothing else.
+-- What is expected gains the message whose last part is received, and nothing else.
 use Rattle.std.proofs.Common.{◌≡◌, ◌≢◌, ℕ, ◌<◌, ◌≤◌, Bool, true, false, ◌&&◌, ◌==◌, List, [], ◌∷◌, length, Option, Some, None, if◌then◌else◌, sym, refl, ap, ◌∙◌, subst, inl, inr, arith}
 use Rattle.dm_messages.specs.View.{view}
 use Rattle.dm_messages.specs.declared.kind.Kind.{Kind}
@@ -100,11 +100,11 @@ put_listed n k m true l ok h = rw (h, reads_back m ok) refl
 put_listed n k m false l ok h = refl
 
 -- a part is read
-pub part_told : (st : ℕ) (begun : List Message) (e : Item) (path : List Reception) (t : Tag) (n : ℕ) (k : Kind) → Numbered begun → Lawful st (e ∷ passed path) → Every (IsBooked begun) (e ∷ passed path) → e.tag ≡ Some t → expected n k begun (Received e ∷ path) ≡ put n k (gained t.message t.part (is_unbroken t.message (Received e ∷ path))) (expected n k begun path)
-part_told st begun e path t n k num law booked tag = by_last (t.part == last_part_of t.message) refl
+pub part_expected : (st : ℕ) (begun : List Message) (e : Item) (path : List Reception) (t : Tag) (n : ℕ) (k : Kind) → Numbered begun → Lawful st (e ∷ passed path) → Every (IsBooked begun) (e ∷ passed path) → e.tag ≡ Some t → expected n k begun (Received e ∷ path) ≡ put n k (gained t.message t.part (is_unbroken t.message (Received e ∷ path))) (expected n k begun path)
+part_expected st begun e path t n k num law booked tag = by_last (t.part == last_part_of t.message) refl
   where
-    isin : IsAmong t.message begun
-    isin = booked.0 t tag
+    among : IsAmong t.message begun
+    among = booked.0 t tag
 
     before : EachTag (IsBefore t) (passed path)
     before = all_before st t (passed path) law.1 (law.0.tagged t tag).order
@@ -137,7 +137,7 @@ part_told st begun e path t n k num law booked tag = by_last (t.part == last_par
         not_last : (x : Message) → IsAmong x begun → (s : Tag) → e.tag ≡ Some s → s.message.number ≡ x.number → s.part ≡ last_part_of x → ⊥
         not_last x i s g c l =
             let q : t ≡ s = cc in
-            let same : s.message ≡ x = same_message s.message x begun num (subst (λ (v : Tag). IsAmong v.message begun) q isin) i c in
+            let same : s.message ≡ x = same_message s.message x begun num (subst (λ (v : Tag). IsAmong v.message begun) q among) i c in
             let w : t.part ≡ last_part_of t.message = ap (λ (v : Tag). v.part) q ∙ (l ∙ ap last_part_of (sym same ∙ ap (λ (v : Tag). v.message) (sym q))) in
             let yes : (t.part == last_part_of t.message) ≡ true = rw w (same_test (last_part_of t.message)) in
             cc
@@ -150,7 +150,7 @@ part_told st begun e path t n k num law booked tag = by_last (t.part == last_par
         now = let i : is_part t.message (last_part_of t.message) e.tag ≡ true = rw (tag, same_test t.message.number) h in rw i refl
 
         old : is_clear t.message path ≡ false
-        old = later t.message isin (omega arith) refl refl (λ g. at_last)
+        old = later t.message among (omega arith) refl refl (λ g. at_last)
 
         by_list : (b : Bool) → is_listed n k t.message ≡ b → expected n k begun (Received e ∷ path) ≡ put n k (gained t.message t.part (is_unbroken t.message (Received e ∷ path))) (expected n k begun path)
         by_list false g =
@@ -159,13 +159,13 @@ part_told st begun e path t n k num law booked tag = by_last (t.part == last_par
           where
             one : (x : Message) → IsAmong x begun → (b : Bool) → (x.number == t.message.number) ≡ b → (is_listed n k x && is_clear x (Received e ∷ path)) ≡ (is_listed n k x && is_clear x path)
             one x i true c =
-                let same : x ≡ t.message = same_message x t.message begun num i isin (true_test x.number t.message.number c) in
+                let same : x ≡ t.message = same_message x t.message begun num i among (true_test x.number t.message.number c) in
                 let f : is_listed n k x ≡ false = ap (is_listed n k) same ∙ g in
                 rw f refl
             one x i false c =
                 ap (λ (b : Bool). is_listed n k x && b) (other x (λ w. let yes : (x.number == t.message.number) ≡ true = rw w (same_test t.message.number) in cc))
         by_list true g =
-            let gain = told_gain n k begun t.message path (Received e ∷ path) num isin g old (λ x i ne. other x ne) (λ x i lt li. newer x i lt li) in
+            let gain = told_gain n k begun t.message path (Received e ∷ path) num among g old (λ x i ne. other x ne) (λ x i lt li. newer x i lt li) in
             rw h (gain ∙ (rw now (sym (put_listed n k t.message (is_unbroken t.message (Received e ∷ path)) (expected n k begun path) (law.0.tagged t tag).proper g))))
           where
             newer : (x : Message) → IsAmong x begun → t.message.number < x.number → is_listed n k x ≡ true → is_clear x path ≡ false
@@ -177,7 +177,7 @@ part_told st begun e path t n k num law booked tag = by_last (t.part == last_par
                 (kind_same x.kind k a.1 ∙ sym (kind_same t.message.kind k b.1))
                 (λ w. absurd (omega arith))
 
--- a frame is read: what is shown and what is told stay one
+-- a frame is read: what is heard and what is expected stay one
 pub reads : (r : Settings) → (begun : List Message) (e : Item) (path : List Reception) → Numbered begun → AllProper begun → Lawful r.name (e ∷ passed path) → Marked r.name (Received e ∷ path) → Every (IsBooked begun) (e ∷ passed path) → SessionsLaw r path → ((n : ℕ) (k : Kind) → entries_heard r n k (readings path) ≡ expected n k begun path) → (n : ℕ) (k : Kind) → entries_heard r n k (readings (Received e ∷ path)) ≡ expected n k begun (Received e ∷ path)
 reads r begun e path num fit law mk booked sl same n k = go e.tag refl
   where
@@ -189,4 +189,4 @@ reads r begun e path num fit law mk booked sl same n k = go e.tag refl
     go (Some t) g =
         let i = booked.0 t g in
         let q = ended_at (way_of t.message) r begun t.message t.part e path refl num i law mk booked.1 sl g (law.0.tagged t g) in
-        rw (q, same n k) (sym (part_told r.name begun e path t n k num law booked g))
+        rw (q, same n k) (sym (part_expected r.name begun e path t n k num law booked g))

@@ -219,7 +219,7 @@ replied st wire begun s f law may = record {
       };
 }
 
--- a longer book
+-- one message more was begun
 pub booked_more : (m : Message) (begun : List Message) (xs : List Item) → Every (IsBooked begun) xs → Every (IsBooked (m ∷ begun)) xs
 booked_more m begun xs h = every_weaker (IsBooked begun) (IsBooked (m ∷ begun)) xs (λ x g t i. inr (g t i)) h
 

@@ -31,10 +31,12 @@ passed (Own e ∷ older) = e ∷ passed older
 passed (Received e ∷ older) = e ∷ passed older
 passed (Missed es ∷ older) = es ++ passed older
 
+-- a claim of the address
 abbrev pub is_claim : ℕ → Group → Bool
 is_claim a (AddressClaimed s n) = s == a
 is_claim a _ = false
 
+-- that part of the message
 abbrev pub is_part : Message → ℕ → Option Tag → Bool
 is_part m j None = false
 is_part m j (Some t) = t.message.number == m.number && t.part == j

@@ -14,6 +14,7 @@ use Rattle.transport.specs.Pieces.{packet_count, joined}
 use Rattle.transport.specs.declared.control.Control.TheVariants.{Rts, Bam, Abort}
 use Rattle.bus_model.specs.Traffic.{owner_after}
 
+-- whether two kinds are one
 abbrev pub same_kind : Kind → Kind → Bool
 same_kind Dm1 Dm1 = true
 same_kind Dm2 Dm2 = true
@@ -74,6 +75,7 @@ abbrev pub with_packet : List ℕ → Option Joining → Option Joining
 with_packet bytes None = None
 with_packet bytes (Some j) = if is_next j.size j.pieces bytes then Some (record j { pieces = j.pieces ++ drop 1 bytes ∷ [] }) else None
 
+-- all packets were read
 abbrev pub is_whole : Joining → Bool
 is_whole j = length j.pieces == packet_count j.size
 
@@ -101,10 +103,12 @@ broadcast_heard a (Gap n ∷ older) = None
 broadcast_heard a (Empty ∷ older) = broadcast_heard a older
 broadcast_heard a (Frame f ∷ older) = broadcast_after a (group_of f) (owner_heard a older) (broadcast_heard a older)
 
+-- what starts, or else what was there
 abbrev pub or_else : Option Joining → Option Joining → Option Joining
 or_else None before = before
 or_else (Some j) before = Some j
 
+-- the group is of that kind
 abbrev pub is_kind : Kind → Option Kind → Bool
 is_kind k None = false
 is_kind k (Some l) = same_kind k l
@@ -138,6 +142,7 @@ pub record Entry : Type 0 where
   pub kind : Kind
   pub bytes : List ℕ
 
+-- a message of the owner, where there is one
 abbrev pub entry_under : Option ℕ → Kind → List ℕ → Option Entry
 entry_under None k bytes = None
 entry_under (Some n) k bytes = Some (record { name = n; kind = k; bytes = bytes })
@@ -147,6 +152,7 @@ abbrev pub finished : Option Joining → Option Entry
 finished None = None
 finished (Some j) = if is_whole j then Some (record { name = j.owner; kind = j.kind; bytes = joined j.size j.pieces }) else None
 
+-- the message that a group ends, with these readings before it
 abbrev pub ended_by : Settings → Group → List Reading → Option Entry
 ended_by r (Diagnostic k s bytes) older = entry_under (owner_heard s older) k bytes
 ended_by r (DataTransfer s d bytes) older =
@@ -165,6 +171,7 @@ abbrev pub put_read : Option Shown → List Shown → List Shown
 put_read None entries = entries
 put_read (Some v) entries = v ∷ entries
 
+-- a message that ended, where it is of that NAME and kind
 abbrev pub put : ℕ → Kind → Option Entry → List Shown → List Shown
 put n k None entries = entries
 put n k (Some e) entries = if e.name == n && same_kind e.kind k then put_read (decoding e.bytes) entries else entries
@@ -178,6 +185,7 @@ entries_heard r n k (x ∷ older) = put n k (ended r x older) (entries_heard r n
 abbrev pub counted : ℕ → ℕ
 counted n = min n (2 ^ 64 - 1)
 
+-- a message ended that cannot be read
 abbrev pub is_unreadable : Option Entry → Bool
 is_unreadable None = false
 is_unreadable (Some e) = not (is_some (decoding e.bytes))
@@ -204,6 +212,7 @@ pub record RowHeard : Type 0 where
   pub address : Option ℕ
   pub ack : Option AckHeard
 
+-- the acknowledgment of a row, if there is one
 abbrev pub ack_of : Option RowHeard → Option AckHeard
 ack_of None = None
 ack_of (Some row) = row.ack
@@ -213,10 +222,12 @@ abbrev pub without_address : ℕ → Option RowHeard → Option RowHeard
 without_address a None = None
 without_address a (Some row) = if is_held row.address a then Some (record row { address = None }) else Some row
 
+-- a gap takes each row's address
 abbrev pub addressless : Option RowHeard → Option RowHeard
 addressless None = None
 addressless (Some row) = Some (record row { address = None })
 
+-- the row with that acknowledgment
 abbrev pub with_ack : ℕ → ℕ → Option RowHeard → Option RowHeard
 with_ack control pgn None = None
 with_ack control pgn (Some row) = Some (record row { ack = Some (record { control = control; pgn = pgn }) })
@@ -241,9 +252,11 @@ row_heard r n (Gap m ∷ older) = addressless (row_heard r n older)
 row_heard r n (Empty ∷ older) = row_heard r n older
 row_heard r n (Frame f ∷ older) = row_after r n (group_of f) older (row_heard r n older)
 
+-- a NAME enters once
 abbrev pub with_name : ℕ → List ℕ → List ℕ
 with_name n names = if list_any (λ m. m == n) names then names else names ++ n ∷ []
 
+-- a claim or cannot claim enters its NAME
 abbrev pub names_after : Group → List ℕ → List ℕ
 names_after (AddressClaimed s n) names = with_name n names
 names_after (CannotClaim n) names = with_name n names

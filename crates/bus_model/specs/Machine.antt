@@ -22,6 +22,7 @@ pub record Seat : Type 0 where
   pub heard : List Item
   pub session : Option Tag
 
+-- the whole state
 pub record World : Type 0 where
   pub settings : Settings
   pub wire : List Item  -- the frames carried
@@ -55,10 +56,12 @@ pub data Event : Type 0 where
 abbrev pub plain : ℕ → FrameValue → Item
 plain n f = record { name = n; frame = f; tag = None }
 
+-- each of these frames so
 abbrev pub all_plain : ℕ → List FrameValue → List Item
 all_plain n [] = []
 all_plain n (f ∷ fs) = plain n f ∷ all_plain n fs
 
+-- the frame of a part, with its tag
 abbrev pub item_of_part : Message → ℕ → Item
 item_of_part m j = record { name = m.name; frame = frame_of_part m j; tag = Some (record { message = m; part = j }) }
 
@@ -73,16 +76,19 @@ first_parts One m = last_part_of m
 first_parts Broadcast m = last_part_of m
 first_parts (Session d) m = 0
 
+-- the open session after a beginning
 abbrev pub session_opened : Way → Message → Option Tag → Option Tag
 session_opened One m before = before
 session_opened Broadcast m before = before
 session_opened (Session d) m before = Some (record { message = m; part = 0 })
 
+-- a session with the address
 abbrev pub is_to : Way → ℕ → Bool
 is_to One a = false
 is_to Broadcast a = false
 is_to (Session d) a = d == a
 
+-- the open session is with the address
 abbrev pub is_destination : Option Tag → ℕ → Bool
 is_destination None a = false
 is_destination (Some t) a = is_to (way_of t.message) a
@@ -130,6 +136,7 @@ MayOpen s g One a = Unit {0}
 MayOpen s g Broadcast a = Unit {0}
 MayOpen s g (Session d) a = IsRequestFrom d g × (d ≢ a) × (s.session ≡ None)
 
+-- the message that the seat begins
 abbrev pub message_at : World → Seat → Kind → MemoryValue → ℕ → ℕ → Message
 message_at w s kind memory source destination =
     record { number = length w.begun; name = s.name; kind = kind; memory = memory; source = source; destination = destination }
@@ -139,6 +146,7 @@ abbrev pub CanHold : Option ℕ → Type 0
 CanHold None = Unit {0}
 CanHold (Some a) = a ≤ 253
 
+-- what a unit that heard g may do
 abbrev pub MayAnswer : World → Seat → Group → Answer → Type 0
 MayAnswer w s g Quiet = IsCalm s g
 MayAnswer w s g (Replies f) = IsCalm s g × MayReply s g (group_of f)
@@ -149,16 +157,20 @@ MayAnswer w s g (Grants n) = IsCalm s g × ((t : Tag) × (s.session ≡ Some t) 
 MayAnswer w s g Ends = is_contest s.name s.held g ≡ false
 MayAnswer w s g (Yields to) = CanHold to
 
+-- the world with that seat at x
 abbrev pub with_seat : World → ℕ → Seat → World
 with_seat w x s = record w { seats = set w.seats x s }
 
+-- the seat has heard one frame more
 abbrev pub with_heard : Seat → Item → Seat
 with_heard s e = record s { heard = e ∷ s.heard }
 
+-- the seat begins the message: its first parts are queued
 abbrev pub with_message : Seat → Message → Seat
 with_message s m =
     record s { queue = parts_upto m (first_parts (way_of m) m) ++ s.queue; session = session_opened (way_of m) m s.session }
 
+-- the world after that
 abbrev pub with_begun : World → ℕ → Seat → Message → World
 with_begun w x s m = record w { seats = set w.seats x (with_message s m); begun = m ∷ w.begun }
 
@@ -166,6 +178,7 @@ with_begun w x s m = record w { seats = set w.seats x (with_message s m); begun 
 abbrev pub claim_alone : ℕ → Option ℕ → List Item
 claim_alone n held = plain n (claim_frame_value n held) ∷ []
 
+-- the seat gives up or takes an address: all is withdrawn but the claim of it
 abbrev pub yielded : Seat → Option ℕ → Seat
 yielded s to = record s { held = to; queue = claim_alone s.name to; session = None }
 
@@ -175,10 +188,12 @@ granted_one s None = s
 granted_one s (Some t) =
     record s { queue = item_of_part t.message (suc t.part) ∷ s.queue; session = Some (record { message = t.message; part = suc t.part }) }
 
+-- that many more packets
 abbrev pub granted : Seat → ℕ → Seat
 granted s zero = s
 granted s (suc n) = granted (granted_one s s.session) n
 
+-- a part of a session
 abbrev pub is_of_session : Option Tag → Bool
 is_of_session None = false
 is_of_session (Some t) = is_session (way_of t.message)
@@ -188,9 +203,11 @@ abbrev pub without_session : List Item → List Item
 without_session [] = []
 without_session (e ∷ es) = if is_of_session e.tag then without_session es else e ∷ without_session es
 
+-- the seat ends its session
 abbrev pub session_ended : Seat → Seat
 session_ended s = record s { queue = without_session s.queue; session = None }
 
+-- the world after a unit's answer
 abbrev pub answered : World → ℕ → Seat → Answer → World
 answered w x s Quiet = with_seat w x s
 answered w x s (Replies f) = with_seat w x (record s { queue = plain s.name f ∷ s.queue })
@@ -225,6 +242,7 @@ MaySend n held (ConnectionManagement s d (Abort reason pgn)) = held ≡ Some s
 MaySend n held (ConnectionManagement s d (Rts size packets most pgn)) = ⊥
 MaySend n held _ = Unit {0}
 
+-- each of these frames
 abbrev pub AllMaySend : ℕ → Option ℕ → List FrameValue → Type 0
 AllMaySend n held [] = Unit {0}
 AllMaySend n held (f ∷ fs) = MaySend n held (group_of f) × AllMaySend n held fs
@@ -233,6 +251,7 @@ AllMaySend n held (f ∷ fs) = MaySend n held (group_of f) × AllMaySend n held 
 abbrev pub asked_after : World → Group → Option ℕ → List Item
 asked_after w g held = if is_contest w.settings.name (station_address w) g then claim_alone w.settings.name held else w.asked
 
+-- the station received the frame
 abbrev pub received : World → Item → World
 received w e =
     record w { path = Received e ∷ w.path; asked = asked_after w (says e) (address_heard w.settings (readings (Received e ∷ w.path))) }
@@ -245,9 +264,11 @@ missed w es = record w { path = Missed es ∷ w.path; asked = claim_alone w.sett
 abbrev pub asking : World → List FrameValue → World
 asking w frames = record w { asked = all_plain w.settings.name frames ++ w.asked }
 
+-- the station may send these frames now
 abbrev pub CanAsk : World → List FrameValue → Type 0
 CanAsk w frames = AllMaySend w.settings.name (station_address w) frames
 
+-- the event leads from one world to the other
 abbrev pub Step : World → Event → World → Type 0
 Step old (Join n a) new = IsFree old n × (n < 2 ^ 64) × (a ≤ 253) × (new ≡ record old { seats = old.seats ++ joined_seat old n a ∷ [] })
 Step old (Hear x answer) new =

@@ -44,11 +44,13 @@ pub record IsProper (m : Message) : Type 0 where
   pub source : m.source ≤ 253
   pub destination : (m.destination ≡ 255) ⊎ ((m.destination ≤ 253) × (length (payload_of m) ≢ 8))
 
+-- as a broadcast
 abbrev pub is_broadcast : Way → Bool
 is_broadcast One = false
 is_broadcast Broadcast = true
 is_broadcast (Session d) = false
 
+-- as a session
 abbrev pub is_session : Way → Bool
 is_session One = false
 is_session Broadcast = false

@@ -39,7 +39,7 @@ impl Model for Bus {
 impl Bus {
     ghost use Rattle.std.specs.Prelude.{◌≡◌, ℕ, ◌<◌, ◌≤◌, ◌≢◌, ◌^◌, ◌+◌, ◌⊎◌, ◌↔◌, length, slice_get, Option, Some, None, IfOk, IfErr, OnOk, OnErr, MatchOption};
     ghost use Rattle.std.specs.List.{All};
-    ghost use Rattle.std.specs.Option.{option_map};
+    ghost use Rattle.std.specs.Option.{option_map, SomeIff};
     ghost use Rattle.std.specs.Result.{result_err};
     ghost use Rattle.bus_ledger.specs.BusValue.{IsLive, IsUnit, KeepsSpares, seat_at, spare_at};
     ghost use Rattle.bus_ledger.specs.Changes.{carried_from, heard_more, joined, kept, left, new_traffic, queued, queued_frame, withdrawn};
@@ -100,6 +100,17 @@ impl Bus {
             return Err(BusError::TooManySeats);
         }
         Ok(())
+    }
+
+    /// The NAME of the unit on a live seat; nothing for the station's seat, and for one that was never given or is gone.
+    pub fn unit_name(&self, seat: u32) -> Option<Name>
+        ensures { SomeIff result (IsUnit self.now.traffic seat) (seat_at self.now.traffic seat).name }
+    {
+        let place = self.seats.get(seat as usize)?;
+        if seat == 0 || !place.is_live() {
+            return None;
+        }
+        Some(place.name())
     }
 
     /// The next frame that the seat has not heard, if there is one. It came from another seat.

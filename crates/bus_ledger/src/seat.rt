@@ -61,6 +61,12 @@ impl Seat {
         self.name
     }
 
+    pub(crate) fn is_live(&self) -> bool
+        ensures { result ≡ self.now.seat.live }
+    {
+        self.live
+    }
+
     /// How many frames of the wire it has heard.
     pub(crate) fn heard(&self) -> u32
         ensures { result ≡ self.now.seat.heard }

@@ -1,14 +1,13 @@
 -- Who owns an address, or a message half joined, has a row.
-use Rattle.std.proofs.Common.{◌≡◌, ◌≢◌, ℕ, Bool, true, false, ◌==◌, not, ◌&&◌, ◌||◌, List, [], ◌∷◌, ◌++◌, Option, Some, None, is_some, if◌then◌else◌, drop, length, refl, sym, ap, ◌∙◌, subst, ⊎_elim, ◌⊎◌, inl, inr}
-use Rattle.std.proofs.lemmas.Bool.{eq-eqb, eqb-true}
+use Rattle.std.proofs.Common.{◌≡◌, ℕ, Bool, true, false, ◌==◌, ◌&&◌, List, [], ◌∷◌, ◌++◌, Option, Some, None, is_some, if◌then◌else◌, drop, refl, ap, subst, ⊎_elim, ◌⊎◌, inl, inr}
+use Rattle.std.proofs.lemmas.Bool.{eq-eqb}
 use Rattle.address_claim.specs.Claiming.{is_held}
 use Rattle.can_frame.specs.declared.reading.Reading.{Reading}
 use Rattle.can_frame.specs.declared.reading.Reading.TheVariants.{Frame, Gap, Empty}
 use Rattle.dm_messages.specs.declared.kind.Kind.{Kind}
-use Rattle.transport.specs.declared.control.Control.{Control}
-use Rattle.transport.specs.declared.control.Control.TheVariants.{Rts, Cts, EndAck, Bam, Abort}
+use Rattle.transport.specs.declared.control.Control.TheVariants.{Rts, Bam, Abort}
 use Rattle.transport.specs.Assembling.{is_next}
-use Rattle.parameter_group.specs.Group.{Group, AddressClaimed, CannotClaim, Request, Acknowledgment, Diagnostic, ConnectionManagement, DataTransfer, Other, group_of}
+use Rattle.parameter_group.specs.Group.{Group, AddressClaimed, CannotClaim, Acknowledgment, ConnectionManagement, DataTransfer, group_of}
 use Rattle.bus_model.specs.Traffic.{owner_after}
 use Rattle.bus_model.specs.Heard.{Settings, Joining, RowHeard, is_contest, kind_of, started, with_packet, unfinished, is_whole, kept_under, or_else, without_kind, is_kind, without_address, addressless, with_ack, is_answer, ack_of, owner_heard, address_heard, broadcast_after, broadcast_heard, session_after, session_heard, row_after, row_heard}
 

@@ -1,6 +1,10 @@
+pub mod Commands
+pub mod Few
 pub mod HalfLemmas
 pub mod Known
 pub mod Lines
+pub mod OwnAddress
+pub mod Queries
 pub mod RowLemmas
 pub mod Stands
 pub mod Tables

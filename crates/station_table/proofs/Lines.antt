@@ -1,33 +1,30 @@
 -- After each thing that a frame can say, the tables have at each address what was then heard of it.
-use Rattle.std.proofs.Common.{◌≡◌, ◌≢◌, ℕ, ◌+◌, ◌<◌, Bool, true, false, ◌==◌, not, ◌&&◌, ◌||◌, List, [], ◌∷◌, ◌++◌, Option, Some, None, is_some, if◌then◌else◌, unwrap_or, length, map, reverse, refl, sym, ap, ◌∙◌, subst, ⊎_elim, ◌⊎◌, inl, inr}
+use Rattle.std.proofs.Common.{◌≡◌, ℕ, ◌+◌, ◌<◌, Bool, true, false, ◌==◌, not, ◌&&◌, List, [], ◌∷◌, ◌++◌, Option, Some, None, is_some, if◌then◌else◌, length, map, reverse, refl, sym, ap, ◌∙◌, subst}
 use Rattle.std.specs.Prelude.{slice_set}
 use Rattle.std.specs.Option.{option_map, option_map_or}
-use Rattle.std.proofs.lemmas.Bool.{eq-eqb, eqb-true, cases_Bool}
+use Rattle.std.proofs.lemmas.Bool.{eqb-true}
 use Rattle.std.proofs.lemmas.Grind.{reverse_onto}
-use Rattle.std.proofs.lemmas.List.{length-set, length-replicate}
 use Rattle.address_claim.specs.Claiming.{is_held}
 use Rattle.can_frame.specs.declared.reading.Reading.{Reading}
 use Rattle.dm_messages.specs.declared.kind.Kind.{Kind}
 use Rattle.dm_messages.specs.declared.kind.Kind.TheVariants.{Dm1, Dm2}
 use Rattle.dm_messages.specs.declared.shown.Shown.{Shown}
 use Rattle.dm_messages.specs.View.{decoding}
-use Rattle.transport.specs.declared.control.Control.{Control}
-use Rattle.transport.specs.declared.control.Control.TheVariants.{Rts, Cts, EndAck, Bam, Abort}
-use Rattle.parameter_group.specs.Group.{Group, AddressClaimed, CannotClaim, Request, Acknowledgment, Diagnostic, ConnectionManagement, DataTransfer, Other, group_of}
+use Rattle.parameter_group.specs.Group.{Group, Other}
 use Rattle.bus_model.specs.Traffic.{owner_after}
-use Rattle.bus_model.specs.Heard.{Settings, Joining, Entry, AckHeard, RowHeard, same_kind, is_contest, kind_of, started, with_packet, unfinished, finished, entry_under, is_whole, or_else, without_kind, without_address, with_ack as with_ack_heard, is_answer, ack_of, counted, owner_heard, claimer_heard, claimer_after, address_heard, broadcast_after, broadcast_heard, session_after, session_heard, row_after, row_heard, names_after, names_heard, with_name, ended_by, put, put_read, entries_heard, is_unreadable, unread_count, missed_count, kept_under as joining_under}
-use Rattle.station_table.specs.declared.row.AckSeen.{AckSeen}
-use Rattle.station_table.specs.KeptValue.{KeptValue, nothing_kept, kept_under, entries_of, entries_under, with_claimed, with_ack, with_entry, with_row, changed_under}
-use Rattle.station_table.specs.StationValue.{SessionValue, StationValue, at}
-use Rattle.station_table.specs.Steps.{empty_table, session_with, joining_of, at_once_of, rejoined, packets_at_once, or_older, with_reading, with_ended, with_answer, with_claim, packet_joined, with_broadcast_packet, with_session_packet, after_group}
-use Rattle.station_table.specs.StandsFor.{StandsFor, session_known, most_after, most_heard, still_owned, ack_known, row_known}
-use Rattle.station_table.proofs.Tables.{at-set, at-empty}
-use Rattle.station_table.proofs.RowLemmas.{named, kept_under-changed, names-changed, kept_under-with_row, names-with_row}
+use Rattle.bus_model.specs.Heard.{Settings, Joining, Entry, same_kind, counted, owner_heard, claimer_heard, claimer_after, address_heard, broadcast_after, broadcast_heard, session_after, session_heard, row_after, row_heard, names_after, names_heard, ended_by, put, put_read, entries_heard, is_unreadable, unread_count, missed_count}
+use Rattle.station_table.specs.KeptValue.{KeptValue, kept_under, entries_of, entries_under, with_entry, changed_under}
+use Rattle.station_table.specs.StationValue.{StationValue, at}
+use Rattle.station_table.specs.Steps.{session_with, rejoined, packets_at_once, with_reading, with_ended}
+use Rattle.station_table.specs.StandsFor.{StandsFor, session_known, most_after, most_heard, row_known}
+use Rattle.station_table.proofs.Tables.{at-set}
+use Rattle.station_table.proofs.RowLemmas.{named, kept_under-changed, names-changed}
 
 -- the tables after one frame that says this
 pub record StandsAfter (r : Settings) (grant : ℕ) (g : Group) (s : StationValue) (h : List Reading) : Type 0 where
   pub grants : s.grant ≡ grant
   pub claims : s.claimer ≡ claimer_after g (claimer_heard r h)
+  pub apart : is_held s.claimer.held 255 ≡ false
   pub places : (length s.owners ≡ 256) × (length s.broadcasts ≡ 256) × (length s.sessions ≡ 256)
   pub owners : (a : ℕ) → a < 256 → at s.owners a ≡ owner_after a g (owner_heard a h)
   pub broadcasts : (a : ℕ) → a < 256 → at s.broadcasts a ≡ broadcast_after a g (owner_heard a h) (broadcast_heard a h)
@@ -101,6 +98,7 @@ quiet : (r : Settings) (grant : ℕ) (s : StationValue) (h : List Reading) → S
 quiet r grant s h st = record {
   grants = st.grants;
   claims = st.claims;
+  apart = st.apart;
   places = st.places;
   owners = st.owners;
   broadcasts = st.broadcasts;
@@ -116,6 +114,7 @@ quiet r grant s h st = record {
 pub record Midway (r : Settings) (grant : ℕ) (g : Group) (s : StationValue) (h : List Reading) : Type 0 where
   pub grants : s.grant ≡ grant
   pub claims : s.claimer ≡ claimer_after g (claimer_heard r h)
+  pub apart : is_held s.claimer.held 255 ≡ false
   pub places : (length s.owners ≡ 256) × (length s.broadcasts ≡ 256) × (length s.sessions ≡ 256)
   pub owners : (a : ℕ) → a < 256 → at s.owners a ≡ owner_after a g (owner_heard a h)
   pub broadcasts : (a : ℕ) → a < 256 → at s.broadcasts a ≡ broadcast_after a g (owner_heard a h) (broadcast_heard a h)
@@ -194,6 +193,7 @@ pub ending : (r : Settings) (grant : ℕ) (g : Group) (s : StationValue) (h : Li
 ending r grant g s h None mid e there = record {
   grants = mid.grants;
   claims = mid.claims;
+  apart = mid.apart;
   places = mid.places;
   owners = mid.owners;
   broadcasts = mid.broadcasts;
@@ -218,6 +218,7 @@ ending r grant g s h (Some m) mid e there = go (decoding m.bytes) refl
     go None i = record {
       grants = mid.grants;
       claims = mid.claims;
+      apart = mid.apart;
       places = mid.places;
       owners = mid.owners;
       broadcasts = mid.broadcasts;
@@ -231,6 +232,7 @@ ending r grant g s h (Some m) mid e there = go (decoding m.bytes) refl
     go (Some v) i = record {
       grants = mid.grants;
       claims = mid.claims;
+      apart = mid.apart;
       places = mid.places;
       owners = mid.owners;
       broadcasts = mid.broadcasts;

@@ -1,14 +1,13 @@
 -- The rows after one change.
-use Rattle.std.proofs.Common.{◌≡◌, ◌≢◌, ℕ, Bool, true, false, ◌==◌, ◌||◌, nat_eq, List, [], ◌∷◌, ◌++◌, Option, Some, None, is_some, if◌then◌else◌, unwrap_or, cond, map, refl, sym, ap, ◌∙◌, subst, arith, ⊎_elim}
+use Rattle.std.proofs.Common.{◌≡◌, ℕ, Bool, true, false, ◌==◌, ◌||◌, nat_eq, List, [], ◌∷◌, ◌++◌, Option, Some, None, is_some, if◌then◌else◌, unwrap_or, cond, map, refl, sym, ap, ◌∙◌, subst}
 use Rattle.std.specs.Option.{option_map, option_map_or}
 use Rattle.std.specs.List.{list_any}
 use Rattle.indexmap.specs.IndexMap.{insert_entry}
 use Rattle.std.specs.Cmp.{nat_eq_equiv}
-use Rattle.std.specs.Map.{lookup, set_value}
+use Rattle.std.specs.Map.{set_value}
 use Rattle.std.proofs.lemmas.Map.{lookup-set_value, keys-set_value}
 use Rattle.std.proofs.lemmas.List.{map-append}
-use Rattle.std.proofs.lemmas.Bool.{cases_eq, eq-eqb, ne_eqb, eqb-true, eqb-false}
-use Rattle.dm_messages.specs.declared.kind.Kind.{Kind}
+use Rattle.std.proofs.lemmas.Bool.{ne_eqb, eqb-true}
 use Rattle.bus_model.specs.Heard.{with_name}
 use Rattle.station_table.specs.KeptValue.{KeptValue, nothing_kept, kept_under, with_row, changed_under}
 

@@ -1,15 +1,18 @@
 -- The tables stand for the readings: at first for none, and after each reading for that one in front of the others.
-use Rattle.std.proofs.Common.{◌≡◌, ◌≢◌, ℕ, ◌+◌, ◌<◌, Bool, true, false, ◌==◌, not, ◌&&◌, ◌||◌, List, [], ◌∷◌, ◌++◌, Option, Some, None, is_some, if◌then◌else◌, unwrap_or, length, map, reverse, refl, sym, ap, ◌∙◌, subst, ⊎_elim, ◌⊎◌, inl, inr, arith}
-use Rattle.std.specs.Prelude.{slice_set, nat_lt, nat_le}
+use Rattle.std.proofs.Common.{◌≡◌, ℕ, ◌+◌, ◌<◌, ◌≤◌, Bool, true, false, ◌==◌, not, ◌&&◌, ◌||◌, List, [], ◌∷◌, Option, Some, None, is_some, if◌then◌else◌, unwrap_or, length, map, refl, sym, ap, ◌∙◌, subst, ⊎_elim, arith}
+use Rattle.std.specs.Prelude.{Result, Ok, Err, OnOk, slice_set, nat_lt, nat_le}
 use Rattle.std.specs.Option.{option_map, option_map_or}
 use Rattle.std.proofs.lemmas.Bool.{eq-eqb, eqb-true, ne_eqb}
-use Rattle.std.proofs.lemmas.List.{length-set, length-replicate}
-use Rattle.address_claim.specs.Claiming.{is_held}
+use Rattle.std.proofs.lemmas.List.{length-set}
+use Rattle.address_claim.specs.Claiming.{ClaimerValue, new_claimer, is_held, claim_step, move_step, next_address, noted_after}
+use Rattle.address_claim.specs.declared.claimer.ClaimStep.{ClaimStep}
+use Rattle.address_claim.specs.declared.claimer.ClaimStep.TheVariants.{Nothing, Defend, Move, CannotClaim as NoAddress}
 use Rattle.can_frame.specs.declared.reading.Reading.{Reading}
 use Rattle.can_frame.specs.declared.reading.Reading.TheVariants.{Frame, Gap, Empty}
 use Rattle.dm_messages.specs.declared.kind.Kind.{Kind}
 use Rattle.dm_messages.specs.declared.kind.Kind.TheVariants.{Dm1, Dm2}
 use Rattle.dm_messages.specs.declared.shown.Shown.{Shown}
+use Rattle.dm_messages.specs.View.{decoding}
 use Rattle.transport.specs.declared.control.Control.{Control}
 use Rattle.transport.specs.declared.control.Control.TheVariants.{Rts, Cts, EndAck, Bam, Abort}
 use Rattle.transport.specs.Pieces.{joined}
@@ -17,13 +20,13 @@ use Rattle.parameter_group.specs.Group.{Group, AddressClaimed, CannotClaim, Requ
 use Rattle.can_frame.specs.Fields.{pgn_of, pdu_specific_of, source_of}
 use Rattle.can_frame.specs.FrameValue.{FrameValue}
 use Rattle.transport.specs.ControlMessage.{control_of}
-use Rattle.bus_model.specs.Traffic.{owner_after}
-use Rattle.bus_model.specs.Heard.{Settings, Joining, Entry, AckHeard, RowHeard, same_kind, is_contest, kind_of, started, with_packet, unfinished, finished, entry_under, is_whole, or_else, without_kind, without_address, addressless, with_ack as with_ack_heard, is_answer, ack_of, counted, owner_heard, claimer_heard, claimer_after, address_heard, broadcast_after, broadcast_heard, session_after, session_heard, row_after, row_heard, names_after, names_heard, with_name, ended_by, entries_heard, kept_under as joining_under}
+use Rattle.bus_model.specs.Heard.{Settings, Joining, Entry, AckHeard, RowHeard, is_contest, kind_of, started, with_packet, finished, entry_under, is_whole, or_else, without_kind, without_address, addressless, with_ack as with_ack_heard, is_answer, ack_of, counted, owner_heard, claimer_heard, claimer_after, address_heard, broadcast_heard, session_heard, row_heard, with_name, ended_by, kept_under as joining_under}
 use Rattle.station_table.specs.declared.row.AckSeen.{AckSeen}
 use Rattle.station_table.specs.KeptValue.{KeptValue, nothing_kept, kept_under, entries_of, entries_under, with_claimed, with_ack, with_row, changed_under}
 use Rattle.station_table.specs.StationValue.{SessionValue, StationValue, at}
-use Rattle.station_table.specs.Steps.{empty_table, session_with, joining_of, at_once_of, rejoined, packets_at_once, or_older, with_ended, with_answer, with_claim, packet_joined, with_broadcast_packet, with_session_packet, new_station, after_group, after_gap, after_reading}
-use Rattle.station_table.specs.StandsFor.{StandsFor, session_known, most_after, most_heard, still_owned, ack_known, row_known}
+use Rattle.station_table.specs.Steps.{empty_table, session_with, joining_of, sessions_after, rejoined, packets_at_once, or_older, with_reading, with_ended, with_answer, packet_joined, with_broadcast_packet, with_session_packet, new_station, after_group, after_gap, after_reading}
+use Rattle.station_table.specs.StandsFor.{StandsFor, session_known, most_heard, still_owned, ack_known, row_known}
+use Rattle.station_table.proofs.OwnAddress.{still_apart}
 use Rattle.station_table.proofs.Tables.{at-set, at-empty, places-empty}
 use Rattle.station_table.proofs.RowLemmas.{named, kept_under-changed, names-changed, kept_under-with_row, names-with_row}
 use Rattle.station_table.proofs.Known.{pick_cases, owner_has_row, broadcast_has_row, session_has_row, packet_owner_row}
@@ -38,6 +41,7 @@ single r grant s h k src bytes lt st = ending r grant (Diagnostic k src bytes) s
     mid = record {
       grants = st.grants;
       claims = st.claims;
+      apart = st.apart;
       places = st.places;
       owners = st.owners;
       broadcasts = st.broadcasts;
@@ -87,12 +91,33 @@ test_fails s a b x y e = rw (e, and_false (s == a)) refl
 test_holds : {X : Type 0} (s a : ℕ) (b : Bool) (x y : X) → b ≡ true → (if s == a then x else y) ≡ (if s == a && b then x else y)
 test_holds s a b x y e = rw (e, and_true (s == a)) refl
 
+-- a message that ends leaves the tables by address
+ended_broadcasts : (s : StationValue) (o : Option Entry) (table : List (Option Joining))
+    → with_ended (record s { broadcasts = table }) o ≡ (let ended = with_ended s o in record ended { broadcasts = table })
+ended_broadcasts s None table = refl
+ended_broadcasts s (Some e) table = go (decoding e.bytes)
+  where
+    go : (o : Option Shown) → with_reading (record s { broadcasts = table }) e.name e.kind o ≡ (let ended = with_reading s e.name e.kind o in record ended { broadcasts = table })
+    go None = refl
+    go (Some v) = refl
+
+ended_sessions : (s : StationValue) (o : Option Entry) (table : List (Option SessionValue))
+    → with_ended (record s { sessions = table }) o ≡ (let ended = with_ended s o in record ended { sessions = table })
+ended_sessions s None table = refl
+ended_sessions s (Some e) table = go (decoding e.bytes)
+  where
+    go : (o : Option Shown) → with_reading (record s { sessions = table }) e.name e.kind o ≡ (let ended = with_reading s e.name e.kind o in record ended { sessions = table })
+    go None = refl
+    go (Some v) = refl
+
 -- a packet of a broadcast
 broadcast_packet : (r : Settings) (grant : ℕ) (s : StationValue) (h : List Reading) (src d : ℕ) (bytes : List ℕ) → (d == 255) ≡ true → src < 256
     → is_held s.claimer.held 255 ≡ false → StandsFor r grant s h → StandsAfter r grant (DataTransfer src d bytes) (with_broadcast_packet s src bytes) h
 broadcast_packet r grant s h src d bytes to_all lt not_held st =
-    ending r grant (DataTransfer src d bytes) (record s { broadcasts = slice_set s.broadcasts src (packet_joined bytes (at s.broadcasts src)) }) h
-    (finished (with_packet bytes (at s.broadcasts src))) mid same there
+    subst (λ (x : StationValue). StandsAfter r grant (DataTransfer src d bytes) x h)
+    (ended_broadcasts s (finished (with_packet bytes (at s.broadcasts src))) (slice_set s.broadcasts src (packet_joined bytes (at s.broadcasts src))))
+    (ending r grant (DataTransfer src d bytes) (record s { broadcasts = slice_set s.broadcasts src (packet_joined bytes (at s.broadcasts src)) }) h
+    (finished (with_packet bytes (at s.broadcasts src))) mid same there)
   where
     own_other : is_held (address_heard r h) d ≡ false
     own_other = let e : d ≡ 255 = eqb-true d 255 to_all in rw (← held_same r grant s h st, e) not_held
@@ -101,6 +126,7 @@ broadcast_packet r grant s h src d bytes to_all lt not_held st =
     mid = record {
       grants = st.grants;
       claims = st.claims;
+      apart = st.apart;
       places = (st.places.0, length-set s.broadcasts src (packet_joined bytes (at s.broadcasts src)) ∙ st.places.1, st.places.2);
       owners = st.owners;
       broadcasts = λ a below.
@@ -132,8 +158,10 @@ joining_known p (Some j) = refl
 session_packet : (r : Settings) (grant : ℕ) (s : StationValue) (h : List Reading) (src d : ℕ) (bytes : List ℕ) → (d == 255) ≡ false → is_held s.claimer.held d ≡ true
     → src < 256 → StandsFor r grant s h → StandsAfter r grant (DataTransfer src d bytes) (with_session_packet s src bytes) h
 session_packet r grant s h src d bytes not_all held lt st =
-    ending r grant (DataTransfer src d bytes) (record s { sessions = slice_set s.sessions src (rejoined (packet_joined bytes) (at s.sessions src)) }) h
-    (finished (with_packet bytes (joining_of (at s.sessions src)))) mid same there
+    subst (λ (x : StationValue). StandsAfter r grant (DataTransfer src d bytes) x h)
+    (ended_sessions s (finished (with_packet bytes (joining_of (at s.sessions src)))) (slice_set s.sessions src (rejoined (packet_joined bytes) (at s.sessions src))))
+    (ending r grant (DataTransfer src d bytes) (record s { sessions = slice_set s.sessions src (rejoined (packet_joined bytes) (at s.sessions src)) }) h
+    (finished (with_packet bytes (joining_of (at s.sessions src)))) mid same there)
   where
     own : is_held (address_heard r h) d ≡ true
     own = rw (← held_same r grant s h st) held
@@ -145,6 +173,7 @@ session_packet r grant s h src d bytes not_all held lt st =
     mid = record {
       grants = st.grants;
       claims = st.claims;
+      apart = st.apart;
       places = (st.places.0, st.places.1, length-set s.sessions src (rejoined (packet_joined bytes) (at s.sessions src)) ∙ st.places.2);
       owners = st.owners;
       broadcasts = λ a below. st.broadcasts a below ∙ test_fails src a (d == 255) (packet_joined bytes (broadcast_heard a h)) (broadcast_heard a h) not_all;
@@ -172,6 +201,7 @@ other_packet : (r : Settings) (grant : ℕ) (s : StationValue) (h : List Reading
 other_packet r grant s h src d bytes not_all not_held st = record {
   grants = st.grants;
   claims = st.claims;
+  apart = st.apart;
   places = st.places;
   owners = st.owners;
   broadcasts = λ a below. st.broadcasts a below ∙ test_fails src a (d == 255) (packet_joined bytes (broadcast_heard a h)) (broadcast_heard a h) not_all;
@@ -216,6 +246,7 @@ bam r grant s h src d size packets pgn lt st = go (d == 255) refl
     go true i = record {
       grants = st.grants;
       claims = st.claims;
+      apart = st.apart;
       places = (st.places.0, length-set s.broadcasts src (started (kind_of pgn) size (at s.owners src)) ∙ st.places.1, st.places.2);
       owners = st.owners;
       broadcasts = λ a below.
@@ -232,6 +263,7 @@ bam r grant s h src d size packets pgn lt st = go (d == 255) refl
     go false i = record {
       grants = st.grants;
       claims = st.claims;
+      apart = st.apart;
       places = st.places;
       owners = st.owners;
       broadcasts = λ a below. st.broadcasts a below ∙ test_fails src a (d == 255) (started (kind_of pgn) size (owner_heard a h)) (broadcast_heard a h) i;
@@ -295,6 +327,7 @@ rts r grant s h src d size packets most pgn lt st = go (is_held s.claimer.held d
     go true i = record {
       grants = st.grants;
       claims = st.claims;
+      apart = st.apart;
       places = (
         st.places.0,
         st.places.1,
@@ -319,6 +352,7 @@ rts r grant s h src d size packets most pgn lt st = go (is_held s.claimer.held d
     go false i = record {
       grants = st.grants;
       claims = st.claims;
+      apart = st.apart;
       places = st.places;
       owners = st.owners;
       broadcasts = st.broadcasts;
@@ -343,6 +377,7 @@ aborted r grant s h src d reason pgn lt st = go (is_held s.claimer.held d) refl
     go true i = record {
       grants = st.grants;
       claims = st.claims;
+      apart = st.apart;
       places = (st.places.0, st.places.1, length-set s.sessions src (rejoined (without_kind (kind_of pgn)) (at s.sessions src)) ∙ st.places.2);
       owners = st.owners;
       broadcasts = st.broadcasts;
@@ -360,6 +395,7 @@ aborted r grant s h src d reason pgn lt st = go (is_held s.claimer.held d) refl
     go false i = record {
       grants = st.grants;
       claims = st.claims;
+      apart = st.apart;
       places = st.places;
       owners = st.owners;
       broadcasts = st.broadcasts;
@@ -417,6 +453,7 @@ acknowledged r grant s h control requester pgn d src lt st =
     left b never = record {
       grants = st.grants;
       claims = st.claims;
+      apart = st.apart;
       places = st.places;
       owners = st.owners;
       broadcasts = st.broadcasts;
@@ -435,6 +472,7 @@ acknowledged r grant s h control requester pgn d src lt st =
     go true i (Some m) j = record {
       grants = st.grants;
       claims = st.claims;
+      apart = st.apart;
       places = st.places;
       owners = st.owners;
       broadcasts = st.broadcasts;
@@ -497,6 +535,7 @@ cannot_claim : (r : Settings) (grant : ℕ) (s : StationValue) (h : List Reading
 cannot_claim r grant s h m st = record {
   grants = st.grants;
   claims = st.claims;
+  apart = st.apart;
   places = st.places;
   owners = st.owners;
   broadcasts = st.broadcasts;
@@ -572,22 +611,42 @@ name_heard r (Frame f ∷ older) = of_group (group_of f) (name_heard r older)
     of_group (AddressClaimed s n) e = e
     of_group _ e = e
 
+-- a step is taken exactly at a contest
+abbrev IsContest : ClaimStep → Bool → Type 0
+IsContest Nothing b = b ≡ false
+IsContest _ b = b ≡ true
+
+move_contest : (o : Option ℕ) → IsContest (move_step o) true
+move_contest None = refl
+move_contest (Some a) = refl
+
+contest_step : (src m : ℕ) (c : ClaimerValue) → IsContest (claim_step src m c) (is_contest c.name c.held (AddressClaimed src m))
+contest_step src m c = go (is_held c.held src) (m == c.name) (nat_lt c.name m)
+  where
+    go : (b d e : Bool)
+        → IsContest (if not b || d then Nothing else (if e then Defend else move_step (next_address c.name (noted_after src m c.noted)))) (b && not d)
+    go false d e = refl
+    go true true e = refl
+    go true false true = refl
+    go true false false = move_contest (next_address c.name (noted_after src m c.noted))
+
 -- a claim of an address
 claimed : (r : Settings) (grant : ℕ) (s : StationValue) (h : List Reading) (src m : ℕ) → src < 256 → StandsFor r grant s h
     → StandsAfter r grant (AddressClaimed src m) (after_group s (AddressClaimed src m)) h
 claimed r grant s h src m lt st = record {
   grants = st.grants;
   claims = rw (st.claims) refl;
+  apart = still_apart src m s.claimer st.apart;
   places = (
     length-set s.owners src (Some m) ∙ st.places.0,
     length-set s.broadcasts src (joining_under m (at s.broadcasts src)) ∙ st.places.1,
-    session_places (is_contest s.claimer.name s.claimer.held (AddressClaimed src m)),
+    session_places (claim_step src m s.claimer),
   );
   owners = λ a below.
       written_place s.owners (λ v. owner_heard v h) (λ v. Some m) src (Some m) st.places.0 lt refl st.owners a below;
   broadcasts = λ a below. changed_place s.broadcasts (λ v. broadcast_heard v h) (joining_under m) src st.places.1 lt st.broadcasts a below;
   sessions = λ a below.
-      sessions_now a below (is_contest s.claimer.name s.claimer.held (AddressClaimed src m))
+      sessions_now a below (claim_step src m s.claimer) (is_contest s.claimer.name s.claimer.held (AddressClaimed src m)) (contest_step src m s.claimer)
       ∙ ap (session_with (packets_at_once grant (most_heard r a h))) (rw (contest_same) refl);
   rows = λ n. ap (row_known (slice_set s.owners src (Some m)) n) (kept_once_claimed (Some src) s.rows m n) ∙ rw (← st.rows n) (rows_now n (m == n) refl);
   names = names_once_claimed (Some src) s.rows m ∙ ap (with_name m) st.names;
@@ -599,16 +658,20 @@ claimed r grant s h src m lt st = record {
     contest_same : is_contest s.claimer.name s.claimer.held (AddressClaimed src m) ≡ is_contest r.name (address_heard r h) (AddressClaimed src m)
     contest_same = rw (held_same r grant s h st, st.claims, name_heard r h) refl
 
-    session_places : (b : Bool) → length (if b then empty_table {X = SessionValue} else slice_set s.sessions src (rejoined (joining_under m) (at s.sessions src))) ≡ 256
-    session_places true = places-empty SessionValue
-    session_places false = length-set s.sessions src (rejoined (joining_under m) (at s.sessions src)) ∙ st.places.2
+    session_places : (step : ClaimStep) → length (sessions_after step (slice_set s.sessions src (rejoined (joining_under m) (at s.sessions src)))) ≡ 256
+    session_places Nothing = length-set s.sessions src (rejoined (joining_under m) (at s.sessions src)) ∙ st.places.2
+    session_places Defend = places-empty SessionValue
+    session_places (Move b) = places-empty SessionValue
+    session_places NoAddress = places-empty SessionValue
 
-    sessions_now : (a : ℕ) → a < 256 → (b : Bool)
-        → at (if b then empty_table else slice_set s.sessions src (rejoined (joining_under m) (at s.sessions src))) a
+    sessions_now : (a : ℕ) → a < 256 → (step : ClaimStep) (b : Bool) → IsContest step b
+        → at (sessions_after step (slice_set s.sessions src (rejoined (joining_under m) (at s.sessions src)))) a
         ≡ session_with (packets_at_once grant (most_heard r a h))
         (if b then None else (if src == a then joining_under m (session_heard r a h) else session_heard r a h))
-    sessions_now a below true = at-empty a
-    sessions_now a below false = changed_session r grant s h (joining_under m) src st lt refl a below
+    sessions_now a below Nothing b e = rw (e) (changed_session r grant s h (joining_under m) src st lt refl a below)
+    sessions_now a below Defend b e = rw (e) (at-empty a)
+    sessions_now a below (Move c) b e = rw (e) (at-empty a)
+    sessions_now a below NoAddress b e = rw (e) (at-empty a)
 
     rows_now : (n : ℕ) (b : Bool) → (m == n) ≡ b
         → row_known (slice_set s.owners src (Some m)) n (if b then Some (with_claimed (Some src) (unwrap_or (kept_under s.rows n) nothing_kept)) else kept_under s.rows n)
@@ -654,19 +717,20 @@ unfolding group_of
 sender_below f = below_group (pgn_of f.id) (pdu_specific_of f.id) (source_of f.id) f.bytes (omega arith)
 
 -- whatever a frame says
-pub group_stands : (r : Settings) (grant : ℕ) (s : StationValue) (h : List Reading) (g : Group) → sender g < 256 → is_held s.claimer.held 255 ≡ false
+pub group_stands : (r : Settings) (grant : ℕ) (s : StationValue) (h : List Reading) (g : Group) → sender g < 256
     → StandsFor r grant s h → StandsAfter r grant g (after_group s g) h
-group_stands r grant s h (AddressClaimed src n) lt own st = claimed r grant s h src n lt st
-group_stands r grant s h (CannotClaim n) lt own st = cannot_claim r grant s h n st
-group_stands r grant s h (Acknowledgment c q p d src) lt own st = acknowledged r grant s h c q p d src lt st
-group_stands r grant s h (Diagnostic k src bytes) lt own st = single r grant s h k src bytes lt st
-group_stands r grant s h (ConnectionManagement src d (Bam size packets pgn)) lt own st = bam r grant s h src d size packets pgn lt st
-group_stands r grant s h (ConnectionManagement src d (Rts size packets most pgn)) lt own st = rts r grant s h src d size packets most pgn lt st
-group_stands r grant s h (ConnectionManagement src d (Abort reason pgn)) lt own st = aborted r grant s h src d reason pgn lt st
-group_stands r grant s h (DataTransfer src d bytes) lt own st = packet r grant s h src d bytes lt own st
-group_stands r grant s h (Request p d src) lt own st = record {
+group_stands r grant s h (AddressClaimed src n) lt st = claimed r grant s h src n lt st
+group_stands r grant s h (CannotClaim n) lt st = cannot_claim r grant s h n st
+group_stands r grant s h (Acknowledgment c q p d src) lt st = acknowledged r grant s h c q p d src lt st
+group_stands r grant s h (Diagnostic k src bytes) lt st = single r grant s h k src bytes lt st
+group_stands r grant s h (ConnectionManagement src d (Bam size packets pgn)) lt st = bam r grant s h src d size packets pgn lt st
+group_stands r grant s h (ConnectionManagement src d (Rts size packets most pgn)) lt st = rts r grant s h src d size packets most pgn lt st
+group_stands r grant s h (ConnectionManagement src d (Abort reason pgn)) lt st = aborted r grant s h src d reason pgn lt st
+group_stands r grant s h (DataTransfer src d bytes) lt st = packet r grant s h src d bytes lt st.apart st
+group_stands r grant s h (Request p d src) lt st = record {
   grants = st.grants;
   claims = st.claims;
+  apart = st.apart;
   places = st.places;
   owners = st.owners;
   broadcasts = st.broadcasts;
@@ -677,9 +741,10 @@ group_stands r grant s h (Request p d src) lt own st = record {
   missed = st.missed;
   unread = st.unread;
 }
-group_stands r grant s h (ConnectionManagement src d (Cts granted next pgn)) lt own st = record {
+group_stands r grant s h (ConnectionManagement src d (Cts granted next pgn)) lt st = record {
   grants = st.grants;
   claims = st.claims;
+  apart = st.apart;
   places = st.places;
   owners = st.owners;
   broadcasts = st.broadcasts;
@@ -690,9 +755,10 @@ group_stands r grant s h (ConnectionManagement src d (Cts granted next pgn)) lt 
   missed = st.missed;
   unread = st.unread;
 }
-group_stands r grant s h (ConnectionManagement src d (EndAck size packets pgn)) lt own st = record {
+group_stands r grant s h (ConnectionManagement src d (EndAck size packets pgn)) lt st = record {
   grants = st.grants;
   claims = st.claims;
+  apart = st.apart;
   places = st.places;
   owners = st.owners;
   broadcasts = st.broadcasts;
@@ -703,9 +769,10 @@ group_stands r grant s h (ConnectionManagement src d (EndAck size packets pgn)) 
   missed = st.missed;
   unread = st.unread;
 }
-group_stands r grant s h Other lt own st = record {
+group_stands r grant s h Other lt st = record {
   grants = st.grants;
   claims = st.claims;
+  apart = st.apart;
   places = st.places;
   owners = st.owners;
   broadcasts = st.broadcasts;
@@ -730,6 +797,7 @@ pub gap_stands : (r : Settings) (grant : ℕ) (s : StationValue) (h : List Readi
 gap_stands r grant s h n st = record {
   grants = st.grants;
   claims = st.claims;
+  apart = st.apart;
   places = (places-empty ℕ, places-empty Joining, places-empty SessionValue);
   owners = λ a below. at-empty a;
   broadcasts = λ a below. at-empty a;
@@ -742,11 +810,12 @@ gap_stands r grant s h n st = record {
 }
 
 -- a reading that is not refused
-pub stands_after : (r : Settings) (grant : ℕ) (s : StationValue) (h : List Reading) (x : Reading) → is_held s.claimer.held 255 ≡ false → StandsFor r grant s h
+pub stands_after : (r : Settings) (grant : ℕ) (s : StationValue) (h : List Reading) (x : Reading) → StandsFor r grant s h
     → StandsFor r grant (after_reading s x) (x ∷ h)
-stands_after r grant s h Empty own st = record {
+stands_after r grant s h Empty st = record {
   grants = st.grants;
   claims = st.claims;
+  apart = st.apart;
   places = st.places;
   owners = st.owners;
   broadcasts = st.broadcasts;
@@ -757,13 +826,14 @@ stands_after r grant s h Empty own st = record {
   missed = st.missed;
   unread = st.unread;
 }
-stands_after r grant s h (Gap n) own st = gap_stands r grant s h n st
-stands_after r grant s h (Frame f) own st = at_frame (group_stands r grant s h (group_of f) (sender_below f) own st)
+stands_after r grant s h (Gap n) st = gap_stands r grant s h n st
+stands_after r grant s h (Frame f) st = at_frame (group_stands r grant s h (group_of f) (sender_below f) st)
   where
     at_frame : StandsAfter r grant (group_of f) (after_group s (group_of f)) h → StandsFor r grant (after_group s (group_of f)) (Frame f ∷ h)
     at_frame t = record {
       grants = t.grants;
       claims = t.claims;
+      apart = t.apart;
       places = t.places;
       owners = t.owners;
       broadcasts = t.broadcasts;
@@ -776,10 +846,11 @@ stands_after r grant s h (Frame f) own st = at_frame (group_stands r grant s h (
     }
 
 -- a new station, which has read nothing
-pub stands_new : (r : Settings) (grant : ℕ) (s : StationValue) → s ≡ new_station r.name r.address grant → StandsFor r grant s []
-stands_new r grant s e = subst (λ (v : StationValue). StandsFor r grant v []) (sym e) (record {
+pub stands_new : (r : Settings) (grant : ℕ) (s : StationValue) → (r.address == 255) ≡ false → s ≡ new_station r.name r.address grant → StandsFor r grant s []
+stands_new r grant s below e = subst (λ (v : StationValue). StandsFor r grant v []) (sym e) (record {
   grants = refl;
   claims = refl;
+  apart = below;
   places = (places-empty ℕ, places-empty Joining, places-empty SessionValue);
   owners = λ a below. at-empty a;
   broadcasts = λ a below. at-empty a;
@@ -790,3 +861,32 @@ stands_new r grant s e = subst (λ (v : StationValue). StandsFor r grant v []) (
   missed = refl;
   unread = refl;
 })
+
+-- the parts of a new station
+pub stands_new_parts : (name address grant : ℕ) (claimer : ClaimerValue) (owners : List (Option ℕ)) (rows : List (ℕ × KeptValue)) (broadcasts : List (Option Joining)) (sessions : List (Option SessionValue))
+    → address ≤ 253 → claimer ≡ new_claimer name address → owners ≡ empty_table → rows ≡ [] → broadcasts ≡ empty_table → sessions ≡ empty_table
+    → StandsFor (record { name = name; address = address }) grant
+    (record { claimer = claimer; grant = grant; owners = owners; rows = rows; broadcasts = broadcasts; sessions = sessions; missed = 0; unread = 0 }) []
+stands_new_parts name address grant claimer owners rows broadcasts sessions fits c o r b s =
+    stands_new (record { name = name; address = address }) grant _ (ne_eqb address 255 (λ same. let wrong : address ≡ 255 = same in omega arith)) (rw (c, o, r, b, s) refl)
+
+-- the station's tables after a list of readings, newest first
+pub station_after : Settings → ℕ → List Reading → StationValue
+station_after r grant [] = new_station r.name r.address grant
+station_after r grant (x ∷ older) = after_reading (station_after r grant older) x
+
+-- they stand for that list
+pub stands_always : (r : Settings) (grant : ℕ) → (r.address == 255) ≡ false → (h : List Reading) → StandsFor r grant (station_after r grant h) h
+unfolding station_after
+stands_always r grant below [] = stands_new r grant (new_station r.name r.address grant) below refl
+stands_always r grant below (x ∷ older) = stands_after r grant (station_after r grant older) older x (stands_always r grant below older)
+
+-- a reading, with the tables after it named
+pub stands_read : (r : Settings) (grant : ℕ) (s t : StationValue) (h : List Reading) (x : Reading) → t ≡ after_reading s x → StandsFor r grant s h → StandsFor r grant t (x ∷ h)
+stands_read r grant s t h x e st = subst (λ (v : StationValue). StandsFor r grant v (x ∷ h)) (sym e) (stands_after r grant s h x st)
+
+-- the same at a call's answer
+pub stands_on_ok : {T E : Type 0} (result : Result T E) (s t : StationValue) (x : Reading) → OnOk result (t ≡ after_reading s x)
+    → OnOk result ((r : Settings) (grant : ℕ) (h : List Reading) → StandsFor r grant s h → StandsFor r grant t (x ∷ h))
+stands_on_ok (Ok y) s t x e = λ r grant h st. stands_read r grant s t h x e st
+stands_on_ok (Err y) s t x e = tt

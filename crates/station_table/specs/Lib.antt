@@ -1,5 +1,6 @@
 pub mod Halves
 pub mod KeptValue
+pub mod Orders
 pub mod Reactions
 pub mod Refusals
 pub mod StandsFor

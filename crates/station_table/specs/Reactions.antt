@@ -1,12 +1,12 @@
 -- What the station withdraws and queues in answer to each reading and order.
-use Rattle.std.specs.Prelude.{ℕ, ◌+◌, ◌-◌, ◌%◌, min, List, [], ◌∷◌, Option, Some, None, Bool, true, false, ◌&&◌, ◌||◌, ◌==◌, nat_lt, length, if◌then◌else◌}
+use Rattle.std.specs.Prelude.{ℕ, ◌+◌, ◌-◌, ◌%◌, min, List, [], ◌∷◌, Option, Some, None, true, false, ◌&&◌, ◌||◌, ◌==◌, nat_lt, length, if◌then◌else◌}
 use Rattle.can_frame.specs.FrameValue.{FrameValue}
 use Rattle.can_frame.specs.declared.reading.Reading.{Reading}
 use Rattle.can_frame.specs.declared.reading.Reading.TheVariants.{Frame, Gap, Empty}
-use Rattle.address_claim.specs.Claiming.{ClaimerValue, is_held, claim_step, after_claim}
+use Rattle.address_claim.specs.Claiming.{ClaimerValue, is_held, claim_step}
 use Rattle.address_claim.specs.Frames.{claim_frame_value, claim_source}
 use Rattle.address_claim.specs.declared.claimer.ClaimStep.{ClaimStep}
-use Rattle.address_claim.specs.declared.claimer.ClaimStep.TheVariants.{Nothing}
+use Rattle.address_claim.specs.declared.claimer.ClaimStep.TheVariants.{Nothing, Defend, Move, CannotClaim}
 use Rattle.dm_messages.specs.View.{pgn_of_kind}
 use Rattle.requests.specs.Layouts.{request_frame_value, ack_frame_value, commanded_bytes}
 use Rattle.transport.specs.declared.control.Control.{Control}
@@ -44,7 +44,9 @@ request_for_claims c = request_frame_value (record { pgn = 60928; dest = 255; so
 -- a claim that is defended, or makes the station move or go without address, is answered by a claim in place of all that waits
 abbrev pub claim_reaction : ClaimStep → ClaimerValue → Reaction
 claim_reaction Nothing c = silent
-claim_reaction _ c = claiming_again (own_claim c)
+claim_reaction Defend c = claiming_again (own_claim c)
+claim_reaction (Move address) c = claiming_again (claim_frame_value c.name (Some address))
+claim_reaction CannotClaim c = claiming_again (claim_frame_value c.name None)
 
 -- a request for claims, to the station or to all, is answered by its claim; any other, to it from an address that can be
 -- held, by a negative acknowledgment
@@ -61,27 +63,30 @@ start_reaction None at_once packets pgn = Abort 2 pgn
 start_reaction (Some j) at_once packets pgn = Cts (min at_once packets) 1 pgn
 
 -- after the last packet that was granted the next ones are granted
-abbrev pub next_grant : ℕ → Joining → ℕ → ℕ → Reaction
-next_grant at_once j own source =
+abbrev pub next_grant : ℕ → Joining → Option Control
+next_grant at_once j =
     if length j.pieces % at_once == 0
-    then answering (control_frame (Cts (min at_once (packet_count j.size - length j.pieces)) (length j.pieces + 1) (pgn_of_kind j.kind)) own source)
-    else silent
+    then Some (Cts (min at_once (packet_count j.size - length j.pieces)) (length j.pieces + 1) (pgn_of_kind j.kind))
+    else None
 
 -- a packet that is not the next one aborts the session, the last one ends it, any other is counted
-abbrev pub packet_reaction : SessionValue → Option Joining → ℕ → ℕ → Reaction
-packet_reaction x None own source = answering (control_frame (Abort 2 (pgn_of_kind x.joining.kind)) own source)
-packet_reaction x (Some j) own source =
-    if is_whole j then answering (control_frame (EndAck j.size (packet_count j.size) (pgn_of_kind j.kind)) own source)
-    else next_grant x.at_once j own source
+abbrev pub packet_reply : SessionValue → Option Joining → Option Control
+packet_reply x None = Some (Abort 2 (pgn_of_kind x.joining.kind))
+packet_reply x (Some j) = if is_whole j then Some (EndAck j.size (packet_count j.size) (pgn_of_kind j.kind)) else next_grant x.at_once j
 
 -- a packet for the station is answered only within a session
-abbrev pub session_reaction : Option SessionValue → List ℕ → ℕ → ℕ → Reaction
-session_reaction None bytes own source = silent
-session_reaction (Some x) bytes own source = packet_reaction x (with_packet bytes (Some x.joining)) own source
+abbrev pub reply_to : Option SessionValue → List ℕ → Option Control
+reply_to None bytes = None
+reply_to (Some x) bytes = packet_reply x (with_packet bytes (Some x.joining))
+
+-- a connection management message, if there is one to send
+abbrev pub replying : Option Control → ℕ → ℕ → Reaction
+replying None own source = silent
+replying (Some control) own source = answering (control_frame control own source)
 
 -- what one frame makes the station do
 abbrev pub group_reaction : StationValue → Group → Reaction
-group_reaction s (AddressClaimed source name) = claim_reaction (claim_step source name s.claimer) (after_claim source name s.claimer)
+group_reaction s (AddressClaimed source name) = claim_reaction (claim_step source name s.claimer) s.claimer
 group_reaction s (Request pgn destination source) = request_reaction s.claimer pgn destination source
 group_reaction s (ConnectionManagement source destination (Rts size packets most pgn)) =
     if is_held s.claimer.held destination && nat_lt source 254
@@ -90,7 +95,7 @@ group_reaction s (ConnectionManagement source destination (Rts size packets most
     else silent
 group_reaction s (DataTransfer source destination bytes) =
     if destination == 255 then silent
-    else (if is_held s.claimer.held destination then session_reaction (at s.sessions source) bytes destination source else silent)
+    else (if is_held s.claimer.held destination then replying (reply_to (at s.sessions source) bytes) destination source else silent)
 group_reaction s _ = silent
 
 -- what a reading makes the station do

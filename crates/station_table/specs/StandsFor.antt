@@ -1,15 +1,14 @@
 -- When the station's tables say what a list of readings says.
-use Rattle.std.specs.Prelude.{◌≡◌, ℕ, ◌<◌, List, [], ◌∷◌, Option, Some, None, Bool, true, false, ◌&&◌, ◌==◌, is_some, if◌then◌else◌, length, map, reverse}
-use Rattle.std.specs.Option.{option_map}
+use Rattle.std.specs.Prelude.{◌≡◌, ℕ, ◌<◌, List, [], ◌∷◌, Option, Some, None, false, ◌&&◌, ◌==◌, is_some, if◌then◌else◌, length, map, reverse}
 use Rattle.address_claim.specs.Claiming.{is_held}
 use Rattle.can_frame.specs.declared.reading.Reading.{Reading}
 use Rattle.can_frame.specs.declared.reading.Reading.TheVariants.{Frame, Gap, Empty}
 use Rattle.dm_messages.specs.declared.kind.Kind.{Kind}
-use Rattle.transport.specs.declared.control.Control.{Control}
 use Rattle.transport.specs.declared.control.Control.TheVariants.{Rts}
 use Rattle.parameter_group.specs.Group.{Group, ConnectionManagement, group_of}
-use Rattle.bus_model.specs.Heard.{Settings, Joining, AckHeard, RowHeard, kind_of, started, owner_heard, claimer_heard, address_heard, broadcast_heard, session_heard, row_heard, names_heard, entries_heard, missed_count, unread_count}
+use Rattle.bus_model.specs.Heard.{Settings, AckHeard, RowHeard, kind_of, started, owner_heard, claimer_heard, address_heard, broadcast_heard, session_heard, row_heard, names_heard, entries_heard, missed_count, unread_count}
 use Rattle.station_table.specs.declared.row.AckSeen.{AckSeen}
+use Rattle.station_table.specs.declared.row.Row.{Row}
 use Rattle.station_table.specs.KeptValue.{KeptValue, kept_under, entries_under}
 use Rattle.station_table.specs.StationValue.{SessionValue, StationValue, at}
 use Rattle.station_table.specs.Steps.{session_with, packets_at_once}
@@ -49,6 +48,7 @@ row_known owners name (Some kept) = Some (record { address = still_owned owners 
 pub record StandsFor (r : Settings) (grant : ℕ) (s : StationValue) (h : List Reading) : Type 0 where
   pub grants : s.grant ≡ grant
   pub claims : s.claimer ≡ claimer_heard r h
+  pub apart : is_held s.claimer.held 255 ≡ false
   pub places : (length s.owners ≡ 256) × (length s.broadcasts ≡ 256) × (length s.sessions ≡ 256)
   pub owners : (a : ℕ) → a < 256 → at s.owners a ≡ owner_heard a h
   pub broadcasts : (a : ℕ) → a < 256 → at s.broadcasts a ≡ broadcast_heard a h
@@ -58,3 +58,12 @@ pub record StandsFor (r : Settings) (grant : ℕ) (s : StationValue) (h : List R
   pub entries : (n : ℕ) (k : Kind) → entries_under s.rows n k ≡ reverse (entries_heard r n k h)
   pub missed : s.missed ≡ missed_count h
   pub unread : s.unread ≡ unread_count r h
+
+-- the row that the station shows of a NAME
+abbrev pub row_of : List (Option ℕ) → ℕ → Option KeptValue → Option Row
+row_of owners name None = None
+row_of owners name (Some kept) = Some (record { address = still_owned owners name kept.claimed; ack = kept.ack })
+
+-- that row in the words of what was heard
+abbrev pub row_heard_as : Row → RowHeard
+row_heard_as row = record { address = row.address; ack = ack_known row.ack }

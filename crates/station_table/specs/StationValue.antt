@@ -1,5 +1,5 @@
 -- What the station holds in its tables.
-use Rattle.std.specs.Prelude.{ℕ, List, Option, Some, None, slice_index_or}
+use Rattle.std.specs.Prelude.{ℕ, List, Option, None, slice_index_or}
 use Rattle.address_claim.specs.Claiming.{ClaimerValue}
 use Rattle.bus_model.specs.Heard.{Joining}
 use Rattle.station_table.specs.KeptValue.{KeptValue}

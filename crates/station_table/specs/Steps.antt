@@ -1,22 +1,22 @@
 -- What each reading does to the station's tables.
-use Rattle.std.specs.Prelude.{ℕ, ◌+◌, min, List, [], ◌∷◌, ◌++◌, Option, Some, None, Bool, true, false, ◌&&◌, ◌||◌, ◌==◌, if◌then◌else◌, slice_set, replicate}
-use Rattle.std.specs.Option.{option_map}
+use Rattle.std.specs.Prelude.{ℕ, ◌+◌, min, List, [], Option, Some, None, ◌||◌, ◌==◌, if◌then◌else◌, slice_set, replicate}
 use Rattle.can_frame.specs.declared.reading.Reading.{Reading}
 use Rattle.can_frame.specs.declared.reading.Reading.TheVariants.{Frame, Gap, Empty}
 use Rattle.dm_messages.specs.declared.kind.Kind.{Kind}
 use Rattle.dm_messages.specs.declared.shown.Shown.{Shown}
 use Rattle.dm_messages.specs.View.{decoding}
-use Rattle.transport.specs.declared.control.Control.{Control}
 use Rattle.transport.specs.declared.control.Control.TheVariants.{Rts, Bam, Abort}
 use Rattle.parameter_group.specs.Group.{Group, AddressClaimed, CannotClaim, Acknowledgment, Diagnostic, ConnectionManagement, DataTransfer, group_of}
-use Rattle.address_claim.specs.Claiming.{is_held, new_claimer, after_claim}
-use Rattle.bus_model.specs.Heard.{Joining, Entry, is_contest, kind_of, started, with_packet, unfinished, finished, entry_under, without_kind, counted, kept_under as joining_under}
+use Rattle.address_claim.specs.Claiming.{is_held, new_claimer, claim_step, after_claim}
+use Rattle.address_claim.specs.declared.claimer.ClaimStep.{ClaimStep}
+use Rattle.address_claim.specs.declared.claimer.ClaimStep.TheVariants.{Nothing}
+use Rattle.bus_model.specs.Heard.{Joining, Entry, kind_of, started, with_packet, unfinished, finished, entry_under, without_kind, counted, kept_under as joining_under}
 use Rattle.station_table.specs.declared.row.AckSeen.{AckSeen}
 use Rattle.station_table.specs.KeptValue.{with_claimed, with_ack, with_entry, with_row, changed_under}
 use Rattle.station_table.specs.StationValue.{SessionValue, StationValue, at}
 
 -- a table in which no address has anything
-abbrev pub empty_table : {X : Type 0} → List (Option X)
+unfoldable pub empty_table : {X : Type 0} → List (Option X)
 empty_table = replicate 256 None
 
 -- the session with what became of its message, or none where that ended
@@ -62,6 +62,11 @@ abbrev pub with_answer : StationValue → Option ℕ → AckSeen → StationValu
 with_answer s None ack = s
 with_answer s (Some name) ack = record s { rows = changed_under (with_ack ack) s.rows name }
 
+-- a step of the station's own claims drops every session
+abbrev pub sessions_after : ClaimStep → List (Option SessionValue) → List (Option SessionValue)
+sessions_after Nothing sessions = sessions
+sessions_after _ sessions = empty_table
+
 -- a claim of an address
 abbrev pub with_claim : StationValue → ℕ → ℕ → StationValue
 with_claim s source name = record s {
@@ -69,9 +74,7 @@ with_claim s source name = record s {
   owners = slice_set s.owners source (Some name);
   rows = changed_under (with_claimed (Some source)) (with_row s.rows name) name;
   broadcasts = slice_set s.broadcasts source (joining_under name (at s.broadcasts source));
-  sessions =
-      if is_contest s.claimer.name s.claimer.held (AddressClaimed source name) then empty_table
-      else slice_set s.sessions source (rejoined (joining_under name) (at s.sessions source));
+  sessions = sessions_after (claim_step source name s.claimer) (slice_set s.sessions source (rejoined (joining_under name) (at s.sessions source)));
 }
 
 -- what is half joined after one more packet; nothing once it is whole
@@ -81,14 +84,14 @@ packet_joined bytes before = unfinished (with_packet bytes before)
 -- a packet of a broadcast
 abbrev pub with_broadcast_packet : StationValue → ℕ → List ℕ → StationValue
 with_broadcast_packet s source bytes =
-    with_ended (record s { broadcasts = slice_set s.broadcasts source (packet_joined bytes (at s.broadcasts source)) })
-    (finished (with_packet bytes (at s.broadcasts source)))
+    let ended = with_ended s (finished (with_packet bytes (at s.broadcasts source))) in
+    record ended { broadcasts = slice_set s.broadcasts source (packet_joined bytes (at s.broadcasts source)) }
 
 -- a packet of a session
 abbrev pub with_session_packet : StationValue → ℕ → List ℕ → StationValue
 with_session_packet s source bytes =
-    with_ended (record s { sessions = slice_set s.sessions source (rejoined (packet_joined bytes) (at s.sessions source)) })
-    (finished (with_packet bytes (joining_of (at s.sessions source))))
+    let ended = with_ended s (finished (with_packet bytes (joining_of (at s.sessions source)))) in
+    record ended { sessions = slice_set s.sessions source (rejoined (packet_joined bytes) (at s.sessions source)) }
 
 -- a station that has read nothing
 abbrev pub new_station : ℕ → ℕ → ℕ → StationValue

@@ -1,4 +1,4 @@
-ghost use Rattle.std.specs.Prelude.{◌≡◌, ℕ, ◌≤◌, Some, IfOk};
+ghost use Rattle.std.specs.Prelude.{◌≡◌, ℕ, ◌<◌, ◌≤◌, Some, IfOk, length};
 ghost use Rattle.station_table.specs.Halves.{beginning, packet_answer};
 
 use can_frame::Pgn;
@@ -17,6 +17,14 @@ pub struct Half {
     assembly: Assembly,
 }
 
+/// A message that ended: whose, of which kind, and its bytes.
+#[derive(Debug, Drop)]
+pub struct Ended {
+    pub owner: Name,
+    pub kind: Kind,
+    pub payload: Payload,
+}
+
 impl Model for Half {
     ghost use Rattle.bus_model.specs.Heard.{Joining};
     ghost use Rattle.station_table.specs.Halves.{pieces_taken, IsHalf};
@@ -30,7 +38,9 @@ impl Model for Half {
 
 impl Half {
     ghost use Rattle.bus_model.specs.Heard.{with_packet, finished};
-    ghost use Rattle.station_table.specs.Halves.{answer_by};
+    ghost use Rattle.std.specs.Option.{option_map};
+    ghost use Rattle.station_table.specs.Halves.{answer_by, entry_of, next_half};
+    ghost use Rattle.transport.specs.Pieces.{packet_count};
 
     /// A message of this owner, kind and size, 9 to 1,785 bytes, of which nothing was taken yet. It takes all the memory
     /// that its packets will need.
@@ -78,9 +88,8 @@ impl Half {
     }
 
     /// What the message becomes with this packet; nothing changes.
-
     pub fn answer(&self, packet: &[u8]) -> Took
-        ensures { result ≡ packet_answer self.now packet.now }
+        ensures value { result ≡ packet_answer self.now packet.now }
     {
         self.assembly.answer(packet)
     }
@@ -103,5 +112,30 @@ impl Half {
         let mut whole = self.assembly.copy(alloc)?;
         whole.take(packet);
         Ok(whole.finish())
+    }
+
+    /// The message that ends with this packet, if it does; nothing changes.
+    #[tactic(auto, using(crate::proofs::HalfLemmas::ended_more, crate::proofs::HalfLemmas::ended_broken))]
+    pub fn end_with(&self, alloc: Global, packet: &[u8]) -> Result<Option<Ended>, AllocError>
+        ensures { IfOk result (λ o. option_map entry_of o ≡ finished (with_packet packet.now (Some self.now))) }
+    {
+        match self.answer(packet) {
+            Took::Whole => Ok(Some(Ended {
+                owner: self.owner,
+                kind: self.kind,
+                payload: self.payload_with(alloc, packet)?,
+            })),
+            Took::More | Took::Broken => Ok(None),
+        }
+    }
+
+    /// How many packets are taken with this one, which is next and not the last.
+    #[tactic(auto, using(crate::proofs::HalfLemmas::next_number, crate::proofs::HalfLemmas::next_length, crate::proofs::HalfLemmas::still_missing))]
+    pub fn count_with(&self, packet: &[u8]) -> u8
+        requires { packet_answer self.now packet.now ≡ Took.More }
+        ensures value { result ≡ length (next_half self.now packet.now).pieces }
+        ensures missing { result < packet_count self.now.size }
+    {
+        packet[0]
     }
 }

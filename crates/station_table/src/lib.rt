@@ -7,7 +7,11 @@ mod kept;
 mod reaction;
 mod row;
 mod rows;
+mod session;
+mod slots;
+mod station;
 
 pub use error::StationError;
 pub use reaction::{Ask, Reaction};
 pub use row::{AckSeen, Row};
+pub use station::Station;

@@ -1,0 +1,39 @@
+-- What the station answers to each order, memory aside.
+use Rattle.std.specs.Prelude.{ℕ, Option, Some, None, Result, Ok, Err, nat_lt, if◌then◌else◌}
+use Rattle.station_table.specs.declared.error.StationError.{StationError}
+use Rattle.station_table.specs.declared.error.StationError.TheVariants.{NotAnAddress, NoAddress, NotHeld}
+use Rattle.station_table.specs.declared.reaction.Ask.{Ask}
+use Rattle.station_table.specs.declared.reaction.Reaction.{Reaction}
+use Rattle.station_table.specs.declared.row.Row.{Row}
+use Rattle.station_table.specs.KeptValue.{kept_under}
+use Rattle.station_table.specs.Reactions.{asking, commanding}
+use Rattle.station_table.specs.StationValue.{StationValue}
+use Rattle.station_table.specs.StandsFor.{row_of}
+
+-- the address in a row, if there is one
+abbrev pub address_in : Option Row → Option ℕ
+address_in None = None
+address_in (Some row) = row.address
+
+-- a request from the station's address to the NAME's
+abbrev pub ask_from : Option ℕ → Option ℕ → Ask → Result Reaction StationError
+ask_from None to ask = Err NotHeld
+ask_from (Some own) None ask = Err NoAddress
+ask_from (Some own) (Some address) ask = Ok (asking own ask address)
+
+-- the unit of a NAME is asked
+abbrev pub ask_answer : StationValue → ℕ → Ask → Result Reaction StationError
+ask_answer s name ask = ask_from s.claimer.held (address_in (row_of s.owners name (kept_under s.rows name))) ask
+
+-- all are asked
+abbrev pub ask_all_answer : StationValue → Ask → Result Reaction StationError
+ask_all_answer s ask = ask_from s.claimer.held (Some 255) ask
+
+-- a command from the station's address
+abbrev pub command_from : Option ℕ → ℕ → ℕ → Result Reaction StationError
+command_from None name address = Err NotHeld
+command_from (Some own) name address = Ok (commanding own name address)
+
+-- the unit of a NAME is commanded to hold an address
+abbrev pub command_answer : StationValue → ℕ → ℕ → Result Reaction StationError
+command_answer s name address = if nat_lt 253 address then Err NotAnAddress else command_from s.claimer.held name address

@@ -1,0 +1,162 @@
+ghost use Rattle.std.specs.Prelude.{◌≡◌, ℕ, ◌<◌, ◌≤◌, [], ◌∷◌, length, map, reverse, slice_get, List, IfOk, IfSome, OnOk, OnErr};
+ghost use Rattle.std.specs.Option.{option_map};
+ghost use Rattle.can_frame.specs.declared.reading.Reading.{Reading as AnyReading};
+ghost use Rattle.address_claim.specs.Claiming.{ClaimerValue};
+ghost use Rattle.bus_model.specs.Heard.{Settings, address_heard, names_heard, row_heard, entries_heard, missed_count, unread_count};
+ghost use Rattle.station_table.specs.Reactions.{own_claim};
+
+use crate::half::Half;
+use crate::row::Row;
+use crate::rows::Rows;
+use crate::session::Session;
+use crate::slots::{no_broadcasts, no_owners, no_sessions};
+use address_claim::{Claimer, claim_frame};
+use can_frame::Frame;
+use dm_messages::{Kind, Shown};
+use name_field::Name;
+use std::alloc::Global;
+use std::marker::Model;
+
+mod answers;
+mod claims;
+mod messages;
+mod orders;
+mod readings;
+
+/// The diagnostic station: the rows by NAME that the frames which it reads tell, and what it answers.
+///
+/// Its tables are indexed by source address. It knows of the bus only what it was handed.
+#[derive(Drop)]
+pub struct Station {
+    claimer: Claimer,
+    grant: u8,
+    owners: [Option<Name>; 256],
+    rows: Rows,
+    broadcasts: [Option<Half>; 256],
+    sessions: [Option<Session>; 256],
+    missed: u64,
+    unread: u64,
+}
+
+impl Model for Station {
+    ghost use Rattle.std.specs.Prelude.{◌<◌};
+    ghost use Rattle.station_table.specs.StationValue.{StationValue};
+
+    ghost Value = { StationValue };
+
+    ghost view = { λ s. record {
+      claimer = s.claimer;
+      grant = s.grant;
+      owners = s.owners;
+      rows = s.rows;
+      broadcasts = s.broadcasts;
+      sessions = s.sessions;
+      missed = s.missed;
+      unread = s.unread;
+    } };
+
+    ghost invariant = { λ s. 0 < s.grant };
+}
+
+impl Station {
+    ghost use Rattle.station_table.specs.KeptValue.{kept_under, entries_under};
+    ghost use Rattle.station_table.specs.Steps.{new_station};
+    ghost use Rattle.station_table.specs.StandsFor.{StandsFor, row_of, row_heard_as};
+
+    /// A station of this NAME that holds this address, 0 to 253, and grants at most this many packets at once, at least one.
+    /// It has read nothing.
+    #[tactic(auto, using(crate::proofs::Stands::stands_new))]
+    pub fn new(alloc: Global, name: Name, address: u8, grant: u8) -> Station
+        requires address_fits { address ≤ 253 }
+        requires grants { 0 < grant }
+        ensures value { result ≡ new_station name address grant }
+        ensures stands { StandsFor (record { name = name; address = address }) grant result [] }
+    {
+        Station {
+            claimer: Claimer::new(name, address),
+            grant,
+            owners: no_owners(),
+            rows: Rows::new(alloc),
+            broadcasts: no_broadcasts(),
+            sessions: no_sessions(),
+            missed: 0,
+            unread: 0,
+        }
+    }
+
+    /// The claim of its address, or its cannot claim where it holds none.
+    pub fn start(&self) -> Frame
+        ensures { result ≡ own_claim self.now.claimer }
+    {
+        claim_frame(self.claimer.name(), self.claimer.held())
+    }
+
+    /// Its own address, 0 to 253; none once it lost it.
+    #[tactic(auto, using(crate::proofs::Queries::held_as_heard))]
+    pub fn held(&self) -> Option<u8>
+        ensures value { result ≡ self.now.claimer.held }
+        ensures heard { (r : Settings) (grant : ℕ) (h : List AnyReading) → StandsFor r grant self.now h → result ≡ address_heard r h }
+        ensures bound { IfSome result (λ a. a ≤ 253) }
+    {
+        self.claimer.held()
+    }
+
+    /// How many NAMEs have a row.
+    #[tactic(auto, using(crate::proofs::Queries::names_as_heard))]
+    pub fn names(&self) -> usize
+        ensures value { result ≡ length self.now.rows }
+        ensures heard { (r : Settings) (grant : ℕ) (h : List AnyReading) → StandsFor r grant self.now h → result ≡ length (names_heard h) }
+    {
+        self.rows.len()
+    }
+
+    /// The NAME of the row at this place, from 0, in the order of the NAMEs' first claims.
+    #[tactic(auto, using(crate::proofs::Queries::name_as_heard))]
+    pub fn name_at(&self, place: usize) -> Option<Name>
+        ensures value { result ≡ slice_get (map (λ e. e.0) self.now.rows) place }
+        ensures heard { (r : Settings) (grant : ℕ) (h : List AnyReading) → StandsFor r grant self.now h → result ≡ slice_get (names_heard h) place }
+    {
+        self.rows.name_at(place)
+    }
+
+    /// What is known of a NAME; none before its first claim.
+    #[tactic(auto, using(crate::proofs::Queries::row_as_heard))]
+    pub fn row(&self, name: Name) -> Option<Row>
+        ensures value { result ≡ row_of self.now.owners name (kept_under self.now.rows name) }
+        ensures heard { (r : Settings) (grant : ℕ) (h : List AnyReading) → StandsFor r grant self.now h → option_map row_heard_as result ≡ row_heard r name h }
+    {
+        let (claimed, ack) = self.rows.get(name)?;
+        let address = match claimed {
+            Some(address) if self.owners[usize::from(address)] == Some(name) => Some(address),
+            _ => None,
+        };
+        Some(Row { address, ack })
+    }
+
+    /// The entries of a kind under a NAME, oldest first; none for a NAME that has no row.
+    #[tactic(auto, using(crate::proofs::Queries::entries_as_heard))]
+    pub fn shown(&self, name: Name, kind: Kind) -> &[Shown]
+        ensures value { result.now ≡ entries_under self.now.rows name kind }
+        ensures heard { (r : Settings) (grant : ℕ) (h : List AnyReading) → StandsFor r grant self.now h → result.now ≡ reverse (entries_heard r name kind h) }
+    {
+        self.rows.shown(name, kind)
+    }
+
+    /// How many frames it was told of as missed, up to the greatest 64-bit number.
+    #[tactic(auto, using(crate::proofs::Queries::missed_as_heard))]
+    pub fn missed(&self) -> u64
+        ensures value { result ≡ self.now.missed }
+        ensures heard { (r : Settings) (grant : ℕ) (h : List AnyReading) → StandsFor r grant self.now h → result ≡ missed_count h }
+    {
+        self.missed
+    }
+
+    /// How many messages could not be read, up to the greatest 64-bit number.
+    #[tactic(auto, using(crate::proofs::Queries::unread_as_heard))]
+    pub fn unread(&self) -> u64
+        ensures value { result ≡ self.now.unread }
+        ensures heard { (r : Settings) (grant : ℕ) (h : List AnyReading) → StandsFor r grant self.now h → result ≡ unread_count r h }
+    {
+        self.unread
+    }
+}

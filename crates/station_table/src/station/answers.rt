@@ -1,0 +1,65 @@
+ghost use Rattle.std.specs.Prelude.{◌≡◌, IfOk};
+ghost use Rattle.parameter_group.specs.Group as group;
+ghost use Rattle.station_table.specs.Reactions as reactions;
+
+use crate::reaction::Reaction;
+use crate::row::AckSeen;
+use crate::slots::owner_at;
+use crate::station::Station;
+use can_frame::Pgn;
+use requests::{Ack, Request};
+use std::alloc::{AllocError, Global};
+
+/// The control of a negative acknowledgment.
+const NEGATIVE: u8 = 1;
+
+/// All addresses, as a destination.
+const GLOBAL_ADDRESS: u8 = 255;
+
+impl Station {
+    ghost use Rattle.station_table.specs.Steps.{after_group};
+
+    /// A request, to the station or to all: for claims, its claim; for anything else, to it alone and from an address that
+    /// can be held, a negative acknowledgment.
+    pub(super) fn hear_request(
+        &self,
+        alloc: Global,
+        request: Request,
+    ) -> Result<Reaction, AllocError>
+        ensures { IfOk result (λ x. x ≡ reactions.request_reaction self.now.claimer request.pgn request.dest request.source) }
+    {
+        let to_it = self.claimer.held() == Some(request.dest);
+        if request.pgn == Pgn::ADDRESS_CLAIMED {
+            if to_it || request.dest == GLOBAL_ADDRESS {
+                return Reaction::answering(alloc, self.start());
+            }
+        } else if to_it && request.source < 254 {
+            let refusal = Ack {
+                control: NEGATIVE,
+                requester: request.source,
+                pgn: request.pgn,
+                dest: GLOBAL_ADDRESS,
+                source: request.dest,
+            };
+            return Reaction::answering(alloc, refusal.frame());
+        }
+        Ok(Reaction::silent(alloc))
+    }
+
+    /// An acknowledgment that names the station's address or goes to it, from an address with an owner: it is kept.
+    pub(super) fn hear_acknowledgment(&mut self, ack: Ack)
+        ensures { self.new ≡ after_group self.old (group.Acknowledgment ack.control ack.requester ack.pgn ack.dest ack.source) }
+    {
+        let held = self.claimer.held();
+        if held != Some(ack.requester) && held != Some(ack.dest) {
+            return;
+        }
+        if let Some(owner) = owner_at(&self.owners, ack.source) {
+            let seen = AckSeen {
+                control: ack.control,
+                pgn: ack.pgn,
+            };
+            self.rows.acknowledge(owner, seen);
+        }
+    }
+}

@@ -1,0 +1,105 @@
+ghost use Rattle.std.specs.Prelude.{◌≡◌, ◌<◌, IfOk, OnOk, OnErr, IsOkUnless};
+ghost use Rattle.address_claim.specs.Claiming.{IsLawfulStep, claim_step};
+ghost use Rattle.can_frame.specs.declared.reading.Reading.TheVariants.{Gap};
+ghost use Rattle.parameter_group.specs.Group as group;
+ghost use Rattle.station_table.specs.Reactions as reactions;
+
+use crate::error::StationError;
+use crate::reaction::Reaction;
+use crate::slots::{keep_broadcasts, keep_sessions, no_broadcasts, no_owners, no_sessions};
+use crate::station::Station;
+use address_claim::{ClaimStep, claim_frame};
+use can_frame::{Frames, Pgn};
+use name_field::Name;
+use requests::Request;
+use std::alloc::{AllocError, Global};
+
+/// The source of a station without an address.
+const NULL_ADDRESS: u8 = 254;
+
+/// All addresses, as a destination.
+const GLOBAL_ADDRESS: u8 = 255;
+
+impl Station {
+    ghost use Rattle.station_table.specs.Steps.{with_claim, after_group, after_gap};
+
+    /// A claim of an address, 0 to 253: the NAME has a row and is the owner, what another NAME began from there is dropped,
+    /// and the station keeps, defends or leaves its own address.
+    pub(super) fn hear_claim(
+        &mut self,
+        alloc: Global,
+        source: u8,
+        name: Name,
+    ) -> Result<Reaction, StationError>
+        ensures ok { OnOk result (self.new ≡ with_claim self.old source name) }
+        ensures reaction { IfOk result (λ x. x ≡ reactions.claim_reaction (claim_step source name self.old.claimer) self.old.claimer) }
+        ensures err { OnErr result (self.new ≡ self.old) }
+        ensures only_memory { IsOkUnless result StationError.OutOfMemory }
+    {
+        let step = self.claimer.answer(source, name);
+        let reaction = self.answer_to_claim(alloc, step)?;
+        self.rows.add(alloc, name)?;
+        self.rows.claim(name, Some(source));
+        self.owners[usize::from(source)] = Some(name);
+        keep_broadcasts(&mut self.broadcasts, source, name);
+        keep_sessions(&mut self.sessions, step, source, name);
+        self.claimer.hear_claim(source, name);
+        Ok(reaction)
+    }
+
+    /// What a step of its own claims makes the station do.
+    fn answer_to_claim(&self, alloc: Global, step: ClaimStep) -> Result<Reaction, AllocError>
+        requires { IsLawfulStep step }
+        ensures { IfOk result (λ x. x ≡ reactions.claim_reaction step self.now.claimer) }
+    {
+        let held = match step {
+            ClaimStep::Nothing => return Ok(Reaction::silent(alloc)),
+            ClaimStep::Defend => self.claimer.held(),
+            ClaimStep::Move(address) => Some(address),
+            ClaimStep::CannotClaim => None,
+        };
+        Reaction::claiming_again(alloc, claim_frame(self.claimer.name(), held))
+    }
+
+    /// A cannot claim: the NAME has a row, without an address.
+    pub(super) fn hear_cannot_claim(
+        &mut self,
+        alloc: Global,
+        name: Name,
+    ) -> Result<Reaction, StationError>
+        ensures ok { OnOk result (self.new ≡ after_group self.old (group.CannotClaim name)) }
+        ensures reaction { IfOk result (λ x. x ≡ reactions.silent) }
+        ensures err { OnErr result (self.new ≡ self.old) }
+        ensures only_memory { IsOkUnless result StationError.OutOfMemory }
+    {
+        self.rows.add(alloc, name)?;
+        self.rows.claim(name, None);
+        Ok(Reaction::silent(alloc))
+    }
+
+    /// Frames were missed: owners and all that is half joined are forgotten, and the station claims again and asks all for
+    /// their claims.
+    pub(super) fn hear_gap(&mut self, alloc: Global, count: u32) -> Result<Reaction, StationError>
+        ensures ok { OnOk result (self.new ≡ after_gap self.old count) }
+        ensures reaction { IfOk result (λ x. x ≡ reactions.reaction self.old (Gap count)) }
+        ensures err { OnErr result (self.new ≡ self.old) }
+        ensures only_memory { IsOkUnless result StationError.OutOfMemory }
+    {
+        let request = Request {
+            pgn: Pgn::ADDRESS_CLAIMED,
+            dest: GLOBAL_ADDRESS,
+            source: self.claimer.held().unwrap_or(NULL_ADDRESS),
+        };
+        let mut put = Frames::new(alloc);
+        put.push(self.start())?;
+        put.push(request.frame())?;
+        self.owners = no_owners();
+        self.broadcasts = no_broadcasts();
+        self.sessions = no_sessions();
+        self.missed = self.missed.saturating_add(u64::from(count));
+        Ok(Reaction {
+            withdraw: true,
+            put,
+        })
+    }
+}

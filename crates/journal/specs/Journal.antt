@@ -1,0 +1,67 @@
+-- The journal, newest event first, and what it says.
+use Rattle.std.specs.Prelude.{◌≡◌, ℕ, ◌+◌, Bool, ◌==◌, List, [], ◌∷◌, if◌then◌else◌}
+use Rattle.bus_ledger.specs.BusValue.{IsUnit, seat_at}
+use Rattle.journal.specs.State.{State, Settings, start}
+use Rattle.journal.specs.Steps.{after}
+use Rattle.journal.specs.Fits.{Fits}
+use Rattle.journal.specs.declared.event.Event.{Event}
+use Rattle.journal.specs.declared.event.Event.TheVariants.{Join, Hear, Begin, Turned, Carry, Read, Ordered, Leave}
+use Rattle.journal.specs.declared.tally.Tally.{Tally}
+
+-- a garage as contracts see it
+pub record GarageValue : Type 0 where
+  pub settings : Settings
+  pub journal : List Event
+
+-- the state that the events lead to
+unfoldable pub state_after : Settings → List Event → State
+state_after r [] = start r
+state_after r (e ∷ older) = after e (state_after r older)
+
+abbrev pub state_of : GarageValue → State
+state_of g = state_after g.settings g.journal
+
+-- each event fits what came before
+unfoldable pub AllFit : Settings → List Event → Type 0
+AllFit r [] = Unit {0}
+AllFit r (e ∷ older) = Fits (state_after r older) e × AllFit r older
+
+-- one event more
+abbrev pub with_event : Event → GarageValue → GarageValue
+with_event e g = record g { journal = e ∷ g.journal }
+
+-- a call that adds this event
+pub record Adds (old : GarageValue) (e : Event) (new : GarageValue) : Type 0 where
+  pub adds : new ≡ with_event e old
+  pub fits : Fits (state_of old) e
+
+-- how many units have joined
+unfoldable pub joins : List Event → ℕ
+joins [] = 0
+joins (Join name address ∷ older) = joins older + 1
+joins (_ ∷ older) = joins older
+
+abbrev pub one_more : Tally → Tally
+one_more t = record t { events = t.events + 1 }
+
+-- a seat's own events are its join, what it hears and begins, its turns and its leave; the n-th unit to join has seat n
+abbrev pub tallied : ℕ → ℕ → Event → Tally → Tally
+tallied k before (Join name address) t = if (before + 1) == k then one_more (record t { joined = t.joined + 1 }) else t
+tallied k before (Hear j memory agreed) t = if j == k then one_more t else t
+tallied k before (Begin j memory) t = if j == k then one_more t else t
+tallied k before (Turned j) t = if j == k then one_more (record t { turned = t.turned + 1 }) else t
+tallied k before (Carry j) t = t
+tallied k before (Read r) t = t
+tallied k before (Ordered order) t = t
+tallied k before (Leave j) t = if j == k then one_more (record t { left = t.left + 1 }) else t
+
+-- what the journal tells of a seat
+unfoldable pub tally_of : ℕ → List Event → Tally
+tally_of k [] = record { joined = 0; turned = 0; left = 0; events = 0 }
+tally_of k (e ∷ older) = tallied k (joins older) e (tally_of k older)
+
+-- a live seat of a unit with this number, NAME and count of its own events
+pub record IsSeated (g : GarageValue) (k name events : ℕ) : Type 0 where
+  pub unit : IsUnit (state_of g).traffic k
+  pub named : (seat_at (state_of g).traffic k).name ≡ name
+  pub counted : (tally_of k g.journal).events ≡ events

@@ -1,0 +1,210 @@
+-- What each event changes. An event that nothing fits leaves the state as it is.
+use Rattle.std.specs.Prelude.{ℕ, ◌+◌, ◌-◌, Bool, true, false, not, ◌==◌, List, [], ◌∷◌, ◌++◌, map, reverse, take, length, Option, Some, None, slice_get, slice_set, if◌then◌else◌}
+use Rattle.std.specs.Option.{option_map}
+use Rattle.can_frame.specs.FrameValue.{FrameValue}
+use Rattle.can_frame.specs.declared.reading.Reading.{Reading}
+use Rattle.can_frame.specs.declared.reading.Reading.TheVariants as reading
+use Rattle.address_claim.specs.Frames.{claim_frame_value}
+use Rattle.fault_memory.specs.Memory.{MemoryValue}
+use Rattle.dm_messages.specs.declared.kind.Kind.TheVariants.{Dm1}
+use Rattle.bus_ledger.specs.BusValue.{Traffic, seat_at}
+use Rattle.bus_ledger.specs.Changes.{queued, queued_frame, joined, heard_more, withdrawn, left, carried_from, carried_frame}
+use Rattle.bus_ledger.specs.Reception.{unread, after_reading as taken}
+use Rattle.bus_ledger.specs.declared.traffic.Tag.{Tag}
+use Rattle.bus_ledger.specs.declared.traffic.QueuedFrame.{QueuedFrame}
+use Rattle.bus_ledger.specs.declared.traffic.CarriedFrame.{CarriedFrame}
+use Rattle.bus_ledger.specs.declared.traffic.Which.TheVariants as which
+use Rattle.bus_model.specs.Messages.{Message}
+use Rattle.bus_model.specs.Traffic.{Item, Tag as PartOf}
+use Rattle.bus_model.specs.Expected.{Reception, Own, Received, Missed}
+use Rattle.node_core.specs.NodeValue.{NodeValue}
+use Rattle.node_core.specs.Deed.{heard_of}
+use Rattle.node_core.specs.Reaction.{reaction, node_after}
+use Rattle.node_core.specs.Beginning.{begins}
+use Rattle.node_core.specs.declared.heard.Heard.{Heard}
+use Rattle.node_core.specs.declared.heard.Begun.{Begun}
+use Rattle.node_core.specs.declared.heard.Started.{Started}
+use Rattle.node_core.specs.declared.heard.Started.TheVariants as started
+use Rattle.node_core.specs.declared.heard.Withdraw.{Withdraw}
+use Rattle.node_core.specs.declared.heard.Withdraw.TheVariants as withdraw
+use Rattle.node_core.specs.declared.out.Out.{Out}
+use Rattle.node_core.specs.declared.out.Part.{Part}
+use Rattle.node_core.specs.declared.out.Part.TheVariants as part
+use Rattle.station_table.specs.Steps.{after_reading}
+use Rattle.station_table.specs.Reactions.{reaction as station_reaction, asking, commanding}
+use Rattle.station_table.specs.StationValue.{StationValue}
+use Rattle.station_table.specs.KeptValue.{KeptValue, kept_under}
+use Rattle.station_table.specs.StandsFor.{still_owned}
+use Rattle.station_table.specs.declared.reaction.Ask.{Ask as Asked}
+use Rattle.journal.specs.declared.order.Order.{Order}
+use Rattle.journal.specs.declared.order.Order.TheVariants.{Ask, AskAll, Command}
+use Rattle.station_table.specs.declared.reaction.Reaction.{Reaction}
+use Rattle.journal.specs.State.{State, UnitState, new_unit, unit_at}
+use Rattle.journal.specs.declared.event.Event.{Event}
+use Rattle.journal.specs.declared.event.Event.TheVariants.{Join, Hear, Begin, Turned, Carry, Read, Ordered, Leave}
+
+-- ---- queueing
+
+-- the frames at the end of a seat's queue, in order
+abbrev pub put_all : ℕ → List QueuedFrame → Traffic → Traffic
+put_all k [] t = t
+put_all k (q ∷ qs) t = put_all k qs (queued k q t)
+
+-- which message and part a frame is: of the message with that number which begins, to all or in a session, or of the
+-- unit's session_number session
+abbrev pub tag_of : ℕ → Bool → ℕ → Option Part → Option Tag
+tag_of number session session_number None = None
+tag_of number session session_number (Some (part.Begun j)) = Some (record { message = number; part = j; session = session })
+tag_of number session session_number (Some (part.Session j)) = Some (record { message = session_number; part = j; session = true })
+
+abbrev pub tagged : ℕ → Bool → ℕ → Out → QueuedFrame
+tagged number session session_number out = queued_frame out.frame (tag_of number session session_number out.part)
+
+-- a frame that is no part of a message
+abbrev pub untagged : FrameValue → QueuedFrame
+untagged f = queued_frame f None
+
+-- ---- units
+
+-- a message goes to one address
+abbrev pub is_session : Option Begun → Bool
+is_session None = false
+is_session (Some b) = not (b.dest == 255)
+
+-- the number of the message of the last session, once this one has begun
+abbrev pub session_message_after : ℕ → ℕ → Option Begun → ℕ
+session_message_after before number begun = if is_session begun then number else before
+
+abbrev pub message_begun : ℕ → ℕ → MemoryValue → Begun → Message
+message_begun number name memory b =
+    record { number = number; name = name; kind = b.kind; memory = memory; source = b.source; destination = b.dest }
+
+abbrev pub begun_after : List Message → ℕ → MemoryValue → Option Begun → List Message
+begun_after begun name memory None = begun
+begun_after begun name memory (Some b) = message_begun (length begun) name memory b ∷ begun
+
+abbrev pub withdrawn_by : ℕ → Withdraw → Traffic → Traffic
+withdrawn_by k withdraw.Keep t = t
+withdrawn_by k withdraw.Session t = withdrawn k which.Session t
+withdrawn_by k withdraw.All t = withdrawn k which.All t
+
+-- what a unit did on hearing its next frame: it counts as heard; then withdrawal, then queueing
+abbrev pub after_hearing : ℕ → MemoryValue → Heard → NodeValue → State → State
+after_hearing k memory h node s =
+    let session_number = session_message_after (unit_at s k).session_message (length s.begun) h.begun in
+    record s {
+      traffic = put_all k (map (tagged (length s.begun) (is_session h.begun) session_number) h.put) (withdrawn_by k h.withdraw (heard_more k 1 s.traffic));
+      units = slice_set s.units (k - 1) (record { node = node; session_message = session_number });
+      begun = begun_after s.begun (seat_at s.traffic k).name memory h.begun;
+    }
+
+-- the next frame that a seat has not heard
+abbrev pub next_for : State → ℕ → Option FrameValue
+next_for s k = option_map (λ c. c.frame) (slice_get s.traffic.wire (seat_at s.traffic k).heard)
+
+unfoldable pub after_hear_of : Option FrameValue → ℕ → MemoryValue → Bool → State → State
+after_hear_of None k memory agreed s = s
+after_hear_of (Some f) k memory agreed s =
+    after_hearing k memory (heard_of agreed (reaction (unit_at s k).node memory agreed f)) (node_after (unit_at s k).node memory agreed f) s
+
+-- a message begun of one's own accord
+abbrev pub after_starting : ℕ → MemoryValue → Started → State → State
+after_starting k memory started.Held s = s
+after_starting k memory (started.Begun b put) s = record s {
+  traffic = put_all k (map (tagged (length s.begun) false (unit_at s k).session_message) put) s.traffic;
+  begun = message_begun (length s.begun) (seat_at s.traffic k).name memory b ∷ s.begun;
+}
+
+unfoldable pub after_begin_of : Option ℕ → ℕ → MemoryValue → State → State
+after_begin_of None k memory s = s
+after_begin_of (Some source) k memory s = after_starting k memory (begins (unit_at s k).node.session Dm1 memory source) s
+
+-- ---- the station
+
+abbrev pub message_numbered : ℕ → List Message → Option Message
+message_numbered n [] = None
+message_numbered n (m ∷ ms) = if m.number == n then Some m else message_numbered n ms
+
+abbrev pub part_of : List Message → Option Tag → Option PartOf
+part_of begun None = None
+part_of begun (Some t) = option_map (λ m. record { message = m; part = t.part }) (message_numbered t.message begun)
+
+-- a carried frame with the NAME of its seat and the message that it is a part of
+abbrev pub item_of : State → CarriedFrame → Item
+item_of s c = record { name = (seat_at s.traffic c.seat).name; frame = c.frame; tag = part_of s.begun c.tag }
+
+abbrev pub received : List Reception → Option Item → List Reception
+received path None = path
+received path (Some e) = Received e ∷ path
+
+abbrev pub path_after : Reading → State → List Reception
+path_after (reading.Frame f) s = received s.path (option_map (item_of s) (slice_get (unread s.traffic) 0))
+path_after (reading.Gap n) s = Missed (map (item_of s) (reverse (take n (unread s.traffic)))) ∷ s.path
+path_after reading.Empty s = s.path
+
+-- what the station withdraws and queues
+abbrev pub reacted : Reaction → Traffic → Traffic
+reacted r t = put_all 0 (map untagged r.put) (if r.withdraw then withdrawn 0 which.All t else t)
+
+-- ---- the events
+
+-- the next seat goes to the NAME, whose claim is queued
+unfoldable pub after_join : ℕ → ℕ → State → State
+after_join name address s = record s {
+  traffic = queued (length s.traffic.seats) (untagged (claim_frame_value name (Some address))) (joined name s.traffic);
+  units = s.units ++ new_unit name address ∷ [];
+}
+
+unfoldable pub after_carry_of : Option QueuedFrame → ℕ → State → State
+after_carry_of None k s = s
+after_carry_of (Some q) k s = record s {
+  traffic = carried_from k q s.traffic;
+  path = if k == 0 then Own (item_of s (carried_frame k q)) ∷ s.path else s.path;
+}
+
+unfoldable pub after_read : Reading → State → State
+after_read r s = record s {
+  traffic = reacted (station_reaction s.station r) (taken r s.traffic);
+  station = after_reading s.station r;
+  path = path_after r s;
+}
+
+unfoldable pub after_leave : ℕ → State → State
+after_leave k s = record s { traffic = left k s.traffic }
+
+abbrev pub address_of_kept : List (Option ℕ) → ℕ → Option KeptValue → Option ℕ
+address_of_kept owners name None = None
+address_of_kept owners name (Some kept) = still_owned owners name kept.claimed
+
+-- the address of the NAME's last claim, where it is still its owner
+abbrev pub address_known : StationValue → ℕ → Option ℕ
+address_known s name = address_of_kept s.owners name (kept_under s.rows name)
+
+abbrev pub asked_of : Option ℕ → Asked → Option ℕ → Option Reaction
+asked_of None ask destination = None
+asked_of (Some own) ask None = None
+asked_of (Some own) ask (Some destination) = Some (asking own ask destination)
+
+abbrev pub commanded : Option ℕ → ℕ → ℕ → Option Reaction
+commanded None name address = None
+commanded (Some own) name address = Some (commanding own name address)
+
+-- what an order makes the station queue, if it can be obeyed
+unfoldable pub obeyed : StationValue → Order → Option Reaction
+obeyed s (Ask name ask) = asked_of s.claimer.held ask (address_known s name)
+obeyed s (AskAll ask) = asked_of s.claimer.held ask (Some 255)
+obeyed s (Command name address) = commanded s.claimer.held name address
+
+unfoldable pub after_order_of : Option Reaction → State → State
+after_order_of None s = s
+after_order_of (Some r) s = record s { traffic = reacted r s.traffic }
+
+abbrev pub after : Event → State → State
+after (Join name address) s = after_join name address s
+after (Hear k memory agreed) s = after_hear_of (next_for s k) k memory agreed s
+after (Begin k memory) s = after_begin_of (unit_at s k).node.claimer.held k memory s
+after (Turned k) s = s
+after (Carry k) s = after_carry_of (slice_get (seat_at s.traffic k).queue 0) k s
+after (Read r) s = after_read r s
+after (Ordered order) s = after_order_of (obeyed s.station order) s
+after (Leave k) s = after_leave k s

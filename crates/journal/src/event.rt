@@ -1,0 +1,46 @@
+use crate::order::Order;
+use can_frame::Reading;
+use fault_memory::FaultMemory;
+use name_field::Name;
+
+/// One event of the system. What a unit chose is recorded with it.
+#[derive(Drop)]
+pub enum Event {
+    /// A unit of this NAME got the next seat and claims this address.
+    Join {
+        name: Name,
+        address: u8,
+    },
+    /// A unit heard its next frame. Its memory was this, and this is what it answered where a clear or a commanded
+    /// address was put to it.
+    Hear {
+        seat: u32,
+        memory: FaultMemory,
+        agreed: bool,
+    },
+    /// A unit began a DM1 of this memory.
+    Begin {
+        seat: u32,
+        memory: FaultMemory,
+    },
+    /// A turn of a unit was over.
+    Turned {
+        seat: u32,
+    },
+    /// The first frame of this seat's queue was carried.
+    Carry {
+        seat: u32,
+    },
+    /// The station took this reading.
+    Read {
+        reading: Reading,
+    },
+    /// The station queued what it was told to send.
+    Ordered {
+        order: Order,
+    },
+    /// A unit went.
+    Leave {
+        seat: u32,
+    },
+}

@@ -1,0 +1,13 @@
+//! The journal of a garage: what may happen on the bus of one vehicle, and what each event changes.
+//!
+//! `specs/State.antt` says what there is, `specs/Fits.antt` when an event may happen, `specs/Steps.antt` what it changes
+//! and `specs/Journal.antt` where a list of events leads to. The code that does it is the garage's.
+#![tactic(auto)]
+
+mod event;
+mod order;
+mod tally;
+
+pub use event::Event;
+pub use order::Order;
+pub use tally::Tally;

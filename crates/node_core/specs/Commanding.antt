@@ -1,5 +1,5 @@
 -- A commanded address (SAE J1939-81): nine bytes, broadcast in two packets.
-use Rattle.std.specs.Prelude.{ℕ, Bool, ◌&&◌, ◌==◌, nat_le, List, [], ◌∷◌, ◌++◌, drop, length, slice_index, slice_index_or, slice_set, Option, Some, None, if◌then◌else◌}
+use Rattle.std.specs.Prelude.{ℕ, Bool, ◌&&◌, ◌==◌, nat_le, List, [], ◌∷◌, ◌++◌, drop, length, slice_index, slice_index_or, Option, Some, None, if◌then◌else◌}
 use Rattle.requests.specs.Layouts.{commanded_of}
 use Rattle.requests.specs.declared.commanded.Commanded.{Commanded}
 use Rattle.node_core.specs.declared.commanding.HalfCommand.{HalfCommand}

@@ -1,6 +1,6 @@
 -- What a unit owes to a frame that it hears, by what the frame says; a frame that no case names owes nothing.
 -- `agrees` is the unit's own choice: whether it clears or obeys, where that is put to it.
-use Rattle.std.specs.Prelude.{◌≡◌, ℕ, Bool, ◌&&◌, ◌||◌, ◌==◌, not, false, nat_le, is_some, List, length, slice_index_or, slice_set, Option, Some, None, if◌then◌else◌}
+use Rattle.std.specs.Prelude.{◌≡◌, ℕ, Bool, ◌&&◌, ◌==◌, not, false, nat_le, is_some, List, length, slice_index_or, slice_set, Option, Some, None, if◌then◌else◌}
 use Rattle.can_frame.specs.FrameValue.{FrameValue}
 use Rattle.transport.specs.declared.control.Control.{Control}
 use Rattle.transport.specs.declared.control.Control.TheVariants.{Rts, Cts, EndAck, Bam, Abort}
@@ -14,7 +14,6 @@ use Rattle.address_claim.specs.declared.claimer.ClaimStep.TheVariants as step
 use Rattle.requests.specs.declared.commanded.Commanded.{Commanded}
 use Rattle.parameter_group.specs.Group.{Group, AddressClaimed, Request, ConnectionManagement, DataTransfer, group_of}
 use Rattle.fault_memory.specs.Memory.{MemoryValue}
-use Rattle.dm_messages.specs.View.{pgn_of_kind}
 use Rattle.dm_messages.specs.declared.kind.Kind.{Kind}
 use Rattle.node_core.specs.NodeValue.{NodeValue, is_open, is_destination}
 use Rattle.node_core.specs.Deed.{Deed, Nothing, Replies, Begins, Sends, EndsSession, Claims, payload_of, heard_of, after}

@@ -16,9 +16,9 @@ use std::alloc::Global;
 use std::marker::Model;
 use unit_trait::Unit;
 
+mod asked;
 mod claims;
 mod commands;
-mod requests;
 mod sessions;
 
 /// A unit's place on the bus: its NAME, the address that it holds, the claims that it has noted, what it has of commanded

@@ -1,4 +1,4 @@
-use Rattle.std.proofs.Common.{◌≡◌, ◌+◌, ◌-◌, length, ap, arith}
+use Rattle.std.proofs.Common.{◌≡◌, ◌+◌, length, ap, arith}
 use Rattle.node_core.specs.Deed.{marked_part}
 use Rattle.node_core.specs.declared.out.Part.TheVariants as part
 use Rattle.node_core.proofs.PartLists.{one_part_more, later_part, length-parts}

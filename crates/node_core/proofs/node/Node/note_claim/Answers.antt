@@ -1,5 +1,4 @@
-use Rattle.std.proofs.Common.{◌≡◌, true, false, not, refl, rules, arith, sym, ◌∙◌}
-use Rattle.std.proofs.lemmas.Grind.{common_steps}
+use Rattle.std.proofs.Common.{◌≡◌, true, false, refl, rules}
 use Rattle.node_core.proofs.node.Node.note_claim.Goals as goal
 
 pub returns-then-not-is_of_another : goal.returns-then-not-is_of_another

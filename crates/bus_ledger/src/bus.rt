@@ -58,7 +58,7 @@ impl Bus {
     {
         let mut seats = Vec::with_capacity(alloc, 1)?;
         let mut live = Vec::with_capacity(alloc, 1)?;
-        seats.push_reserved(Seat::new(alloc, station, 0));
+        seats.push_reserved(Seat::new(alloc, station, 0)?);
         live.push_reserved(0);
         Ok(Bus {
             wire: Vec::new(alloc),
@@ -69,6 +69,7 @@ impl Bus {
     }
 
     /// Gives the next seat to a unit of this NAME, and answers its number. All that was carried so far counts as heard.
+    /// Its queue has room for one frame.
     ///
     /// Refused, in this order, where a live seat has the NAME, where 64 units are live, and where there is no memory.
     pub fn join(&mut self, name: Name) -> Result<u32, BusError>
@@ -77,6 +78,7 @@ impl Bus {
         ensures err { IfErr result (λ e. (join_refusal name self.old.traffic ≡ Some e) ⊎ ((join_refusal name self.old.traffic ≡ None) × (e ≡ BusError.OutOfMemory))) }
         ensures same { OnErr result (self.new.traffic ≡ self.old.traffic) }
         ensures spares { KeepsSpares self.old self.new }
+        ensures room { IfOk result (λ k. 1 ≤ spare_at self.new k) }
     {
         self.may_join(name)?;
         self.seats.reserve(1)?;
@@ -84,7 +86,8 @@ impl Bus {
         let number = self.seats.len() as u32;
         let heard = self.wire.len() as u32;
         let alloc = *self.seats.allocator();
-        self.seats.push_reserved(Seat::new(alloc, name, heard));
+        let seat = Seat::new(alloc, name, heard)?;
+        self.seats.push_reserved(seat);
         self.live.push_reserved(number);
         Ok(number)
     }

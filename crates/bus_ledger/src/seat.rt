@@ -1,4 +1,4 @@
-ghost use Rattle.std.specs.Prelude.{◌≡◌, ℕ, ◌+◌, ◌-◌, ◌<◌, ◌≤◌, ◌^◌, true, drop, length, nat_lt, OnOk, IfErr};
+ghost use Rattle.std.specs.Prelude.{◌≡◌, ℕ, ◌+◌, ◌-◌, ◌<◌, ◌≤◌, ◌^◌, true, drop, length, nat_lt, OnOk, IfOk, IfErr};
 ghost use Rattle.bus_ledger.specs.Changes.{newcomer, hearing, queueing, kept, withdrawing, leaving, sending};
 ghost use Rattle.bus_ledger.specs.Carrying.{offered};
 ghost use Rattle.bus_ledger.specs.Ledger.{counts_of};
@@ -40,19 +40,21 @@ impl Model for Seat {
 }
 
 impl Seat {
-    /// A seat that has heard this much of the wire.
-    pub(crate) fn new(alloc: Global, name: Name, heard: u32) -> Seat
-        ensures { result.seat ≡ newcomer name heard }
+    /// A seat that has heard this much of the wire, with room for one frame.
+    pub(crate) fn new(alloc: Global, name: Name, heard: u32) -> Result<Seat, BusError>
+        ensures ok { IfOk result (λ s. (s.seat ≡ newcomer name heard) × (1 ≤ s.spare)) }
+        ensures err { IfErr result (λ e. e ≡ BusError.OutOfMemory) }
     {
-        Seat {
+        let queue = VecDeque::with_capacity(alloc, 1)?;
+        Ok(Seat {
             name,
             live: true,
             heard,
             queued: 0,
             carried: 0,
             withdrawn: 0,
-            queue: VecDeque::new(alloc),
-        }
+            queue,
+        })
     }
 
     pub(crate) fn name(&self) -> Name

@@ -1,8 +1,10 @@
+pub mod Claims
 pub mod Commands
 pub mod Few
 pub mod HalfLemmas
 pub mod Known
 pub mod Lines
+pub mod Messages
 pub mod OwnAddress
 pub mod Queries
 pub mod RowLemmas

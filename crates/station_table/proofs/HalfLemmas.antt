@@ -14,26 +14,6 @@ use Rattle.station_table.specs.StationValue.{SessionValue}
 use Rattle.station_table.specs.Steps.{packet_joined}
 use Rattle.station_table.specs.Halves.{pieces_taken, IsHalf, answer_by, packet_answer, next_half}
 
--- the message in an assembly
-abbrev pub half_of : ℕ → Kind → AssemblyValue → ℕ → Joining
-half_of owner kind a size = record { owner = owner; kind = kind; size = size; pieces = pieces_taken a.taken }
-
--- the assembly answers what the message does
-pub same_answer : (owner : ℕ) (kind : Kind) (a : AssemblyValue) (size : ℕ) (packet : List ℕ) → IsHalf a size
-    → took_of a.size (with_part a.size a.taken packet) ≡ packet_answer (half_of owner kind a size) packet
-same_answer owner kind a size packet half = go a.taken half.missing
-  where
-    go : (t : Option (List (List ℕ))) → IsSomeAnd t (λ taken. length taken < packet_count size)
-        → took_of a.size (with_part a.size t packet) ≡ packet_answer (record { owner = owner; kind = kind; size = size; pieces = pieces_taken t }) packet
-    go None h = absurd h
-    go (Some taken) h = rw (half.same) (by_test (is_next size taken packet))
-      where
-        by_test : (b : Bool)
-            → took_of size (if b then Some (taken ++ drop 1 packet ∷ []) else None)
-            ≡ answer_by (if b then Some (record { owner = owner; kind = kind; size = size; pieces = taken ++ drop 1 packet ∷ [] }) else None)
-        by_test true = refl
-        by_test false = refl
-
 -- which packet is answered More
 more_is_next : (j : Joining) (packet : List ℕ) → packet_answer j packet ≡ More → (is_next j.size j.pieces packet ≡ true) × (is_whole (next_half j packet) ≡ false)
 more_is_next j packet h = go (is_next j.size j.pieces packet) refl h

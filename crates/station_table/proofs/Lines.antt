@@ -93,23 +93,6 @@ changed_session r grant s h change i st lt e a below =
     ∙ (rw (rejoined_lem change (packets_at_once grant (most_heard r a h)) (session_heard r a h) e)
     (if_session (i == a) (packets_at_once grant (most_heard r a h)) (change (session_heard r a h)) (session_heard r a h)))
 
--- nothing is said that the tables keep
-quiet : (r : Settings) (grant : ℕ) (s : StationValue) (h : List Reading) → StandsFor r grant s h → StandsAfter r grant Other s h
-quiet r grant s h st = record {
-  grants = st.grants;
-  claims = st.claims;
-  apart = st.apart;
-  places = st.places;
-  owners = st.owners;
-  broadcasts = st.broadcasts;
-  sessions = st.sessions;
-  rows = st.rows;
-  names = st.names;
-  entries = st.entries;
-  missed = st.missed;
-  unread = st.unread;
-}
-
 -- the tables before a message that ended is read: what else the frame says is there already
 pub record Midway (r : Settings) (grant : ℕ) (g : Group) (s : StationValue) (h : List Reading) : Type 0 where
   pub grants : s.grant ≡ grant

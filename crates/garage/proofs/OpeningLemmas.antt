@@ -1,0 +1,68 @@
+-- A garage that was just opened stands for an empty journal.
+use Rattle.std.proofs.Common.{ℕ, suc, zero, ◌≡◌, ◌+◌, ◌*◌, ◌≤◌, ◌<◌, ◌^◌, List, [], ◌∷◌, Some, None, map, reverse, length, get_or, vec_len, vec_capacity, refl, sym, ap, ◌∙◌, subst, arith}
+use Rattle.bus_ledger.specs.BusValue.{Traffic, seat_at}
+use Rattle.bus_ledger.specs.Joining.{live_units}
+use Rattle.journal.specs.State.{Settings, State, start}
+use Rattle.journal.specs.Journal.{tally_of, state_after, state_of, AllFit, joins}
+use Rattle.journal.specs.declared.event.Event.{Event}
+use Rattle.garage.specs.Inside.{no_tally, settings_of, view_of, unit_of, Stands}
+use Rattle.garage.specs.declared.garage.Place.{Place}
+use Rattle.garage.specs.declared.garage.Garage.TheInside.{Inside}
+
+opened_is : (r : Settings) → state_after r [] ≡ start r
+unfolding state_after
+opened_is r = refl
+
+no_joins : joins [] ≡ 0
+unfolding joins
+no_joins = refl
+
+none_fit : (r : Settings) → AllFit r []
+unfolding AllFit
+none_fit r = tt
+
+-- the station's claim alone is queued
+first_queued : (r : Settings) (k : ℕ) → (seat_at (start r).traffic k).queued ≤ 1
+first_queued r zero = omega arith
+first_queued r (suc k) = omega arith
+
+one_seat : (r : Settings) → length (start r).traffic.seats ≡ 1
+one_seat r = refl
+
+no_tallies : (k : ℕ) → tally_of k [] ≡ no_tally
+unfolding tally_of
+no_tallies k = refl
+
+pub opened_stands : (g : Inside) → g.journal.items ≡ [] → g.places.items ≡ [] → g.begun ≡ 0 → g.live ≡ 0 → vec_len g.journal ≡ 0 → g.limit ≤ 2 ^ 24
+    → g.bus.traffic ≡ (start (settings_of g)).traffic → g.station ≡ (start (settings_of g)).station → Stands g
+opened_stands g empty none begun live len few traffic station =
+    let r : Settings = settings_of g in
+    let history : reverse g.journal.items ≡ [] = ap reverse empty in
+    let is : state_of (view_of g) ≡ start r = ap (λ (es : List Event). state_after r es) history ∙ opened_is r in
+    let many : length g.bus.traffic.seats ≡ 1 = ap (λ (t : Traffic). length t.seats) traffic ∙ one_seat r in
+    let places : length g.places.items ≡ 0 = ap length none in
+    let events : length g.journal.items ≡ 0 = ap length empty in
+    let wires : length g.bus.traffic.wire ≡ 0 = ap (λ (t : Traffic). length t.wire) traffic in
+    let lives : live_units g.bus.traffic ≡ 0 = ap live_units traffic in
+    record {
+      few = few;
+      traffic = traffic ∙ sym (ap (λ (s : State). s.traffic) is);
+      station = station ∙ sym (ap (λ (s : State). s.station) is);
+      units = ap (map unit_of) none ∙ sym (ap (λ (s : State). s.units) is);
+      begun = begun ∙ sym (ap (λ (s : State). length s.begun) is);
+      fits = subst (λ (es : List Event). AllFit r es) (sym history) (none_fit r);
+      joined = ap joins history ∙ (no_joins ∙ sym places);
+      tallies = λ k h. absurd (omega arith);
+      fresh = λ k h. ap (λ (es : List Event). tally_of k es) history ∙ no_tallies k;
+      seats = omega arith;
+      live = live ∙ sym lives;
+      within = omega arith;
+      room = (let c = vec_room g in omega arith);
+      wire = omega arith;
+      queued = λ k. (let q = first_queued r k in let e = ap (λ (t : Traffic). (seat_at t k).queued) traffic in omega arith);
+      messages = omega arith;
+      places = omega arith;
+    }
+  where
+    vec_room : (g : Inside) → 0 ≤ vec_capacity g.journal
+    vec_room g = omega arith

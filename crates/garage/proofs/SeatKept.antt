@@ -1,0 +1,138 @@
+-- A unit that hears, begins a message or ends a turn keeps its seat.
+use Rattle.std.proofs.Common.{ℕ, false, ◌≡◌, ◌<◌, ◌-◌, Bool, List, [], ◌∷◌, Option, Some, None, map, length, get_or, set, refl, sym, ap, ◌∙◌, subst, arith}
+use Rattle.std.proofs.lemmas.List.{length-set, get_or-set_same}
+use Rattle.can_frame.specs.FrameValue.{FrameValue}
+use Rattle.fault_memory.specs.Memory.{MemoryValue}
+use Rattle.bus_ledger.specs.BusValue.{SeatValue, Traffic, IsUnit, nobody, seat_at}
+use Rattle.bus_ledger.specs.Changes.{with_seat, hearing, queueing, withdrawing, queued, heard_more, withdrawn}
+use Rattle.bus_ledger.specs.declared.traffic.QueuedFrame.{QueuedFrame}
+use Rattle.bus_ledger.specs.declared.traffic.Which.{Which}
+use Rattle.bus_ledger.specs.declared.traffic.Which.TheVariants as which
+use Rattle.dm_messages.specs.declared.kind.Kind.TheVariants.{Dm1}
+use Rattle.node_core.specs.Beginning.{begins}
+use Rattle.node_core.specs.Deed.{heard_of}
+use Rattle.node_core.specs.Reaction.{reaction, node_after}
+use Rattle.node_core.specs.NodeValue.{NodeValue}
+use Rattle.node_core.specs.declared.heard.Heard.{Heard}
+use Rattle.node_core.specs.declared.heard.Started.{Started}
+use Rattle.node_core.specs.declared.heard.Started.TheVariants as started
+use Rattle.node_core.specs.declared.heard.Withdraw.{Withdraw}
+use Rattle.node_core.specs.declared.heard.Withdraw.TheVariants as withdraw
+use Rattle.journal.specs.State.{State, unit_at}
+use Rattle.journal.specs.Steps.{put_all, withdrawn_by, after_hearing, after_hear_of, after_starting, after_begin_of, next_for, tagged, is_session, session_message_after}
+use Rattle.journal.specs.Journal.{GarageValue, Adds, IsSeated, state_after, state_of, tally_of, with_event}
+use Rattle.journal.specs.declared.event.Event.TheVariants.{Hear, Begin, Turned}
+use Rattle.garage.specs.Answers.{Hears, Begins}
+use Rattle.garage.specs.declared.steps.HeardOne.{HeardOne}
+use Rattle.garage.specs.declared.steps.HeardOne.TheVariants as heard
+use Rattle.garage.specs.declared.steps.Begin.{Begin as Began}
+use Rattle.garage.specs.declared.steps.Begin.TheVariants as began
+
+-- the seat is as live as it was, under the same NAME, among as many seats
+pub record KeepsSeat (k : ℕ) (t t' : Traffic) : Type 0 where
+  pub seats : length t'.seats ≡ length t.seats
+  pub live : (seat_at t' k).live ≡ (seat_at t k).live
+  pub name : (seat_at t' k).name ≡ (seat_at t k).name
+
+pub keeps_itself : (k : ℕ) (t : Traffic) → KeepsSeat k t t
+keeps_itself k t = record { seats = refl; live = refl; name = refl }
+
+pub keeps_both : (k : ℕ) (t t' t'' : Traffic) → KeepsSeat k t t' → KeepsSeat k t' t'' → KeepsSeat k t t''
+keeps_both k t t' t'' h h' = record { seats = h'.seats ∙ h.seats; live = h'.live ∙ h.live; name = h'.name ∙ h.name }
+
+-- a change of its own queue or of what it has heard
+keeps_changed : (k : ℕ) (t : Traffic) (s : SeatValue) → k < length t.seats → s.live ≡ (seat_at t k).live → s.name ≡ (seat_at t k).name
+    → KeepsSeat k t (with_seat t k s)
+keeps_changed k t s h live name =
+    let there : seat_at (with_seat t k s) k ≡ s = get_or-set_same t.seats k s nobody h in
+    record { seats = length-set t.seats k s; live = ap (λ v. v.live) there ∙ live; name = ap (λ v. v.name) there ∙ name }
+
+still_there : (k : ℕ) (t t' : Traffic) → KeepsSeat k t t' → k < length t.seats → k < length t'.seats
+still_there k t t' h b = let e : length t'.seats ≡ length t.seats = h.seats in omega arith
+
+keeps_put : (k : ℕ) (qs : List QueuedFrame) (t : Traffic) → k < length t.seats → KeepsSeat k t (put_all k qs t)
+keeps_put k [] t h = keeps_itself k t
+keeps_put k (q ∷ qs) t h =
+    let one = keeps_changed k t (queueing q (seat_at t k)) h refl refl in
+    keeps_both k t (queued k q t) (put_all k qs (queued k q t)) one (keeps_put k qs (queued k q t) (still_there k t (queued k q t) one h))
+
+keeps_withdrawn : (k : ℕ) (which : Which) (t : Traffic) → k < length t.seats → KeepsSeat k t (withdrawn k which t)
+keeps_withdrawn k which t h = keeps_changed k t (withdrawing which (seat_at t k)) h refl refl
+
+keeps_withdrawn_by : (k : ℕ) (w : Withdraw) (t : Traffic) → k < length t.seats → KeepsSeat k t (withdrawn_by k w t)
+keeps_withdrawn_by k withdraw.Keep t h = keeps_itself k t
+keeps_withdrawn_by k withdraw.Session t h = keeps_withdrawn k which.Session t h
+keeps_withdrawn_by k withdraw.All t h = keeps_withdrawn k which.All t h
+
+-- hearing counts a frame, then withdraws, then queues
+keeps_heard : (k : ℕ) (w : Withdraw) (qs : List QueuedFrame) (t : Traffic) → k < length t.seats
+    → KeepsSeat k t (put_all k qs (withdrawn_by k w (heard_more k 1 t)))
+keeps_heard k w qs t h =
+    let one = keeps_changed k t (hearing 1 (seat_at t k)) h refl refl in
+    let there = still_there k t (heard_more k 1 t) one h in
+    let two = keeps_withdrawn_by k w (heard_more k 1 t) there in
+    let there' = still_there k (heard_more k 1 t) (withdrawn_by k w (heard_more k 1 t)) two there in
+    let three = keeps_put k qs (withdrawn_by k w (heard_more k 1 t)) there' in
+    keeps_both k t (heard_more k 1 t) (put_all k qs (withdrawn_by k w (heard_more k 1 t))) one
+    (keeps_both k (heard_more k 1 t) (withdrawn_by k w (heard_more k 1 t)) (put_all k qs (withdrawn_by k w (heard_more k 1 t))) two three)
+
+keeps_hearing : (k : ℕ) (memory : MemoryValue) (h : Heard) (node : NodeValue) (s : State) → k < length s.traffic.seats
+    → KeepsSeat k s.traffic (after_hearing k memory h node s).traffic
+keeps_hearing k memory h node s there =
+    keeps_heard k h.withdraw (map (tagged (length s.begun) (is_session h.begun) (session_message_after (unit_at s k).session_message (length s.begun) h.begun)) h.put) s.traffic there
+
+keeps_hear : (o : Option FrameValue) (k : ℕ) (memory : MemoryValue) (agreed : Bool) (s : State) → k < length s.traffic.seats
+    → KeepsSeat k s.traffic (after_hear_of o k memory agreed s).traffic
+unfolding after_hear_of
+keeps_hear None k memory agreed s h = keeps_itself k s.traffic
+keeps_hear (Some f) k memory agreed s h =
+    keeps_hearing k memory (heard_of agreed (reaction (unit_at s k).node memory agreed f)) (node_after (unit_at s k).node memory agreed f) s h
+
+keeps_starting : (k : ℕ) (memory : MemoryValue) (st : Started) (s : State) → k < length s.traffic.seats
+    → KeepsSeat k s.traffic (after_starting k memory st s).traffic
+keeps_starting k memory started.Held s h = keeps_itself k s.traffic
+keeps_starting k memory (started.Begun b put) s h = keeps_put k (map (tagged (length s.begun) false (unit_at s k).session_message) put) s.traffic h
+
+keeps_begin : (o : Option ℕ) (k : ℕ) (memory : MemoryValue) (s : State) → k < length s.traffic.seats
+    → KeepsSeat k s.traffic (after_begin_of o k memory s).traffic
+unfolding after_begin_of
+keeps_begin None k memory s h = keeps_itself k s.traffic
+keeps_begin (Some source) k memory s h = keeps_starting k memory (begins (unit_at s k).node.session Dm1 memory source) s h
+
+-- a garage in which the unit on a seat keeps it
+abbrev pub KeepsUnit : ℕ → GarageValue → GarageValue → Type 0
+KeepsUnit k g g' = KeepsSeat k (state_of g).traffic (state_of g').traffic
+
+by_event : (k : ℕ) (g g' new : GarageValue) → g' ≡ new → KeepsUnit k g new → KeepsUnit k g g'
+by_event k g g' new e h = let P : GarageValue → Type 0 = λ v. KeepsUnit k g v in subst P (sym e) h
+
+pub unit_hears : (g : GarageValue) (k : ℕ) (memory : MemoryValue) (h : HeardOne) (g' : GarageValue) (memory' : MemoryValue)
+    → Hears g k memory h g' memory' → k < length (state_of g).traffic.seats → KeepsUnit k g g'
+unfolding state_after
+unit_hears g k memory (heard.Frame f) g' memory' h there =
+    by_event k g g' (with_event (Hear k memory h.1.0) g) h.1.1.adds (keeps_hear (next_for (state_of g) k) k memory h.1.0 (state_of g) there)
+unit_hears g k memory heard.Nothing g' memory' h there = by_event k g g' g h.1 (keeps_itself k (state_of g).traffic)
+
+pub unit_begins : (g : GarageValue) (k : ℕ) (memory : MemoryValue) (b : Began) (g' : GarageValue)
+    → Begins g k memory b g' → k < length (state_of g).traffic.seats → KeepsUnit k g g'
+unfolding state_after
+unit_begins g k memory began.Begun g' h there =
+    by_event k g g' (with_event (Begin k memory) g) h.adds (keeps_begin (unit_at (state_of g) k).node.claimer.held k memory (state_of g) there)
+unit_begins g k memory began.Held g' h there = by_event k g g' g h.1 (keeps_itself k (state_of g).traffic)
+
+pub unit_turned : (g : GarageValue) (k : ℕ) (g' : GarageValue) → Adds g (Turned k) g' → KeepsUnit k g g'
+unfolding state_after
+unit_turned g k g' h = by_event k g g' (with_event (Turned k) g) h.adds (keeps_itself k (state_of g).traffic)
+
+-- such a unit is live as before
+pub is_unit : (g g' : GarageValue) (k : ℕ) → KeepsUnit k g g' → IsUnit (state_of g).traffic k → IsUnit (state_of g').traffic k
+is_unit g g' k h u = (u.0, still_there k (state_of g).traffic (state_of g').traffic h u.1, h.live ∙ u.2)
+
+-- and stands on its seat with its new count of events
+pub still_seated : (g g' : GarageValue) (k name before events : ℕ) → KeepsUnit k g g' → IsSeated g k name before
+    → events ≡ (tally_of k g'.journal).events → IsSeated g' k name events
+still_seated g g' k name before events h seated e = record {
+  unit = is_unit g g' k h seated.unit;
+  named = h.name ∙ seated.named;
+  counted = sym e;
+}

@@ -1,0 +1,462 @@
+-- A garage that stands for its journal stands for it with one event more.
+use Rattle.std.proofs.Common.{ℕ, suc, zero, ◌≡◌, ◌≢◌, ◌+◌, ◌-◌, ◌*◌, ◌<◌, ◌≤◌, ◌^◌, List, [], ◌∷◌, ◌++◌, map, reverse, length, get_or, set, Bool, true, false, cond, ◌==◌, nat_eq, eq-eqb, Option, Some, None, slice_get, is_some, IfSome, vec_len, vec_capacity, refl, sym, ap, ◌∙◌, subst, arith, ◌⊎◌, inl, inr, if◌then◌else◌}
+use Rattle.std.proofs.lemmas.Bool.{ne_eqb}
+use Rattle.std.proofs.lemmas.List.{reverse-append, length-reverse, length-set, length-map, length_push, map-set, get_or_read, get_or-set_same, get_or-set_other, set-get_or}
+use Rattle.bus_ledger.specs.BusValue.{SeatValue, Traffic, nobody, seat_at, IsLive, IsUnit}
+use Rattle.bus_ledger.specs.Joining.{live_units}
+use Rattle.bus_ledger.specs.Changes.{leaving, left, sending, carried_from, carried_frame, queued, joined}
+use Rattle.bus_ledger.specs.declared.traffic.QueuedFrame.{QueuedFrame}
+use Rattle.bus_model.specs.Expected.{Own}
+use Rattle.std.specs.List.{count_by}
+use Rattle.std.proofs.lemmas.List.{set_past, get_or_push, get_or_append_left}
+use Rattle.std.proofs.lemmas.List.Sums.{sum_by-set}
+use Rattle.fault_memory.specs.Memory.{MemoryValue, IsLawfulMemory}
+use Rattle.can_frame.specs.declared.reading.Reading.{Reading}
+use Rattle.journal.specs.State.{Settings, State, UnitState, unit_at}
+use Rattle.journal.specs.Steps.{after, after_leave, after_carry_of, item_of, reacted, after_read, path_after, after_join, untagged}
+use Rattle.bus_ledger.specs.Reception.{after_reading}
+use Rattle.station_table.specs.Reactions.{reaction}
+use Rattle.station_table.specs.Steps.{after_reading as station_after}
+use Rattle.address_claim.specs.Frames.{claim_frame_value}
+use Rattle.journal.specs.State.{new_unit}
+use Rattle.journal.specs.Journal.{Adds, with_event, IsSeated}
+use Rattle.journal.specs.Steps.{after_begin_of, after_starting}
+use Rattle.node_core.specs.Beginning.{begins}
+use Rattle.node_core.specs.declared.heard.Started.{Started}
+use Rattle.node_core.specs.declared.heard.Started.TheVariants as started
+use Rattle.node_core.specs.declared.out.Out.{Out}
+use Rattle.dm_messages.specs.declared.kind.Kind.TheVariants.{Dm1}
+use Rattle.journal.specs.Steps.{after_hear_of, after_hearing, next_for, begun_after}
+use Rattle.can_frame.specs.FrameValue.{FrameValue}
+use Rattle.node_core.specs.NodeValue.{NodeValue}
+use Rattle.node_core.specs.Deed.{heard_of}
+use Rattle.node_core.specs.Reaction.{reaction as node_reaction, node_after, memory_after}
+use Rattle.node_core.specs.declared.heard.Heard.{Heard}
+use Rattle.node_core.specs.declared.heard.Begun.{Begun}
+use Rattle.bus_model.specs.Messages.{Message}
+use Rattle.bus_ledger.specs.declared.traffic.CarriedFrame.{CarriedFrame}
+use Rattle.std.specs.Option.{option_map}
+use Rattle.garage.specs.Answers.{with_begun, Hears}
+use Rattle.garage.specs.declared.steps.HeardOne.TheVariants as heard
+use Rattle.journal.specs.Fits.{Fits}
+use Rattle.journal.specs.Journal.{GarageValue, state_after, state_of, AllFit, joins, tallied, tally_of, one_more}
+use Rattle.journal.specs.declared.event.Event.{Event}
+use Rattle.journal.specs.declared.event.Event.TheVariants.{Join, Hear, Begin, Turned, Carry, Read, Ordered, Leave}
+use Rattle.journal.specs.declared.tally.Tally.{Tally}
+use Rattle.garage.specs.Inside.{settings_of, view_of, unit_of, no_place, no_tally, place_at, Stands}
+use Rattle.garage.specs.declared.garage.Place.{Place}
+use Rattle.garage.specs.declared.garage.Garage.TheInside.{Inside}
+use Rattle.garage.proofs.Traffics.{same_or_not, within_or_past, IsLive-queued, joined_live, joined_name}
+
+-- the state that the fields of a garage stand for
+abbrev pub state : Inside → State
+state g = state_of (view_of g)
+
+pub state_more : (r : Settings) (e : Event) (older : List Event) → state_after r (e ∷ older) ≡ after e (state_after r older)
+unfolding state_after
+state_more r e older = refl
+
+pub fit_more : (r : Settings) (e : Event) (older : List Event) → Fits (state_after r older) e → AllFit r older → AllFit r (e ∷ older)
+unfolding AllFit
+fit_more r e older f all = (f, all)
+
+pub tally_more : (k : ℕ) (e : Event) (older : List Event) → tally_of k (e ∷ older) ≡ tallied k (joins older) e (tally_of k older)
+unfolding tally_of
+tally_more k e older = refl
+
+pub newest : (es : List Event) (e : Event) → reverse (es ++ e ∷ []) ≡ e ∷ reverse es
+newest es e = reverse-append es (e ∷ [])
+
+-- no count is above the number of events
+pub record IsFewTally (n : ℕ) (t : Tally) : Type 0 where
+  pub events : t.events ≤ n
+  pub turned : t.turned ≤ n
+  pub left : t.left ≤ n
+
+few_if : (b : Bool) (n : ℕ) (t u : Tally) → IsFewTally n t → IsFewTally (suc n) u → IsFewTally (suc n) (cond b u t)
+few_if true n t u f g = g
+few_if false n t u f g = record { events = (let h = f.events in omega arith); turned = (let h = f.turned in omega arith); left = (let h = f.left in omega arith) }
+
+few_event : (k before n : ℕ) (e : Event) (t : Tally) → IsFewTally n t → IsFewTally (suc n) (tallied k before e t)
+few_event k before n (Join name address) t f = few_if ((before + 1) == k) n t _ f (record { events = (let h = f.events in omega arith); turned = (let h = f.turned in omega arith); left = (let h = f.left in omega arith) })
+few_event k before n (Hear j memory agreed) t f = few_if (j == k) n t _ f (record { events = (let h = f.events in omega arith); turned = (let h = f.turned in omega arith); left = (let h = f.left in omega arith) })
+few_event k before n (Begin j memory) t f = few_if (j == k) n t _ f (record { events = (let h = f.events in omega arith); turned = (let h = f.turned in omega arith); left = (let h = f.left in omega arith) })
+few_event k before n (Turned j) t f = few_if (j == k) n t _ f (record { events = (let h = f.events in omega arith); turned = (let h = f.turned in omega arith); left = (let h = f.left in omega arith) })
+few_event k before n (Carry j) t f = few_if false n t t f (record { events = (let h = f.events in omega arith); turned = (let h = f.turned in omega arith); left = (let h = f.left in omega arith) })
+few_event k before n (Read r) t f = few_if false n t t f (record { events = (let h = f.events in omega arith); turned = (let h = f.turned in omega arith); left = (let h = f.left in omega arith) })
+few_event k before n (Ordered o) t f = few_if false n t t f (record { events = (let h = f.events in omega arith); turned = (let h = f.turned in omega arith); left = (let h = f.left in omega arith) })
+few_event k before n (Leave j) t f = few_if (j == k) n t _ f (record { events = (let h = f.events in omega arith); turned = (let h = f.turned in omega arith); left = (let h = f.left in omega arith) })
+
+pub tally_few : (k : ℕ) (es : List Event) → IsFewTally (length es) (tally_of k es)
+unfolding tally_of
+tally_few k [] = record { events = omega arith; turned = omega arith; left = omega arith }
+tally_few k (e ∷ es) = few_event k (joins es) (length es) e (tally_of k es) (tally_few k es)
+
+-- the counts of a place that was read
+pub place_few : (a : Inside) (k : ℕ) (x : Place) → Stands a → k < length a.places.items → x ≡ get_or a.places.items k x → IsFewTally (length a.journal.items) x.tally
+place_few a k x stands h read =
+    let t : x.tally ≡ tally_of (suc k) (reverse a.journal.items) = ap (λ (p : Place). p.tally) (get_or_read a.places.items k x h read no_place) ∙ stands.tallies k h in
+    subst (λ (n : ℕ). IsFewTally n x.tally) (length-reverse a.journal.items) (subst (λ (u : Tally). IsFewTally (length (reverse a.journal.items)) u) (sym t) (tally_few (suc k) (reverse a.journal.items)))
+
+-- the seats of units are one more than the places
+pub place_within : (a : Inside) (k : ℕ) → Stands a → IsUnit (state a).traffic k → k - 1 < length a.places.items
+place_within a k stands u =
+    let n : length a.bus.traffic.seats ≡ length (state a).traffic.seats = ap (λ (t : Traffic). length t.seats) stands.traffic in
+    let s = stands.seats in
+    let low = u.0 in
+    let high = u.1 in
+    omega arith
+
+-- one place whose tally changes with one event of its seat
+pub tallies_one : (xs : List Place) (es : List Event) (e : Event) (k seat : ℕ) (p : Place) (f : Tally → Tally)
+    → ((j : ℕ) → j < length xs → (place_at xs j).tally ≡ tally_of (suc j) es)
+    → ((j : ℕ) (t : Tally) → tallied j (joins es) e t ≡ (if seat == j then f t else t))
+    → seat ≡ suc k → k < length xs → p.tally ≡ f (place_at xs k).tally
+    → (j : ℕ) → j < length (set xs k p) → (place_at (set xs k p) j).tally ≡ tally_of (suc j) (e ∷ es)
+tallies_one xs es e k seat p f old rule at h is j l =
+    let l' : j < length xs = omega (arith, length-set xs k p) in
+    let more = tally_more (suc j) e es ∙ rule (suc j) (tally_of (suc j) es) in
+    elim (same_or_not j k) [
+      | inl same ↦
+          let t : nat_eq seat (suc j) ≡ true = eq-eqb seat (suc j) (omega arith) in
+          let here : (place_at (set xs k p) j).tally ≡ p.tally = ap (λ (i : ℕ). (place_at (set xs k p) i).tally) same ∙ ap (λ (q : Place). q.tally) (get_or-set_same xs k p no_place h) in
+          let there : f (place_at xs k).tally ≡ f (tally_of (suc j) es) = ap f (ap (λ (i : ℕ). (place_at xs i).tally) (sym same) ∙ old j l') in
+          here ∙ (is ∙ (there ∙ sym (more ∙ rw t refl)))
+      | inr n ↦
+          let t : nat_eq seat (suc j) ≡ false = ne_eqb seat (suc j) (λ e. n (omega arith)) in
+          ap (λ (q : Place). q.tally) (get_or-set_other xs k j p no_place n) ∙ (old j l' ∙ sym (more ∙ rw t refl))
+    ]
+
+-- what a call has to show of the fields after one event more
+pub record More (a b : Inside) (e : Event) : Type 0 where
+  pub settings : settings_of b ≡ settings_of a
+  pub journal : b.journal.items ≡ a.journal.items ++ e ∷ []
+  pub fits : Fits (state a) e
+  pub traffic : b.bus.traffic ≡ (after e (state a)).traffic
+  pub station : b.station ≡ (after e (state a)).station
+  pub units : map unit_of b.places.items ≡ (after e (state a)).units
+  pub begun : b.begun ≡ length (after e (state a)).begun
+  pub joined : joins (e ∷ reverse a.journal.items) ≡ length b.places.items
+  pub tallies : (k : ℕ) → k < length b.places.items → (place_at b.places.items k).tally ≡ tally_of (suc k) (e ∷ reverse a.journal.items)
+  pub fresh : (k : ℕ) → length b.places.items < k → tally_of k (e ∷ reverse a.journal.items) ≡ no_tally
+  pub seats : length b.bus.traffic.seats ≡ length b.places.items + 1
+  pub live : b.live ≡ live_units b.bus.traffic
+  pub within : length a.journal.items + 1 + b.live ≤ b.limit
+  pub room : vec_len b.journal + b.live ≤ vec_capacity b.journal
+  pub wire : length b.bus.traffic.wire ≤ length a.journal.items + 1
+  pub queued : (k : ℕ) → (seat_at b.bus.traffic k).queued ≤ 256 * (length a.journal.items + 1) + 1
+  pub messages : b.begun ≤ length a.journal.items + 1
+  pub places : length b.places.items ≤ length a.journal.items + 1
+
+pub stands_more : (a b : Inside) (e : Event) → Stands a → More a b e → Stands b
+stands_more a b e stands m =
+    let n : length b.journal.items ≡ length a.journal.items + 1 = ap length m.journal ∙ length_push a.journal.items e in
+    let history : reverse b.journal.items ≡ e ∷ reverse a.journal.items = ap reverse m.journal ∙ newest a.journal.items e in
+    let is : state b ≡ after e (state a) =
+    ap (λ (es : List Event). state_after (settings_of b) es) history
+    ∙ (ap (λ (r : Settings). state_after r (e ∷ reverse a.journal.items)) m.settings ∙ state_more (settings_of a) e (reverse a.journal.items)) in
+    let limit : b.limit ≡ a.limit = ap (λ (r : Settings). r.limit) m.settings in
+    record {
+      few = (let f = stands.few in omega arith);
+      traffic = m.traffic ∙ ap (λ (s : State). s.traffic) (sym is);
+      station = m.station ∙ ap (λ (s : State). s.station) (sym is);
+      units = m.units ∙ ap (λ (s : State). s.units) (sym is);
+      begun = m.begun ∙ ap (λ (s : State). length s.begun) (sym is);
+      fits = subst (λ (r : Settings). AllFit r (reverse b.journal.items)) (sym m.settings) (subst (λ (es : List Event). AllFit (settings_of a) es) (sym history) (fit_more (settings_of a) e (reverse a.journal.items) m.fits stands.fits));
+      joined = ap joins history ∙ m.joined;
+      tallies = λ k h. m.tallies k h ∙ ap (λ (es : List Event). tally_of (suc k) es) (sym history);
+      fresh = λ k h. ap (λ (es : List Event). tally_of k es) history ∙ m.fresh k h;
+      seats = m.seats;
+      live = m.live;
+      within = (let w = m.within in omega arith);
+      room = m.room;
+      wire = (let w = m.wire in omega arith);
+      queued = λ k. let q = m.queued k in rw n q;
+      messages = (let w = m.messages in omega arith);
+      places = (let w = m.places in omega arith);
+    }
+
+pub unit_now : (a : Inside) (v : GarageValue) (k : ℕ) → view_of a ≡ v → IsUnit (state_of v).traffic k → IsUnit (state a).traffic k
+unit_now a v k is u = subst (λ (g : GarageValue). IsUnit (state_of g).traffic k) (sym is) u
+
+-- a place that keeps its unit
+pub units_same : (xs : List Place) (k : ℕ) (x p : Place) → k < length xs → x ≡ get_or xs k x → unit_of p ≡ unit_of x → map unit_of (set xs k p) ≡ map unit_of xs
+units_same xs k x p h read e =
+    map-set unit_of xs k p ∙ (ap (λ (u : UnitState). set (map unit_of xs) k u) e
+    ∙ (sym (map-set unit_of xs k x) ∙ ap (map unit_of) (ap (λ (q : Place). set xs k q) (get_or_read xs k x h read no_place) ∙ set-get_or xs k no_place)))
+
+pub joins_hear : (k : ℕ) (m : MemoryValue) (g : Bool) (es : List Event) → joins (Hear k m g ∷ es) ≡ joins es
+unfolding joins
+joins_hear k m g es = refl
+
+pub joins_begin : (k : ℕ) (m : MemoryValue) (es : List Event) → joins (Begin k m ∷ es) ≡ joins es
+unfolding joins
+joins_begin k m es = refl
+
+pub joins_turned : (k : ℕ) (es : List Event) → joins (Turned k ∷ es) ≡ joins es
+unfolding joins
+joins_turned k es = refl
+
+pub joins_carry : (k : ℕ) (es : List Event) → joins (Carry k ∷ es) ≡ joins es
+unfolding joins
+joins_carry k es = refl
+
+pub joins_read : (r : Reading) (es : List Event) → joins (Read r ∷ es) ≡ joins es
+unfolding joins
+joins_read r es = refl
+
+pub joins_leave : (k : ℕ) (es : List Event) → joins (Leave k ∷ es) ≡ joins es
+unfolding joins
+joins_leave k es = refl
+
+pub joins_join : (n w : ℕ) (es : List Event) → joins (Join n w ∷ es) ≡ joins es + 1
+unfolding joins
+joins_join n w es = refl
+
+pub place_tally : (a : Inside) (k : ℕ) (x : Place) → k < length a.places.items → x ≡ get_or a.places.items k x → x.tally ≡ (place_at a.places.items k).tally
+place_tally a k x h read = ap (λ (p : Place). p.tally) (get_or_read a.places.items k x h read no_place)
+
+pub bus_unit : (a : Inside) (k : ℕ) → Stands a → IsUnit (state a).traffic k → IsUnit a.bus.traffic k
+bus_unit a k stands u = subst (λ (t : Traffic). IsUnit t k) (sym stands.traffic) u
+
+pub leave_is : (k : ℕ) (s : State) → after (Leave k) s ≡ record s { traffic = left k s.traffic }
+unfolding after_leave
+leave_is k s = refl
+
+-- a leave queues nothing
+left_at : (xs : List SeatValue) (k j : ℕ) → (get_or (set xs k (leaving (get_or xs k nobody))) j nobody).queued ≡ (get_or xs j nobody).queued
+left_at [] k j = refl
+left_at (x ∷ xs) zero zero = refl
+left_at (x ∷ xs) zero (suc j) = refl
+left_at (x ∷ xs) (suc k) zero = refl
+left_at (x ∷ xs) (suc k) (suc j) = left_at xs k j
+
+pub left_queued : (t : Traffic) (k j : ℕ) → (seat_at (left k t) j).queued ≡ (seat_at t j).queued
+left_queued t k j = left_at t.seats k j
+
+sent_at : (xs : List SeatValue) (k j : ℕ) → (get_or (set xs k (sending (get_or xs k nobody))) j nobody).queued ≡ (get_or xs j nobody).queued
+sent_at [] k j = refl
+sent_at (x ∷ xs) zero zero = refl
+sent_at (x ∷ xs) zero (suc j) = refl
+sent_at (x ∷ xs) (suc k) zero = refl
+sent_at (x ∷ xs) (suc k) (suc j) = sent_at xs k j
+
+pub sent_queued : (t : Traffic) (k : ℕ) (q : QueuedFrame) (j : ℕ) → (seat_at (carried_from k q t) j).queued ≡ (seat_at t j).queued
+sent_queued t k q j = sent_at t.seats k j
+
+sent_live : (xs : List SeatValue) (k : ℕ) → count_by (λ (s : SeatValue). s.live) (set xs k (sending (get_or xs k nobody))) ≡ count_by (λ (s : SeatValue). s.live) xs
+sent_live xs k = elim (within_or_past k (length xs)) [
+  | inl h ↦ let s = sum_by-set (λ (v : SeatValue). cond {A = ℕ} v.live 1 0) xs k (sending (get_or xs k nobody)) nobody h in omega arith
+  | inr h ↦ ap (count_by (λ (s : SeatValue). s.live)) (set_past xs k (sending (get_or xs k nobody)) h)
+]
+
+pub sent_units : (t : Traffic) (k : ℕ) (q : QueuedFrame) → live_units (carried_from k q t) ≡ live_units t
+sent_units t k q = ap (λ (n : ℕ). n - 1) (sent_live t.seats k)
+
+-- the frame that is carried is the first of its seat's queue
+pub carry_is : (k : ℕ) (q : QueuedFrame) (s : State) → slice_get (seat_at s.traffic k).queue 0 ≡ Some q
+    → after (Carry k) s ≡ record s { traffic = carried_from k q s.traffic; path = if k == 0 then Own (item_of s (carried_frame k q)) ∷ s.path else s.path }
+unfolding after_carry_of
+carry_is k q s e = rw e refl
+
+pub tallies_still : (xs : List Place) (es : List Event) (e : Event) → ((j : ℕ) → j < length xs → (place_at xs j).tally ≡ tally_of (suc j) es)
+    → ((j : ℕ) (t : Tally) → tallied j (joins es) e t ≡ t) → (j : ℕ) → j < length xs → (place_at xs j).tally ≡ tally_of (suc j) (e ∷ es)
+tallies_still xs es e old rule j h = old j h ∙ sym (tally_more (suc j) e es ∙ rule (suc j) (tally_of (suc j) es))
+
+pub read_is : (r : Reading) (s : State) → after (Read r) s ≡ record s {
+  traffic = reacted (reaction s.station r) (after_reading r s.traffic);
+  station = station_after s.station r;
+  path = path_after r s;
+}
+unfolding after_read
+read_is r s = refl
+
+pub join_is : (name address : ℕ) (s : State) → after (Join name address) s ≡ record s {
+  traffic = queued (length s.traffic.seats) (untagged (claim_frame_value name (Some address))) (joined name s.traffic);
+  units = s.units ++ new_unit name address ∷ [];
+}
+unfolding after_join
+join_is name address s = refl
+
+-- a call that added this event
+pub added : (a b : Inside) (v : GarageValue) (e : Event) → view_of a ≡ v → settings_of b ≡ settings_of a → b.journal.items ≡ a.journal.items ++ e ∷ [] → Fits (state a) e → Adds v e (view_of b)
+added a b v e is settings journal fits = record {
+  adds =
+      let history : reverse b.journal.items ≡ e ∷ reverse a.journal.items = ap reverse journal ∙ newest a.journal.items e in
+      let pair : view_of b ≡ with_event e (view_of a) = cc in
+      pair ∙ ap (with_event e) is;
+  fits = subst (λ (g : GarageValue). Fits (state_of g) e) is fits;
+}
+
+-- a garage stays as it stood where nothing that counts has changed
+pub still : (a b : Inside) → Stands a → settings_of b ≡ settings_of a → b.bus.traffic ≡ a.bus.traffic → b.station ≡ a.station → b.places.items ≡ a.places.items → b.begun ≡ a.begun → b.live ≡ a.live
+    → b.journal.items ≡ a.journal.items → vec_len b.journal + b.live ≤ vec_capacity b.journal → Stands b
+still a b stands settings traffic station places begun live journal room =
+    let same : state b ≡ state a = (let v : view_of b ≡ view_of a = cc in ap state_of v) in
+    let limit : b.limit ≡ a.limit = ap (λ (r : Settings). r.limit) settings in
+    let n : length b.journal.items ≡ length a.journal.items = ap length journal in
+    let m : length b.places.items ≡ length a.places.items = ap length places in
+    record {
+      few = (let f = stands.few in omega arith);
+      traffic = traffic ∙ (stands.traffic ∙ ap (λ (s : State). s.traffic) (sym same));
+      station = station ∙ (stands.station ∙ ap (λ (s : State). s.station) (sym same));
+      units = ap (map unit_of) places ∙ (stands.units ∙ ap (λ (s : State). s.units) (sym same));
+      begun = begun ∙ (stands.begun ∙ ap (λ (s : State). length s.begun) (sym same));
+      fits = subst (λ (r : Settings). AllFit r (reverse b.journal.items)) (sym settings) (subst (λ (es : List Event). AllFit (settings_of a) (reverse es)) (sym journal) stands.fits);
+      joined = ap (λ (es : List Event). joins (reverse es)) journal ∙ (stands.joined ∙ sym m);
+      tallies = λ k h. ap (λ (xs : List Place). (place_at xs k).tally) places ∙ (stands.tallies k (omega arith) ∙ ap (λ (es : List Event). tally_of (suc k) (reverse es)) (sym journal));
+      fresh = λ k h. ap (λ (es : List Event). tally_of k (reverse es)) journal ∙ stands.fresh k (omega arith);
+      seats = (let s = stands.seats in let t = ap (λ (t : Traffic). length t.seats) traffic in omega arith);
+      live = live ∙ (stands.live ∙ ap live_units (sym traffic));
+      within = (let w = stands.within in omega arith);
+      room = room;
+      wire = (let w = stands.wire in let t = ap (λ (t : Traffic). length t.wire) traffic in omega arith);
+      queued = λ k. (let w = stands.queued k in let t = ap (λ (t : Traffic). (seat_at t k).queued) traffic in omega arith);
+      messages = (let w = stands.messages in omega arith);
+      places = (let w = stands.places in omega arith);
+    }
+
+unit_in : (xs : List Place) (k : ℕ) → get_or (map unit_of xs) k (new_unit 0 0) ≡ unit_of (place_at xs k)
+unit_in [] k = refl
+unit_in (x ∷ xs) zero = refl
+unit_in (x ∷ xs) (suc k) = unit_in xs k
+
+-- the unit on a seat is that of its place
+pub unit_is : (a : Inside) (seat : ℕ) (x : Place) → Stands a → seat - 1 < length a.places.items → x ≡ get_or a.places.items (seat - 1) x → unit_at (state a) seat ≡ unit_of x
+unit_is a seat x stands h read =
+    ap (λ (us : List UnitState). get_or us (seat - 1) (new_unit 0 0)) (sym stands.units)
+    ∙ (unit_in a.places.items (seat - 1) ∙ ap unit_of (sym (get_or_read a.places.items (seat - 1) x h read no_place)))
+
+-- a place replaced by an equal one
+pub same_place : (xs : List Place) (k : ℕ) (x p : Place) → k < length xs → x ≡ get_or xs k x → p ≡ x → set xs k p ≡ xs
+same_place xs k x p h read e = ap (λ (q : Place). set xs k q) (e ∙ get_or_read xs k x h read no_place) ∙ set-get_or xs k no_place
+
+-- what hearing a frame comes to
+pub hear_is : (k : ℕ) (memory : MemoryValue) (agreed : Bool) (f : FrameValue) (s : State) → next_for s k ≡ Some f
+    → after (Hear k memory agreed) s ≡ after_hearing k memory (heard_of agreed (node_reaction (unit_at s k).node memory agreed f)) (node_after (unit_at s k).node memory agreed f) s
+unfolding after_hear_of
+hear_is k memory agreed f s e = rw e refl
+
+pub hear_did : (k : ℕ) (memory : MemoryValue) (f : FrameValue) (s : State) (node : NodeValue) (h : Heard) (node' : NodeValue) → next_for s k ≡ Some f → (unit_at s k).node ≡ node
+    → h ≡ heard_of h.agreed (node_reaction node memory h.agreed f) → node' ≡ node_after node memory h.agreed f → after (Hear k memory h.agreed) s ≡ after_hearing k memory h node' s
+hear_did k memory f s node h node' e n heard_is node_is =
+    hear_is k memory h.agreed f s e
+    ∙ (ap (λ (m : NodeValue). after_hearing k memory (heard_of h.agreed (node_reaction m memory h.agreed f)) (node_after m memory h.agreed f) s) n
+    ∙ (ap (λ (g : Heard). after_hearing k memory g (node_after node memory h.agreed f) s) (sym heard_is) ∙ ap (λ (m : NodeValue). after_hearing k memory h m s) (sym node_is)))
+
+pub begun_length : (ms : List Message) (name : ℕ) (memory : MemoryValue) (b : Option Begun) → length (begun_after ms name memory b) ≡ with_begun (length ms) b
+begun_length ms name memory None = refl
+begun_length ms name memory (Some b) = omega arith
+
+pub begun_few : (n : ℕ) (b : Option Begun) → with_begun n b ≤ n + 1
+begun_few n None = omega arith
+begun_few n (Some b) = omega arith
+
+-- a frame that is there stands on the wire
+pub next_within : (xs : List CarriedFrame) (i : ℕ) (f : FrameValue) → option_map (λ (c : CarriedFrame). c.frame) (slice_get xs i) ≡ Some f → i < length xs
+next_within [] i f e = absurd cc
+next_within (x ∷ xs) zero f e = omega arith
+next_within (x ∷ xs) (suc i) f e = let r = next_within xs i f e in omega arith
+
+-- a seat that was never given has no events
+pub fresh_one : (es : List Event) (e : Event) (seat n : ℕ) (f : Tally → Tally) → ((k : ℕ) → n < k → tally_of k es ≡ no_tally)
+    → ((j : ℕ) (t : Tally) → tallied j (joins es) e t ≡ (if seat == j then f t else t)) → seat ≤ n → (k : ℕ) → n < k → tally_of k (e ∷ es) ≡ no_tally
+fresh_one es e seat n f old rule low k h =
+    let t : nat_eq seat k ≡ false = ne_eqb seat k (λ d. omega arith) in
+    tally_more k e es ∙ (rule k (tally_of k es) ∙ rw t (old k h))
+
+pub fresh_still : (es : List Event) (e : Event) (n : ℕ) → ((k : ℕ) → n < k → tally_of k es ≡ no_tally) → ((j : ℕ) (t : Tally) → tallied j (joins es) e t ≡ t) → (k : ℕ) → n < k → tally_of k (e ∷ es) ≡ no_tally
+fresh_still es e n old rule k h = tally_more k e es ∙ (rule k (tally_of k es) ∙ old k h)
+
+pub fresh_join : (es : List Event) (name address n : ℕ) → ((k : ℕ) → n < k → tally_of k es ≡ no_tally) → joins es ≡ n → (k : ℕ) → n + 1 < k → tally_of k (Join name address ∷ es) ≡ no_tally
+fresh_join es name address n old is k h =
+    let t : nat_eq (joins es + 1) k ≡ false = ne_eqb (joins es + 1) k (λ d. omega arith) in
+    tally_more k (Join name address) es ∙ rw t (old k (omega arith))
+
+-- a place for a unit that joins
+pub tallies_push : (xs : List Place) (es : List Event) (p : Place) (name address : ℕ) → ((j : ℕ) → j < length xs → (place_at xs j).tally ≡ tally_of (suc j) es) → joins es ≡ length xs
+    → p.tally ≡ record { joined = 1; turned = 0; left = 0; events = 1 } → tally_of (suc (length xs)) es ≡ no_tally
+    → (j : ℕ) → j < length (xs ++ p ∷ []) → (place_at (xs ++ p ∷ []) j).tally ≡ tally_of (suc j) (Join name address ∷ es)
+tallies_push xs es p name address old n is none j l =
+    let more = tally_more (suc j) (Join name address) es in
+    elim (same_or_not j (length xs)) [
+      | inl e ↦
+          let t : nat_eq (joins es + 1) (suc j) ≡ true = eq-eqb (joins es + 1) (suc j) (omega arith) in
+          let z : tally_of (suc j) es ≡ no_tally = ap (λ (i : ℕ). tally_of (suc i) es) e ∙ none in
+          let here : (place_at (xs ++ p ∷ []) j).tally ≡ p.tally = ap (λ (q : Place). q.tally) (get_or_push xs p no_place j (sym e)) in
+          here ∙ (is ∙ sym (more ∙ rw (t, z) refl))
+      | inr e ↦
+          let t : nat_eq (joins es + 1) (suc j) ≡ false = ne_eqb (joins es + 1) (suc j) (λ d. e (omega arith)) in
+          let l' : j < length xs = omega (arith, length_push xs p) in
+          let there : (place_at (xs ++ p ∷ []) j).tally ≡ (place_at xs j).tally = ap (λ (q : Place). q.tally) (get_or_append_left xs (p ∷ []) no_place j l') in
+          there ∙ (old j l' ∙ sym (more ∙ rw t refl))
+    ]
+
+-- what a frame heard comes to, at what callers see
+pub hears_of : (a b : Inside) (v : GarageValue) (seat : ℕ) (node : NodeValue) (f : FrameValue) (agreed : Bool) (memory : MemoryValue) (given : MemoryValue) (after' : MemoryValue) → view_of a ≡ v → settings_of b ≡ settings_of a
+    → b.journal.items ≡ a.journal.items ++ Hear seat memory agreed ∷ [] → memory ≡ given → next_for (state a) seat ≡ Some f → Fits (state a) (Hear seat given agreed) → (unit_at (state a) seat).node ≡ node
+    → after' ≡ memory_after node given agreed f → Hears v seat given (heard.Frame f) (view_of b) after'
+hears_of a b v seat node f agreed memory given after' is settings journal mem next fits unit reacts =
+    let seen : next_for (state_of v) seat ≡ Some f = ap (λ (w : GarageValue). next_for (state_of w) seat) (sym is) ∙ next in
+    let adds : Adds v (Hear seat given agreed) (view_of b) = added a b v (Hear seat given agreed) is settings (journal ∙ ap (λ (m : MemoryValue). a.journal.items ++ Hear seat m agreed ∷ []) mem) fits in
+    let kept : after' ≡ memory_after (unit_at (state_of v) seat).node given agreed f =
+    reacts ∙ (ap (λ (n : NodeValue). memory_after n given agreed f) (sym unit) ∙ ap (λ (w : GarageValue). memory_after (unit_at (state_of w) seat).node given agreed f) is) in
+    (seen, (agreed, adds, kept))
+
+pub state_next : (a b : Inside) (e : Event) → settings_of b ≡ settings_of a → b.journal.items ≡ a.journal.items ++ e ∷ [] → state b ≡ after e (state a)
+state_next a b e settings journal =
+    let history : reverse b.journal.items ≡ e ∷ reverse a.journal.items = ap reverse journal ∙ newest a.journal.items e in
+    ap (λ (es : List Event). state_after (settings_of b) es) history
+    ∙ (ap (λ (r : Settings). state_after r (e ∷ reverse a.journal.items)) settings ∙ state_more (settings_of a) e (reverse a.journal.items))
+
+-- a unit that has just joined is seated with one event of its own
+pub seated_join : (a b : Inside) (name want k : ℕ) → Stands a → settings_of b ≡ settings_of a → b.journal.items ≡ a.journal.items ++ Join name want ∷ [] → k ≡ length (state a).traffic.seats → IsSeated (view_of b) k name 1
+seated_join a b name want k stands settings journal at =
+    let t = (state a).traffic in
+    let q = untagged (claim_frame_value name (Some want)) in
+    let n = length t.seats in
+    let now : (state b).traffic ≡ queued n q (joined name t) = ap (λ (s : State). s.traffic) (state_next a b (Join name want) settings journal ∙ join_is name want (state a)) in
+    let l = IsLive-queued (joined name t) n n q (joined_live t name) in
+    let many : length a.bus.traffic.seats ≡ n = ap (λ (u : Traffic). length u.seats) stands.traffic in
+    let seats = stands.seats in
+    let u : IsUnit (queued n q (joined name t)) n = (omega arith, l.0, l.1) in
+    let history : reverse b.journal.items ≡ Join name want ∷ reverse a.journal.items = ap reverse journal ∙ newest a.journal.items (Join name want) in
+    let last : nat_eq (joins (reverse a.journal.items) + 1) k ≡ true = (let j = stands.joined in eq-eqb (joins (reverse a.journal.items) + 1) k (omega arith)) in
+    let none = stands.fresh k (omega arith) in
+    let tally : tally_of k (reverse b.journal.items) ≡ record { joined = 1; turned = 0; left = 0; events = 1 } =
+    ap (λ (es : List Event). tally_of k es) history ∙ (tally_more k (Join name want) (reverse a.journal.items) ∙ rw (last, none) refl) in
+    record {
+      unit = subst (λ (i : ℕ). IsUnit (state b).traffic i) (sym at) (subst (λ (v : Traffic). IsUnit v n) (sym now) u);
+      named = ap (λ (i : ℕ). (seat_at (state b).traffic i).name) at ∙ (ap (λ (v : Traffic). (seat_at v n).name) now ∙ joined_name t name q);
+      counted = ap (λ (v : Tally). v.events) tally;
+    }
+
+-- what a message begun comes to
+pub begin_did : (k : ℕ) (memory : MemoryValue) (s : State) (node : NodeValue) (source : ℕ) (b : Begun) (put : List Out) → (unit_at s k).node ≡ node → node.claimer.held ≡ Some source
+    → started.Begun b put ≡ begins node.session Dm1 memory source → after (Begin k memory) s ≡ after_starting k memory (started.Begun b put) s
+unfolding after_begin_of
+begin_did k memory s node source b put n held did =
+    let e : (unit_at s k).node.claimer.held ≡ Some source = ap (λ (v : NodeValue). v.claimer.held) n ∙ held in
+    rw e (ap (λ (v : NodeValue). after_starting k memory (begins v.session Dm1 memory source) s) n ∙ ap (λ (st : Started). after_starting k memory st s) (sym did))
+
+-- an address that is held
+pub record Source (o : Option ℕ) (P : ℕ → Type 0) : Type 1 where
+  pub address : ℕ
+  pub held : o ≡ Some address
+  pub says : P address
+
+pub source_of : (o : Option ℕ) (P : ℕ → Type 0) → is_some o ≡ true → IfSome o P → Source o P
+source_of None P e h = absurd cc
+source_of (Some a) P e h = record { address = a; held = refl; says = h }
+
+pub begin_fits : (k : ℕ) (memory : MemoryValue) (s : State) (node : NodeValue) (source : ℕ) (b : Begun) (put : List Out) → IsUnit s.traffic k → IsLawfulMemory memory → (unit_at s k).node ≡ node → node.claimer.held ≡ Some source
+    → started.Begun b put ≡ begins node.session Dm1 memory source → Fits s (Begin k memory)
+begin_fits k memory s node source b put u lawful n held did =
+    let here : started.Begun b put ≡ begins (unit_at s k).node.session Dm1 memory source = did ∙ ap (λ (v : NodeValue). begins v.session Dm1 memory source) (sym n) in
+    let not_held : begins (unit_at s k).node.session Dm1 memory source ≡ started.Held → ⊥ = (λ e. let clash : started.Begun b put ≡ started.Held = here ∙ e in cc) in
+    (u, (source, ap (λ (v : NodeValue). v.claimer.held) n ∙ held, not_held), lawful)
+
+pub begins_of : (a b : Inside) (v : GarageValue) (seat : ℕ) (memory given : MemoryValue) → view_of a ≡ v → settings_of b ≡ settings_of a → b.journal.items ≡ a.journal.items ++ Begin seat memory ∷ []
+    → memory ≡ given → Fits (state a) (Begin seat memory) → Adds v (Begin seat given) (view_of b)
+begins_of a b v seat memory given is settings journal mem fits =
+    subst (λ (m : MemoryValue). Adds v (Begin seat m) (view_of b)) mem (added a b v (Begin seat memory) is settings journal fits)

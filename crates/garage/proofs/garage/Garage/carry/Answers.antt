@@ -1,0 +1,56 @@
+use Rattle.std.proofs.Common.{arith, refl, ap, ◌∙◌, sym, subst, List, ◌++◌, ◌∷◌, [], ◌+◌, ◌-◌, length}
+use Rattle.std.proofs.lemmas.List.{length-set, length_push}
+use Rattle.bus_ledger.specs.BusValue.{Traffic, seat_at}
+use Rattle.bus_ledger.specs.Changes.{carried_from, sending, carried_frame}
+use Rattle.bus_ledger.specs.Joining.{live_units}
+use Rattle.bus_ledger.specs.Carrying.{IsNext, Carries}
+use Rattle.bus_ledger.specs.declared.traffic.Carried.{Carried}
+use Rattle.bus_ledger.specs.declared.traffic.Carried.TheVariants.{Frame}
+use Rattle.bus_ledger.specs.declared.traffic.QueuedFrame.{QueuedFrame}
+use Rattle.journal.specs.State.{State}
+use Rattle.journal.specs.declared.event.Event.{Event}
+use Rattle.journal.specs.declared.event.Event.TheVariants.{Carry}
+use Rattle.garage.proofs.Traffics.{offer_says}
+use Rattle.garage.proofs.Standing.{state, joins_carry, stands_more, tallies_still, fresh_still, carry_is, sent_queued, sent_units}
+use Rattle.garage.proofs.garage.Garage.carry.Goals as goal
+
+pub invariant_of-self-in-Frame-carried : goal.invariant_of-self-in-Frame-carried
+invariant_of-self-in-Frame-carried c =
+    let a = c.self.inside in
+    let stands = c.self.invariant in
+    let k = c.in-Frame-carried.seat in
+    let before = a.bus.traffic in
+    let did : Carries before (Frame k c.in-Frame-carried.frame) c.carry.new.self.traffic =
+    subst (λ (r : Carried). Carries before r c.carry.new.self.traffic) c.in-Frame-carried.is c.in_ok-carried.ensures.ok in
+    let q = did.0 in
+    let next : IsNext (state a).traffic k q = subst (λ (t : Traffic). IsNext t k q) stands.traffic did.1 in
+    let now = did.3 in
+    let is = carry_is k q (state a) (offer_says (state a).traffic k q next.offers).1 in
+    let ok = c.in_ok-make_room.ensures.ok in
+    let fits = ok.0 in
+    let room = ok.1 in
+    let wires = ap (λ (t : Traffic). length t.wire) now ∙ length_push before.wire (carried_frame k q) in
+    let many = ap (λ (t : Traffic). length t.seats) now in
+    let lives = ap live_units now ∙ sent_units before k q in
+    let n = c.push_reserved.ensures.len in
+    let m = c.push_reserved.ensures.capacity in
+    stands_more a _ (Carry k) stands (record {
+      settings = refl;
+      journal = c.push_reserved.ensures.items ∙ ap (λ (l : List Event). l ++ Carry k ∷ []) c.make_room.ensures.items;
+      fits = (q, next);
+      traffic = now ∙ (ap (carried_from k q) stands.traffic ∙ sym (ap (λ (s : State). s.traffic) is));
+      station = stands.station ∙ sym (ap (λ (s : State). s.station) is);
+      units = stands.units ∙ sym (ap (λ (s : State). s.units) is);
+      begun = stands.begun ∙ sym (ap (λ (s : State). length s.begun) is);
+      joined = joins_carry k _ ∙ stands.joined;
+      tallies = tallies_still a.places.items _ (Carry k) stands.tallies (λ j t. refl);
+      fresh = fresh_still _ (Carry k) (length a.places.items) stands.fresh (λ i t. refl);
+      seats = (let s = stands.seats in omega (arith, length-set before.seats k));
+      live = stands.live ∙ sym lives;
+      within = (let w = stands.within in omega arith);
+      room = omega arith;
+      wire = (let w = stands.wire in omega arith);
+      queued = λ j. (let w = stands.queued j in let e = ap (λ (t : Traffic). (seat_at t j).queued) now ∙ sent_queued before k q j in omega arith);
+      messages = (let w = stands.messages in omega arith);
+      places = (let w = stands.places in omega arith);
+    })

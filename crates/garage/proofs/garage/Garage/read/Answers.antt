@@ -1,0 +1,64 @@
+use Rattle.std.proofs.Common.{ℕ, arith, refl, ap, ◌∙◌, sym, subst, List, ◌++◌, ◌∷◌, [], ◌+◌, ◌≤◌, length}
+use Rattle.bus_ledger.specs.BusValue.{Traffic, seat_at}
+use Rattle.bus_ledger.specs.Joining.{live_units}
+use Rattle.bus_ledger.specs.Reception.{next_reading, after_reading}
+use Rattle.can_frame.specs.declared.reading.Reading.{Reading}
+use Rattle.station_table.specs.StationValue.{StationValue}
+use Rattle.station_table.specs.Steps.{after_reading as station_after}
+use Rattle.station_table.specs.Reactions.{reaction}
+use Rattle.station_table.specs.declared.reaction.Reaction.{Reaction}
+use Rattle.journal.specs.State.{State}
+use Rattle.journal.specs.Steps.{reacted}
+use Rattle.journal.specs.declared.event.Event.{Event}
+use Rattle.journal.specs.declared.event.Event.TheVariants.{Read}
+use Rattle.garage.proofs.Traffics.{station_live, keeps_read, puts_reacted}
+use Rattle.garage.proofs.Standing.{state, read_is, joins_read, stands_more, tallies_still, fresh_still}
+use Rattle.garage.proofs.garage.Garage.read.Goals as goal
+
+pub reserve-requires : goal.reserve-requires
+reserve-requires c = station_live c.self.inside.bus.traffic c.wire_len-sound.ensures.sound
+
+pub invariant_of-self-2 : goal.invariant_of-self-2
+invariant_of-self-2 c =
+    let a = c.self.inside in
+    let stands = c.self.invariant in
+    let r = c.tap_peek-reading.result in
+    let t = a.bus.traffic in
+    let s = state a in
+    let rx = c.in_ok-reaction.reaction in
+    let few = c.in_ok-reaction.ensures.few in
+    let kept = c.reserve.ensures.traffic in
+    let same = c.tap_next.ensures.reading ∙ (ap next_reading kept ∙ sym c.tap_peek-reading.ensures.reading) in
+    let taken = c.tap_next.ensures.traffic ∙ (ap (λ (x : Reading). after_reading x c.reserve.new.self.traffic) same ∙ ap (after_reading r) kept) in
+    let now = c.react.ensures ∙ ap (reacted rx) taken in
+    let is = read_is r s in
+    let puts = puts_reacted rx t (after_reading r t) (keeps_read r t) in
+    let many = ap (λ (u : Traffic). length u.seats) now in
+    let wires = ap (λ (u : Traffic). length u.wire) now ∙ ap length puts.wire in
+    let lives = ap live_units now ∙ puts.units in
+    let ok = c.in_ok-make_room.ensures.ok in
+    let fits = ok.0 in
+    let room = ok.1 in
+    let n = c.push_reserved.ensures.len in
+    let m = c.push_reserved.ensures.capacity in
+    stands_more a _ (Read r) stands (record {
+      settings = refl;
+      journal = c.push_reserved.ensures.items ∙ ap (λ (l : List Event). l ++ Read r ∷ []) c.make_room.ensures.items;
+      fits = (c.tap_peek-reading.ensures.reading ∙ ap next_reading stands.traffic, c.if-is_empty.ensures);
+      traffic = now ∙ (ap (λ (x : Reaction). reacted x (after_reading r t)) c.in_ok-reaction.ensures.reaction ∙ (ap (λ (x : StationValue). reacted (reaction x r) (after_reading r t)) stands.station
+          ∙ (ap (λ (u : Traffic). reacted (reaction s.station r) (after_reading r u)) stands.traffic ∙ sym (ap (λ (v : State). v.traffic) is))));
+      station = c.in_ok-reaction.ensures.step ∙ (ap (λ (x : StationValue). station_after x r) stands.station ∙ sym (ap (λ (v : State). v.station) is));
+      units = stands.units ∙ sym (ap (λ (v : State). v.units) is);
+      begun = stands.begun ∙ sym (ap (λ (v : State). length v.begun) is);
+      joined = joins_read r _ ∙ stands.joined;
+      tallies = tallies_still a.places.items _ (Read r) stands.tallies (λ j t. refl);
+      fresh = fresh_still _ (Read r) (length a.places.items) stands.fresh (λ i t. refl);
+      seats = (let x = stands.seats in let y = puts.seats in omega arith);
+      live = stands.live ∙ sym lives;
+      within = (let w = stands.within in omega arith);
+      room = omega arith;
+      wire = (let w = stands.wire in omega arith);
+      queued = λ j. (let w = stands.queued j in let q = puts.queued j in let e = ap (λ (u : Traffic). (seat_at u j).queued) now in omega arith);
+      messages = (let w = stands.messages in omega arith);
+      places = (let w = stands.places in omega arith);
+    })

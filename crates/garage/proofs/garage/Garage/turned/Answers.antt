@@ -1,0 +1,58 @@
+use Rattle.std.proofs.Common.{arith, refl, ap, ◌∙◌, sym, List, ◌++◌, ◌∷◌, [], ◌+◌, ◌-◌, length}
+use Rattle.std.proofs.lemmas.List.{length-set}
+use Rattle.journal.specs.Journal.{one_more}
+use Rattle.journal.specs.declared.event.Event.{Event}
+use Rattle.journal.specs.declared.event.Event.TheVariants.{Turned}
+use Rattle.journal.specs.declared.tally.Tally.{Tally}
+use Rattle.garage.proofs.Standing.{place_few, place_within, unit_now, units_same, joins_turned, place_tally, stands_more, tallies_one, fresh_one}
+use Rattle.garage.proofs.garage.Garage.turned.Goals as goal
+
+pub overflow_add-place : goal.overflow_add-place
+overflow_add-place c =
+    let a = c.self.inside in
+    let u = unit_now a c.args.self.now c.args.seat c.self.view_is c.requires in
+    let h = place_within a c.args.seat c.self.invariant u in
+    let f = place_few a (c.args.seat - 1) c.index_mut-place.result.now c.self.invariant h c.index_mut-place.ensures.value in
+    let w = c.self.invariant.within in let l = c.self.invariant.few in let t = f.turned in omega arith
+
+pub overflow_add-place-2 : goal.overflow_add-place-2
+overflow_add-place-2 c =
+    let a = c.self.inside in
+    let u = unit_now a c.args.self.now c.args.seat c.self.view_is c.requires in
+    let h = place_within a c.args.seat c.self.invariant u in
+    let f = place_few a (c.args.seat - 1) c.index_mut-place.result.now c.self.invariant h c.index_mut-place.ensures.value in
+    let w = c.self.invariant.within in let l = c.self.invariant.few in let t = f.events in omega arith
+
+pub invariant_of-self-2 : goal.invariant_of-self-2
+invariant_of-self-2 c =
+    let a = c.self.inside in
+    let stands = c.self.invariant in
+    let x = c.index_mut-place.result.now in
+    let u = unit_now a c.args.self.now c.args.seat c.self.view_is c.requires in
+    let low = u.0 in
+    let h = place_within a c.args.seat stands u in
+    let k = c.args.seat - 1 in
+    let ok = c.in_ok-make_room.ensures.ok in
+    let room = ok.1 in
+    let fits = ok.0 in
+    stands_more a _ (Turned c.args.seat) stands (record {
+      settings = refl;
+      journal = c.push_reserved.ensures.items ∙ ap (λ (l : List Event). l ++ Turned c.args.seat ∷ []) c.make_room.ensures.items;
+      fits = u;
+      traffic = stands.traffic;
+      station = stands.station;
+      units = units_same a.places.items k x _ h c.index_mut-place.ensures.value refl ∙ stands.units;
+      begun = stands.begun;
+      joined = joins_turned c.args.seat _ ∙ (stands.joined ∙ sym (length-set a.places.items k _));
+      tallies = tallies_one a.places.items _ (Turned c.args.seat) k c.args.seat _ (λ (t : Tally). one_more (record t { turned = t.turned + 1 })) stands.tallies (λ j t. refl) (omega arith) h
+          (ap (λ (t : Tally). one_more (record t { turned = t.turned + 1 })) (place_tally a k x h c.index_mut-place.ensures.value));
+      fresh = λ j l. fresh_one _ (Turned c.args.seat) c.args.seat (length a.places.items) (λ (t : Tally). one_more (record t { turned = t.turned + 1 })) stands.fresh (λ i t. refl) (omega arith) j (omega (arith, length-set a.places.items k));
+      seats = (let s = stands.seats in omega (arith, length-set a.places.items k));
+      live = stands.live;
+      within = (let w = stands.within in omega arith);
+      room = (let n = c.push_reserved.ensures.len in let m = c.push_reserved.ensures.capacity in omega arith);
+      wire = (let w = stands.wire in omega arith);
+      queued = λ j. (let w = stands.queued j in omega arith);
+      messages = (let w = stands.messages in omega arith);
+      places = (let w = stands.places in omega (arith, length-set a.places.items k));
+    })

@@ -1,0 +1,15 @@
+use Rattle.garage.proofs.SeatKept.{is_unit, still_seated, unit_hears}
+use Rattle.garage.proofs.plug.Plug.hear.Goals as goal
+
+pub events_of-self-requires : goal.events_of-self-requires
+events_of-self-requires g c =
+    is_unit c.args.self.now.garage.now c.hear.new.self c.args.self.now.seat
+    (unit_hears c.args.self.now.garage.now c.args.self.now.seat _ c.in_ok-heard.heard c.hear.new.self _ c.in_ok-heard.ensures.ok c.args.self.now.seated.unit.1)
+    c.args.self.now.seated.unit
+
+pub invariant_of-self-2 : goal.invariant_of-self-2
+invariant_of-self-2 g c = record {
+  seated = still_seated c.args.self.now.garage.now c.hear.new.self c.args.self.now.seat c.args.self.now.name c.args.self.now.events c.events_of-self.result
+      (unit_hears c.args.self.now.garage.now c.args.self.now.seat _ c.in_ok-heard.heard c.hear.new.self _ c.in_ok-heard.ensures.ok c.args.self.now.seated.unit.1)
+      c.args.self.now.seated c.events_of-self.ensures;
+}

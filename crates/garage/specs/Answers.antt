@@ -1,0 +1,41 @@
+-- What a call with this answer did.
+use Rattle.std.specs.Prelude.{◌≡◌, ℕ, Bool, true, Option, Some, None, length, ◌+◌, ◌≤◌}
+use Rattle.std.specs.Option.{option_map}
+use Rattle.can_frame.specs.declared.reading.Reading.{Reading}
+use Rattle.can_frame.specs.declared.reading.Reading.TheVariants as reading
+use Rattle.fault_memory.specs.Memory.{MemoryValue}
+use Rattle.dm_messages.specs.declared.kind.Kind.TheVariants.{Dm1}
+use Rattle.bus_ledger.specs.Reception.{next_reading}
+use Rattle.node_core.specs.NodeValue.{is_open}
+use Rattle.node_core.specs.declared.heard.Begun.{Begun}
+use Rattle.node_core.specs.Reaction.{memory_after}
+use Rattle.journal.specs.State.{unit_at}
+use Rattle.journal.specs.Steps.{next_for}
+use Rattle.journal.specs.Journal.{GarageValue, Adds, state_of}
+use Rattle.journal.specs.declared.event.Event.TheVariants as event
+use Rattle.garage.specs.declared.steps.HeardOne.{HeardOne}
+use Rattle.garage.specs.declared.steps.HeardOne.TheVariants as heard
+use Rattle.garage.specs.declared.steps.Begin.{Begin}
+use Rattle.garage.specs.declared.steps.Begin.TheVariants as begin
+
+-- the next frame was heard, by what the unit chose; or the whole wire was heard before
+abbrev pub Hears : GarageValue → ℕ → MemoryValue → HeardOne → GarageValue → MemoryValue → Type 0
+Hears old k memory (heard.Frame f) new memory' =
+    (next_for (state_of old) k ≡ Some f)
+    × ((agreed : Bool) × Adds old (event.Hear k memory agreed) new × (memory' ≡ memory_after (unit_at (state_of old) k).node memory agreed f))
+Hears old k memory heard.Nothing new memory' = (next_for (state_of old) k ≡ None) × (new ≡ old) × (memory' ≡ memory)
+
+-- a DM1 of the memory began; or a session of a DM1 is open
+abbrev pub Begins : GarageValue → ℕ → MemoryValue → Begin → GarageValue → Type 0
+Begins old k memory begin.Begun new = Adds old (event.Begin k memory) new
+Begins old k memory begin.Held new = (is_open (unit_at (state_of old) k).node.session Dm1 ≡ true) × (new ≡ old)
+
+-- the next reading was taken; or there is none
+abbrev pub Reads : GarageValue → Reading → GarageValue → Type 0
+Reads old reading.Empty new = (next_reading (state_of old).traffic ≡ reading.Empty) × (new ≡ old)
+Reads old r new = Adds old (event.Read r) new
+
+-- how many messages have begun, with this one
+abbrev pub with_begun : ℕ → Option Begun → ℕ
+with_begun n None = n
+with_begun n (Some b) = n + 1

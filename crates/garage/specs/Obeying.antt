@@ -1,0 +1,11 @@
+-- An order that the station obeys.
+use Rattle.std.specs.Prelude.{◌≡◌, ◌≤◌, length, Some}
+use Rattle.station_table.specs.StationValue.{StationValue}
+use Rattle.station_table.specs.declared.reaction.Reaction.{Reaction}
+use Rattle.journal.specs.Steps.{obeyed}
+use Rattle.journal.specs.declared.order.Order.{Order}
+
+-- this is what the order makes it queue, three frames at most
+pub record Obeys (s : StationValue) (o : Order) (r : Reaction) : Type 0 where
+  pub queues : obeyed s o ≡ Some r
+  pub few : length r.put ≤ 3

@@ -1,0 +1,141 @@
+ghost use Rattle.std.specs.Prelude.{◌≡◌};
+
+use crate::error::GarageError;
+use crate::room::make_room;
+use bus_ledger::{Bus, Carried, Counts};
+use can_frame::{Frame, Reading};
+use dm_messages::{Kind, Shown};
+use journal::{Event, Tally};
+use name_field::Name;
+use node_core::Node;
+use station_table::Station;
+use std::alloc::Global;
+use std::marker::Model;
+
+/// The most events that a journal may hold.
+pub(crate) const MOST_EVENTS: u32 = 1 << 24;
+
+/// A unit's place on the bus: what it keeps there, the number of the message of its last session, and its own events.
+#[derive(Drop)]
+pub(crate) struct Place {
+    pub(crate) node: Node,
+    pub(crate) session_message: u32,
+    pub(crate) tally: Tally,
+}
+
+/// The bus of one vehicle with its units and its station, and the journal of all that happened on it.
+///
+/// Contracts see its settings and its journal; all else follows from these (`journal`).
+#[derive(Drop)]
+pub struct Garage {
+    pub(crate) name: Name,
+    pub(crate) address: u8,
+    pub(crate) window: u32,
+    pub(crate) grant: u8,
+    pub(crate) limit: u32,
+    pub(crate) bus: Bus,
+    pub(crate) station: Station,
+    pub(crate) places: Vec<Place>,
+    pub(crate) begun: u32,
+    pub(crate) live: u32,
+    pub(crate) journal: Vec<Event>,
+}
+
+impl Model for Garage {
+    ghost use Rattle.journal.specs.Journal.{GarageValue};
+
+    ghost Value = { GarageValue };
+
+    ghost use Rattle.garage.specs.Inside.{view_of, Stands};
+
+    ghost view = { view_of };
+
+    ghost invariant = { Stands };
+}
+
+impl Garage {
+    ghost use Rattle.std.specs.Prelude.{◌≡◌, ℕ, ◌<◌, ◌≤◌, ◌⊎◌, ◌^◌, length, slice_get, IfOk, IfErr, OnErr, Some};
+    ghost use Rattle.std.specs.Option.{option_map};
+    ghost use Rattle.bus_ledger.specs.Ledger.{counts_of};
+    ghost use Rattle.bus_ledger.specs.Joining.{live_units};
+    ghost use Rattle.bus_ledger.specs.Reception.{next_reading};
+    ghost use Rattle.station_table.specs.KeptValue.{entries_under};
+    ghost use Rattle.journal.specs.Journal.{state_of, tally_of, Adds};
+    ghost use Rattle.journal.specs.declared.event.Event.TheVariants.{Carry, Read};
+    ghost use Rattle.garage.specs.Carrying.{Carries};
+
+    /// Carries one frame; nothing changes where the answer is `Idle` or `Waiting`.
+    ///
+    /// Refused, where a frame could be carried, where the journal has no room, then where there is no memory; then nothing changed.
+    pub fn carry(&mut self) -> Result<Carried, GarageError>
+        ensures ok { IfOk result (λ c. Carries self.old c self.new) }
+        ensures err { IfErr result (λ e. (self.new ≡ self.old) × ((e ≡ GarageError.BookFull) ⊎ (e ≡ GarageError.OutOfMemory))) }
+    {
+        let next = self.bus.carry_peek();
+        let Carried::Frame { seat: _, frame: _ } = next else {
+            return Ok(next);
+        };
+        make_room(&mut self.journal, self.live + 1, self.limit)?;
+        let carried = self.bus.carry()?;
+        if let Carried::Frame { seat, frame: _ } = carried {
+            self.journal.push_reserved(Event::Carry { seat });
+        }
+        Ok(carried)
+    }
+
+    /// The entries of a kind under a NAME, the oldest first; none where the NAME was never seen.
+    pub fn shown(&self, name: Name, kind: Kind) -> &[Shown]
+        ensures { result.now ≡ entries_under (state_of self.now).station.rows name kind }
+    {
+        self.station.shown(name, kind)
+    }
+
+    /// How many frames the station was told of as missed.
+    pub fn missed(&self) -> u64
+        ensures { result ≡ (state_of self.now).station.missed }
+    {
+        self.station.missed()
+    }
+
+    /// How many messages the station could not read.
+    pub fn unread(&self) -> u64
+        ensures { result ≡ (state_of self.now).station.unread }
+    {
+        self.station.unread()
+    }
+
+    /// What became of the frames that a seat queued; nothing where the seat was never given.
+    pub fn counts(&self, seat: u32) -> Option<Counts>
+        ensures { result ≡ option_map counts_of (slice_get (state_of self.now).traffic.seats seat) }
+    {
+        self.bus.counts(seat)
+    }
+
+    /// How many events the journal holds.
+    pub fn events(&self) -> u32
+        ensures { result ≡ length self.now.journal }
+    {
+        self.journal.len() as u32
+    }
+
+    /// How many units are live.
+    pub fn live(&self) -> u32
+        ensures { result ≡ live_units (state_of self.now).traffic }
+    {
+        self.live
+    }
+
+    /// How many frames were carried.
+    pub fn wire_len(&self) -> u32
+        ensures { result ≡ length (state_of self.now).traffic.wire }
+    {
+        self.bus.wire_len()
+    }
+
+    /// The i-th frame carried, counted from 0.
+    pub fn wire_frame(&self, i: u32) -> Option<Frame>
+        ensures { result ≡ option_map (λ c. c.frame) (slice_get (state_of self.now).traffic.wire i) }
+    {
+        self.bus.wire_frame(i)
+    }
+}

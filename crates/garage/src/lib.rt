@@ -1,0 +1,18 @@
+//! The bus of one vehicle with its units and its station, and the journal of all that happens on it.
+#![tactic(auto)]
+
+mod error;
+mod garage;
+mod opening;
+mod orders;
+mod plug;
+mod queries;
+mod queueing;
+mod room;
+mod steps;
+
+pub use bus_ledger::{Carried, Counts};
+pub use error::GarageError;
+pub use garage::Garage;
+pub use plug::{Parked, Plug};
+pub use steps::{Begin, HeardOne};

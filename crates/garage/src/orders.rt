@@ -1,0 +1,107 @@
+ghost use Rattle.std.specs.Prelude.{◌≡◌, ◌≢◌, ◌≤◌, ◌⊎◌, length, Result, Some, IfOk, OnOk, OnErr, IfErr};
+ghost use Rattle.station_table.specs.declared.error.StationError.{StationError as AnyRefusal};
+ghost use Rattle.station_table.specs.Orders.{ask_answer, ask_all_answer, command_answer};
+ghost use Rattle.journal.specs.declared.order.Order.TheVariants as order;
+ghost use Rattle.garage.specs.Refusals.{of_station};
+
+use crate::error::GarageError;
+use crate::garage::Garage;
+use crate::queueing::react;
+use crate::room::make_room;
+use journal::{Event, Order};
+use name_field::Name;
+use station_table::{Ask, Reaction, StationError};
+use std::alloc::Global;
+
+/// The most frames that the station puts at an order: a command is an announcement and two packets.
+const MOST_ORDERED: usize = 3;
+
+impl Garage {
+    ghost use Rattle.journal.specs.Journal.{state_of, Adds};
+    ghost use Rattle.journal.specs.Steps.{obeyed};
+    ghost use Rattle.journal.specs.declared.event.Event.TheVariants.{Ordered};
+    ghost use Rattle.garage.specs.Obeying.{Obeys};
+
+    /// Has the station ask the unit of a NAME.
+    ///
+    /// Refused, in this order: `NotHeld` where the station holds no address, `NoAddress` where it knows none of that NAME,
+    /// `BookFull`, `OutOfMemory`; then nothing changed.
+    #[tactic(auto, using(crate::proofs::OrderLemmas::obeys_ask))]
+    pub fn ask(&mut self, alloc: Global, name: Name, ask: Ask) -> Result<(), GarageError>
+        ensures ok { OnOk result (Adds self.old (Ordered (order.Ask name ask)) self.new) }
+        ensures refused { (e : AnyRefusal) → ask_answer (state_of self.old).station name ask ≡ Err e → result ≡ Err (of_station e) }
+        ensures err { OnErr result (self.new ≡ self.old) }
+    {
+        let order = to_ask(name, &ask);
+        let answer = self.station.ask(alloc, name, ask);
+        self.obey(order, answer)
+    }
+
+    /// Has the station ask all.
+    ///
+    /// Refused, in this order: `NotHeld` where the station holds no address, `BookFull`, `OutOfMemory`; then nothing changed.
+    #[tactic(auto, using(crate::proofs::OrderLemmas::obeys_ask_all))]
+    pub fn ask_all(&mut self, alloc: Global, ask: Ask) -> Result<(), GarageError>
+        ensures ok { OnOk result (Adds self.old (Ordered (order.AskAll ask)) self.new) }
+        ensures refused { (e : AnyRefusal) → ask_all_answer (state_of self.old).station ask ≡ Err e → result ≡ Err (of_station e) }
+        ensures err { OnErr result (self.new ≡ self.old) }
+    {
+        let order = to_ask_all(&ask);
+        let answer = self.station.ask_all(alloc, ask);
+        self.obey(order, answer)
+    }
+
+    /// Has the station command the unit of a NAME to hold an address.
+    ///
+    /// Refused, in this order: `NotAnAddress` for 254 and 255, `NotHeld` where the station holds no address, `BookFull`,
+    /// `OutOfMemory`; then nothing changed.
+    #[tactic(auto, using(crate::proofs::OrderLemmas::obeys_command))]
+    pub fn command(&mut self, alloc: Global, name: Name, address: u8) -> Result<(), GarageError>
+        ensures ok { OnOk result (Adds self.old (Ordered (order.Command name address)) self.new) }
+        ensures refused { (e : AnyRefusal) → command_answer (state_of self.old).station name address ≡ Err e → result ≡ Err (of_station e) }
+        ensures err { OnErr result (self.new ≡ self.old) }
+    {
+        let order = Order::Command { name, address };
+        let answer = self.station.command(alloc, name, address);
+        self.obey(order, answer)
+    }
+
+    /// Queues what the station sends, or refuses as the station does.
+    fn obey(
+        &mut self,
+        order: Order,
+        answer: Result<Reaction, StationError>,
+    ) -> Result<(), GarageError>
+        requires { IfOk answer (Obeys (state_of self.old).station order) }
+        ensures ok { OnOk result (Adds self.old (Ordered order) self.new) }
+        ensures refused { (e : AnyRefusal) → answer ≡ Err e → e ≢ StationError.OutOfMemory → result ≡ Err (of_station e) }
+        ensures err { OnErr result (self.new ≡ self.old) }
+    {
+        let reaction = match answer {
+            Ok(reaction) => reaction,
+            Err(StationError::OutOfMemory) => {
+                make_room(&mut self.journal, self.live + 1, self.limit)?;
+                return Err(GarageError::OutOfMemory);
+            }
+            Err(refusal) => return Err(GarageError::from(refusal)),
+        };
+        make_room(&mut self.journal, self.live + 1, self.limit)?;
+        let _sound = self.bus.wire_len();
+        self.bus.reserve(0, MOST_ORDERED)?;
+        react(&mut self.bus, &reaction);
+        self.journal.push_reserved(Event::Ordered { order });
+        Ok(())
+    }
+}
+
+fn to_ask(name: Name, ask: &Ask) -> Order
+    ensures { result ≡ order.Ask name ask.now }
+{
+    Order::Ask { name, ask: *ask }
+}
+
+fn to_ask_all(ask: &Ask) -> Order
+    ensures { result ≡ order.AskAll ask.now }
+{
+    Order::AskAll { ask: *ask }
+}

@@ -1,0 +1,259 @@
+ghost use Rattle.std.specs.Prelude.{◌≡◌, ◌≤◌, ◌+◌, ◌↔◌, ◌⊎◌, IfOk, IfErr, IsErr, IsTrue, OnErr, OnOk, length};
+ghost use Rattle.std.specs.Borrow.{sem, RestsIfErr};
+ghost use Rattle.bus_ledger.specs.BusValue.{IsUnit};
+ghost use Rattle.fault_memory.specs.Changes.{changed};
+ghost use Rattle.journal.specs.Journal.{state_of, tally_of, Adds, IsSeated};
+ghost use Rattle.journal.specs.declared.event.Event.TheVariants.{Join, Turned, Leave};
+ghost use Rattle.garage.specs.Answers.{Hears, Begins};
+ghost use Rattle.garage.specs.contracts.garage.Garage.{the_row};
+
+use crate::error::GarageError;
+use crate::garage::Garage;
+use crate::steps::{Begin, HeardOne};
+use fault_memory::{FaultChange, FaultError, FaultMemory};
+use name_field::Name;
+use std::alloc::Global;
+use unit_trait::Unit;
+
+/// A boxed unit with its seat, between steps.
+///
+/// It must be spent: by `Garage::attach`, or where that is refused by `Garage::disown`.
+pub struct Parked {
+    unit: Box<dyn Unit>,
+    seat: u32,
+    events: u32,
+}
+
+/// A boxed unit in its seat. It borrows the garage.
+///
+/// Where it is dropped the box is dropped too, and the unit leaves the bus: its queued frames are withdrawn and counted, and
+/// the seat is gone.
+pub struct Plug<'a, B = Box<dyn Unit>> {
+    garage: &'a mut Garage,
+    unit: B,
+    seat: u32,
+    name: Name,
+    events: u32,
+    ghost seated: { IsSeated garage.now seat name events },
+}
+
+impl Parked {
+    /// The number of its seat.
+    pub fn seat(&self) -> u32
+        ensures { result ≡ self.now.seat }
+    {
+        self.seat
+    }
+
+    /// How many events of its own it has in the journal of its garage.
+    pub fn events(&self) -> u32
+        ensures { result ≡ self.now.events }
+    {
+        self.events
+    }
+
+    /// The unit's NAME.
+    pub fn name(&self) -> Name
+        ensures { result ≡ name_of self.now.unit }
+    {
+        self.unit.name()
+    }
+
+    /// The unit's fault memory.
+    pub fn memory(&self) -> &FaultMemory
+        ensures { result.now ≡ memory_of self.now.unit }
+    {
+        self.unit.memory()
+    }
+
+    /// Lets the unit do its own work. It keeps its NAME.
+    pub fn think(&mut self)
+        requires { Unit {0} }
+        ensures name { name_of self.new.unit ≡ name_of self.old.unit }
+        ensures seat { self.new.seat ≡ self.old.seat }
+        ensures events { self.new.events ≡ self.old.events }
+    {
+        self.unit.think();
+    }
+
+    /// Changes the unit's fault memory, or refuses as the memory does; then it is as it was.
+    pub fn apply(&mut self, change: FaultChange) -> Result<(), FaultError>
+        requires { Unit {0} }
+        ensures name { name_of self.new.unit ≡ name_of self.old.unit }
+        ensures seat { self.new.seat ≡ self.old.seat }
+        ensures events { self.new.events ≡ self.old.events }
+        ensures ok { OnOk result (changed (memory_of self.old.unit) change ≡ Ok (memory_of self.new.unit)) }
+        ensures refused { IfErr result (λ e. (e ≡ FaultError.OutOfMemory) ⊎ (changed (memory_of self.old.unit) change ≡ Err e)) }
+        ensures err { OnErr result (memory_of self.new.unit ≡ memory_of self.old.unit) }
+    {
+        self.unit.apply(change)
+    }
+}
+
+impl Garage {
+    /// Gives a boxed unit a seat, and queues its claim of the address that it wants.
+    ///
+    /// Refused, in this order: `NotAnAddress` above 253, `NameInUse` where a live seat has the NAME, the station's included,
+    /// `TooManySeats` where 64 units are live, `BookFull`, `OutOfMemory`. Then nothing changed, and the box comes back.
+    pub fn mount(
+        &mut self,
+        alloc: Global,
+        unit: Box<dyn Unit>,
+        want: u8,
+    ) -> Result<Parked, (Box<dyn Unit>, GarageError)>
+        requires { Unit {0} }
+        ensures ok { IfOk result (λ p. Adds self.old (Join (name_of unit) want) self.new × (p.unit ≡ unit) × (p.seat ≡ length (state_of self.old).traffic.seats) × IsSeated self.new p.seat (name_of unit) p.events) }
+        ensures err { IfErr result (λ e. (e.0 ≡ unit) × (self.new ≡ self.old)) }
+    {
+        if want > 253 {
+            return Err((unit, GarageError::NotAnAddress));
+        }
+        let name = unit.name();
+        match self.join(alloc, name, want) {
+            Ok(seat) => Ok(Parked {
+                unit,
+                seat,
+                events: 1,
+            }),
+            Err(error) => Err((unit, error)),
+        }
+    }
+
+    /// Whether this garage has a live seat with this number, NAME and count of events.
+    fn is_seated(&self, seat: u32, name: Name, events: u32) -> bool
+        ensures { IsTrue result ↔ IsSeated self.now seat name events }
+    {
+        match self.bus.unit_name(seat) {
+            Some(owner) => owner == name && self.events_of(seat) == events,
+            None => false,
+        }
+    }
+
+    /// How many events of its own a live unit has.
+    fn events_of(&self, seat: u32) -> u32
+        requires { IsUnit (state_of self.now).traffic seat }
+        ensures { result ≡ (tally_of seat self.now.journal).events }
+    {
+        self.places[seat as usize - 1].tally.events
+    }
+
+    /// Puts a unit into its seat.
+    ///
+    /// Refused with `Stranger` exactly where this garage has no live seat with its seat number, NAME and count of events; the
+    /// unit comes back. Takes no memory.
+    pub fn attach(&mut self, parked: Parked) -> Result<Plug<'_>, (Parked, GarageError)>
+        requires { Unit {0} }
+        ensures stranger { IsErr result ↔ (¬ IsSeated self.entry.now parked.seat (name_of parked.unit) parked.events) }
+        ensures ok { IfOk result (λ p. (p.garage.ghost_name ≡ self.entry.ghost_name) × (p.garage.now ≡ self.entry.now) × (p.unit ≡ parked.unit) × (p.name ≡ name_of parked.unit) × (p.seat ≡ parked.seat) × (p.events ≡ parked.events)) }
+        ensures err { IfErr result (λ e. (e.0 ≡ parked) × (e.1 ≡ GarageError.Stranger)) }
+        ensures* rests { sem 𝓛 (RestsIfErr the_row self.entry (λ p. p.garage.ghost_name) result (λ g. g ≡ self.old)) }
+    {
+        let name = parked.unit.name();
+        if !self.is_seated(parked.seat, name, parked.events) {
+            return Err((parked, GarageError::Stranger));
+        }
+        let Parked { unit, seat, events } = parked;
+        Ok(Plug {
+            garage: self,
+            unit,
+            seat,
+            name,
+            events,
+        })
+    }
+
+    /// Gives back the box of a unit that has no seat here, as a refused `attach` tells. Takes no memory.
+    pub fn disown(&self, parked: Parked) -> Box<dyn Unit>
+        requires { ¬ IsSeated self.now parked.seat (name_of parked.unit) parked.events }
+        ensures { result ≡ parked.unit }
+    {
+        let Parked {
+            unit,
+            seat: _,
+            events: _,
+        } = parked;
+        unit
+    }
+}
+
+impl<'a> Plug<'a> {
+    /// Lets the unit hear its next frame, if there is one that it has not heard.
+    ///
+    /// Refused where there is one: `BookFull`, then `OutOfMemory`; then nothing changed.
+    pub fn hear(&mut self, alloc: Global) -> Result<HeardOne, GarageError>
+        requires { Unit {0} }
+        ensures same { self.new.garage.ghost_name ≡ self.old.garage.ghost_name }
+        ensures kept { (self.new.seat ≡ self.old.seat) × (self.new.name ≡ self.old.name) × (name_of self.new.unit ≡ name_of self.old.unit) }
+        ensures ok { IfOk result (λ h. Hears self.old.garage.now self.old.seat (memory_of self.old.unit) h self.new.garage.now (memory_of self.new.unit)) }
+        ensures err { OnErr result ((self.new.garage.now ≡ self.old.garage.now) × (self.new.events ≡ self.old.events) × (memory_of self.new.unit ≡ memory_of self.old.unit)) }
+    {
+        let heard = self.garage.hear(alloc, self.seat, &mut *self.unit)?;
+        self.events = self.garage.events_of(self.seat);
+        Ok(heard)
+    }
+
+    /// Begins a DM1 of the unit's memory, to all.
+    ///
+    /// Refused: `Unclaimed` where the unit holds no address; then, where no DM1 session is open, `BookFull` and `OutOfMemory`.
+    /// Then nothing changed.
+    pub fn begin_dm1(&mut self, alloc: Global) -> Result<Begin, GarageError>
+        requires { Unit {0} }
+        ensures same { self.new.garage.ghost_name ≡ self.old.garage.ghost_name }
+        ensures kept { (self.new.seat ≡ self.old.seat) × (self.new.name ≡ self.old.name) × (self.new.unit ≡ self.old.unit) }
+        ensures ok { IfOk result (λ b. Begins self.old.garage.now self.old.seat (memory_of self.old.unit) b self.new.garage.now) }
+        ensures err { OnErr result ((self.new.garage.now ≡ self.old.garage.now) × (self.new.events ≡ self.old.events)) }
+    {
+        let begin = self.garage.begin(alloc, self.seat, &*self.unit)?;
+        self.events = self.garage.events_of(self.seat);
+        Ok(begin)
+    }
+
+    /// Tells the journal that a turn of the unit is over.
+    ///
+    /// Refused: `BookFull`, then `OutOfMemory`; then nothing changed.
+    pub fn turn(&mut self) -> Result<(), GarageError>
+        requires { Unit {0} }
+        ensures same { self.new.garage.ghost_name ≡ self.old.garage.ghost_name }
+        ensures kept { (self.new.seat ≡ self.old.seat) × (self.new.name ≡ self.old.name) × (self.new.unit ≡ self.old.unit) }
+        ensures ok { OnOk result (Adds self.old.garage.now (Turned self.old.seat) self.new.garage.now) }
+        ensures err { OnErr result ((self.new.garage.now ≡ self.old.garage.now) × (self.new.events ≡ self.old.events)) }
+    {
+        self.garage.turned(self.seat)?;
+        self.events = self.garage.events_of(self.seat);
+        Ok(())
+    }
+
+    /// Takes the unit out of its seat, which stays. Takes no memory.
+    pub fn detach(self) -> Parked
+        requires { Unit {0} }
+        ensures parked { (result.unit ≡ self.entry.unit) × (result.seat ≡ self.entry.seat) × (result.events ≡ self.entry.events) }
+        ensures garage { self.exit.0.now ≡ self.entry.garage.now }
+    {
+        let Plug {
+            garage: _,
+            unit,
+            seat,
+            name: _,
+            events,
+        } = self;
+        Parked { unit, seat, events }
+    }
+}
+
+impl<B: Drop> Drop for Plug<'_, B> {
+    /// The unit leaves. Takes no memory and no lock.
+    fn drop(self)
+        ensures { Adds self.entry.garage.now (Leave self.entry.seat) self.exit.0.now }
+    {
+        let seat = self.seat;
+        self.garage.leave(seat);
+        let Plug {
+            garage: _,
+            unit,
+            seat: _,
+            name: _,
+            events: _,
+        } = self;
+        drop(unit);
+    }
+}

@@ -1,0 +1,42 @@
+ghost use Rattle.std.specs.Prelude.{◌≡◌, ◌<◌, ◌≤◌, ◌⊎◌};
+ghost use Rattle.station_table.specs.KeptValue.{kept_under};
+ghost use Rattle.station_table.specs.StandsFor.{row_of};
+ghost use Rattle.journal.specs.Journal.{joins, state_of, tally_of};
+ghost use Rattle.garage.specs.Opening.{no_events};
+
+use crate::garage::Garage;
+use journal::Tally;
+use name_field::Name;
+use station_table::Row;
+
+/// What the journal tells of a seat that no unit was given.
+const NO_EVENTS: Tally = Tally {
+    joined: 0,
+    turned: 0,
+    left: 0,
+    events: 0,
+};
+
+impl Garage {
+    /// What the station knows of a NAME; nothing before its first claim was read.
+    pub fn row(&self, name: Name) -> Option<Row>
+        ensures { result ≡ row_of (state_of self.now).station.owners name (kept_under (state_of self.now).station.rows name) }
+    {
+        self.station.row(name)
+    }
+
+    /// What the journal tells of a seat: its join, its turns, its leave, and all its own events. Of the station's seat, and
+    /// of one that no unit was given, it tells nothing.
+    pub fn tally(&self, seat: u32) -> Tally
+        ensures given { 0 < seat → seat ≤ joins self.now.journal → result ≡ tally_of seat self.now.journal }
+        ensures never { ((seat ≡ 0) ⊎ (joins self.now.journal < seat)) → result ≡ no_events }
+    {
+        if seat == 0 {
+            return NO_EVENTS;
+        }
+        match self.places.get(seat as usize - 1) {
+            Some(place) => place.tally,
+            None => NO_EVENTS,
+        }
+    }
+}

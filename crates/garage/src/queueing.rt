@@ -1,0 +1,132 @@
+ghost use Rattle.std.specs.Prelude.{◌≡◌, ℕ, ◌+◌, ◌<◌, ◌≤◌, ◌^◌, Bool, map, length, if◌then◌else◌};
+ghost use Rattle.bus_ledger.specs.BusValue.{IsLive, IsUnit, seat_at, spare_at};
+ghost use Rattle.bus_ledger.specs.Changes.{heard_more, withdrawn};
+ghost use Rattle.bus_ledger.specs.declared.traffic.Which.TheVariants.{All};
+ghost use Rattle.journal.specs.Steps as steps;
+ghost use Rattle.journal.specs.Steps.{put_all, tagged, untagged, withdrawn_by, reacted};
+
+use bus_ledger::{Bus, Tag, Which};
+use can_frame::Frame;
+use node_core::{Heard, Out, Part, Withdraw};
+use station_table::Reaction;
+
+/// Queues what a unit puts, in order. The room is there.
+pub(crate) fn queue_outs(
+    bus: &mut Bus,
+    seat: u32,
+    outs: &[Out],
+    number: u32,
+    session: bool,
+    session_number: u32,
+)
+    requires live { IsLive bus.old.traffic seat }
+    requires spare { length outs.now ≤ spare_at bus.old seat }
+    requires few { (seat_at bus.old.traffic seat).queued + length outs.now < 2 ^ 32 }
+    ensures { bus.new.traffic ≡ put_all seat (map (tagged number session session_number) outs.now) bus.old.traffic }
+{
+    for out in outs {
+        let tag = tag_of(number, session, session_number, out.part);
+        if bus.queue(seat, out.frame, tag).is_err() {
+            unreachable!();
+        }
+    }
+}
+
+/// Queues frames that are no parts of a message, in order. The room is there.
+pub(crate) fn queue_frames(bus: &mut Bus, seat: u32, frames: &[Frame])
+    requires live { IsLive bus.old.traffic seat }
+    requires spare { length frames.now ≤ spare_at bus.old seat }
+    requires few { (seat_at bus.old.traffic seat).queued + length frames.now < 2 ^ 32 }
+    ensures { bus.new.traffic ≡ put_all seat (map untagged frames.now) bus.old.traffic }
+{
+    for frame in frames {
+        if bus.queue(seat, *frame, None).is_err() {
+            unreachable!();
+        }
+    }
+}
+
+/// Which message and part a frame is.
+fn tag_of(number: u32, session: bool, session_number: u32, part: Option<Part>) -> Option<Tag>
+    ensures { result ≡ steps.tag_of number session session_number part }
+{
+    match part {
+        None => None,
+        Some(Part::Begun(part)) => Some(Tag {
+            message: number,
+            part,
+            session,
+        }),
+        Some(Part::Session(part)) => Some(Tag {
+            message: session_number,
+            part,
+            session: true,
+        }),
+    }
+}
+
+/// Withdraws what a unit withdraws.
+pub(crate) fn withdraw_by(bus: &mut Bus, seat: u32, withdraw: Withdraw)
+    requires { IsLive bus.old.traffic seat }
+    ensures traffic { bus.new.traffic ≡ withdrawn_by seat withdraw bus.old.traffic }
+    ensures spare { spare_at bus.old seat ≤ spare_at bus.new seat }
+{
+    match withdraw {
+        Withdraw::Keep => {}
+        Withdraw::Session => {
+            let _ = bus.withdraw(seat, Which::Session);
+        }
+        Withdraw::All => {
+            let _ = bus.withdraw(seat, Which::All);
+        }
+    }
+}
+
+/// Withdraws and queues what the station withdraws and queues. The room is there.
+pub(crate) fn react(bus: &mut Bus, reaction: &Reaction)
+    requires live { IsLive bus.old.traffic 0 }
+    requires spare { length reaction.now.put ≤ spare_at bus.old 0 }
+    requires few { (seat_at bus.old.traffic 0).queued + length reaction.now.put < 2 ^ 32 }
+    ensures { bus.new.traffic ≡ reacted reaction.now bus.old.traffic }
+{
+    withdraw_if(bus, reaction.withdraw);
+    queue_frames(bus, 0, reaction.put.as_slice());
+}
+
+/// Withdraws the station's queue, or not.
+fn withdraw_if(bus: &mut Bus, withdraw: bool)
+    requires { IsLive bus.old.traffic 0 }
+    ensures traffic { bus.new.traffic ≡ (if withdraw then withdrawn 0 All bus.old.traffic else bus.old.traffic) }
+    ensures spare { spare_at bus.old 0 ≤ spare_at bus.new 0 }
+{
+    if withdraw {
+        let _ = bus.withdraw(0, Which::All);
+    }
+}
+
+/// Marks a unit's next frame as heard, and withdraws and queues what the unit withdraws and queues. The room is there.
+pub(crate) fn do_heard(
+    bus: &mut Bus,
+    seat: u32,
+    heard: &Heard,
+    number: u32,
+    session: bool,
+    session_number: u32,
+)
+    requires unit { IsUnit bus.old.traffic seat }
+    requires next { (seat_at bus.old.traffic seat).heard < length bus.old.traffic.wire }
+    requires spare { length heard.now.put ≤ spare_at bus.old seat }
+    requires few { (seat_at bus.old.traffic seat).queued + length heard.now.put < 2 ^ 32 }
+    ensures { bus.new.traffic ≡ put_all seat (map (tagged number session session_number) heard.now.put) (withdrawn_by seat heard.now.withdraw (heard_more seat 1 bus.old.traffic)) }
+{
+    bus.mark_heard(seat);
+    withdraw_by(bus, seat, heard.withdraw);
+    queue_outs(
+        bus,
+        seat,
+        heard.put.as_slice(),
+        number,
+        session,
+        session_number,
+    );
+}

@@ -1,0 +1,273 @@
+ghost use Rattle.std.specs.Prelude.{◌≡◌, ◌≢◌, ◌+◌, ◌<◌, ◌^◌};
+ghost use Rattle.std.specs.Bool.{MatchBool};
+ghost use Rattle.can_frame.specs.declared.reading.Reading.TheVariants.{Empty};
+ghost use Rattle.journal.specs.Steps.{is_session, session_message_after};
+ghost use Rattle.garage.specs.Answers.{with_begun};
+
+use crate::error::GarageError;
+use crate::garage::{Garage, Place};
+use crate::queueing::{do_heard, queue_frames, queue_outs, react};
+use crate::room::make_room;
+use can_frame::{Frame, Reading};
+use dm_messages::Kind;
+use journal::{Event, Tally};
+use name_field::Name;
+use node_core::{Begun, Node, NodeError, Started};
+use std::alloc::Global;
+use unit_trait::Unit;
+
+/// The most frames that a unit puts at once: the announcement and 255 packets.
+const MOST_OUTS: usize = 256;
+
+/// The most frames that the station puts at a reading: its claim and a request.
+const MOST_ANSWERS: usize = 2;
+
+/// What a unit heard.
+#[derive(Clone, Copy, Debug, PartialEq, Eq)]
+pub enum HeardOne {
+    /// It has heard the whole wire.
+    Nothing,
+    /// This frame.
+    Frame(Frame),
+}
+
+/// What came of beginning a DM1.
+#[derive(Clone, Copy, Debug, PartialEq, Eq)]
+pub enum Begin {
+    /// It has begun.
+    Begun,
+    /// A session of a DM1 is open, so none has begun.
+    Held,
+}
+
+impl Garage {
+    ghost use Rattle.std.specs.Prelude.{◌≡◌, ℕ, Bool, ◌<◌, ◌≤◌, ◌⊎◌, ◌^◌, length, IfOk, IfErr, OnOk, OnErr, Some, None, option_map, ◌↔◌, IsTrue};
+    ghost use Rattle.bus_ledger.specs.BusValue.{IsUnit};
+    ghost use Rattle.bus_ledger.specs.Reception.{next_reading};
+    ghost use Rattle.journal.specs.Journal.{state_of, Adds, IsSeated};
+    ghost use Rattle.journal.specs.Steps.{next_for};
+    ghost use Rattle.journal.specs.declared.event.Event.TheVariants.{Join, Hear, Begin, Turned, Read, Leave};
+    ghost use Rattle.garage.specs.Answers.{Hears, Begins, Reads};
+
+    /// Gives the next seat to a unit of this NAME, and queues its claim of the address.
+    ///
+    /// Refused, in this order, where a live seat has the NAME, where 64 units are live, where the journal has no room, and
+    /// where there is no memory; then nothing changed.
+    pub(crate) fn join(&mut self, alloc: Global, name: Name, want: u8) -> Result<u32, GarageError>
+        requires { want ≤ 253 }
+        ensures ok { IfOk result (λ k. (k ≡ length (state_of self.old).traffic.seats) × Adds self.old (Join name want) self.new × IsSeated self.new k name 1) }
+        ensures err { OnErr result (self.new ≡ self.old) }
+    {
+        let _number = name.number();
+        let _sound = self.bus.wire_len();
+        self.bus.may_join(name)?;
+        make_room(&mut self.journal, self.live + 2, self.limit)?;
+        self.places.reserve(1)?;
+        let node = Node::new(name, want);
+        let claim = node.start();
+        let seat = self.bus.join(name)?;
+        queue_frames(&mut self.bus, seat, &[claim]);
+        self.places.push_reserved(Place {
+            node,
+            session_message: 0,
+            tally: Tally {
+                joined: 1,
+                turned: 0,
+                left: 0,
+                events: 1,
+            },
+        });
+        self.live += 1;
+        self.journal.push_reserved(Event::Join {
+            name,
+            address: want,
+        });
+        Ok(seat)
+    }
+
+    /// The unit on the seat hears its next frame.
+    ///
+    /// Refused where there is a frame and the journal has no room, then where there is no memory; then nothing changed.
+    pub(crate) fn hear(
+        &mut self,
+        alloc: Global,
+        seat: u32,
+        unit: &mut dyn Unit,
+    ) -> Result<HeardOne, GarageError>
+        requires { IsUnit (state_of self.old).traffic seat }
+        ensures name { name_of unit.new ≡ name_of unit.old }
+        ensures ok { IfOk result (λ h. Hears self.old seat (memory_of unit.old) h self.new (memory_of unit.new)) }
+        ensures err { OnErr result ((self.new ≡ self.old) × (memory_of unit.new ≡ memory_of unit.old)) }
+    {
+        let _sound = self.bus.wire_len();
+        let Some(frame) = self.bus.next_for(seat) else {
+            return Ok(HeardOne::Nothing);
+        };
+        make_room(&mut self.journal, self.live + 1, self.limit)?;
+        let _lamps = unit.memory().lamps();
+        let memory = unit.memory().copy()?;
+        self.bus.reserve(seat, MOST_OUTS)?;
+        let place = &mut self.places[seat as usize - 1];
+        let heard = place.node.hear(alloc, &frame, &mut *unit)?;
+        let session = begins_session(heard.begun);
+        place.session_message = last_session(place.session_message, self.begun, heard.begun);
+        place.tally.events += 1;
+        let session_number = place.session_message;
+        do_heard(
+            &mut self.bus,
+            seat,
+            &heard,
+            self.begun,
+            session,
+            session_number,
+        );
+        let begun = begun_count(self.begun, heard.begun);
+        self.begun = begun;
+        self.journal.push_reserved(Event::Hear {
+            seat,
+            memory,
+            agreed: heard.agreed,
+        });
+        Ok(HeardOne::Frame(frame))
+    }
+
+    /// The unit on the seat begins a DM1 of its memory.
+    ///
+    /// Refused where the unit holds no address, then, where a DM1 can begin, where the journal has no room, then where there
+    /// is no memory; then nothing changed.
+    pub(crate) fn begin(
+        &mut self,
+        alloc: Global,
+        seat: u32,
+        unit: &dyn Unit,
+    ) -> Result<Begin, GarageError>
+        requires { IsUnit (state_of self.old).traffic seat }
+        ensures ok { IfOk result (λ b. Begins self.old seat (memory_of unit.now) b self.new) }
+        ensures err { OnErr result (self.new ≡ self.old) }
+    {
+        let _sound = self.bus.wire_len();
+        let place = &self.places[seat as usize - 1];
+        if place.node.held().is_none() {
+            return Err(GarageError::Unclaimed);
+        }
+        if place.node.session() == Some(Kind::Dm1) {
+            return Ok(Begin::Held);
+        }
+        make_room(&mut self.journal, self.live + 1, self.limit)?;
+        let _lamps = unit.memory().lamps();
+        let memory = unit.memory().copy()?;
+        self.bus.reserve(seat, MOST_OUTS)?;
+        let place = &self.places[seat as usize - 1];
+        let started = place.node.begin(alloc, Kind::Dm1, unit)?;
+        let Started::Begun { begun: _, put } = started else {
+            return Ok(Begin::Held);
+        };
+        let place = &mut self.places[seat as usize - 1];
+        place.tally.events += 1;
+        let session_number = place.session_message;
+        queue_outs(
+            &mut self.bus,
+            seat,
+            put.as_slice(),
+            self.begun,
+            false,
+            session_number,
+        );
+        self.begun += 1;
+        self.journal.push_reserved(Event::Begin { seat, memory });
+        Ok(Begin::Begun)
+    }
+
+    /// A turn of the unit on the seat is over.
+    ///
+    /// Refused where the journal has no room, then where there is no memory; then nothing changed.
+    pub(crate) fn turned(&mut self, seat: u32) -> Result<(), GarageError>
+        requires { IsUnit (state_of self.old).traffic seat }
+        ensures ok { OnOk result (Adds self.old (Turned seat) self.new) }
+        ensures err { OnErr result (self.new ≡ self.old) }
+    {
+        make_room(&mut self.journal, self.live + 1, self.limit)?;
+        let place = &mut self.places[seat as usize - 1];
+        place.tally.turned += 1;
+        place.tally.events += 1;
+        self.journal.push_reserved(Event::Turned { seat });
+        Ok(())
+    }
+
+    /// The unit on the seat goes: its queued frames are withdrawn. Takes no memory.
+    pub(crate) fn leave(&mut self, seat: u32)
+        requires { IsUnit (state_of self.old).traffic seat }
+        ensures { Adds self.old (Leave seat) self.new }
+    {
+        let _sound = self.bus.wire_len();
+        let _ = self.bus.leave(seat);
+        let place = &mut self.places[seat as usize - 1];
+        place.tally.left += 1;
+        place.tally.events += 1;
+        self.live -= 1;
+        self.journal.push_reserved(Event::Leave { seat });
+    }
+
+    /// The station takes its next reading; there is no event where it is empty.
+    ///
+    /// Refused, where there is a reading, where the journal has no room, then where there is no memory; then nothing changed.
+    pub fn read(&mut self, alloc: Global) -> Result<Reading, GarageError>
+        ensures ok { IfOk result (λ r. Reads self.old r self.new) }
+        ensures err { OnErr result (self.new ≡ self.old) }
+    {
+        let _sound = self.bus.wire_len();
+        let reading = self.bus.tap_peek();
+        if is_empty(&reading) {
+            return Ok(Reading::Empty);
+        }
+        make_room(&mut self.journal, self.live + 1, self.limit)?;
+        self.bus.reserve(0, MOST_ANSWERS)?;
+        let reaction = self.station.take(alloc, reading)?;
+        let _ = self.bus.tap_next();
+        react(&mut self.bus, &reaction);
+        self.journal.push_reserved(Event::Read { reading });
+        Ok(reading)
+    }
+}
+
+/// Whether a message begins that goes to one address.
+fn begins_session(begun: Option<Begun>) -> bool
+    ensures { result ≡ is_session begun }
+{
+    match begun {
+        Some(begun) => begun.dest != 255,
+        None => false,
+    }
+}
+
+/// The number of the message of the last session, once this one has begun.
+fn last_session(before: u32, number: u32, begun: Option<Begun>) -> u32
+    ensures { result ≡ session_message_after before number begun }
+{
+    if begins_session(begun) {
+        number
+    } else {
+        before
+    }
+}
+
+/// How many messages have begun, with this one.
+fn begun_count(before: u32, begun: Option<Begun>) -> u32
+    requires { before + 1 < 2 ^ 32 }
+    ensures { result ≡ with_begun before begun }
+{
+    match begun {
+        Some(_) => before + 1,
+        None => before,
+    }
+}
+
+/// Whether there is no reading.
+fn is_empty(reading: &Reading) -> bool
+    ensures { MatchBool result (reading.now ≡ Empty) (reading.now ≢ Empty) }
+{
+    match reading {
+        Reading::Empty => true,
+        _ => false,
+    }
+}

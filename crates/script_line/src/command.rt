@@ -1,4 +1,5 @@
 use can_frame::{Pgn, PgnTooLarge};
+use dm_messages::Kind;
 use name_field::{Name, NameError};
 use trouble_code::Lamps;
 
@@ -14,15 +15,6 @@ pub enum UnitKind {
     Guarded,
     /// `flicker SPN FMI`: a plain unit whose code comes and goes as it thinks.
     Flicker { spn: u32, fmi: u8 },
-}
-
-/// Which messages of a unit are shown.
-#[derive(Clone, Copy, Debug, PartialEq, Eq)]
-pub enum Kind {
-    /// `dm1`: active codes.
-    Dm1,
-    /// `dm2`: previously active codes.
-    Dm2,
 }
 
 /// Who is asked.

@@ -10,7 +10,7 @@ mod numbers;
 mod read;
 mod words;
 
-pub use command::{Asked, Command, Kind, NameWord, Receiver, UnitKind};
+pub use command::{Asked, Command, NameWord, Receiver, UnitKind};
 pub use numbers::{read_lamps, read_number, read_small_number};
 pub use read::{is_silent, read_command};
 pub use words::Words;

@@ -1,10 +1,11 @@
 ghost use Rattle.std.specs.Prelude.{◌↔◌, IsTrue};
 ghost use Rattle.script_line.specs.Line.{IsSilent};
 
-use crate::command::{Asked, Command, Kind, NameWord, Receiver, UnitKind};
+use crate::command::{Asked, Command, NameWord, Receiver, UnitKind};
 use crate::numbers::{read_lamps, read_number, read_small_number};
 use crate::words::Words;
 use can_frame::Pgn;
+use dm_messages::Kind;
 use name_field::Name;
 
 /// Whether a line has no answer: it is empty, or begins with `#`.

@@ -1,5 +1,6 @@
-use crate::{Asked, Command, Kind, NameWord, Receiver, UnitKind, is_silent, read_command};
+use crate::{Asked, Command, NameWord, Receiver, UnitKind, is_silent, read_command};
 use can_frame::{Pgn, PgnTooLarge};
+use dm_messages::Kind;
 use name_field::{Name, NameError};
 use std::process::Abort;
 use trouble_code::Lamps;

@@ -1,0 +1,51 @@
+ghost use Rattle.std.specs.Prelude.{◌≡◌};
+
+use std::alloc::AllocError;
+use thiserror::Error;
+
+/// Why a run ends early. `Display` writes the line that goes to standard error.
+#[derive(Clone, Copy, Debug, PartialEq, Eq, Error)]
+pub enum Fault {
+    /// Standard input could not be read.
+    #[error("fault: read")]
+    Read,
+    /// Standard output could not be written.
+    #[error("fault: write")]
+    Write,
+    /// Memory was refused outside a command.
+    #[error("fault: memory")]
+    Memory,
+    /// The command line asks for nothing that the program does.
+    #[error("fault: command line")]
+    CommandLine,
+    /// The input has more than 1,048,576 bytes.
+    #[error("fault: input too long")]
+    InputTooLong,
+    /// The input is no text.
+    #[error("fault: not UTF-8")]
+    NotUtf8,
+}
+
+impl Fault {
+    ghost use Rattle.bench.specs.Fault.{status_of};
+
+    /// The exit status: 1 where the machine failed, 2 where what was given is refused.
+    pub fn status(self) -> u8
+        ensures { result ≡ status_of self }
+    {
+        match self {
+            Fault::Read | Fault::Write | Fault::Memory => 1,
+            Fault::CommandLine | Fault::InputTooLong | Fault::NotUtf8 => 2,
+        }
+    }
+}
+
+impl From<AllocError> for Fault {
+    ghost use Rattle.bench.specs.declared.fault.Fault.TheVariants.{Memory};
+
+    ghost from_gives = { λ _ fault. fault ≡ Memory };
+
+    fn from(_: AllocError) -> Fault {
+        Fault::Memory
+    }
+}

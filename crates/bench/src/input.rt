@@ -1,0 +1,38 @@
+ghost use Rattle.std.specs.Prelude.{◌≡◌, ◌<◌, ◌≤◌, length, IfOk, IfSome};
+ghost use Rattle.bench.specs.Input.{input_limit};
+
+use crate::fault::Fault;
+use std::alloc::Global;
+use std::io::Read;
+
+/// The most bytes of an input.
+pub const LIMIT: usize = 1_048_576;
+
+/// Reads a whole input.
+///
+/// # Errors
+/// - `Read`: a read failed.
+/// - `InputTooLong`: there are more than `LIMIT` bytes; no more is read then.
+/// - `Memory`: memory was refused.
+pub fn read_input<R: Read>(alloc: Global, reader: &mut R) -> Result<Vec<u8>, Fault>
+    ensures within { IfOk result (λ v. length v.items ≤ input_limit) }
+    ensures whole { IfOk result (λ v. IfSome (R.remaining reader.old) (λ bytes. v.items ≡ bytes)) }
+    ensures too_long { result ≡ Err Fault.InputTooLong → IfSome (R.remaining reader.old) (λ bytes. input_limit < length bytes) }
+{
+    let mut bytes = Vec::new(alloc);
+    let mut buffer = [0u8; 4096];
+    for _turn in 0..LIMIT + 2 {
+        let n = match reader.read(&mut buffer) {
+            Ok(n) => n,
+            Err(_) => return Err(Fault::Read),
+        };
+        if n == 0 {
+            return Ok(bytes);
+        }
+        bytes.extend_from_slice(&buffer[..n])?;
+        if bytes.len() > LIMIT {
+            return Err(Fault::InputTooLong);
+        }
+    }
+    unreachable!()
+}

@@ -1,0 +1,59 @@
+use can_frame::PgnTooLarge;
+use fault_memory::FaultError;
+use garage::GarageError;
+use name_field::NameError;
+use std::fmt;
+
+/// Why a command was not carried out. `Display` writes the answer.
+#[derive(Clone, Copy, Debug, PartialEq, Eq)]
+pub enum Refusal {
+    /// The line is no command, or none that can be given now.
+    BadLine,
+    /// The seat has no unit on the desk, or was never given.
+    NoSeat,
+    /// A word is no NAME.
+    Name(NameError),
+    /// A number is no parameter group's.
+    Pgn(PgnTooLarge),
+    /// A fault memory refused a change.
+    Fault(FaultError),
+    /// The garage refused.
+    Garage(GarageError),
+}
+
+impl fmt::Display for Refusal {
+    fn fmt<W: fmt::Write>(&self, f: &mut fmt::Formatter<W>) -> fmt::Result {
+        match self {
+            Refusal::BadLine => write!(f, "bad line"),
+            Refusal::NoSeat => write!(f, "no seat"),
+            Refusal::Name(error) => write!(f, "refused {} {error}", error.number()),
+            Refusal::Pgn(error) => write!(f, "refused {} {error}", error.number()),
+            Refusal::Fault(error) => write!(f, "refused {} {error}", error.number()),
+            Refusal::Garage(error) => write!(f, "refused {} {error}", error.number()),
+        }
+    }
+}
+
+impl From<NameError> for Refusal {
+    fn from(error: NameError) -> Refusal {
+        Refusal::Name(error)
+    }
+}
+
+impl From<PgnTooLarge> for Refusal {
+    fn from(error: PgnTooLarge) -> Refusal {
+        Refusal::Pgn(error)
+    }
+}
+
+impl From<FaultError> for Refusal {
+    fn from(error: FaultError) -> Refusal {
+        Refusal::Fault(error)
+    }
+}
+
+impl From<GarageError> for Refusal {
+    fn from(error: GarageError) -> Refusal {
+        Refusal::Garage(error)
+    }
+}

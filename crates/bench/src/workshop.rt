@@ -1,0 +1,220 @@
+use crate::answer::{Answer, End, write_answer, write_shown};
+use crate::deed::Deed;
+use crate::desk::Desk;
+use crate::refusal::Refusal;
+use bus_ledger::Carried;
+use can_frame::{PgnTooLarge, Reading};
+use garage::{Garage, GarageError};
+use name_field::Name;
+use script_line::{Asked, Command, Receiver};
+use station_table::Ask;
+use std::alloc::Global;
+use std::io;
+use std::io::Write;
+use unit_trait::Unit;
+
+/// A garage with the units on its desk.
+pub struct Workshop {
+    alloc: Global,
+    garage: Garage,
+    desk: Desk,
+}
+
+impl Workshop {
+    /// The garage with these settings, and no unit yet.
+    pub fn new(
+        alloc: Global,
+        name: Name,
+        address: u8,
+        window: u32,
+        grant: u8,
+        limit: u32,
+    ) -> Result<Workshop, GarageError> {
+        Ok(Workshop {
+            alloc,
+            garage: Garage::new(alloc, name, address, window, grant, limit)?,
+            desk: Desk::new(alloc),
+        })
+    }
+
+    /// Puts a unit on the bus, which wants this address.
+    pub fn join(&mut self, unit: Box<dyn Unit>, address: u8) -> Result<Answer, Refusal> {
+        if self.desk.reserve().is_err() {
+            return Err(Refusal::Garage(GarageError::OutOfMemory));
+        }
+        match self.garage.mount(self.alloc, unit, address) {
+            Ok(parked) => {
+                let seat = parked.seat();
+                self.desk.put(parked);
+                Ok(Answer::Seat(seat))
+            }
+            Err((unit, error)) => {
+                drop(unit);
+                Err(Refusal::Garage(error))
+            }
+        }
+    }
+
+    /// Takes each unit off the bus.
+    pub fn close(self) {
+        let Workshop {
+            alloc: _,
+            mut garage,
+            desk,
+        } = self;
+        desk.clear(&mut garage);
+        drop(garage);
+    }
+
+    /// Carries a command out, and writes its answer.
+    pub fn answer<W: Write>(&mut self, command: Command, writer: &mut W) -> io::Result<()> {
+        match command {
+            Command::Shown {
+                name: Ok(name),
+                kind,
+            } => write_shown(writer, self.garage.shown(name, kind)),
+            command => write_answer(writer, self.carry_out(command)),
+        }
+    }
+
+    fn carry_out(&mut self, command: Command) -> Result<Answer, Refusal> {
+        match command {
+            Command::Carry { most } => self.carry(most),
+            Command::Read { most } => Ok(Answer::Read(self.read(most)?)),
+            Command::Round { count } => self.round(count),
+            Command::Ask { receiver, asked } => self.ask(receiver, asked),
+            Command::Command { name, address } => {
+                self.garage.command(self.alloc, name?, address)?;
+                Ok(Answer::Done)
+            }
+            Command::Row { name } => Ok(Answer::Row(self.garage.row(name?))),
+            Command::Counts { seat } => match self.garage.counts(seat) {
+                Some(counts) => Ok(Answer::Counts(counts)),
+                None => Err(Refusal::NoSeat),
+            },
+            Command::Stats => Ok(Answer::Stats {
+                missed: self.garage.missed(),
+                unread: self.garage.unread(),
+            }),
+            Command::Frame { index } => Ok(Answer::Frame(self.garage.wire_frame(index))),
+            _ => {
+                let (seat, deed) = deed_of(command)?;
+                self.desk.act(&mut self.garage, seat, &deed)
+            }
+        }
+    }
+
+    /// Has the station ask a unit, or all.
+    fn ask(&mut self, receiver: Receiver, asked: Asked) -> Result<Answer, Refusal> {
+        match receiver {
+            Receiver::All => self.garage.ask_all(self.alloc, ask_of(asked)?)?,
+            Receiver::Unit { name } => {
+                let name = name?;
+                self.garage.ask(self.alloc, name, ask_of(asked)?)?;
+            }
+        }
+        Ok(Answer::Done)
+    }
+
+    fn carry(&mut self, most: u32) -> Result<Answer, Refusal> {
+        for count in 0..most {
+            if let Some(end) = self.carry_one()? {
+                return Ok(Answer::Carried {
+                    count,
+                    end: Some(end),
+                });
+            }
+        }
+        Ok(Answer::Carried {
+            count: most,
+            end: None,
+        })
+    }
+
+    /// Carries one frame, or tells why none.
+    fn carry_one(&mut self) -> Result<Option<End>, GarageError> {
+        match self.garage.carry()? {
+            Carried::Frame { .. } => Ok(None),
+            Carried::Idle => Ok(Some(End::Idle)),
+            Carried::Waiting => Ok(Some(End::Waiting)),
+        }
+    }
+
+    /// Has the station read until nothing is unread, at most so often; tells how often.
+    fn read(&mut self, most: u32) -> Result<u32, GarageError> {
+        for count in 0..most {
+            match self.garage.read(self.alloc)? {
+                Reading::Empty => return Ok(count),
+                Reading::Frame(_) | Reading::Gap(_) => {}
+            }
+        }
+        Ok(most)
+    }
+
+    /// So many rounds: each unit hears all, the station reads all, one frame is carried. It ends early where no frame
+    /// is carried. At the end all hear and read once more.
+    fn round(&mut self, most: u32) -> Result<Answer, Refusal> {
+        let mut carried = 0;
+        let mut end = None;
+        for count in 0..most {
+            self.listen()?;
+            end = self.carry_one()?;
+            if end.is_some() {
+                break;
+            }
+            carried = count + 1;
+        }
+        self.listen()?;
+        Ok(Answer::Carried {
+            count: carried,
+            end,
+        })
+    }
+
+    /// Each unit hears all that it has not heard, and the station reads all.
+    fn listen(&mut self) -> Result<(), Refusal> {
+        self.desk.hear_all(&mut self.garage)?;
+        self.read(u32::MAX)?;
+        Ok(())
+    }
+}
+
+/// Which deed a command asks for, and of which seat's unit. Any other command that comes here is refused.
+fn deed_of(command: Command) -> Result<(u32, Deed), Refusal> {
+    match command {
+        Command::Set {
+            seat,
+            spn,
+            fmi,
+            count,
+        } => Ok((seat, Deed::Set { spn, fmi, count })),
+        Command::Heal {
+            seat,
+            spn,
+            fmi,
+            count,
+        } => Ok((seat, Deed::Heal { spn, fmi, count })),
+        Command::Lamps { seat, lamps } => Ok((seat, Deed::Lamps { lamps })),
+        Command::Think { seat } => Ok((seat, Deed::Think)),
+        Command::Turn { seat } => Ok((seat, Deed::Turn)),
+        Command::Leave { seat } => Ok((seat, Deed::Leave)),
+        Command::Hear { seat, most } => Ok((seat, Deed::Hear { most })),
+        Command::Dm1 { seat } => Ok((seat, Deed::Dm1)),
+        Command::Shown { name, .. } | Command::Join { name, .. } => {
+            name?;
+            Err(Refusal::BadLine)
+        }
+        _ => Err(Refusal::BadLine),
+    }
+}
+
+fn ask_of(asked: Asked) -> Result<Ask, PgnTooLarge> {
+    match asked {
+        Asked::Dm1 => Ok(Ask::Dm1),
+        Asked::Dm2 => Ok(Ask::Dm2),
+        Asked::Dm3 => Ok(Ask::Dm3),
+        Asked::Dm11 => Ok(Ask::Dm11),
+        Asked::Claim => Ok(Ask::Claim),
+        Asked::Other { pgn } => Ok(Ask::Other(pgn?)),
+    }
+}

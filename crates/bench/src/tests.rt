@@ -1,7 +1,7 @@
 mod addresses;
+mod asked;
 mod faults;
 mod refusals;
-mod requests;
 mod units;
 
 use crate::script::script;

@@ -1,6 +1,7 @@
 use crate::fault::Fault;
 use crate::input::LIMIT;
 use crate::script::script;
+use std::alloc::{AllocError, Global};
 use std::io;
 use std::io::{Error, ErrorKind, Read, Write};
 use std::test::Fail;
@@ -112,16 +113,28 @@ fn empty_input(rt: HostRuntime) {
     assert!(rt; output.is_empty());
 }
 
+/// So many empty lines.
+fn empty_lines(alloc: Global, count: usize) -> Result<Vec<u8>, AllocError> {
+    vec![in alloc; b'\n'; count]
+}
+
 #[test]
 fn input_too_long(rt: HostRuntime) -> Result<(), Fail> {
-    let bytes = vec![in rt.alloc(); b'\n'; LIMIT + 1]?;
     let mut output = Vec::new(rt.alloc());
+    let bytes = empty_lines(rt.alloc(), LIMIT + 1)?;
     let mut input = bytes.as_slice();
     let ran = script(rt.alloc(), &mut input, &mut output);
     assert_eq!(rt; ran, Err(Fault::InputTooLong));
     assert_eq!(rt; Fault::InputTooLong.status(), 2);
-    let mut whole = &bytes.as_slice()[..LIMIT];
-    assert_eq!(rt; script(rt.alloc(), &mut whole, &mut output), Ok(()));
+    Ok(())
+}
+
+#[test]
+fn longest_input(rt: HostRuntime) -> Result<(), Fail> {
+    let mut output = Vec::new(rt.alloc());
+    let bytes = empty_lines(rt.alloc(), LIMIT)?;
+    let mut input = bytes.as_slice();
+    assert_eq!(rt; script(rt.alloc(), &mut input, &mut output), Ok(()));
     assert!(rt; output.is_empty());
     Ok(())
 }

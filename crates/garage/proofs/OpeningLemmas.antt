@@ -2,6 +2,8 @@
 use Rattle.std.proofs.Common.{ℕ, suc, zero, ◌≡◌, ◌+◌, ◌*◌, ◌≤◌, ◌<◌, ◌^◌, List, [], ◌∷◌, Some, None, map, reverse, length, get_or, vec_len, vec_capacity, refl, sym, ap, ◌∙◌, subst, arith}
 use Rattle.bus_ledger.specs.BusValue.{Traffic, seat_at}
 use Rattle.bus_ledger.specs.Joining.{live_units}
+use Rattle.bus_model.specs.Machine.{IsFit}
+use Rattle.journal.specs.Worlds.{station_of}
 use Rattle.journal.specs.State.{Settings, State, start}
 use Rattle.journal.specs.Journal.{tally_of, state_after, state_of, AllFit, joins}
 use Rattle.journal.specs.declared.event.Event.{Event}
@@ -17,9 +19,9 @@ no_joins : joins [] ≡ 0
 unfolding joins
 no_joins = refl
 
-none_fit : (r : Settings) → AllFit r []
+none_fit : (r : Settings) → IsFit (station_of r) → AllFit r []
 unfolding AllFit
-none_fit r = tt
+none_fit r fit = fit
 
 -- the station's claim alone is queued
 first_queued : (r : Settings) (k : ℕ) → (seat_at (start r).traffic k).queued ≤ 1
@@ -33,9 +35,9 @@ no_tallies : (k : ℕ) → tally_of k [] ≡ no_tally
 unfolding tally_of
 no_tallies k = refl
 
-pub opened_stands : (g : Inside) → g.journal.items ≡ [] → g.places.items ≡ [] → g.begun ≡ 0 → g.live ≡ 0 → vec_len g.journal ≡ 0 → g.limit ≤ 2 ^ 24
+pub opened_stands : (g : Inside) → IsFit (station_of (settings_of g)) → g.journal.items ≡ [] → g.places.items ≡ [] → g.begun ≡ 0 → g.live ≡ 0 → vec_len g.journal ≡ 0 → g.limit ≤ 2 ^ 24
     → g.bus.traffic ≡ (start (settings_of g)).traffic → g.station ≡ (start (settings_of g)).station → Stands g
-opened_stands g empty none begun live len few traffic station =
+opened_stands g fit empty none begun live len few traffic station =
     let r : Settings = settings_of g in
     let history : reverse g.journal.items ≡ [] = ap reverse empty in
     let is : state_of (view_of g) ≡ start r = ap (λ (es : List Event). state_after r es) history ∙ opened_is r in
@@ -50,7 +52,7 @@ opened_stands g empty none begun live len few traffic station =
       station = station ∙ sym (ap (λ (s : State). s.station) is);
       units = ap (map unit_of) none ∙ sym (ap (λ (s : State). s.units) is);
       begun = begun ∙ sym (ap (λ (s : State). length s.begun) is);
-      fits = subst (λ (es : List Event). AllFit r es) (sym history) (none_fit r);
+      fits = subst (λ (es : List Event). AllFit r es) (sym history) (none_fit r fit);
       joined = ap joins history ∙ (no_joins ∙ sym places);
       tallies = λ k h. absurd (omega arith);
       fresh = λ k h. ap (λ (es : List Event). tally_of k es) history ∙ no_tallies k;

@@ -37,6 +37,7 @@ impl Garage {
         ensures bad_setting { IsErrOf result GarageError.BadSetting ↔ (¬ IsSetting (record { name = name; address = address; window = window; grant = grant; limit = limit })) }
         ensures only { IfErr result (λ e. (e ≡ GarageError.BadSetting) ⊎ (e ≡ GarageError.OutOfMemory)) }
     {
+        let _number = name.number();
         if !is_setting(address, window, grant, limit) {
             return Err(GarageError::BadSetting);
         }

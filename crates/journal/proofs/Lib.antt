@@ -6,3 +6,4 @@ pub mod Saying
 pub mod Reacting
 pub mod Changed
 pub mod Coming
+pub mod Carrying

@@ -1,0 +1,200 @@
+-- A frame of a unit that is carried is a step of the law's machine.
+use Rattle.std.proofs.Common.{ℕ, suc, zero, ◌≡◌, ◌≢◌, ◌+◌, ◌-◌, ◌<◌, ◌≤◌, ◌&&◌, ◌==◌, List, [], ◌∷◌, ◌++◌, map, reverse, take, drop, length, get_or, set, slice_get, Bool, true, false, Option, Some, None, if◌then◌else◌, refl, sym, ap, ◌∙◌, subst, arith, ◌⊎◌, inl, inr}
+use Rattle.std.proofs.lemmas.Bool.{eqb-true, ne_eqb}
+use Rattle.std.proofs.lemmas.List.{length-set, length_push, length-map, map-append, reverse-append, set-get_or, take_all, take-append-le, get_or-set_same, get_or-set_other}
+use Rattle.bus_ledger.specs.BusValue.{SeatValue, Traffic, IsUnit, nobody, seat_at}
+use Rattle.bus_ledger.specs.Changes.{carried_frame, carried_from, sending}
+use Rattle.bus_ledger.specs.Carrying.{IsNext, offer, offered}
+use Rattle.bus_ledger.specs.declared.traffic.QueuedFrame.{QueuedFrame}
+use Rattle.bus_ledger.specs.declared.traffic.CarriedFrame.{CarriedFrame}
+use Rattle.bus_model.specs.Messages.{Message}
+use Rattle.bus_model.specs.Traffic.{Item}
+use Rattle.bus_model.specs.Machine.{Carry, IsLive, Seat, Step, World}
+use Rattle.journal.specs.State.{Settings, State, UnitState, new_unit}
+use Rattle.journal.specs.Steps.{after_carry_of, item_of}
+use Rattle.journal.specs.Worlds.{station_of, items_of, queued_item, queue_of, world_of}
+use Rattle.journal.proofs.Seated.{AreCarried, AreKnown, IsCarried, IsKnown, IsSeat, Stands, no_seat}
+use Rattle.journal.proofs.Growth.{carried_push, items_same, seat_carried, seated_set}
+use Rattle.journal.proofs.Changed.{names_changed}
+use Rattle.journal.proofs.Coming.{live_seat, place_within}
+
+-- what an offer says of its seat
+pub offer_says : (n : ℕ) (v : SeatValue) (q : QueuedFrame) → offered n v ≡ Some q → (v.live ≡ true) × (v.heard ≡ n) × (slice_get v.queue 0 ≡ Some q)
+offer_says n v q e = go v.live (v.heard == n) refl e
+  where
+    go : (b c : Bool) → (v.heard == n) ≡ c → (if b && c then slice_get v.queue 0 else None) ≡ Some q → (b ≡ true) × (v.heard ≡ n) × (slice_get v.queue 0 ≡ Some q)
+    go true true h e = (refl, eqb-true v.heard n h, e)
+    go true false h e = absurd cc
+    go false c h e = absurd cc
+
+-- a queue with a first frame
+pub first_of : (qs : List QueuedFrame) (q : QueuedFrame) → slice_get qs 0 ≡ Some q → qs ≡ q ∷ drop 1 qs
+first_of [] q e = absurd cc
+first_of (p ∷ qs) q e = go p q e
+  where
+    go : (p q : QueuedFrame) → Some p ≡ Some q → p ∷ qs ≡ q ∷ qs
+    go p q e = cc
+
+-- a seat that offers a frame was given
+pub offers_given : (t : Traffic) (k : ℕ) (q : QueuedFrame) → offer t k ≡ Some q → k < length t.seats
+offers_given t k q e = go t.seats k (offer_says (length t.wire) (seat_at t k) q e).0
+  where
+    go : (xs : List SeatValue) (k : ℕ) → (get_or xs k nobody).live ≡ true → k < length xs
+    go [] k e = absurd cc
+    go (x ∷ xs) zero e = omega arith
+    go (x ∷ xs) (suc k) e = let l = go xs k e in omega arith
+
+-- ---- the state after it
+
+-- the first frame of unit j's queue is carried
+sent : ℕ → QueuedFrame → State → State
+sent j q s = record s { traffic = carried_from (suc j) q s.traffic }
+
+sent_is : (j : ℕ) (q : QueuedFrame) (s : State) → after_carry_of (Some q) (suc j) s ≡ sent j q s
+unfolding after_carry_of sent
+sent_is j q s = rw (ne_eqb (suc j) 0 (λ e. omega arith)) refl
+
+carried_item : State → ℕ → QueuedFrame → Item
+carried_item s j q = queued_item s.begun (seat_at s.traffic (suc j)).name q
+
+items_sent : (r : Settings) (s : State) (seats : List Seat) (j : ℕ) (q : QueuedFrame) → Stands r s seats → suc j < length s.traffic.seats → items_of (sent j q s) ≡ items_of s ++ carried_item s j q ∷ []
+unfolding sent carried_item
+items_sent r s seats j q st l =
+    let v : SeatValue = sending (seat_at s.traffic (suc j)) in
+    let there : seat_at (carried_from (suc j) q s.traffic) (suc j) ≡ v = get_or-set_same s.traffic.seats (suc j) v nobody l in
+    map-append (item_of (sent j q s)) s.traffic.wire (carried_frame (suc j) q ∷ [])
+    ∙ (ap (λ (es : List Item). es ++ item_of (sent j q s) (carried_frame (suc j) q) ∷ []) (items_same s (sent j q s) s.traffic.wire (λ k lt. names_changed s j v refl l k) refl st.carried)
+    ∙ rw there refl)
+
+first_known : (begun : List Message) (qs : List QueuedFrame) (q : QueuedFrame) → qs ≡ q ∷ drop 1 qs → AreKnown begun qs → IsKnown begun q.tag × AreKnown begun (drop 1 qs)
+first_known begun qs q e k = subst (AreKnown begun) e k
+
+pub carry_runs : (r : Settings) (s : State) (seats : List Seat) (j : ℕ) (q : QueuedFrame) → Stands r s seats → IsNext s.traffic (suc j) q
+    → (seats' : List Seat) × Step (world_of r s seats) (Carry j) (world_of r (after_carry_of (slice_get (seat_at s.traffic (suc j)).queue 0) (suc j) s) seats')
+    × Stands r (after_carry_of (slice_get (seat_at s.traffic (suc j)).queue 0) (suc j) s) seats'
+unfolding sent carried_item
+carry_runs r s seats j q st next = rw ((offer_says (length s.traffic.wire) (seat_at s.traffic (suc j)) q next.offers).2, sent_is j q s) runs
+  where
+    v : SeatValue
+    v = seat_at s.traffic (suc j)
+
+    offers : (v.live ≡ true) × (v.heard ≡ length s.traffic.wire) × (slice_get v.queue 0 ≡ Some q)
+    offers = offer_says (length s.traffic.wire) v q next.offers
+
+    given : suc j < length s.traffic.seats
+    given = offers_given s.traffic (suc j) q next.offers
+
+    unit : IsUnit s.traffic (suc j)
+    unit = (omega arith, given, offers.0)
+
+    l : j < length s.units
+    l = place_within r s seats j st unit
+
+    x : Seat
+    x = get_or seats j no_seat
+
+    u : UnitState
+    u = get_or s.units j (new_unit 0 0)
+
+    e : Item
+    e = carried_item s j q
+
+    rest : List Item
+    rest = reverse (map (queued_item s.begun v.name) (drop 1 v.queue))
+
+    split : v.queue ≡ q ∷ drop 1 v.queue
+    split = first_of v.queue q offers.2
+
+    queue : x.queue ≡ rest ++ e ∷ []
+    queue =
+        (st.seated j l).queue
+        ∙ (ap (λ (qs : List QueuedFrame). reverse (map (queued_item s.begun v.name) qs)) split
+        ∙ reverse-append (queued_item s.begun v.name q ∷ []) (map (queued_item s.begun v.name) (drop 1 v.queue)))
+
+    whole : take v.heard (items_of s) ≡ items_of s
+    whole = (let h = offers.1 in let n = length-map s.traffic.wire (item_of s) in take_all v.heard (items_of s) (omega arith))
+
+    heard : x.heard ≡ reverse (items_of s)
+    heard = (st.seated j l).heard ∙ ap reverse whole
+
+    y : Seat
+    y = record x { queue = rest; heard = e ∷ reverse (items_of s) }
+
+    now : State
+    now = sent j q s
+
+    items : items_of now ≡ items_of s ++ e ∷ []
+    items = items_sent r s seats j q st given
+
+    wire : reverse (items_of now) ≡ e ∷ reverse (items_of s)
+    wire = ap reverse items ∙ reverse-append (items_of s) (e ∷ [])
+
+    known : IsKnown s.begun q.tag × AreKnown s.begun (drop 1 v.queue)
+    known = first_known s.begun v.queue q split (st.seated j l).known
+
+    seat : IsSeat s.begun (items_of s ++ e ∷ []) (sending v) u y
+    seat =
+        let old = st.seated j l in
+        let long = length-map s.traffic.wire (item_of s) in
+        let more = length_push (items_of s) e in
+        let h = offers.1 in
+        record {
+          name = old.name;
+          own = old.own;
+          small = old.small;
+          live = old.live;
+          held = old.held;
+          holdable = old.holdable;
+          queue = refl;
+          known = known.1;
+          heard = sym (ap reverse (take_all (v.heard + 1) (items_of s ++ e ∷ []) (omega arith)) ∙ reverse-append (items_of s) (e ∷ []));
+          within = omega arith;
+          session = old.session;
+        }
+
+    zero' : seat_at now.traffic 0 ≡ seat_at s.traffic 0
+    zero' = get_or-set_other s.traffic.seats (suc j) 0 (sending v) nobody (λ e. omega arith)
+
+    seats_now : now.traffic.seats ≡ set s.traffic.seats (suc j) (sending v)
+    seats_now = refl
+
+    wire_now : now.traffic.wire ≡ s.traffic.wire ++ carried_frame (suc j) q ∷ []
+    wire_now = refl
+
+    same : (now.units ≡ s.units) × (now.begun ≡ s.begun) × (now.path ≡ s.path)
+    same = (refl, refl, refl)
+
+    seated : (i : ℕ) → i < length s.units → IsSeat s.begun (items_of s ++ e ∷ []) (get_or (set s.traffic.seats (suc j) (sending v)) (suc i) nobody) (get_or s.units i (new_unit 0 0)) (get_or (set seats j y) i no_seat)
+    seated i lt =
+        let at = seated_set (IsSeat s.begun (items_of s ++ e ∷ [])) s.traffic.seats s.units seats j (sending v) u y st.count st.places seat
+        (λ i lt. seat_carried s.begun (items_of s) e (seat_at s.traffic (suc i)) (get_or s.units i (new_unit 0 0)) (get_or seats i no_seat) (st.seated i lt)) i lt in
+        subst (λ (us : List UnitState). IsSeat s.begun (items_of s ++ e ∷ []) (get_or (set s.traffic.seats (suc j) (sending v)) (suc i) nobody) (get_or us i (new_unit 0 0)) (get_or (set seats j y) i no_seat))
+        (set-get_or s.units j (new_unit 0 0)) at
+
+    stands : Stands r now (set seats j y)
+    stands =
+        let long = length-map s.traffic.wire (item_of s) in
+        let more = length_push s.traffic.wire (carried_frame (suc j) q) in
+        let places = length-set seats j y in
+        let w = st.within in
+        record {
+          name = rw zero' st.name;
+          live = rw zero' st.live;
+          known = rw zero' st.known;
+          within = rw zero' (omega arith);
+          passed' = rw (zero', items, take-append-le (seat_at s.traffic 0).heard (items_of s) (e ∷ []) (omega arith)) st.passed';
+          carried = rw (length-set s.traffic.seats (suc j) (sending v)) (carried_push s.begun (length s.traffic.seats) s.traffic.wire (carried_frame (suc j) q) st.carried (record { seat = given; known = known.0 }));
+          count = (let n = st.count in let m = length-set s.traffic.seats (suc j) (sending v) in omega arith);
+          places = (let n = st.places in omega arith);
+          seated = λ i lt. rw items (seated i lt);
+        }
+
+    runs : (seats' : List Seat) × Step (world_of r s seats) (Carry j) (world_of r now seats') × Stands r now seats'
+    runs = (
+      set seats j y,
+      (x, e, rest, live_seat r s seats j st unit, queue, heard, world),
+      stands,
+    )
+      where
+        world : world_of r now (set seats j y) ≡ record (world_of r s seats) { wire = e ∷ reverse (items_of s); seats = set seats j y }
+        world = rw (wire, zero') refl

@@ -7,3 +7,4 @@ pub mod Reacting
 pub mod Changed
 pub mod Coming
 pub mod Carrying
+pub mod Starting

@@ -3,6 +3,7 @@ use Rattle.std.specs.Prelude.{◌≡◌, ℕ, ◌+◌, Bool, ◌==◌, List, [],
 use Rattle.bus_ledger.specs.BusValue.{IsUnit, seat_at}
 use Rattle.bus_model.specs.Machine.{IsFit}
 use Rattle.journal.specs.Worlds.{station_of}
+use Rattle.can_frame.specs.declared.reading.Reading.{Reading}
 use Rattle.journal.specs.State.{State, Settings, start}
 use Rattle.journal.specs.Steps.{after}
 use Rattle.journal.specs.Fits.{Fits}
@@ -67,3 +68,9 @@ pub record IsSeated (g : GarageValue) (k name events : ℕ) : Type 0 where
   pub unit : IsUnit (state_of g).traffic k
   pub named : (seat_at (state_of g).traffic k).name ≡ name
   pub counted : (tally_of k g.journal).events ≡ events
+
+-- the readings that the station took, newest first
+unfoldable pub readings_of : List Event → List Reading
+readings_of [] = []
+readings_of (Read reading ∷ older) = reading ∷ readings_of older
+readings_of (_ ∷ older) = readings_of older

@@ -5,9 +5,13 @@
 #![tactic(auto)]
 
 mod event;
+mod laws;
 mod order;
 mod tally;
 
 pub use event::Event;
+pub use laws::{
+    journal_is_a_run, nothing_stays_unread, shown_is_expected, station_stands_for_its_readings,
+};
 pub use order::Order;
 pub use tally::Tally;

@@ -1,0 +1,40 @@
+ghost use Rattle.std.specs.Prelude.{◌≡◌, ℕ, List, reverse};
+ghost use Rattle.dm_messages.specs.declared.kind.Kind.{Kind};
+ghost use Rattle.bus_model.specs.Expected.{expected};
+ghost use Rattle.bus_model.specs.Machine.{Event as Step, Run, Seat, start};
+ghost use Rattle.station_table.specs.KeptValue.{entries_under};
+ghost use Rattle.station_table.specs.StandsFor.{StandsFor};
+ghost use Rattle.journal.specs.Journal.{AllFit, readings_of, state_after};
+ghost use Rattle.journal.specs.State.{Settings};
+ghost use Rattle.journal.specs.Worlds.{station_of, world_of};
+ghost use Rattle.journal.specs.declared.event.Event.{Event};
+
+use bus_model::{lists_are_exact, nothing_is_unreadable};
+
+/// A journal is a run of the law's machine: the state that a journal leads to, whose every event fits what came before,
+/// is a world that the machine reaches.
+pub fn journal_is_a_run()
+    ensures { (settings : Settings) (journal : List Event) → AllFit settings journal → (seats : List Seat) × (steps : List Step) × Run (start (station_of settings)) steps (world_of settings (state_after settings journal) seats) }
+{
+}
+
+/// The station's tables say what was heard of the readings in the journal.
+pub fn station_stands_for_its_readings()
+    ensures { (settings : Settings) (journal : List Event) → AllFit settings journal → StandsFor (station_of settings) settings.grant (state_after settings journal).station (readings_of journal) }
+{
+}
+
+/// The headline: of every journal, under each NAME and kind, the station's entries are the views of the fault memories with
+/// which units of that NAME began messages whose frames were all read on a clear path, in the order begun.
+pub fn shown_is_expected()
+    ensures { (settings : Settings) (journal : List Event) → AllFit settings journal → (n : ℕ) (k : Kind) → entries_under (state_after settings journal).station.rows n k ≡ reverse (expected n k (state_after settings journal).begun (state_after settings journal).path) }
+{
+    lists_are_exact();
+}
+
+/// No message of a unit that came to its end was unreadable.
+pub fn nothing_stays_unread()
+    ensures { (settings : Settings) (journal : List Event) → AllFit settings journal → (state_after settings journal).station.unread ≡ 0 }
+{
+    nothing_is_unreadable();
+}

@@ -8,3 +8,6 @@ pub mod Changed
 pub mod Coming
 pub mod Carrying
 pub mod Starting
+pub mod Readings
+pub mod Reaching
+pub mod Headline

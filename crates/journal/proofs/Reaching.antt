@@ -37,10 +37,10 @@ moves r s seats (Join name address) fit st at f =
     record { seats' = m.0; event = machine.Join name address; step = m.1; stands = m.2 }
 moves r s seats (Hear k memory agreed) fit st at f =
     let m = hear_runs r s seats k memory agreed st f in
-    record { seats' = m.0; event = machine.Hear (k - 1) m.1; step = m.2.0; stands = m.2.1 }
+    record { seats' = m.0; event = machine.Hear (k - 1) m.1; step = m.2; stands = m.3 }
 moves r s seats (Begin k memory) fit st at f =
     let m = begin_runs r s seats k memory st f in
-    record { seats' = m.0; event = machine.Begin (k - 1) Dm1 memory m.1; step = m.2.0; stands = m.2.1 }
+    record { seats' = m.0; event = machine.Begin (k - 1) Dm1 memory m.1; step = m.2; stands = m.3 }
 moves r s seats (Turned k) fit st at f = record { seats' = seats; event = machine.Turned k; step = refl; stands = st }
 moves r s seats (Carry zero) fit st at f =
     let m = carry_station_runs r s seats f.0 st f.1 in
@@ -80,7 +80,7 @@ more r s e fit old f =
       events = old.events ++ m.event ∷ [];
       run = run_more (start (station_of r)) (world_of r s old.seats) (world_of r (after e s) m.seats') old.events m.event old.run m.step;
       stands = m.stands;
-      station = station_stands r s old.seats e old.stands old.station f;
+      station = station_stands r e s old.station f;
     }
 
 pub reached : (r : Settings) (journal : List Event) → AllFit r journal → Reached r (state_after r journal)

@@ -9,8 +9,6 @@ ghost use Rattle.journal.specs.State.{Settings};
 ghost use Rattle.journal.specs.Worlds.{station_of, world_of};
 ghost use Rattle.journal.specs.declared.event.Event.{Event};
 
-use bus_model::{lists_are_exact, nothing_is_unreadable};
-
 /// A journal is a run of the law's machine: the state that a journal leads to, whose every event fits what came before,
 /// is a world that the machine reaches.
 pub fn journal_is_a_run()
@@ -29,12 +27,10 @@ pub fn station_stands_for_its_readings()
 pub fn shown_is_expected()
     ensures { (settings : Settings) (journal : List Event) → AllFit settings journal → (n : ℕ) (k : Kind) → entries_under (state_after settings journal).station.rows n k ≡ reverse (expected n k (state_after settings journal).begun (state_after settings journal).path) }
 {
-    lists_are_exact();
 }
 
 /// No message of a unit that came to its end was unreadable.
 pub fn nothing_stays_unread()
     ensures { (settings : Settings) (journal : List Event) → AllFit settings journal → (state_after settings journal).station.unread ≡ 0 }
 {
-    nothing_is_unreadable();
 }

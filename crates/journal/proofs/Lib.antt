@@ -8,6 +8,14 @@ pub mod Changed
 pub mod Coming
 pub mod Carrying
 pub mod Starting
+pub mod Queues
+pub mod Parts
+pub mod Deeds
+pub mod Answers
+pub mod Doing
+pub mod Places
+pub mod Hearing
+pub mod Beginning
 pub mod Readings
 pub mod Reaching
 pub mod Headline

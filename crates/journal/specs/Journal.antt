@@ -1,6 +1,8 @@
 -- The journal, newest event first, and what it says.
 use Rattle.std.specs.Prelude.{◌≡◌, ℕ, ◌+◌, Bool, ◌==◌, List, [], ◌∷◌, if◌then◌else◌}
 use Rattle.bus_ledger.specs.BusValue.{IsUnit, seat_at}
+use Rattle.bus_model.specs.Machine.{IsFit}
+use Rattle.journal.specs.Worlds.{station_of}
 use Rattle.journal.specs.State.{State, Settings, start}
 use Rattle.journal.specs.Steps.{after}
 use Rattle.journal.specs.Fits.{Fits}
@@ -21,9 +23,9 @@ state_after r (e ∷ older) = after e (state_after r older)
 abbrev pub state_of : GarageValue → State
 state_of g = state_after g.settings g.journal
 
--- each event fits what came before
+-- the settings fit, and each event fits what came before
 unfoldable pub AllFit : Settings → List Event → Type 0
-AllFit r [] = Unit {0}
+AllFit r [] = IsFit (station_of r)
 AllFit r (e ∷ older) = Fits (state_after r older) e × AllFit r older
 
 -- one event more

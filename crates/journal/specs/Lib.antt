@@ -2,3 +2,4 @@ pub mod State
 pub mod Steps
 pub mod Fits
 pub mod Journal
+pub mod Worlds

@@ -1,0 +1,87 @@
+-- When a unit's seat on the bus, with what the unit keeps, is a seat of the law's machine.
+use Rattle.std.proofs.Common.{ℕ, suc, zero, ◌≡◌, ◌≢◌, ◌+◌, ◌-◌, ◌<◌, ◌≤◌, ◌^◌, List, [], ◌∷◌, ◌++◌, map, reverse, take, length, get_or, set, Bool, true, false, Option, Some, None, refl, sym, ap, ◌∙◌, subst, arith, ◌⊎◌, inl, inr}
+use Rattle.bus_ledger.specs.BusValue.{SeatValue, Traffic, nobody, seat_at}
+use Rattle.bus_ledger.specs.declared.traffic.QueuedFrame.{QueuedFrame}
+use Rattle.bus_ledger.specs.declared.traffic.CarriedFrame.{CarriedFrame}
+use Rattle.bus_ledger.specs.declared.traffic.Tag.{Tag}
+use Rattle.bus_model.specs.Messages.{Message, Session, way_of, is_session, payload_of}
+use Rattle.bus_model.specs.Traffic.{Item, Tag as PartOf}
+use Rattle.bus_model.specs.Expected.{Reception, passed}
+use Rattle.bus_model.specs.Machine.{Seat, World, CanHold}
+use Rattle.dm_messages.specs.View.{pgn_of_kind}
+use Rattle.node_core.specs.NodeValue.{NodeValue}
+use Rattle.node_core.specs.declared.session.OpenSession.{OpenSession}
+use Rattle.journal.specs.State.{Settings, State, UnitState, new_unit, unit_at}
+use Rattle.journal.specs.Steps.{item_of, message_numbered, part_of}
+use Rattle.journal.specs.Worlds.{station_of, items_of, queued_item, queue_of, world_of}
+
+-- a tag names a message begun, and says whether it is a session
+pub record IsPartTag (begun : List Message) (t : Tag) : Type 0 where
+  pub message : Message
+  pub found : message_numbered t.message begun ≡ Some message
+  pub kind : t.session ≡ is_session (way_of message)
+  pub number : t.message < length begun
+
+abbrev pub IsKnown : List Message → Option Tag → Type 0
+IsKnown begun None = Unit {0}
+IsKnown begun (Some t) = IsPartTag begun t
+
+abbrev pub AreKnown : List Message → List QueuedFrame → Type 0
+AreKnown begun [] = Unit {0}
+AreKnown begun (q ∷ qs) = IsKnown begun q.tag × AreKnown begun qs
+
+-- the unit's open session is that of the machine
+pub record IsSession (begun : List Message) (i n : ℕ) (held : Option ℕ) (o : OpenSession) (t : PartOf) : Type 0 where
+  pub found : message_numbered i begun ≡ Some t.message
+  pub number : i < length begun
+  pub kind : t.message.kind ≡ o.kind
+  pub name : t.message.name ≡ n
+  pub payload : o.sending.payload ≡ payload_of t.message
+  pub destination : o.sending.dest ≡ t.message.destination
+  pub pgn : o.sending.pgn ≡ pgn_of_kind o.kind
+  pub source : held ≡ Some t.message.source
+  pub part : t.part ≡ o.sending.queued
+  pub way : way_of t.message ≡ Session t.message.destination
+
+abbrev pub AreSession : List Message → ℕ → ℕ → Option ℕ → Option OpenSession → Option PartOf → Type 0
+AreSession begun number name held None None = Unit {0}
+AreSession begun number name held (Some o) (Some t) = IsSession begun number name held o t
+AreSession begun number name held _ _ = ⊥
+
+-- a seat on the bus, what its unit keeps, and the machine's seat, with these messages begun and these items carried
+pub record IsSeat (begun : List Message) (items : List Item) (v : SeatValue) (u : UnitState) (x : Seat) : Type 0 where
+  pub name : x.name ≡ v.name
+  pub own : u.node.claimer.name ≡ v.name
+  pub small : v.name < 2 ^ 64
+  pub live : x.live ≡ v.live
+  pub held : x.held ≡ u.node.claimer.held
+  pub holdable : CanHold u.node.claimer.held
+  pub queue : x.queue ≡ queue_of begun v
+  pub known : AreKnown begun v.queue
+  pub heard : x.heard ≡ reverse (take v.heard items)
+  pub within : v.heard ≤ length items
+  pub session : AreSession begun u.session_message v.name u.node.claimer.held u.node.session x.session
+
+abbrev pub no_seat : Seat
+no_seat = record { name = 0; live = false; held = None; queue = []; heard = []; session = None }
+
+-- a carried frame's seat was given, and its tag names a message begun
+pub record IsCarried (begun : List Message) (seats : ℕ) (c : CarriedFrame) : Type 0 where
+  pub seat : c.seat < seats
+  pub known : IsKnown begun c.tag
+
+abbrev pub AreCarried : List Message → ℕ → List CarriedFrame → Type 0
+AreCarried begun seats [] = Unit {0}
+AreCarried begun seats (c ∷ cs) = IsCarried begun seats c × AreCarried begun seats cs
+
+-- the state, with these seats, is a world of the machine
+pub record Stands (r : Settings) (s : State) (seats : List Seat) : Type 0 where
+  pub name : (seat_at s.traffic 0).name ≡ r.name
+  pub live : (seat_at s.traffic 0).live ≡ true
+  pub known : AreKnown s.begun (seat_at s.traffic 0).queue
+  pub within : (seat_at s.traffic 0).heard ≤ length s.traffic.wire
+  pub passed' : passed s.path ≡ reverse (take (seat_at s.traffic 0).heard (items_of s))
+  pub carried : AreCarried s.begun (length s.traffic.seats) s.traffic.wire
+  pub count : length s.traffic.seats ≡ suc (length s.units)
+  pub places : length seats ≡ length s.units
+  pub seated : (i : ℕ) → i < length s.units → IsSeat s.begun (items_of s) (seat_at s.traffic (suc i)) (get_or s.units i (new_unit 0 0)) (get_or seats i no_seat)

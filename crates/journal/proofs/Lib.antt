@@ -1,2 +1,3 @@
 pub mod Seated
 pub mod Growth
+pub mod Station

@@ -1,3 +1,5 @@
 pub mod Seated
 pub mod Growth
 pub mod Station
+pub mod OwnSeat
+pub mod Saying

@@ -3,3 +3,4 @@ pub mod Growth
 pub mod Station
 pub mod OwnSeat
 pub mod Saying
+pub mod Reacting

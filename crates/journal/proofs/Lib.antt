@@ -4,3 +4,4 @@ pub mod Station
 pub mod OwnSeat
 pub mod Saying
 pub mod Reacting
+pub mod Reading

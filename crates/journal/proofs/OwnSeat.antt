@@ -106,7 +106,7 @@ pub plain_queue : (begun : List Message) (n : ℕ) (fs : List FrameValue) → ma
 plain_queue begun n [] = refl
 plain_queue begun n (f ∷ fs) = rw (plain_queue begun n fs) refl
 
-plain_append : (n : ℕ) (fs gs : List FrameValue) → all_plain n (fs ++ gs) ≡ all_plain n fs ++ all_plain n gs
+pub plain_append : (n : ℕ) (fs gs : List FrameValue) → all_plain n (fs ++ gs) ≡ all_plain n fs ++ all_plain n gs
 plain_append n [] gs = refl
 plain_append n (f ∷ fs) gs = rw (plain_append n fs gs) refl
 

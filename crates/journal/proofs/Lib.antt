@@ -5,3 +5,4 @@ pub mod OwnSeat
 pub mod Saying
 pub mod Reacting
 pub mod Reading
+pub mod Ordering

@@ -134,7 +134,7 @@ known_if begun false qs k = k
 
 -- ---- the state
 
-names_own : (s t : State) → OwnChange s.traffic t.traffic → SameNames s t
+pub names_own : (s t : State) → OwnChange s.traffic t.traffic → SameNames s t
 names_own s t own zero l = own.name
 names_own s t own (suc i) l = ap (λ (v : SeatValue). v.name) (own.others i)
 
@@ -142,7 +142,7 @@ names_own s t own (suc i) l = ap (λ (v : SeatValue). v.name) (own.others i)
 pub items_own : (r : Settings) (s t : State) (seats : List Seat) → Stands r s seats → OwnChange s.traffic t.traffic → t.begun ≡ s.begun → items_of t ≡ items_of s
 items_own r s t seats stands own begun = ap (map (item_of t)) own.wire ∙ items_same s t s.traffic.wire (names_own s t own) begun stands.carried
 
-seat_as : {begun begun' : List Message} {items items' : List Item} {v v' : SeatValue} {u u' : UnitState} {x : Seat}
+pub seat_as : {begun begun' : List Message} {items items' : List Item} {v v' : SeatValue} {u u' : UnitState} {x : Seat}
     → items' ≡ items → begun' ≡ begun → v' ≡ v → u' ≡ u → IsSeat begun items v u x → IsSeat begun' items' v' u' x
 seat_as a b c d h = rw (a, b, c, d) h
 

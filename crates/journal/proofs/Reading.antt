@@ -141,7 +141,7 @@ read_stands r s seats x es stands p path =
 -- ---- the world after a reading
 
 -- worlds are the same where their parts are
-world_parts : {st : Station} {seats : List Seat} {w w' a a' : List Item} {b b' : List Message} {p p' : List Reception} → w ≡ w' → a ≡ a' → b ≡ b' → p ≡ p'
+pub world_parts : {st : Station} {seats : List Seat} {w w' a a' : List Item} {b b' : List Message} {p p' : List Reception} → w ≡ w' → a ≡ a' → b ≡ b' → p ≡ p'
     → ◌≡◌ {A = World} (record { settings = st; wire = reverse w; seats = seats; asked = a; begun = b; path = p }) (record { settings = st; wire = reverse w'; seats = seats; asked = a'; begun = b'; path = p' })
 world_parts e f g h = rw (e, f, g, h) refl
 

@@ -3,6 +3,6 @@ pub mod Growth
 pub mod Station
 pub mod OwnSeat
 pub mod Saying
-pub mod Reacting
+pub mod StationAnswers
 pub mod Reading
 pub mod Ordering

@@ -1,16 +1,16 @@
 -- What the station is told to send, and what it carries, are steps of the machine.
-use Rattle.std.proofs.Common.{ℕ, suc, zero, ◌≡◌, ◌≢◌, ◌+◌, ◌-◌, ◌<◌, ◌≤◌, ◌==◌, ◌&&◌, List, [], ◌∷◌, ◌++◌, map, reverse, take, drop, length, get_or, set, slice_get, Bool, true, false, Option, Some, None, if◌then◌else◌, take_all, le_refl, refl, sym, ap, ap₂, ◌∙◌, subst, arith}
+use Rattle.std.proofs.Common.{ℕ, suc, zero, ◌≡◌, ◌+◌, ◌<◌, ◌≤◌, ◌==◌, ◌&&◌, List, [], ◌∷◌, ◌++◌, map, reverse, take, drop, length, slice_get, Bool, true, false, Option, Some, None, if◌then◌else◌, take_all, refl, sym, ap, ap₂, ◌∙◌, subst, arith}
 use Rattle.std.proofs.lemmas.List.{length-append, length-map, reverse-append, map-append}
 use Rattle.address_claim.specs.Claiming.{is_held}
-use Rattle.bus_ledger.specs.BusValue.{SeatValue, Traffic, nobody, seat_at}
-use Rattle.bus_ledger.specs.Carrying.{IsNext, offer}
+use Rattle.bus_ledger.specs.BusValue.{SeatValue, seat_at}
+use Rattle.bus_ledger.specs.Carrying.{IsNext}
 use Rattle.bus_ledger.specs.Changes.{carried_frame, carried_from, sending, with_seat}
 use Rattle.bus_ledger.specs.declared.traffic.CarriedFrame.{CarriedFrame}
 use Rattle.bus_ledger.specs.declared.traffic.QueuedFrame.{QueuedFrame}
 use Rattle.bus_model.specs.Traffic.{Item}
 use Rattle.bus_model.specs.Heard.{address_heard}
-use Rattle.bus_model.specs.Expected.{Own, passed, readings}
-use Rattle.bus_model.specs.Machine.{CanHold, Carry_station, IsFit, Seat, World}
+use Rattle.bus_model.specs.Expected.{Own, readings}
+use Rattle.bus_model.specs.Machine.{CanHold, Carry_station, IsFit, Seat, Step}
 use Rattle.bus_model.specs.Machine.{Ask as Asks}
 use Rattle.bus_model.proofs.Bridge.{truth}
 use Rattle.station_table.specs.KeptValue.{KeptValue, kept_under}
@@ -26,11 +26,11 @@ use Rattle.journal.specs.Worlds.{items_of, queued_item, queue_of, station_of, wo
 use Rattle.journal.specs.declared.event.Event.TheVariants.{Carry, Ordered}
 use Rattle.journal.specs.declared.order.Order.{Order}
 use Rattle.journal.specs.declared.order.Order.TheVariants as order
-use Rattle.journal.proofs.Seated.{AreCarried, AreKnown, IsCarried, Stands}
+use Rattle.journal.proofs.Seated.{AreCarried, AreKnown, Stands}
 use Rattle.journal.proofs.Growth.{carried_push, items_same, seat_carried, SameNames}
 use Rattle.journal.proofs.Station.{AtStation}
 use Rattle.journal.proofs.OwnSeat.{OwnChange, own_set, seat_as, set_at, stands_own}
-use Rattle.journal.proofs.Reacting.{Answers, ask_answers, command_answers}
+use Rattle.journal.proofs.StationAnswers.{Answers, ask_answers, command_answers}
 use Rattle.journal.proofs.Reading.{Runs, heard_held, heard_holds, own_reacted, reacted_asked, reacted_heard, reacted_known, world_own, world_parts}
 
 -- ---- orders
@@ -80,12 +80,12 @@ order_answers n s (order.Command name address) x long hold e = commands n s.clai
 -- what the station is told to queue
 queued_runs : (r : Settings) (s : State) (seats : List Seat) (x : Reaction) → Stands r s seats → Answers x r.name false (address_heard (station_of r) (readings s.path)) → Runs r s (record s { traffic = reacted x s.traffic }) seats
 queued_runs r s seats x stands a = (
-    Asks a.frames,
-    (a.may, world_own r s (record s { traffic = reacted x s.traffic }) seats _ s.path stands own refl (reacted_asked s.begun x s.traffic r.name false _ a given stands.name) refl),
-    stands_own r s (record s { traffic = reacted x s.traffic }) seats stands own refl refl
-    (reacted_known s.begun x s.traffic given stands.known)
-    (subst (λ (n : ℕ). n ≤ length s.traffic.wire) (sym heard) stands.within)
-    (stands.passed' ∙ ap (λ (n : ℕ). reverse (take n (items_of s))) (sym heard))
+  Asks a.frames,
+  (a.may, world_own r s (record s { traffic = reacted x s.traffic }) seats _ s.path stands own refl (reacted_asked s.begun x s.traffic r.name false _ a given stands.name) refl),
+  stands_own r s (record s { traffic = reacted x s.traffic }) seats stands own refl refl
+      (reacted_known s.begun x s.traffic given stands.known)
+      (subst (λ (n : ℕ). n ≤ length s.traffic.wire) (sym heard) stands.within)
+      (stands.passed' ∙ ap (λ (n : ℕ). reverse (take n (items_of s))) (sym heard)),
 )
   where
     given : 0 < length s.traffic.seats
@@ -173,11 +173,11 @@ carried_stands r s seats q rest stands whole first = record {
         ap (take (seat_at (carried_state s q).traffic 0).heard) items
         ∙ take_all (seat_at (carried_state s q).traffic 0).heard (items_of s ++ item_of s c ∷ []) (omega (arith, heard, length-map s.traffic.wire (item_of s), length-append (items_of s) (item_of s c ∷ [])))
 
-carried_runs : (r : Settings) (s : State) (seats : List Seat) (q : QueuedFrame) (rest : List QueuedFrame) → Stands r s seats → (seat_at s.traffic 0).heard ≡ length s.traffic.wire → (seat_at s.traffic 0).queue ≡ q ∷ rest → Runs r s (carried_state s q) seats
+carried_runs : (r : Settings) (s : State) (seats : List Seat) (q : QueuedFrame) (rest : List QueuedFrame) → Stands r s seats → (seat_at s.traffic 0).heard ≡ length s.traffic.wire → (seat_at s.traffic 0).queue ≡ q ∷ rest
+    → Step (world_of r s seats) Carry_station (world_of r (carried_state s q) seats) × Stands r (carried_state s q) seats
 carried_runs r s seats q rest stands whole first = (
-    Carry_station,
-    (item_of s (carried_frame 0 q), reverse (map item rest), asked, sym (stands.passed' ∙ ap reverse (take_all (seat_at s.traffic 0).heard (items_of s) (omega (arith, length-map s.traffic.wire (item_of s))))), world),
-    carried_stands r s seats q rest stands whole first
+  (item_of s (carried_frame 0 q), reverse (map item rest), asked, sym (stands.passed' ∙ ap reverse (take_all (seat_at s.traffic 0).heard (items_of s) (omega (arith, length-map s.traffic.wire (item_of s))))), world),
+  carried_stands r s seats q rest stands whole first,
 )
   where
     item : QueuedFrame → Item
@@ -199,8 +199,10 @@ carried_runs r s seats q rest stands whole first = (
         ∙ ap (λ (l : List Item). record (world_of r s seats) { wire = l; asked = reverse (map item rest); path = Own (item_of s (carried_frame 0 q)) ∷ s.path }) (reverse-append (items_of s) (item_of s (carried_frame 0 q) ∷ []))
 
 -- a carry of the station is a step of the machine
-pub carry_station_runs : (r : Settings) (s : State) (seats : List Seat) → Stands r s seats → Fits s (Carry 0) → Runs r s (after (Carry 0) s) seats
+pub carry_station_runs : (r : Settings) (s : State) (seats : List Seat) (q : QueuedFrame) → Stands r s seats → IsNext s.traffic 0 q
+    → Step (world_of r s seats) Carry_station (world_of r (after (Carry 0) s) seats) × Stands r (after (Carry 0) s) seats
 unfolding after_carry_of
-carry_station_runs r s seats stands fits =
-    let o = offered_first (seat_at s.traffic 0).live (seat_at s.traffic 0).heard (length s.traffic.wire) (seat_at s.traffic 0).queue fits.0 fits.1.offers in
-    subst (λ (qs : List QueuedFrame). Runs r s (after_carry_of (slice_get qs 0) 0 s) seats) (sym o.1.1) (carried_runs r s seats fits.0 o.1.0 stands o.0 o.1.1)
+carry_station_runs r s seats q stands next =
+    let o = offered_first (seat_at s.traffic 0).live (seat_at s.traffic 0).heard (length s.traffic.wire) (seat_at s.traffic 0).queue q next.offers in
+    subst (λ (qs : List QueuedFrame). Step (world_of r s seats) Carry_station (world_of r (after_carry_of (slice_get qs 0) 0 s) seats) × Stands r (after_carry_of (slice_get qs 0) 0 s) seats)
+    (sym o.1.1) (carried_runs r s seats q o.1.0 stands o.0 o.1.1)

@@ -1,6 +1,6 @@
 -- What a change of the station's own seat leaves as it was.
-use Rattle.std.proofs.Common.{ℕ, suc, zero, ◌≡◌, ◌+◌, ◌<◌, ◌≤◌, List, [], ◌∷◌, ◌++◌, map, reverse, take, length, get_or, set, Bool, true, false, if◌then◌else◌, append_assoc, append-nil, refl, sym, ap, ◌∙◌, subst, arith}
-use Rattle.std.proofs.lemmas.List.{length-set, get_or-set_same, get_or-set_other, reverse-append, map-append}
+use Rattle.std.proofs.Common.{ℕ, suc, zero, ◌≡◌, ◌<◌, ◌≤◌, List, [], ◌∷◌, ◌++◌, map, reverse, take, length, get_or, set, Bool, true, false, if◌then◌else◌, append_assoc, append-nil, refl, sym, ap, ◌∙◌, subst}
+use Rattle.std.proofs.lemmas.List.{length-set, get_or-set_same, reverse-append, map-append}
 use Rattle.can_frame.specs.FrameValue.{FrameValue}
 use Rattle.bus_ledger.specs.BusValue.{SeatValue, Traffic, nobody, seat_at}
 use Rattle.bus_ledger.specs.Changes.{with_seat, queued, queueing, heard_more, hearing, withdrawn, withdrawing}
@@ -12,8 +12,8 @@ use Rattle.bus_model.specs.Expected.{passed}
 use Rattle.bus_model.specs.Machine.{Seat, all_plain, plain}
 use Rattle.journal.specs.State.{Settings, State, UnitState, new_unit}
 use Rattle.journal.specs.Steps.{item_of, put_all, untagged}
-use Rattle.journal.specs.Worlds.{items_of, queued_item, queue_of}
-use Rattle.journal.proofs.Seated.{AreKnown, IsSeat, Stands, no_seat}
+use Rattle.journal.specs.Worlds.{items_of, queued_item}
+use Rattle.journal.proofs.Seated.{AreKnown, IsSeat, Stands}
 use Rattle.journal.proofs.Growth.{SameNames, items_same, known_push}
 
 -- ---- the bus

@@ -1,5 +1,5 @@
 -- A reading of the station is the machine's.
-use Rattle.std.proofs.Common.{ℕ, suc, zero, ◌≡◌, ◌≢◌, ◌+◌, ◌-◌, ◌<◌, ◌≤◌, List, [], ◌∷◌, ◌++◌, map, reverse, take, drop, length, Bool, true, false, Option, Some, None, if◌then◌else◌, append_assoc, append-nil, take-append-drop, take-add, length-drop, refl, sym, ap, ap₂, ◌∙◌, subst, subst₂, arith}
+use Rattle.std.proofs.Common.{ℕ, ◌≡◌, ◌+◌, ◌<◌, ◌≤◌, List, [], ◌∷◌, ◌++◌, map, reverse, take, drop, length, Bool, true, false, Option, if◌then◌else◌, append_assoc, append-nil, take-append-drop, take-add, length-drop, refl, sym, ap, ap₂, ◌∙◌, subst, subst₂, arith}
 use Rattle.std.proofs.lemmas.List.{length-map, length-reverse, length-take-le, reverse-append, map-append, drop-map, take-map}
 use Rattle.can_frame.specs.FrameValue.{FrameValue}
 use Rattle.can_frame.specs.declared.reading.Reading.{Reading}
@@ -7,32 +7,30 @@ use Rattle.can_frame.specs.declared.reading.Reading.TheVariants as reading
 use Rattle.address_claim.specs.Claiming.{ClaimerValue}
 use Rattle.parameter_group.specs.Group.{group_of}
 use Rattle.bus_ledger.specs.BusValue.{SeatValue, Traffic, seat_at}
-use Rattle.bus_ledger.specs.Changes.{heard_more, hearing, withdrawn}
+use Rattle.bus_ledger.specs.Changes.{hearing, withdrawn}
 use Rattle.bus_ledger.specs.Reception.{unread, passes, after_reading as taken}
 use Rattle.bus_ledger.specs.declared.traffic.CarriedFrame.{CarriedFrame}
 use Rattle.bus_ledger.specs.declared.traffic.QueuedFrame.{QueuedFrame}
 use Rattle.bus_ledger.specs.declared.traffic.Which.TheVariants as which
 use Rattle.bus_model.specs.Messages.{Message}
 use Rattle.bus_model.specs.Traffic.{Item}
-use Rattle.bus_model.specs.Heard.{Settings as Station, address_heard, claimer_heard, claimer_after, is_contest}
+use Rattle.bus_model.specs.Heard.{Settings as Station, address_heard, claimer_after, is_contest}
 use Rattle.bus_model.specs.Expected.{Reception, Received, Missed, passed, readings}
-use Rattle.bus_model.specs.Machine.{CanAsk, CanHold, IsFit, Seat, Step, World, all_plain, claim_alone, plain, AllMaySend, received, missed}
+use Rattle.bus_model.specs.Machine.{CanHold, IsFit, Seat, Step, World, all_plain, claim_alone, AllMaySend}
 use Rattle.bus_model.specs.Machine.{Event as MachineEvent, Miss, Read as Reads}
 use Rattle.bus_model.proofs.Bridge.{address_gap, address_hold, claimer_name}
-use Rattle.station_table.specs.StationValue.{StationValue}
 use Rattle.station_table.specs.Reactions.{reaction, group_reaction}
-use Rattle.station_table.specs.Steps.{after_reading}
 use Rattle.station_table.specs.declared.reaction.Reaction.{Reaction}
 use Rattle.station_table.proofs.Stands.{sender_below}
 use Rattle.journal.specs.State.{Settings, State}
-use Rattle.journal.specs.Steps.{after, after_read, item_of, path_after, put_all, reacted, untagged}
+use Rattle.journal.specs.Steps.{after, after_read, item_of, path_after, reacted, untagged}
 use Rattle.journal.specs.Fits.{Fits}
 use Rattle.journal.specs.Worlds.{items_of, queued_item, queue_of, station_of, world_of}
 use Rattle.journal.specs.declared.event.Event.TheVariants.{Read}
 use Rattle.journal.proofs.Seated.{AreKnown, Stands}
 use Rattle.journal.proofs.Station.{AtStation, Next, One, Over, next_is}
 use Rattle.journal.proofs.OwnSeat.{OwnChange, items_own, kept_if, known_if, known_put, own_heard, own_put, own_then, own_withdrawn_if, plain_append, put_heard, put_queue, queue_put, set_at, stands_own, withdrawn_heard, withdrawn_queue}
-use Rattle.journal.proofs.Reacting.{Answers, claims_of, gap_answers, group_answers}
+use Rattle.journal.proofs.StationAnswers.{Answers, claims_of, gap_answers, group_answers}
 
 -- ---- what the station withdraws and queues
 
@@ -210,9 +208,9 @@ Runs r s t seats = (event : MachineEvent) × Step (world_of r s seats) event (wo
 
 frame_runs : (r : Settings) (s : State) (seats : List Seat) (c : CarriedFrame) (cs : List CarriedFrame) → unread s.traffic ≡ c ∷ cs → IsFit (station_of r) → Stands r s seats → AtStation r s → Runs r s (after_read (reading.Frame c.frame) s) seats
 frame_runs r s seats c cs e fit stands at = (
-    Reads a.frames,
-    (item_of s c, p.ahead, p.wire, a.may, read_world r s seats (reading.Frame c.frame) (Received (item_of s c) ∷ s.path) _ _ a stands path),
-    read_stands r s seats (reading.Frame c.frame) (item_of s c ∷ []) stands p (ap passed path)
+  Reads a.frames,
+  (item_of s c, p.ahead, p.wire, a.may, read_world r s seats (reading.Frame c.frame) (Received (item_of s c) ∷ s.path) _ _ a stands path),
+  read_stands r s seats (reading.Frame c.frame) (item_of s c ∷ []) stands p (ap passed path),
 )
   where
     a : Answers (reaction s.station (reading.Frame c.frame)) r.name (is_contest r.name (address_heard (station_of r) (readings s.path)) (group_of c.frame)) (address_heard (station_of r) (reading.Frame c.frame ∷ readings s.path))
@@ -226,9 +224,9 @@ frame_runs r s seats c cs e fit stands at = (
 
 gap_runs : (r : Settings) (s : State) (seats : List Seat) (n : ℕ) → n ≤ length (unread s.traffic) → IsFit (station_of r) → Stands r s seats → AtStation r s → Runs r s (after_read (reading.Gap n) s) seats
 gap_runs r s seats n l fit stands at = (
-    Miss n a.frames,
-    (es, p.ahead, long, p.wire, may, read_world r s seats (reading.Gap n) (Missed es ∷ s.path) true _ a stands refl),
-    read_stands r s seats (reading.Gap n) es stands p refl
+  Miss n a.frames,
+  (es, p.ahead, long, p.wire, may, read_world r s seats (reading.Gap n) (Missed es ∷ s.path) true _ a stands refl),
+  read_stands r s seats (reading.Gap n) es stands p refl,
 )
   where
     es : List Item

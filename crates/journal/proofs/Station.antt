@@ -1,7 +1,6 @@
 -- The station's tables stand for what it read.
-use Rattle.std.proofs.Common.{ℕ, suc, zero, ◌≡◌, ◌≢◌, ◌+◌, ◌-◌, ◌<◌, ◌≤◌, ◌==◌, List, [], ◌∷◌, ◌++◌, map, reverse, take, drop, length, Bool, true, false, Option, Some, None, if◌then◌else◌, slice_get, refl, sym, ap, ◌∙◌, subst, arith}
+use Rattle.std.proofs.Common.{ℕ, ◌≡◌, ◌≢◌, ◌≤◌, ◌==◌, List, [], ◌∷◌, reverse, take, length, Bool, true, false, Option, Some, None, if◌then◌else◌, refl, sym, ap, ◌∙◌, subst, arith}
 use Rattle.std.specs.Prelude.{nat_lt}
-use Rattle.std.specs.Option.{option_map}
 use Rattle.std.proofs.lemmas.Bool.{ne_eqb}
 use Rattle.std.proofs.lemmas.List.{length-map, length-reverse, length-take-le}
 use Rattle.can_frame.specs.FrameValue.{FrameValue}
@@ -14,7 +13,7 @@ use Rattle.bus_ledger.specs.declared.traffic.QueuedFrame.{QueuedFrame}
 use Rattle.bus_ledger.specs.Changes.{carried_frame}
 use Rattle.bus_model.specs.Traffic.{Item}
 use Rattle.bus_model.specs.Expected.{Own, readings}
-use Rattle.bus_model.specs.Machine.{IsFit, Seat}
+use Rattle.bus_model.specs.Machine.{IsFit}
 use Rattle.dm_messages.specs.declared.kind.Kind.TheVariants.{Dm1}
 use Rattle.node_core.specs.Beginning.{begins}
 use Rattle.node_core.specs.declared.heard.Started.{Started}
@@ -31,7 +30,6 @@ use Rattle.journal.specs.Fits.{Fits}
 use Rattle.journal.specs.Worlds.{station_of}
 use Rattle.journal.specs.declared.event.Event.{Event}
 use Rattle.journal.specs.declared.event.Event.TheVariants.{Join, Hear, Begin, Turned, Carry, Read, Ordered, Leave}
-use Rattle.journal.proofs.Seated.{Stands}
 
 -- the station's tables say what it read
 abbrev pub AtStation : Settings → State → Type 0
@@ -52,11 +50,11 @@ same_at r s t same at =
     subst (λ (v : StationValue). StandsFor (station_of r) r.grant v (readings t.path)) (sym same.station)
     (subst (λ (h : List Reading). StandsFor (station_of r) r.grant s.station h) (sym same.readings') at)
 
-join_same : (name address : ℕ) (s : State) → SameStation s (after_join name address s)
+pub join_same : (name address : ℕ) (s : State) → SameStation s (after_join name address s)
 unfolding after_join
 join_same name address s = record { station = refl; readings' = refl }
 
-hear_same : (o : Option FrameValue) (k : ℕ) (memory : MemoryValue) (agreed : Bool) (s : State) → SameStation s (after_hear_of o k memory agreed s)
+pub hear_same : (o : Option FrameValue) (k : ℕ) (memory : MemoryValue) (agreed : Bool) (s : State) → SameStation s (after_hear_of o k memory agreed s)
 unfolding after_hear_of
 hear_same None k memory agreed s = record { station = refl; readings' = refl }
 hear_same (Some f) k memory agreed s = record { station = refl; readings' = refl }
@@ -65,12 +63,12 @@ starting_same : (k : ℕ) (memory : MemoryValue) (b : Started) (s : State) → S
 starting_same k memory started.Held s = record { station = refl; readings' = refl }
 starting_same k memory (started.Begun b put) s = record { station = refl; readings' = refl }
 
-begin_same : (o : Option ℕ) (k : ℕ) (memory : MemoryValue) (s : State) → SameStation s (after_begin_of o k memory s)
+pub begin_same : (o : Option ℕ) (k : ℕ) (memory : MemoryValue) (s : State) → SameStation s (after_begin_of o k memory s)
 unfolding after_begin_of
 begin_same None k memory s = record { station = refl; readings' = refl }
 begin_same (Some source) k memory s = starting_same k memory (begins (unit_at s k).node.session Dm1 memory source) s
 
-carry_same : (o : Option QueuedFrame) (k : ℕ) (s : State) → SameStation s (after_carry_of o k s)
+pub carry_same : (o : Option QueuedFrame) (k : ℕ) (s : State) → SameStation s (after_carry_of o k s)
 unfolding after_carry_of
 carry_same None k s = record { station = refl; readings' = refl }
 carry_same (Some q) k s = record { station = refl; readings' = own (k == 0) (item_of s (carried_frame k q)) }
@@ -79,12 +77,12 @@ carry_same (Some q) k s = record { station = refl; readings' = own (k == 0) (ite
     own true p = refl
     own false p = refl
 
-order_same : (o : Option Reaction) (s : State) → SameStation s (after_order_of o s)
+pub order_same : (o : Option Reaction) (s : State) → SameStation s (after_order_of o s)
 unfolding after_order_of
 order_same None s = record { station = refl; readings' = refl }
 order_same (Some r) s = record { station = refl; readings' = refl }
 
-leave_same : (k : ℕ) (s : State) → SameStation s (after_leave k s)
+pub leave_same : (k : ℕ) (s : State) → SameStation s (after_leave k s)
 unfolding after_leave
 leave_same k s = record { station = refl; readings' = refl }
 

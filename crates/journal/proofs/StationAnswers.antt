@@ -1,8 +1,8 @@
 -- What the station withdraws and queues is what the law's machine allows.
-use Rattle.std.proofs.Common.{ℕ, suc, zero, ◌≡◌, ◌≢◌, ◌+◌, ◌-◌, ◌%◌, ◌<◌, ◌≤◌, ◌^◌, ◌==◌, ◌&&◌, ◌||◌, not, min, nat_lt, nat_eq, List, [], ◌∷◌, ◌++◌, length, reverse, Bool, true, false, Option, Some, None, if◌then◌else◌, refl, sym, ap, ◌∙◌, subst, arith, append-nil}
+use Rattle.std.proofs.Common.{ℕ, ◌≡◌, ◌+◌, ◌-◌, ◌%◌, ◌<◌, ◌≤◌, ◌^◌, ◌==◌, ◌&&◌, ◌||◌, not, min, nat_lt, List, [], ◌∷◌, ◌++◌, length, reverse, Bool, true, false, Option, Some, None, if◌then◌else◌, refl, sym, subst, arith, append-nil}
 use Rattle.can_frame.specs.FrameValue.{FrameValue}
 use Rattle.address_claim.specs.Claiming.{ClaimerValue, is_held, claim_step, after_claim, held_after, move_step, next_address, noted_after}
-use Rattle.address_claim.specs.Frames.{claim_frame_value, claim_source}
+use Rattle.address_claim.specs.Frames.{claim_frame_value}
 use Rattle.address_claim.specs.declared.claimer.ClaimStep.TheVariants.{Nothing, Defend}
 use Rattle.requests.specs.Layouts.{ack_frame_value, commanded_bytes}
 use Rattle.transport.specs.Messages.{control_frame, frames_of_message, packet_frame}

@@ -1,5 +1,5 @@
 -- What the station is told to send is what the journal says of it, and is at most three frames.
-use Rattle.std.proofs.Common.{ℕ, suc, zero, ◌≡◌, ◌+◌, ◌≤◌, List, [], ◌∷◌, ◌++◌, length, Option, Some, None, Result, Ok, Err, nat_lt, true, false, Bool, cond, refl, sym, ap, map, if◌then◌else◌, ◌∙◌, arith}
+use Rattle.std.proofs.Common.{ℕ, suc, zero, ◌≡◌, ◌≢◌, ◌⊎◌, inl, inr, ◌↔◌, IfErr, ◌+◌, ◌≤◌, List, [], ◌∷◌, length, Option, Some, None, Result, Ok, Err, nat_lt, true, false, Bool, cond, refl, sym, ap, subst, map, if◌then◌else◌, ◌∙◌, arith}
 use Rattle.can_frame.specs.FrameValue.{FrameValue}
 use Rattle.requests.specs.Layouts.{commanded_bytes}
 use Rattle.transport.specs.Messages.{parts_from, frames_of_message, last_part}
@@ -21,11 +21,16 @@ use Rattle.bus_ledger.specs.declared.traffic.Which.TheVariants as which
 use Rattle.std.proofs.lemmas.List.{length-map}
 use Rattle.journal.specs.State.{State}
 use Rattle.journal.specs.Steps.{after, after_order_of, reacted, untagged}
-use Rattle.journal.specs.Journal.{joins}
+use Rattle.journal.specs.Journal.{GarageValue, joins, state_of}
 use Rattle.journal.specs.declared.event.Event.{Event}
 use Rattle.journal.specs.declared.event.Event.TheVariants.{Ordered}
 use Rattle.journal.specs.declared.order.Order.{Order}
+use Rattle.garage.specs.Inside.{view_of, Stands}
 use Rattle.garage.specs.Obeying.{Obeys}
+use Rattle.garage.specs.declared.garage.Garage.TheInside.{Inside}
+use Rattle.garage.specs.Refusals.{of_station}
+use Rattle.garage.specs.declared.error.GarageError.{GarageError}
+use Rattle.station_table.specs.declared.error.StationError.TheVariants as station
 use Rattle.garage.proofs.Traffics.{given, keeps_withdrawn_if, put_bound, put_seats, put_units, put_wire}
 
 same_address : (owners : List (Option ℕ)) (name : ℕ) (kept : Option KeptValue) → address_in (row_of owners name kept) ≡ address_of_kept owners name kept
@@ -83,6 +88,35 @@ unfolding obeyed
 obeys_command s name address r e =
     let a = commanded_as s.claimer.held name address r (within (nat_lt 253 address) _ _ r e) in
     record { queues = a.0; few = a.1 }
+
+-- a refusal of the station that is not for want of memory is the one that is told
+answered_as : (answer told : Result Reaction StationError) (e : StationError) → e ≢ station.OutOfMemory → IfErr answer (λ s. (s ≡ station.OutOfMemory) ⊎ (told ≡ Err s)) → answer ≡ Err e → told ≡ Err e
+answered_as (Ok r) told e other why is = absurd cc
+answered_as (Err s) told e other why is =
+    let same : s ≡ e = cc in
+    elim why [
+      | inl m ↦ absurd (other (sym same ∙ m))
+      | inr t ↦ t ∙ is
+    ]
+
+-- so the garage refuses as the station would, which is the journal's
+pub refused_as : {T : Type 0} (a : Inside) (g : GarageValue) → Stands a → view_of a ≡ g
+    → (result : Result T GarageError) (answer : Result Reaction StationError) (told : StationValue → Result Reaction StationError) (e : StationError) → e ≢ station.OutOfMemory
+    → ((s : StationError) → told a.station ≡ Err s → answer ≡ Err s) → IfErr answer (λ s. (s ≡ station.OutOfMemory) ⊎ (told a.station ≡ Err s))
+    → ((result ≡ Err (of_station e)) ↔ (answer ≡ Err e)) → ((result ≡ Err (of_station e)) ↔ (told (state_of g).station ≡ Err e))
+refused_as a g stands is result answer told e other refused why both =
+    let same : a.station ≡ (state_of g).station = stands.station ∙ ap (λ (v : GarageValue). (state_of v).station) is in
+    subst (λ (s : StationValue). (result ≡ Err (of_station e)) ↔ (told s ≡ Err e)) same
+    (λ r. answered_as answer (told a.station) e other why (both.0 r), λ t. both.1 (refused e t))
+
+pub not_held : station.NotHeld ≢ station.OutOfMemory
+not_held e = absurd cc
+
+pub no_address : station.NoAddress ≢ station.OutOfMemory
+no_address e = absurd cc
+
+pub not_an_address : station.NotAnAddress ≢ station.OutOfMemory
+not_an_address e = absurd cc
 
 -- what the state becomes
 pub ordered_is : (o : Order) (s : State) (r : Reaction) → obeyed s.station o ≡ Some r → after (Ordered o) s ≡ record s { traffic = reacted r s.traffic }

@@ -1,4 +1,4 @@
-use Rattle.std.specs.Prelude.{ℕ}
+use Rattle.std.specs.Prelude.{ℕ, ◌≡◌, ◌⊎◌}
 use Rattle.garage.specs.declared.error.GarageError.{GarageError}
 use Rattle.garage.specs.declared.error.GarageError.TheVariants.{OutOfMemory, NotAnAddress, NameInUse, TooManySeats, BookFull, NoAddress, NotHeld, BadSetting, Stranger, Unclaimed}
 use Rattle.bus_ledger.specs.declared.error.BusError.{BusError}
@@ -38,3 +38,7 @@ of_station station.OutOfMemory = OutOfMemory
 of_station station.NotAnAddress = NotAnAddress
 of_station station.NoAddress = NoAddress
 of_station station.NotHeld = NotHeld
+
+-- what a join may be refused with
+abbrev pub IsJoinRefusal : GarageError → Type 0
+IsJoinRefusal e = (e ≡ NameInUse) ⊎ (e ≡ TooManySeats) ⊎ (e ≡ BookFull) ⊎ (e ≡ OutOfMemory)

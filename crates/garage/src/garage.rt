@@ -54,8 +54,9 @@ impl Model for Garage {
 }
 
 impl Garage {
-    ghost use Rattle.std.specs.Prelude.{◌≡◌, ℕ, ◌<◌, ◌≤◌, ◌⊎◌, ◌^◌, length, slice_get, IfOk, IfErr, OnErr, Some};
+    ghost use Rattle.std.specs.Prelude.{◌≡◌, ℕ, ◌<◌, ◌≤◌, ◌⊎◌, ◌^◌, ◌↔◌, length, slice_get, IfOk, IfErr, IsErrOf, OnErr, Ok, Some};
     ghost use Rattle.std.specs.Option.{option_map};
+    ghost use Rattle.bus_ledger.specs.Carrying.{IsIdle, IsWaiting};
     ghost use Rattle.bus_ledger.specs.Ledger.{counts_of};
     ghost use Rattle.bus_ledger.specs.Joining.{live_units};
     ghost use Rattle.bus_ledger.specs.Reception.{next_reading};
@@ -63,12 +64,17 @@ impl Garage {
     ghost use Rattle.journal.specs.Journal.{state_of, tally_of, Adds};
     ghost use Rattle.journal.specs.declared.event.Event.TheVariants.{Carry, Read};
     ghost use Rattle.garage.specs.Carrying.{Carries};
+    ghost use Rattle.garage.specs.Causes.{CanCarry};
+    ghost use Rattle.garage.specs.Room.{IsFull};
 
     /// Carries one frame; nothing changes where the answer is `Idle` or `Waiting`.
     ///
     /// Refused, where a frame could be carried, where the journal has no room, then where there is no memory; then nothing changed.
     pub fn carry(&mut self) -> Result<Carried, GarageError>
         ensures ok { IfOk result (λ c. Carries self.old c self.new) }
+        ensures idle { (result ≡ Ok Carried.Idle) ↔ IsIdle (state_of self.old).traffic }
+        ensures waiting { (result ≡ Ok Carried.Waiting) ↔ IsWaiting (state_of self.old).traffic }
+        ensures full { IsErrOf result GarageError.BookFull ↔ (CanCarry (state_of self.old).traffic × IsFull self.old) }
         ensures err { IfErr result (λ e. (self.new ≡ self.old) × ((e ≡ GarageError.BookFull) ⊎ (e ≡ GarageError.OutOfMemory))) }
     {
         let next = self.bus.carry_peek();

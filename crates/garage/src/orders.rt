@@ -1,4 +1,4 @@
-ghost use Rattle.std.specs.Prelude.{◌≡◌, ◌≢◌, ◌≤◌, ◌⊎◌, length, Result, Some, IfOk, OnOk, OnErr, IfErr};
+ghost use Rattle.std.specs.Prelude.{◌≡◌, ◌≢◌, ◌≤◌, ◌⊎◌, ◌↔◌, length, Result, Some, Err, IfOk, IsOk, IsErrOf, IsOkUnless, OnOk, OnErr, IfErr};
 ghost use Rattle.station_table.specs.declared.error.StationError.{StationError as AnyRefusal};
 ghost use Rattle.station_table.specs.Orders.{ask_answer, ask_all_answer, command_answer};
 ghost use Rattle.journal.specs.declared.order.Order.TheVariants as order;
@@ -20,7 +20,9 @@ impl Garage {
     ghost use Rattle.journal.specs.Journal.{state_of, Adds};
     ghost use Rattle.journal.specs.Steps.{obeyed};
     ghost use Rattle.journal.specs.declared.event.Event.TheVariants.{Ordered};
+    ghost use Rattle.station_table.specs.declared.error.StationError.TheVariants as station;
     ghost use Rattle.garage.specs.Obeying.{Obeys};
+    ghost use Rattle.garage.specs.Room.{IsFull};
 
     /// Has the station ask the unit of a NAME.
     ///
@@ -29,7 +31,10 @@ impl Garage {
     #[tactic(auto, using(crate::proofs::OrderLemmas::obeys_ask))]
     pub fn ask(&mut self, alloc: Global, name: Name, ask: Ask) -> Result<(), GarageError>
         ensures ok { OnOk result (Adds self.old (Ordered (order.Ask name ask)) self.new) }
-        ensures refused { (e : AnyRefusal) → ask_answer (state_of self.old).station name ask ≡ Err e → result ≡ Err (of_station e) }
+        ensures not_held { IsErrOf result GarageError.NotHeld ↔ (ask_answer (state_of self.old).station name ask ≡ Err station.NotHeld) }
+        ensures no_address { IsErrOf result GarageError.NoAddress ↔ (ask_answer (state_of self.old).station name ask ≡ Err station.NoAddress) }
+        ensures full { IsErrOf result GarageError.BookFull ↔ (IsOk (ask_answer (state_of self.old).station name ask) × IsFull self.old) }
+        ensures only { IfErr result (λ e. (e ≡ GarageError.NotHeld) ⊎ (e ≡ GarageError.NoAddress) ⊎ (e ≡ GarageError.BookFull) ⊎ (e ≡ GarageError.OutOfMemory)) }
         ensures err { OnErr result (self.new ≡ self.old) }
     {
         let order = to_ask(name, &ask);
@@ -43,7 +48,9 @@ impl Garage {
     #[tactic(auto, using(crate::proofs::OrderLemmas::obeys_ask_all))]
     pub fn ask_all(&mut self, alloc: Global, ask: Ask) -> Result<(), GarageError>
         ensures ok { OnOk result (Adds self.old (Ordered (order.AskAll ask)) self.new) }
-        ensures refused { (e : AnyRefusal) → ask_all_answer (state_of self.old).station ask ≡ Err e → result ≡ Err (of_station e) }
+        ensures not_held { IsErrOf result GarageError.NotHeld ↔ (ask_all_answer (state_of self.old).station ask ≡ Err station.NotHeld) }
+        ensures full { IsErrOf result GarageError.BookFull ↔ (IsOk (ask_all_answer (state_of self.old).station ask) × IsFull self.old) }
+        ensures only { IfErr result (λ e. (e ≡ GarageError.NotHeld) ⊎ (e ≡ GarageError.BookFull) ⊎ (e ≡ GarageError.OutOfMemory)) }
         ensures err { OnErr result (self.new ≡ self.old) }
     {
         let order = to_ask_all(&ask);
@@ -58,7 +65,10 @@ impl Garage {
     #[tactic(auto, using(crate::proofs::OrderLemmas::obeys_command))]
     pub fn command(&mut self, alloc: Global, name: Name, address: u8) -> Result<(), GarageError>
         ensures ok { OnOk result (Adds self.old (Ordered (order.Command name address)) self.new) }
-        ensures refused { (e : AnyRefusal) → command_answer (state_of self.old).station name address ≡ Err e → result ≡ Err (of_station e) }
+        ensures not_an_address { IsErrOf result GarageError.NotAnAddress ↔ (command_answer (state_of self.old).station name address ≡ Err station.NotAnAddress) }
+        ensures not_held { IsErrOf result GarageError.NotHeld ↔ (command_answer (state_of self.old).station name address ≡ Err station.NotHeld) }
+        ensures full { IsErrOf result GarageError.BookFull ↔ (IsOk (command_answer (state_of self.old).station name address) × IsFull self.old) }
+        ensures only { IfErr result (λ e. (e ≡ GarageError.NotAnAddress) ⊎ (e ≡ GarageError.NotHeld) ⊎ (e ≡ GarageError.BookFull) ⊎ (e ≡ GarageError.OutOfMemory)) }
         ensures err { OnErr result (self.new ≡ self.old) }
     {
         let order = Order::Command { name, address };
@@ -74,7 +84,9 @@ impl Garage {
     ) -> Result<(), GarageError>
         requires { IfOk answer (Obeys (state_of self.old).station order) }
         ensures ok { OnOk result (Adds self.old (Ordered order) self.new) }
-        ensures refused { (e : AnyRefusal) → answer ≡ Err e → e ≢ StationError.OutOfMemory → result ≡ Err (of_station e) }
+        ensures refused { (e : AnyRefusal) → e ≢ StationError.OutOfMemory → ((result ≡ Err (of_station e)) ↔ (answer ≡ Err e)) }
+        ensures full { IsErrOf result GarageError.BookFull ↔ (IsOkUnless answer StationError.OutOfMemory × IsFull self.old) }
+        ensures only { IfErr result (λ e. (e ≡ GarageError.BookFull) ⊎ (e ≡ GarageError.OutOfMemory) ⊎ ((s : AnyRefusal) × (answer ≡ Err s) × (e ≡ of_station s))) }
         ensures err { OnErr result (self.new ≡ self.old) }
     {
         let reaction = match answer {

@@ -1,10 +1,17 @@
-ghost use Rattle.std.specs.Prelude.{◌≡◌, ◌≤◌, ◌+◌, ◌↔◌, ◌⊎◌, IfOk, IfErr, IsErr, IsTrue, OnErr, OnOk, length};
+ghost use Rattle.std.specs.Prelude.{◌≡◌, ◌<◌, ◌≤◌, ◌+◌, ◌↔◌, ◌⊎◌, false, true, IfOk, IfErr, IsErr, IsErrOf, IsNone, IsSome, IsTrue, None, OnErr, OnOk, Some, length};
 ghost use Rattle.std.specs.Borrow.{sem, RestsIfErr};
 ghost use Rattle.bus_ledger.specs.BusValue.{IsUnit};
-ghost use Rattle.fault_memory.specs.Changes.{changed};
+ghost use Rattle.bus_ledger.specs.Joining.{join_refusal};
+ghost use Rattle.bus_ledger.specs.declared.error.BusError.TheVariants as bus;
+ghost use Rattle.fault_memory.specs.Changes.{changed, Grows};
+ghost use Rattle.fault_memory.specs.declared.error.FaultError.{FaultError as AnyFault};
 ghost use Rattle.journal.specs.Journal.{state_of, tally_of, Adds, IsSeated};
 ghost use Rattle.journal.specs.declared.event.Event.TheVariants.{Join, Turned, Leave};
+ghost use Rattle.journal.specs.Steps.{next_for};
 ghost use Rattle.garage.specs.Answers.{Hears, Begins};
+ghost use Rattle.garage.specs.Causes.{held_at, has_open_dm1};
+ghost use Rattle.garage.specs.Refusals.{IsJoinRefusal};
+ghost use Rattle.garage.specs.Room.{IsFull, IsFullForJoin};
 ghost use Rattle.garage.specs.contracts.garage.Garage.{the_row};
 
 use crate::error::GarageError;
@@ -83,7 +90,8 @@ impl Parked {
         ensures seat { self.new.seat ≡ self.old.seat }
         ensures events { self.new.events ≡ self.old.events }
         ensures ok { OnOk result (changed (memory_of self.old.unit) change ≡ Ok (memory_of self.new.unit)) }
-        ensures refused { IfErr result (λ e. (e ≡ FaultError.OutOfMemory) ⊎ (changed (memory_of self.old.unit) change ≡ Err e)) }
+        ensures refused { (e : AnyFault) → changed (memory_of self.old.unit) change ≡ Err e → result ≡ Err e }
+        ensures why { IfErr result (λ e. ((e ≡ FaultError.OutOfMemory) × Grows (changed (memory_of self.old.unit) change) (memory_of self.old.unit)) ⊎ (changed (memory_of self.old.unit) change ≡ Err e)) }
         ensures err { OnErr result (memory_of self.new.unit ≡ memory_of self.old.unit) }
     {
         self.unit.apply(change)
@@ -103,6 +111,11 @@ impl Garage {
     ) -> Result<Parked, (Box<dyn Unit>, GarageError)>
         requires { Unit {0} }
         ensures ok { IfOk result (λ p. Adds self.old (Join (name_of unit) want) self.new × (p.unit ≡ unit) × (p.seat ≡ length (state_of self.old).traffic.seats) × IsSeated self.new p.seat (name_of unit) p.events) }
+        ensures not_an_address { (result ≡ Err (unit, GarageError.NotAnAddress)) ↔ (253 < want) }
+        ensures name_in_use { (result ≡ Err (unit, GarageError.NameInUse)) ↔ ((want ≤ 253) × (join_refusal (name_of unit) (state_of self.old).traffic ≡ Some bus.NameInUse)) }
+        ensures too_many { (result ≡ Err (unit, GarageError.TooManySeats)) ↔ ((want ≤ 253) × (join_refusal (name_of unit) (state_of self.old).traffic ≡ Some bus.TooManySeats)) }
+        ensures full { (result ≡ Err (unit, GarageError.BookFull)) ↔ ((want ≤ 253) × (join_refusal (name_of unit) (state_of self.old).traffic ≡ None) × IsFullForJoin self.old) }
+        ensures only { IfErr result (λ e. (e.1 ≡ GarageError.NotAnAddress) ⊎ IsJoinRefusal e.1) }
         ensures err { IfErr result (λ e. (e.0 ≡ unit) × (self.new ≡ self.old)) }
     {
         if want > 253 {
@@ -185,6 +198,9 @@ impl<'a> Plug<'a> {
         ensures same { self.new.garage.ghost_name ≡ self.old.garage.ghost_name }
         ensures kept { (self.new.seat ≡ self.old.seat) × (self.new.name ≡ self.old.name) × (name_of self.new.unit ≡ name_of self.old.unit) }
         ensures ok { IfOk result (λ h. Hears self.old.garage.now self.old.seat (memory_of self.old.unit) h self.new.garage.now (memory_of self.new.unit)) }
+        ensures nothing { (result ≡ Ok HeardOne.Nothing) ↔ (next_for (state_of self.old.garage.now) self.old.seat ≡ None) }
+        ensures full { IsErrOf result GarageError.BookFull ↔ (IsSome (next_for (state_of self.old.garage.now) self.old.seat) × IsFull self.old.garage.now) }
+        ensures only { IfErr result (λ e. (e ≡ GarageError.BookFull) ⊎ (e ≡ GarageError.OutOfMemory)) }
         ensures err { OnErr result ((self.new.garage.now ≡ self.old.garage.now) × (self.new.events ≡ self.old.events) × (memory_of self.new.unit ≡ memory_of self.old.unit)) }
     {
         let heard = self.garage.hear(alloc, self.seat, &mut *self.unit)?;
@@ -201,6 +217,10 @@ impl<'a> Plug<'a> {
         ensures same { self.new.garage.ghost_name ≡ self.old.garage.ghost_name }
         ensures kept { (self.new.seat ≡ self.old.seat) × (self.new.name ≡ self.old.name) × (self.new.unit ≡ self.old.unit) }
         ensures ok { IfOk result (λ b. Begins self.old.garage.now self.old.seat (memory_of self.old.unit) b self.new.garage.now) }
+        ensures unclaimed { IsErrOf result GarageError.Unclaimed ↔ IsNone (held_at self.old.garage.now self.old.seat) }
+        ensures held { (result ≡ Ok Begin.Held) ↔ (IsSome (held_at self.old.garage.now self.old.seat) × (has_open_dm1 self.old.garage.now self.old.seat ≡ true)) }
+        ensures full { IsErrOf result GarageError.BookFull ↔ (IsSome (held_at self.old.garage.now self.old.seat) × (has_open_dm1 self.old.garage.now self.old.seat ≡ false) × IsFull self.old.garage.now) }
+        ensures only { IfErr result (λ e. (e ≡ GarageError.Unclaimed) ⊎ (e ≡ GarageError.BookFull) ⊎ (e ≡ GarageError.OutOfMemory)) }
         ensures err { OnErr result ((self.new.garage.now ≡ self.old.garage.now) × (self.new.events ≡ self.old.events)) }
     {
         let begin = self.garage.begin(alloc, self.seat, &*self.unit)?;
@@ -216,6 +236,8 @@ impl<'a> Plug<'a> {
         ensures same { self.new.garage.ghost_name ≡ self.old.garage.ghost_name }
         ensures kept { (self.new.seat ≡ self.old.seat) × (self.new.name ≡ self.old.name) × (self.new.unit ≡ self.old.unit) }
         ensures ok { OnOk result (Adds self.old.garage.now (Turned self.old.seat) self.new.garage.now) }
+        ensures full { IsErrOf result GarageError.BookFull ↔ IsFull self.old.garage.now }
+        ensures only { IfErr result (λ e. (e ≡ GarageError.BookFull) ⊎ (e ≡ GarageError.OutOfMemory)) }
         ensures err { OnErr result ((self.new.garage.now ≡ self.old.garage.now) × (self.new.events ≡ self.old.events)) }
     {
         self.garage.turned(self.seat)?;

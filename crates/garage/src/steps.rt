@@ -41,13 +41,18 @@ pub enum Begin {
 }
 
 impl Garage {
-    ghost use Rattle.std.specs.Prelude.{◌≡◌, ℕ, Bool, ◌<◌, ◌≤◌, ◌⊎◌, ◌^◌, length, IfOk, IfErr, OnOk, OnErr, Some, None, option_map, ◌↔◌, IsTrue};
+    ghost use Rattle.std.specs.Prelude.{◌≡◌, ℕ, Bool, ◌<◌, ◌≤◌, ◌⊎◌, ◌^◌, length, IfOk, IfErr, IsErrOf, IsNone, IsSome, Ok, OnOk, OnErr, Some, None, option_map, false, true, ◌↔◌, ◌≢◌, IsTrue};
     ghost use Rattle.bus_ledger.specs.BusValue.{IsUnit};
     ghost use Rattle.bus_ledger.specs.Reception.{next_reading};
     ghost use Rattle.journal.specs.Journal.{state_of, Adds, IsSeated};
     ghost use Rattle.journal.specs.Steps.{next_for};
     ghost use Rattle.journal.specs.declared.event.Event.TheVariants.{Join, Hear, Begin, Turned, Read, Leave};
+    ghost use Rattle.bus_ledger.specs.Joining.{join_refusal};
+    ghost use Rattle.bus_ledger.specs.declared.error.BusError.TheVariants as bus;
     ghost use Rattle.garage.specs.Answers.{Hears, Begins, Reads};
+    ghost use Rattle.garage.specs.Causes.{held_at, has_open_dm1};
+    ghost use Rattle.garage.specs.Refusals.{IsJoinRefusal};
+    ghost use Rattle.garage.specs.Room.{IsFull, IsFullForJoin};
 
     /// Gives the next seat to a unit of this NAME, and queues its claim of the address.
     ///
@@ -56,6 +61,10 @@ impl Garage {
     pub(crate) fn join(&mut self, alloc: Global, name: Name, want: u8) -> Result<u32, GarageError>
         requires { want ≤ 253 }
         ensures ok { IfOk result (λ k. (k ≡ length (state_of self.old).traffic.seats) × Adds self.old (Join name want) self.new × IsSeated self.new k name 1) }
+        ensures name_in_use { IsErrOf result GarageError.NameInUse ↔ (join_refusal name (state_of self.old).traffic ≡ Some bus.NameInUse) }
+        ensures too_many { IsErrOf result GarageError.TooManySeats ↔ (join_refusal name (state_of self.old).traffic ≡ Some bus.TooManySeats) }
+        ensures full { IsErrOf result GarageError.BookFull ↔ ((join_refusal name (state_of self.old).traffic ≡ None) × IsFullForJoin self.old) }
+        ensures only { IfErr result IsJoinRefusal }
         ensures err { OnErr result (self.new ≡ self.old) }
     {
         let _number = name.number();
@@ -97,6 +106,9 @@ impl Garage {
         requires { IsUnit (state_of self.old).traffic seat }
         ensures name { name_of unit.new ≡ name_of unit.old }
         ensures ok { IfOk result (λ h. Hears self.old seat (memory_of unit.old) h self.new (memory_of unit.new)) }
+        ensures nothing { (result ≡ Ok HeardOne.Nothing) ↔ (next_for (state_of self.old) seat ≡ None) }
+        ensures full { IsErrOf result GarageError.BookFull ↔ (IsSome (next_for (state_of self.old) seat) × IsFull self.old) }
+        ensures only { IfErr result (λ e. (e ≡ GarageError.BookFull) ⊎ (e ≡ GarageError.OutOfMemory)) }
         ensures err { OnErr result ((self.new ≡ self.old) × (memory_of unit.new ≡ memory_of unit.old)) }
     {
         let _sound = self.bus.wire_len();
@@ -143,6 +155,10 @@ impl Garage {
     ) -> Result<Begin, GarageError>
         requires { IsUnit (state_of self.old).traffic seat }
         ensures ok { IfOk result (λ b. Begins self.old seat (memory_of unit.now) b self.new) }
+        ensures unclaimed { IsErrOf result GarageError.Unclaimed ↔ IsNone (held_at self.old seat) }
+        ensures held { (result ≡ Ok Begin.Held) ↔ (IsSome (held_at self.old seat) × (has_open_dm1 self.old seat ≡ true)) }
+        ensures full { IsErrOf result GarageError.BookFull ↔ (IsSome (held_at self.old seat) × (has_open_dm1 self.old seat ≡ false) × IsFull self.old) }
+        ensures only { IfErr result (λ e. (e ≡ GarageError.Unclaimed) ⊎ (e ≡ GarageError.BookFull) ⊎ (e ≡ GarageError.OutOfMemory)) }
         ensures err { OnErr result (self.new ≡ self.old) }
     {
         let _sound = self.bus.wire_len();
@@ -184,6 +200,8 @@ impl Garage {
     pub(crate) fn turned(&mut self, seat: u32) -> Result<(), GarageError>
         requires { IsUnit (state_of self.old).traffic seat }
         ensures ok { OnOk result (Adds self.old (Turned seat) self.new) }
+        ensures full { IsErrOf result GarageError.BookFull ↔ IsFull self.old }
+        ensures only { IfErr result (λ e. (e ≡ GarageError.BookFull) ⊎ (e ≡ GarageError.OutOfMemory)) }
         ensures err { OnErr result (self.new ≡ self.old) }
     {
         make_room(&mut self.journal, self.live + 1, self.limit)?;
@@ -213,6 +231,9 @@ impl Garage {
     /// Refused, where there is a reading, where the journal has no room, then where there is no memory; then nothing changed.
     pub fn read(&mut self, alloc: Global) -> Result<Reading, GarageError>
         ensures ok { IfOk result (λ r. Reads self.old r self.new) }
+        ensures empty { (result ≡ Ok Reading.Empty) ↔ (next_reading (state_of self.old).traffic ≡ Reading.Empty) }
+        ensures full { IsErrOf result GarageError.BookFull ↔ ((next_reading (state_of self.old).traffic ≢ Reading.Empty) × IsFull self.old) }
+        ensures only { IfErr result (λ e. (e ≡ GarageError.BookFull) ⊎ (e ≡ GarageError.OutOfMemory)) }
         ensures err { OnErr result (self.new ≡ self.old) }
     {
         let _sound = self.bus.wire_len();

@@ -19,3 +19,6 @@ pub mod Beginning
 pub mod Readings
 pub mod Reaching
 pub mod Headline
+pub mod StationAnswers
+pub mod Reading
+pub mod Ordering

@@ -1,19 +1,18 @@
 -- A frame of a unit that is carried is a step of the law's machine.
-use Rattle.std.proofs.Common.{ℕ, suc, zero, ◌≡◌, ◌≢◌, ◌+◌, ◌-◌, ◌<◌, ◌≤◌, ◌&&◌, ◌==◌, List, [], ◌∷◌, ◌++◌, map, reverse, take, drop, length, get_or, set, slice_get, Bool, true, false, Option, Some, None, if◌then◌else◌, refl, sym, ap, ◌∙◌, subst, arith, ◌⊎◌, inl, inr}
+use Rattle.std.proofs.Common.{ℕ, suc, zero, ◌≡◌, ◌+◌, ◌<◌, ◌&&◌, ◌==◌, List, [], ◌∷◌, ◌++◌, map, reverse, take, drop, length, get_or, set, slice_get, Bool, true, false, Some, None, if◌then◌else◌, refl, sym, ap, ◌∙◌, subst, arith}
 use Rattle.std.proofs.lemmas.Bool.{eqb-true, ne_eqb}
 use Rattle.std.proofs.lemmas.List.{length-set, length_push, length-map, map-append, reverse-append, set-get_or, take_all, take-append-le, get_or-set_same, get_or-set_other}
 use Rattle.bus_ledger.specs.BusValue.{SeatValue, Traffic, IsUnit, nobody, seat_at}
 use Rattle.bus_ledger.specs.Changes.{carried_frame, carried_from, sending}
 use Rattle.bus_ledger.specs.Carrying.{IsNext, offer, offered}
 use Rattle.bus_ledger.specs.declared.traffic.QueuedFrame.{QueuedFrame}
-use Rattle.bus_ledger.specs.declared.traffic.CarriedFrame.{CarriedFrame}
 use Rattle.bus_model.specs.Messages.{Message}
 use Rattle.bus_model.specs.Traffic.{Item}
-use Rattle.bus_model.specs.Machine.{Carry, IsLive, Seat, Step, World}
+use Rattle.bus_model.specs.Machine.{Carry, Seat, Step}
 use Rattle.journal.specs.State.{Settings, State, UnitState, new_unit}
 use Rattle.journal.specs.Steps.{after_carry_of, item_of}
-use Rattle.journal.specs.Worlds.{station_of, items_of, queued_item, queue_of, world_of}
-use Rattle.journal.proofs.Seated.{AreCarried, AreKnown, IsCarried, IsKnown, IsSeat, Stands, no_seat}
+use Rattle.journal.specs.Worlds.{items_of, queued_item, world_of}
+use Rattle.journal.proofs.Seated.{AreKnown, IsKnown, IsSeat, Stands, no_seat}
 use Rattle.journal.proofs.Growth.{carried_push, items_same, seat_carried, seated_set}
 use Rattle.journal.proofs.Changed.{names_changed}
 use Rattle.journal.proofs.Coming.{live_seat, place_within}

@@ -1,17 +1,14 @@
 -- A state in which one unit's seat changed, and perhaps a message began, is the world with that seat changed.
-use Rattle.std.proofs.Common.{ℕ, suc, zero, ◌≡◌, ◌≢◌, ◌+◌, ◌-◌, ◌<◌, ◌≤◌, List, [], ◌∷◌, ◌++◌, map, reverse, take, length, get_or, set, true, refl, sym, ap, ◌∙◌, subst, arith, ◌⊎◌, inl, inr}
+use Rattle.std.proofs.Common.{ℕ, suc, ◌≡◌, ◌<◌, List, ◌∷◌, length, get_or, set, refl, sym, ap, ◌∙◌, subst, arith, inl, inr}
 use Rattle.std.proofs.lemmas.List.{length-set, get_or-set_same, get_or-set_other}
 use Rattle.bus_ledger.specs.BusValue.{SeatValue, nobody, seat_at}
 use Rattle.bus_ledger.specs.Changes.{with_seat}
-use Rattle.bus_model.specs.Expected.{Reception, passed}
 use Rattle.bus_model.specs.Messages.{Message}
-use Rattle.bus_model.specs.Traffic.{Item}
 use Rattle.bus_model.specs.Machine.{Seat, World}
 use Rattle.journal.specs.State.{Settings, State, UnitState, new_unit}
-use Rattle.journal.specs.Steps.{item_of}
-use Rattle.journal.specs.Worlds.{station_of, items_of, queued_item, queue_of, world_of}
-use Rattle.journal.proofs.Seated.{AreCarried, AreKnown, IsSeat, Stands, no_seat}
-use Rattle.journal.proofs.Growth.{SameNames, all_known_still, carried_still, items_same, items_still, queue_still, same_or_not, seat_still, seated_set}
+use Rattle.journal.specs.Worlds.{items_of, world_of}
+use Rattle.journal.proofs.Seated.{IsSeat, Stands, no_seat}
+use Rattle.journal.proofs.Growth.{all_known_still, carried_still, items_same, items_still, queue_still, same_or_not, seat_still, seated_set}
 
 -- unit j with this seat, and this that it keeps, and these messages begun
 abbrev pub changed : State → ℕ → SeatValue → UnitState → List Message → State

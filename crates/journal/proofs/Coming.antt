@@ -1,24 +1,18 @@
 -- A unit that joins, and one that goes, do what the law's machine allows.
-use Rattle.std.proofs.Common.{ℕ, suc, zero, ◌≡◌, ◌≢◌, ◌+◌, ◌-◌, ◌<◌, ◌≤◌, ◌^◌, ◌&&◌, ◌==◌, List, [], ◌∷◌, ◌++◌, map, reverse, take, length, get_or, set, slice_get, Bool, true, false, Option, Some, None, if◌then◌else◌, nat_le, refl, sym, ap, ◌∙◌, subst, arith, ◌⊎◌, inl, inr}
-use Rattle.std.specs.List.{list_any}
-use Rattle.std.proofs.lemmas.Bool.{eqb-true}
-use Rattle.std.proofs.lemmas.List.{length-set, length_push, length-map, get_or_push, get_or_append_left, set_at, set-get_or, take_all}
+use Rattle.std.proofs.Common.{ℕ, suc, ◌≡◌, ◌≢◌, ◌+◌, ◌<◌, ◌≤◌, ◌^◌, ◌&&◌, ◌==◌, List, [], ◌∷◌, ◌++◌, reverse, length, get_or, set, Bool, true, false, Some, None, if◌then◌else◌, nat_le, refl, sym, ap, ◌∙◌, subst, arith, inl, inr}
+use Rattle.std.proofs.lemmas.List.{length_push, length-map, get_or_push, get_or_append_left, set_at, set-get_or, take_all}
 use Rattle.std.proofs.lemmas.List.Folds.{list_any_at}
 use Rattle.std.proofs.lemmas.Option.{slice_get-get_or, slice_get_within, get_or_from_slice_get}
 use Rattle.address_claim.specs.Frames.{claim_frame_value}
 use Rattle.bus_ledger.specs.BusValue.{SeatValue, Traffic, IsUnit, nobody, seat_at}
-use Rattle.bus_ledger.specs.Changes.{joined, leaving, newcomer, queueing}
+use Rattle.bus_ledger.specs.Changes.{leaving, newcomer, queueing}
 use Rattle.bus_ledger.specs.Joining.{is_in_use, join_refusal, live_units}
-use Rattle.bus_ledger.specs.declared.error.BusError.{BusError}
 use Rattle.bus_ledger.specs.declared.error.BusError.TheVariants.{NameInUse, TooManySeats}
-use Rattle.bus_ledger.specs.declared.traffic.QueuedFrame.{QueuedFrame}
-use Rattle.bus_model.specs.Traffic.{Item}
-use Rattle.bus_model.specs.Machine.{IsFree, IsLive, Join, Leave, Seat, Step, World, joined_seat}
-use Rattle.node_core.specs.NodeValue.{new_node}
+use Rattle.bus_model.specs.Machine.{IsFree, IsLive, Join, Leave, Seat, Step, joined_seat}
 use Rattle.journal.specs.State.{Settings, State, UnitState, new_unit}
 use Rattle.journal.specs.Steps.{after_join, after_leave, item_of, untagged}
-use Rattle.journal.specs.Worlds.{station_of, items_of, queued_item, queue_of, world_of}
-use Rattle.journal.proofs.Seated.{AreCarried, AreKnown, IsSeat, Stands, no_seat}
+use Rattle.journal.specs.Worlds.{items_of, world_of}
+use Rattle.journal.proofs.Seated.{IsSeat, Stands, no_seat}
 use Rattle.journal.proofs.Growth.{carried_more, items_same, same_or_not}
 use Rattle.journal.proofs.Changed.{changed, changed_stands, changed_world}
 

@@ -1,20 +1,19 @@
 -- What stays as it was when a message begins, a frame is carried, or one seat changes.
-use Rattle.std.proofs.Common.{ℕ, suc, zero, ◌≡◌, ◌≢◌, ◌+◌, ◌-◌, ◌<◌, ◌≤◌, ◌^◌, ◌==◌, List, [], ◌∷◌, ◌++◌, map, reverse, take, length, get_or, set, Bool, true, false, Option, Some, None, if◌then◌else◌, refl, sym, ap, ◌∙◌, subst, arith, ◌⊎◌, inl, inr}
+use Rattle.std.proofs.Common.{ℕ, suc, zero, ◌≡◌, ◌≢◌, ◌<◌, ◌≤◌, ◌==◌, List, [], ◌∷◌, ◌++◌, map, reverse, length, get_or, set, true, Option, Some, None, refl, sym, ap, ◌∙◌, subst, arith, ◌⊎◌, inl, inr}
 use Rattle.std.proofs.lemmas.Bool.{ne_eqb}
-use Rattle.std.proofs.lemmas.List.{length-set, get_or-set_same, get_or-set_other, take-append-le, length_push, length-append}
-use Rattle.std.specs.Option.{option_map}
-use Rattle.bus_ledger.specs.BusValue.{SeatValue, Traffic, nobody, seat_at}
+use Rattle.std.proofs.lemmas.List.{get_or-set_same, get_or-set_other, take-append-le, length-append}
+use Rattle.bus_ledger.specs.BusValue.{SeatValue, nobody, seat_at}
 use Rattle.bus_ledger.specs.declared.traffic.QueuedFrame.{QueuedFrame}
 use Rattle.bus_ledger.specs.declared.traffic.CarriedFrame.{CarriedFrame}
 use Rattle.bus_ledger.specs.declared.traffic.Tag.{Tag}
-use Rattle.bus_model.specs.Messages.{Message, Session, way_of, is_session, payload_of}
+use Rattle.bus_model.specs.Messages.{Message}
 use Rattle.bus_model.specs.Traffic.{Item, Tag as PartOf}
 use Rattle.bus_model.specs.Machine.{Seat}
 use Rattle.node_core.specs.declared.session.OpenSession.{OpenSession}
-use Rattle.journal.specs.State.{Settings, State, UnitState, new_unit, unit_at}
+use Rattle.journal.specs.State.{State, UnitState, new_unit}
 use Rattle.journal.specs.Steps.{item_of, message_numbered, part_of}
-use Rattle.journal.specs.Worlds.{station_of, items_of, queued_item, queue_of, world_of}
-use Rattle.journal.proofs.Seated.{IsPartTag, IsKnown, AreKnown, IsSession, AreSession, IsSeat, no_seat, IsCarried, AreCarried}
+use Rattle.journal.specs.Worlds.{queued_item}
+use Rattle.journal.proofs.Seated.{IsKnown, AreKnown, AreSession, IsSeat, no_seat, IsCarried, AreCarried}
 
 pub same_or_not : (k j : ℕ) → (k ≡ j) ⊎ (k ≢ j)
 same_or_not zero zero = inl refl

@@ -1,11 +1,6 @@
 -- What a change of the station's own seat leaves as it was.
-<<<<<<< HEAD
-use Rattle.std.proofs.Common.{ℕ, suc, zero, ◌≡◌, ◌+◌, ◌<◌, ◌≤◌, List, [], ◌∷◌, ◌++◌, map, reverse, take, length, get_or, set, Bool, true, false, if◌then◌else◌, append_assoc, append-nil, refl, sym, ap, ◌∙◌, subst, arith}
-use Rattle.std.proofs.lemmas.List.{length-set, get_or-set_same, get_or-set_other, reverse-append, map-append}
-=======
 use Rattle.std.proofs.Common.{ℕ, suc, zero, ◌≡◌, ◌<◌, ◌≤◌, List, [], ◌∷◌, ◌++◌, map, reverse, take, length, get_or, set, Bool, true, false, if◌then◌else◌, append_assoc, append-nil, refl, sym, ap, ◌∙◌, subst}
 use Rattle.std.proofs.lemmas.List.{length-set, get_or-set_same, reverse-append, map-append}
->>>>>>> c325f8c250a0b55c995c3ee88fb079e81856371a
 use Rattle.can_frame.specs.FrameValue.{FrameValue}
 use Rattle.bus_ledger.specs.BusValue.{SeatValue, Traffic, nobody, seat_at}
 use Rattle.bus_ledger.specs.Changes.{with_seat, queued, queueing, heard_more, hearing, withdrawn, withdrawing}
@@ -17,13 +12,8 @@ use Rattle.bus_model.specs.Expected.{passed}
 use Rattle.bus_model.specs.Machine.{Seat, all_plain, plain}
 use Rattle.journal.specs.State.{Settings, State, UnitState, new_unit}
 use Rattle.journal.specs.Steps.{item_of, put_all, untagged}
-<<<<<<< HEAD
-use Rattle.journal.specs.Worlds.{items_of, queued_item, queue_of}
-use Rattle.journal.proofs.Seated.{AreKnown, IsSeat, Stands, no_seat}
-=======
 use Rattle.journal.specs.Worlds.{items_of, queued_item}
 use Rattle.journal.proofs.Seated.{AreKnown, IsSeat, Stands}
->>>>>>> c325f8c250a0b55c995c3ee88fb079e81856371a
 use Rattle.journal.proofs.Growth.{SameNames, items_same, known_push}
 
 -- ---- the bus
@@ -116,11 +106,7 @@ pub plain_queue : (begun : List Message) (n : ℕ) (fs : List FrameValue) → ma
 plain_queue begun n [] = refl
 plain_queue begun n (f ∷ fs) = rw (plain_queue begun n fs) refl
 
-<<<<<<< HEAD
-plain_append : (n : ℕ) (fs gs : List FrameValue) → all_plain n (fs ++ gs) ≡ all_plain n fs ++ all_plain n gs
-=======
 pub plain_append : (n : ℕ) (fs gs : List FrameValue) → all_plain n (fs ++ gs) ≡ all_plain n fs ++ all_plain n gs
->>>>>>> c325f8c250a0b55c995c3ee88fb079e81856371a
 plain_append n [] gs = refl
 plain_append n (f ∷ fs) gs = rw (plain_append n fs gs) refl
 
@@ -148,11 +134,7 @@ known_if begun false qs k = k
 
 -- ---- the state
 
-<<<<<<< HEAD
-names_own : (s t : State) → OwnChange s.traffic t.traffic → SameNames s t
-=======
 pub names_own : (s t : State) → OwnChange s.traffic t.traffic → SameNames s t
->>>>>>> c325f8c250a0b55c995c3ee88fb079e81856371a
 names_own s t own zero l = own.name
 names_own s t own (suc i) l = ap (λ (v : SeatValue). v.name) (own.others i)
 
@@ -160,11 +142,7 @@ names_own s t own (suc i) l = ap (λ (v : SeatValue). v.name) (own.others i)
 pub items_own : (r : Settings) (s t : State) (seats : List Seat) → Stands r s seats → OwnChange s.traffic t.traffic → t.begun ≡ s.begun → items_of t ≡ items_of s
 items_own r s t seats stands own begun = ap (map (item_of t)) own.wire ∙ items_same s t s.traffic.wire (names_own s t own) begun stands.carried
 
-<<<<<<< HEAD
-seat_as : {begun begun' : List Message} {items items' : List Item} {v v' : SeatValue} {u u' : UnitState} {x : Seat}
-=======
 pub seat_as : {begun begun' : List Message} {items items' : List Item} {v v' : SeatValue} {u u' : UnitState} {x : Seat}
->>>>>>> c325f8c250a0b55c995c3ee88fb079e81856371a
     → items' ≡ items → begun' ≡ begun → v' ≡ v → u' ≡ u → IsSeat begun items v u x → IsSeat begun' items' v' u' x
 seat_as a b c d h = rw (a, b, c, d) h
 

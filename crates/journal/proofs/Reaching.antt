@@ -1,15 +1,12 @@
 -- Every journal whose events fit leads to a world that the law's machine reaches, with a station that stands for its readings.
-use Rattle.std.proofs.Common.{ℕ, suc, zero, ◌≡◌, ◌+◌, ◌-◌, ◌<◌, ◌≤◌, List, [], ◌∷◌, ◌++◌, length, get_or, slice_get, Option, Some, None, refl, sym, ap, ◌∙◌, subst, arith}
-use Rattle.can_frame.specs.declared.reading.Reading.{Reading}
-use Rattle.bus_ledger.specs.BusValue.{IsUnit, seat_at}
-use Rattle.bus_model.specs.Expected.{readings}
+use Rattle.std.proofs.Common.{suc, zero, ◌-◌, List, [], ◌∷◌, ◌++◌, refl, arith}
 use Rattle.bus_model.specs.Machine.{Event as MachineEvent, IsFit, Run, Seat, Step, World, start}
 use Rattle.bus_model.specs.Machine as machine
 use Rattle.dm_messages.specs.declared.kind.Kind.TheVariants.{Dm1}
-use Rattle.journal.specs.State.{Settings, State, start as state_start}
-use Rattle.journal.specs.Steps.{after, after_carry_of, after_leave, after_read}
+use Rattle.journal.specs.State.{Settings, State}
+use Rattle.journal.specs.Steps.{after}
 use Rattle.journal.specs.Fits.{Fits}
-use Rattle.journal.specs.Journal.{AllFit, readings_of, state_after}
+use Rattle.journal.specs.Journal.{AllFit, state_after}
 use Rattle.journal.specs.Worlds.{station_of, world_of}
 use Rattle.journal.specs.declared.event.Event.{Event}
 use Rattle.journal.specs.declared.event.Event.TheVariants.{Join, Hear, Begin, Turned, Carry, Read, Ordered, Leave}

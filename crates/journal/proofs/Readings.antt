@@ -1,9 +1,9 @@
 -- What the station has of the wire tells the readings in the journal.
-use Rattle.std.proofs.Common.{◌≡◌, List, [], ◌∷◌, refl, sym, ap, ◌∙◌}
+use Rattle.std.proofs.Common.{◌≡◌, List, [], ◌∷◌, refl, ap, ◌∙◌}
 use Rattle.can_frame.specs.declared.reading.Reading.{Reading}
 use Rattle.bus_model.specs.Expected.{readings}
 use Rattle.journal.specs.State.{Settings, State, unit_at}
-use Rattle.journal.specs.Steps.{after, after_read, next_for, obeyed}
+use Rattle.journal.specs.Steps.{after_read, next_for, obeyed}
 use Rattle.journal.specs.Fits.{Fits}
 use Rattle.journal.specs.Journal.{AllFit, readings_of, state_after}
 use Rattle.journal.specs.declared.event.Event.{Event}

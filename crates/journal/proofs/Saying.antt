@@ -1,19 +1,10 @@
 -- What each frame of the station says, it may send.
-<<<<<<< HEAD
-use Rattle.std.proofs.Common.{ℕ, suc, zero, ◌≡◌, ◌≢◌, ◌+◌, ◌*◌, ◌/◌, ◌%◌, ◌<◌, ◌≤◌, ◌^◌, ◌==◌, List, [], ◌∷◌, length, Bool, true, false, Option, Some, None, if◌then◌else◌, refl, sym, ap, ◌∙◌, subst, arith}
-=======
 use Rattle.std.proofs.Common.{ℕ, ◌≡◌, ◌+◌, ◌*◌, ◌/◌, ◌%◌, ◌<◌, ◌≤◌, ◌^◌, List, Bool, true, false, Option, Some, None, if◌then◌else◌, refl, sym, ap, subst, arith}
->>>>>>> c325f8c250a0b55c995c3ee88fb079e81856371a
 use Rattle.can_frame.specs.Fields.{pdu1_number}
 use Rattle.can_frame.specs.FrameValue.{FrameValue}
 use Rattle.address_claim.specs.Claiming.{is_held}
 use Rattle.address_claim.specs.Frames.{claim_frame_value}
 use Rattle.requests.specs.Layouts.{request_frame_value, ack_frame_value}
-<<<<<<< HEAD
-use Rattle.requests.specs.declared.request.Request.{Request as RequestValue}
-use Rattle.requests.specs.declared.acknowledgment.Ack.{Ack}
-=======
->>>>>>> c325f8c250a0b55c995c3ee88fb079e81856371a
 use Rattle.transport.specs.ControlMessage.{control_bytes, control_of}
 use Rattle.transport.specs.Messages.{control_frame, packet_frame}
 use Rattle.transport.specs.Pieces.{is_message_size}
@@ -62,10 +53,6 @@ abbrev pub IsNoRts : Control → Type 0
 IsNoRts (Rts size packets most pgn) = ⊥
 IsNoRts _ = Unit {0}
 
-<<<<<<< HEAD
-
-=======
->>>>>>> c325f8c250a0b55c995c3ee88fb079e81856371a
 -- connection management that starts none, from its address
 pub control_may : (n : ℕ) (held : Option ℕ) (c : Control) (s d : ℕ) → s ≤ 255 → d ≤ 255 → IsNoRts c → held ≡ Some s → MaySend n held (group_of (control_frame c s d))
 control_may n held c s d k l starts own =

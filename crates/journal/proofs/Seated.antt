@@ -1,19 +1,18 @@
 -- When a unit's seat on the bus, with what the unit keeps, is a seat of the law's machine.
-use Rattle.std.proofs.Common.{ℕ, suc, zero, ◌≡◌, ◌≢◌, ◌+◌, ◌-◌, ◌<◌, ◌≤◌, ◌^◌, List, [], ◌∷◌, ◌++◌, map, reverse, take, length, get_or, set, Bool, true, false, Option, Some, None, refl, sym, ap, ◌∙◌, subst, arith, ◌⊎◌, inl, inr}
-use Rattle.bus_ledger.specs.BusValue.{SeatValue, Traffic, nobody, seat_at}
+use Rattle.std.proofs.Common.{ℕ, suc, ◌≡◌, ◌<◌, ◌≤◌, ◌^◌, List, [], ◌∷◌, reverse, take, length, get_or, true, false, Option, Some, None}
+use Rattle.bus_ledger.specs.BusValue.{SeatValue, seat_at}
 use Rattle.bus_ledger.specs.declared.traffic.QueuedFrame.{QueuedFrame}
 use Rattle.bus_ledger.specs.declared.traffic.CarriedFrame.{CarriedFrame}
 use Rattle.bus_ledger.specs.declared.traffic.Tag.{Tag}
 use Rattle.bus_model.specs.Messages.{Message, Session, way_of, is_session, payload_of}
 use Rattle.bus_model.specs.Traffic.{Item, Tag as PartOf}
-use Rattle.bus_model.specs.Expected.{Reception, passed}
-use Rattle.bus_model.specs.Machine.{Seat, World, CanHold}
+use Rattle.bus_model.specs.Expected.{passed}
+use Rattle.bus_model.specs.Machine.{Seat, CanHold}
 use Rattle.dm_messages.specs.View.{pgn_of_kind}
-use Rattle.node_core.specs.NodeValue.{NodeValue}
 use Rattle.node_core.specs.declared.session.OpenSession.{OpenSession}
-use Rattle.journal.specs.State.{Settings, State, UnitState, new_unit, unit_at}
-use Rattle.journal.specs.Steps.{item_of, message_numbered, part_of}
-use Rattle.journal.specs.Worlds.{station_of, items_of, queued_item, queue_of, world_of}
+use Rattle.journal.specs.State.{Settings, State, UnitState, new_unit}
+use Rattle.journal.specs.Steps.{message_numbered}
+use Rattle.journal.specs.Worlds.{items_of, queue_of}
 
 -- a tag names a message begun, and says whether it is a session
 pub record IsPartTag (begun : List Message) (t : Tag) : Type 0 where

@@ -1,12 +1,6 @@
 -- The station's tables stand for what it read.
-<<<<<<< HEAD
-use Rattle.std.proofs.Common.{ℕ, suc, zero, ◌≡◌, ◌≢◌, ◌+◌, ◌-◌, ◌<◌, ◌≤◌, ◌==◌, List, [], ◌∷◌, ◌++◌, map, reverse, take, drop, length, Bool, true, false, Option, Some, None, if◌then◌else◌, slice_get, refl, sym, ap, ◌∙◌, subst, arith}
-use Rattle.std.specs.Prelude.{nat_lt}
-use Rattle.std.specs.Option.{option_map}
-=======
 use Rattle.std.proofs.Common.{ℕ, ◌≡◌, ◌≢◌, ◌≤◌, ◌==◌, List, [], ◌∷◌, reverse, take, length, Bool, true, false, Option, Some, None, if◌then◌else◌, refl, sym, ap, ◌∙◌, subst, arith}
 use Rattle.std.specs.Prelude.{nat_lt}
->>>>>>> c325f8c250a0b55c995c3ee88fb079e81856371a
 use Rattle.std.proofs.lemmas.Bool.{ne_eqb}
 use Rattle.std.proofs.lemmas.List.{length-map, length-reverse, length-take-le}
 use Rattle.can_frame.specs.FrameValue.{FrameValue}
@@ -19,11 +13,7 @@ use Rattle.bus_ledger.specs.declared.traffic.QueuedFrame.{QueuedFrame}
 use Rattle.bus_ledger.specs.Changes.{carried_frame}
 use Rattle.bus_model.specs.Traffic.{Item}
 use Rattle.bus_model.specs.Expected.{Own, readings}
-<<<<<<< HEAD
-use Rattle.bus_model.specs.Machine.{IsFit, Seat}
-=======
 use Rattle.bus_model.specs.Machine.{IsFit}
->>>>>>> c325f8c250a0b55c995c3ee88fb079e81856371a
 use Rattle.dm_messages.specs.declared.kind.Kind.TheVariants.{Dm1}
 use Rattle.node_core.specs.Beginning.{begins}
 use Rattle.node_core.specs.declared.heard.Started.{Started}
@@ -40,10 +30,6 @@ use Rattle.journal.specs.Fits.{Fits}
 use Rattle.journal.specs.Worlds.{station_of}
 use Rattle.journal.specs.declared.event.Event.{Event}
 use Rattle.journal.specs.declared.event.Event.TheVariants.{Join, Hear, Begin, Turned, Carry, Read, Ordered, Leave}
-<<<<<<< HEAD
-use Rattle.journal.proofs.Seated.{Stands}
-=======
->>>>>>> c325f8c250a0b55c995c3ee88fb079e81856371a
 
 -- the station's tables say what it read
 abbrev pub AtStation : Settings → State → Type 0

@@ -1,7 +1,7 @@
 -- When an event may happen.
-use Rattle.std.specs.Prelude.{◌≡◌, ◌≢◌, ℕ, ◌<◌, ◌≤◌, ◌^◌, Option, Some, None, length}
+use Rattle.std.specs.Prelude.{◌≡◌, ◌≢◌, ℕ, ◌<◌, ◌≤◌, ◌^◌, Some, None, length}
 use Rattle.can_frame.specs.declared.reading.Reading.TheVariants.{Empty}
-use Rattle.fault_memory.specs.Memory.{MemoryValue, IsLawfulMemory}
+use Rattle.fault_memory.specs.Memory.{IsLawfulMemory}
 use Rattle.dm_messages.specs.declared.kind.Kind.TheVariants.{Dm1}
 use Rattle.bus_ledger.specs.BusValue.{IsUnit, seat_at}
 use Rattle.bus_ledger.specs.Joining.{join_refusal}

@@ -1,5 +1,5 @@
 -- The journal, newest event first, and what it says.
-use Rattle.std.specs.Prelude.{◌≡◌, ℕ, ◌+◌, Bool, ◌==◌, List, [], ◌∷◌, if◌then◌else◌}
+use Rattle.std.specs.Prelude.{◌≡◌, ℕ, ◌+◌, ◌==◌, List, [], ◌∷◌, if◌then◌else◌}
 use Rattle.bus_ledger.specs.BusValue.{IsUnit, seat_at}
 use Rattle.bus_model.specs.Machine.{IsFit}
 use Rattle.journal.specs.Worlds.{station_of}

@@ -1,6 +1,5 @@
 -- All that the journal says of the bus, its units and its station.
-use Rattle.std.specs.Prelude.{ℕ, List, [], ◌∷◌, Option, None, Some, ◌-◌, slice_index_or}
-use Rattle.address_claim.specs.Claiming.{ClaimerValue}
+use Rattle.std.specs.Prelude.{ℕ, List, [], None, Some, ◌-◌, slice_index_or}
 use Rattle.address_claim.specs.Frames.{claim_frame_value}
 use Rattle.bus_ledger.specs.BusValue.{Traffic}
 use Rattle.bus_ledger.specs.Changes.{new_traffic, queued, queued_frame}

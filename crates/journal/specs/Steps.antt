@@ -1,5 +1,5 @@
 -- What each event changes. An event that nothing fits leaves the state as it is.
-use Rattle.std.specs.Prelude.{ℕ, ◌+◌, ◌-◌, Bool, true, false, not, ◌==◌, List, [], ◌∷◌, ◌++◌, map, reverse, take, length, Option, Some, None, slice_get, slice_set, if◌then◌else◌}
+use Rattle.std.specs.Prelude.{ℕ, ◌-◌, Bool, true, false, not, ◌==◌, List, [], ◌∷◌, ◌++◌, map, reverse, take, length, Option, Some, None, slice_get, slice_set, if◌then◌else◌}
 use Rattle.std.specs.Option.{option_map}
 use Rattle.can_frame.specs.FrameValue.{FrameValue}
 use Rattle.can_frame.specs.declared.reading.Reading.{Reading}
@@ -39,7 +39,7 @@ use Rattle.station_table.specs.declared.reaction.Ask.{Ask as Asked}
 use Rattle.journal.specs.declared.order.Order.{Order}
 use Rattle.journal.specs.declared.order.Order.TheVariants.{Ask, AskAll, Command}
 use Rattle.station_table.specs.declared.reaction.Reaction.{Reaction}
-use Rattle.journal.specs.State.{State, UnitState, new_unit, unit_at}
+use Rattle.journal.specs.State.{State, new_unit, unit_at}
 use Rattle.journal.specs.declared.event.Event.{Event}
 use Rattle.journal.specs.declared.event.Event.TheVariants.{Join, Hear, Begin, Turned, Carry, Read, Ordered, Leave}
 

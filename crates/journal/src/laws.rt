@@ -13,24 +13,20 @@ ghost use Rattle.journal.specs.declared.event.Event.{Event};
 /// is a world that the machine reaches.
 pub fn journal_is_a_run()
     ensures { (settings : Settings) (journal : List Event) → AllFit settings journal → (seats : List Seat) × (steps : List Step) × Run (start (station_of settings)) steps (world_of settings (state_after settings journal) seats) }
-{
-}
+{}
 
 /// The station's tables say what was heard of the readings in the journal.
 pub fn station_stands_for_its_readings()
     ensures { (settings : Settings) (journal : List Event) → AllFit settings journal → StandsFor (station_of settings) settings.grant (state_after settings journal).station (readings_of journal) }
-{
-}
+{}
 
 /// The headline: of every journal, under each NAME and kind, the station's entries are the views of the fault memories with
 /// which units of that NAME began messages whose frames were all read on a clear path, in the order begun.
 pub fn shown_is_expected()
     ensures { (settings : Settings) (journal : List Event) → AllFit settings journal → (n : ℕ) (k : Kind) → entries_under (state_after settings journal).station.rows n k ≡ reverse (expected n k (state_after settings journal).begun (state_after settings journal).path) }
-{
-}
+{}
 
 /// No message of a unit that came to its end was unreadable.
 pub fn nothing_stays_unread()
     ensures { (settings : Settings) (journal : List Event) → AllFit settings journal → (state_after settings journal).station.unread ≡ 0 }
-{
-}
+{}

@@ -1,5 +1,6 @@
 pub mod Standing
 pub mod Traffics
+pub mod Headline
 mod SeatKept
 mod OrderLemmas
 mod OpeningLemmas

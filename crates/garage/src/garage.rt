@@ -54,14 +54,16 @@ impl Model for Garage {
 }
 
 impl Garage {
-    ghost use Rattle.std.specs.Prelude.{◌≡◌, ℕ, ◌<◌, ◌≤◌, ◌⊎◌, ◌^◌, ◌↔◌, length, slice_get, IfOk, IfErr, IsErrOf, OnErr, Ok, Some};
+    ghost use Rattle.std.specs.Prelude.{◌≡◌, ℕ, ◌<◌, ◌≤◌, ◌⊎◌, ◌^◌, ◌↔◌, length, reverse, slice_get, IfOk, IfErr, IsErrOf, OnErr, Ok, Some};
     ghost use Rattle.std.specs.Option.{option_map};
     ghost use Rattle.bus_ledger.specs.Carrying.{IsIdle, IsWaiting};
     ghost use Rattle.bus_ledger.specs.Ledger.{counts_of};
     ghost use Rattle.bus_ledger.specs.Joining.{live_units};
     ghost use Rattle.bus_ledger.specs.Reception.{next_reading};
     ghost use Rattle.station_table.specs.KeptValue.{entries_under};
-    ghost use Rattle.journal.specs.Journal.{state_of, tally_of, Adds};
+    ghost use Rattle.bus_model.specs.Heard.{entries_heard, missed_count};
+    ghost use Rattle.journal.specs.Journal.{state_of, tally_of, readings_of, shown_of, Adds};
+    ghost use Rattle.journal.specs.Worlds.{station_of};
     ghost use Rattle.journal.specs.declared.event.Event.TheVariants.{Carry, Read};
     ghost use Rattle.garage.specs.Carrying.{Carries};
     ghost use Rattle.garage.specs.Causes.{CanCarry};
@@ -90,22 +92,32 @@ impl Garage {
     }
 
     /// The entries of a kind under a NAME, the oldest first; none where the NAME was never seen.
+    ///
+    /// They are exactly the views of the fault memories with which units of that NAME began messages of that kind whose
+    /// frames were all read on a clear path, in the order begun (`expected`).
+    #[tactic(auto, using(crate::proofs::Headline::shown_expected, crate::proofs::Headline::shown_heard))]
     pub fn shown(&self, name: Name, kind: Kind) -> &[Shown]
-        ensures { result.now ≡ entries_under (state_of self.now).station.rows name kind }
+        ensures expected { result.now ≡ shown_of self.now name kind }
+        ensures heard { result.now ≡ reverse (entries_heard (station_of self.now.settings) name kind (readings_of self.now.journal)) }
+        ensures kept { result.now ≡ entries_under (state_of self.now).station.rows name kind }
     {
         self.station.shown(name, kind)
     }
 
     /// How many frames the station was told of as missed.
+    #[tactic(auto, using(crate::proofs::Headline::missed_heard))]
     pub fn missed(&self) -> u64
-        ensures { result ≡ (state_of self.now).station.missed }
+        ensures heard { result ≡ missed_count (readings_of self.now.journal) }
+        ensures kept { result ≡ (state_of self.now).station.missed }
     {
         self.station.missed()
     }
 
-    /// How many messages the station could not read.
+    /// How many messages the station could not read: none.
+    #[tactic(auto, using(crate::proofs::Headline::none_unread))]
     pub fn unread(&self) -> u64
-        ensures { result ≡ (state_of self.now).station.unread }
+        ensures none { result ≡ 0 }
+        ensures kept { result ≡ (state_of self.now).station.unread }
     {
         self.station.unread()
     }

@@ -1,7 +1,10 @@
 ghost use Rattle.std.specs.Prelude.{◌≡◌, ◌<◌, ◌≤◌, ◌⊎◌};
 ghost use Rattle.station_table.specs.KeptValue.{kept_under};
-ghost use Rattle.station_table.specs.StandsFor.{row_of};
-ghost use Rattle.journal.specs.Journal.{joins, state_of, tally_of};
+ghost use Rattle.std.specs.Option.{option_map};
+ghost use Rattle.bus_model.specs.Heard.{row_heard};
+ghost use Rattle.station_table.specs.StandsFor.{row_of, row_heard_as};
+ghost use Rattle.journal.specs.Journal.{joins, readings_of, state_of, tally_of};
+ghost use Rattle.journal.specs.Worlds.{station_of};
 ghost use Rattle.garage.specs.Opening.{no_events};
 
 use crate::garage::Garage;
@@ -19,8 +22,10 @@ const NO_EVENTS: Tally = Tally {
 
 impl Garage {
     /// What the station knows of a NAME; nothing before its first claim was read.
+    #[tactic(auto, using(crate::proofs::Headline::row_known_heard))]
     pub fn row(&self, name: Name) -> Option<Row>
-        ensures { result ≡ row_of (state_of self.now).station.owners name (kept_under (state_of self.now).station.rows name) }
+        ensures heard { option_map row_heard_as result ≡ row_heard (station_of self.now.settings) name (readings_of self.now.journal) }
+        ensures kept { result ≡ row_of (state_of self.now).station.owners name (kept_under (state_of self.now).station.rows name) }
     {
         self.station.row(name)
     }

@@ -1,6 +1,9 @@
 -- The journal, newest event first, and what it says.
-use Rattle.std.specs.Prelude.{◌≡◌, ℕ, ◌+◌, ◌==◌, List, [], ◌∷◌, if◌then◌else◌}
+use Rattle.std.specs.Prelude.{◌≡◌, ℕ, ◌+◌, ◌==◌, List, [], ◌∷◌, reverse, if◌then◌else◌}
 use Rattle.bus_ledger.specs.BusValue.{IsUnit, seat_at}
+use Rattle.dm_messages.specs.declared.kind.Kind.{Kind}
+use Rattle.dm_messages.specs.declared.shown.Shown.{Shown}
+use Rattle.bus_model.specs.Expected.{expected}
 use Rattle.bus_model.specs.Machine.{IsFit}
 use Rattle.journal.specs.Worlds.{station_of}
 use Rattle.can_frame.specs.declared.reading.Reading.{Reading}
@@ -74,3 +77,8 @@ unfoldable pub readings_of : List Event → List Reading
 readings_of [] = []
 readings_of (Read reading ∷ older) = reading ∷ readings_of older
 readings_of (_ ∷ older) = readings_of older
+
+-- what a garage is to show of a NAME: of its messages of that kind, those that came to the station on a clear path, in the
+-- order begun, each as the view of the fault memory with which it began
+abbrev pub shown_of : GarageValue → ℕ → Kind → List Shown
+shown_of g n k = reverse (expected n k (state_of g).begun (state_of g).path)

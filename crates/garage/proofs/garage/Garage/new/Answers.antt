@@ -1,4 +1,4 @@
-use Rattle.std.proofs.Common.{rules, arith, refl, ap, ◌∙◌, sym, ◌∷◌, [], map, Some}
+use Rattle.std.proofs.Common.{rules, arith, refl, ap, ◌<◌, ◌^◌, ◌∙◌, sym, ◌∷◌, [], map, Some}
 use Rattle.address_claim.specs.Frames.{claim_frame_value}
 use Rattle.can_frame.specs.FrameValue.{FrameValue}
 use Rattle.bus_ledger.specs.BusValue.{Traffic}
@@ -13,7 +13,8 @@ invariant_of-result c =
     let setting = c.is_setting.ensures.0 (search rules) in
     let few = setting.limit in
     let claim = c.start.ensures ∙ ap (λ (s : StationValue). own_claim s.claimer) c.new-station.ensures.value in
-    opened_stands _ (record { name = c.number.ensures.below; address = setting.address }) c.new-3.ensures.items c.new-2.ensures.items refl refl c.new-3.ensures.len (omega arith)
+    let small : c.args.name < 2 ^ 64 = (let e = c.number-number.ensures in let b = c.number-number.type_inv in omega arith) in
+    opened_stands _ (record { name = small; address = setting.address }) c.new-3.ensures.items c.new-2.ensures.items refl refl c.new-3.ensures.len (omega arith)
     (c.queue_frames.ensures
     ∙ (ap (λ (f : FrameValue). put_all 0 (map untagged (f ∷ [])) c.reserve.new.self.traffic) claim
     ∙ ap (λ (t : Traffic). put_all 0 (map untagged (claim_frame_value c.args.name (Some c.args.address) ∷ [])) t) (c.reserve.ensures.traffic ∙ c.in_ok-bus.ensures.ok)))

@@ -1,0 +1,40 @@
+-- What a garage answers of its station is what the law says of its journal.
+use Rattle.std.proofs.Common.{◌≡◌, ℕ, List, Option, reverse, ap, ◌∙◌}
+use Rattle.std.specs.Option.{option_map}
+use Rattle.dm_messages.specs.declared.kind.Kind.{Kind}
+use Rattle.dm_messages.specs.declared.shown.Shown.{Shown}
+use Rattle.bus_model.specs.Heard.{entries_heard, missed_count, row_heard}
+use Rattle.station_table.specs.KeptValue.{KeptValue, entries_under, kept_under}
+use Rattle.station_table.specs.StandsFor.{StandsFor, row_of, row_known, row_heard_as}
+use Rattle.station_table.specs.StationValue.{StationValue}
+use Rattle.station_table.specs.declared.row.Row.{Row}
+use Rattle.station_table.proofs.Queries.{row_as_heard}
+use Rattle.journal.specs.Journal.{readings_of, shown_of, state_of}
+use Rattle.journal.specs.Worlds.{station_of}
+use Rattle.journal.proofs.Headline.{exact, readable, station}
+use Rattle.garage.specs.Inside.{settings_of, view_of, Stands}
+use Rattle.garage.specs.declared.garage.Garage.TheInside.{Inside}
+
+-- its tables stand for the readings in the journal
+tables : (a : Inside) → Stands a → StandsFor (station_of (settings_of a)) a.grant (state_of (view_of a)).station (readings_of (reverse a.journal.items))
+tables a stands = station (settings_of a) (reverse a.journal.items) stands.fits
+
+pub shown_expected : (a : Inside) (n : ℕ) (k : Kind) (l : List Shown) → l ≡ entries_under a.station.rows n k → Stands a → l ≡ shown_of (view_of a) n k
+shown_expected a n k l e stands =
+    e ∙ (ap (λ (s : StationValue). entries_under s.rows n k) stands.station ∙ exact (settings_of a) (reverse a.journal.items) stands.fits n k)
+
+pub shown_heard : (a : Inside) (n : ℕ) (k : Kind) (l : List Shown) → l ≡ entries_under a.station.rows n k → Stands a
+    → l ≡ reverse (entries_heard (station_of (settings_of a)) n k (readings_of (reverse a.journal.items)))
+shown_heard a n k l e stands = e ∙ (ap (λ (s : StationValue). entries_under s.rows n k) stands.station ∙ (tables a stands).entries n k)
+
+pub missed_heard : (a : Inside) (n : ℕ) → n ≡ a.station.missed → Stands a → n ≡ missed_count (readings_of (reverse a.journal.items))
+missed_heard a n e stands = e ∙ (ap (λ (s : StationValue). s.missed) stands.station ∙ (tables a stands).missed)
+
+pub none_unread : (a : Inside) (n : ℕ) → n ≡ a.station.unread → Stands a → n ≡ 0
+none_unread a n e stands = e ∙ (ap (λ (s : StationValue). s.unread) stands.station ∙ readable (settings_of a) (reverse a.journal.items) stands.fits)
+
+pub row_known_heard : (a : Inside) (n : ℕ) (o : Option Row) → o ≡ row_of a.station.owners n (kept_under a.station.rows n) → Stands a
+    → option_map row_heard_as o ≡ row_heard (station_of (settings_of a)) n (readings_of (reverse a.journal.items))
+row_known_heard a n o e stands =
+    row_as_heard (station_of (settings_of a)) a.grant (state_of (view_of a)).station (readings_of (reverse a.journal.items)) n o
+    (e ∙ ap (λ (s : StationValue). row_of s.owners n (kept_under s.rows n)) stands.station) (tables a stands)

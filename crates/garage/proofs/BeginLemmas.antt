@@ -1,5 +1,5 @@
 -- A DM1 that a unit begins.
-use Rattle.std.proofs.Common.{ℕ, ◌≡◌, ◌≢◌, Option, Some, None, true, false, refl, sym, ap, subst, ◌∙◌, ◌∷◌, [], ◌++◌, List}
+use Rattle.std.proofs.Common.{ℕ, ◌≡◌, ◌≢◌, Option, Some, None, false, refl, sym, ap, subst, ◌∙◌, ◌∷◌, [], ◌++◌, List}
 use Rattle.std.specs.Option.{is_none, IfSome}
 use Rattle.fault_memory.specs.Memory.{MemoryValue}
 use Rattle.dm_messages.specs.declared.kind.Kind.TheVariants.{Dm1}
@@ -11,7 +11,7 @@ use Rattle.node_core.specs.declared.heard.Started.TheVariants as started
 use Rattle.node_core.specs.declared.out.Out.{Out}
 use Rattle.node_core.specs.declared.session.OpenSession.{OpenSession}
 use Rattle.journal.specs.State.{State, unit_at}
-use Rattle.journal.specs.Steps.{after, after_begin_of, after_starting}
+use Rattle.journal.specs.Steps.{after_begin_of, after_starting}
 use Rattle.journal.specs.Fits.{Fits}
 use Rattle.journal.specs.Journal.{GarageValue, Adds, joins}
 use Rattle.journal.specs.declared.event.Event.{Event}

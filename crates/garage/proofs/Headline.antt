@@ -4,8 +4,8 @@ use Rattle.std.specs.Option.{option_map}
 use Rattle.dm_messages.specs.declared.kind.Kind.{Kind}
 use Rattle.dm_messages.specs.declared.shown.Shown.{Shown}
 use Rattle.bus_model.specs.Heard.{entries_heard, missed_count, row_heard}
-use Rattle.station_table.specs.KeptValue.{KeptValue, entries_under, kept_under}
-use Rattle.station_table.specs.StandsFor.{StandsFor, row_of, row_known, row_heard_as}
+use Rattle.station_table.specs.KeptValue.{entries_under, kept_under}
+use Rattle.station_table.specs.StandsFor.{StandsFor, row_of, row_heard_as}
 use Rattle.station_table.specs.StationValue.{StationValue}
 use Rattle.station_table.specs.declared.row.Row.{Row}
 use Rattle.station_table.proofs.Queries.{row_as_heard}

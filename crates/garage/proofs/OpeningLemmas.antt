@@ -1,5 +1,5 @@
 -- A garage that was just opened stands for an empty journal.
-use Rattle.std.proofs.Common.{ℕ, suc, zero, ◌≡◌, ◌+◌, ◌*◌, ◌≤◌, ◌<◌, ◌^◌, List, [], ◌∷◌, Some, None, map, reverse, length, get_or, vec_len, vec_capacity, refl, sym, ap, ◌∙◌, subst, arith}
+use Rattle.std.proofs.Common.{ℕ, suc, zero, ◌≡◌, ◌≤◌, ◌^◌, List, [], map, reverse, length, vec_len, vec_capacity, refl, sym, ap, ◌∙◌, subst, arith}
 use Rattle.bus_ledger.specs.BusValue.{Traffic, seat_at}
 use Rattle.bus_ledger.specs.Joining.{live_units}
 use Rattle.bus_model.specs.Machine.{IsFit}
@@ -8,7 +8,6 @@ use Rattle.journal.specs.State.{Settings, State, start}
 use Rattle.journal.specs.Journal.{tally_of, state_after, state_of, AllFit, joins}
 use Rattle.journal.specs.declared.event.Event.{Event}
 use Rattle.garage.specs.Inside.{no_tally, settings_of, view_of, unit_of, Stands}
-use Rattle.garage.specs.declared.garage.Place.{Place}
 use Rattle.garage.specs.declared.garage.Garage.TheInside.{Inside}
 
 opened_is : (r : Settings) → state_after r [] ≡ start r

@@ -1,5 +1,5 @@
 -- A unit that hears, begins a message or ends a turn keeps its seat.
-use Rattle.std.proofs.Common.{ℕ, false, ◌≡◌, ◌<◌, ◌-◌, Bool, List, [], ◌∷◌, Option, Some, None, map, length, get_or, set, refl, sym, ap, ◌∙◌, subst, arith}
+use Rattle.std.proofs.Common.{ℕ, false, ◌≡◌, ◌<◌, Bool, List, [], ◌∷◌, Option, Some, None, map, length, refl, sym, ap, ◌∙◌, subst, arith}
 use Rattle.std.proofs.lemmas.List.{length-set, get_or-set_same}
 use Rattle.can_frame.specs.FrameValue.{FrameValue}
 use Rattle.fault_memory.specs.Memory.{MemoryValue}

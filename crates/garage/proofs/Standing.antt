@@ -1,8 +1,8 @@
 -- A garage that stands for its journal stands for it with one event more.
-use Rattle.std.proofs.Common.{ℕ, suc, zero, ◌≡◌, ◌≢◌, ◌+◌, ◌-◌, ◌*◌, ◌<◌, ◌≤◌, ◌^◌, List, [], ◌∷◌, ◌++◌, map, reverse, length, get_or, set, Bool, true, false, cond, ◌==◌, nat_eq, eq-eqb, Option, Some, None, slice_get, is_some, IfSome, vec_len, vec_capacity, refl, sym, ap, ◌∙◌, subst, arith, ◌⊎◌, inl, inr, if◌then◌else◌}
+use Rattle.std.proofs.Common.{ℕ, suc, zero, ◌≡◌, ◌+◌, ◌-◌, ◌*◌, ◌<◌, ◌≤◌, List, [], ◌∷◌, ◌++◌, map, reverse, length, get_or, set, Bool, true, false, cond, ◌==◌, nat_eq, eq-eqb, Option, Some, None, slice_get, is_some, IfSome, vec_len, vec_capacity, refl, sym, ap, ◌∙◌, subst, arith, inl, inr, if◌then◌else◌}
 use Rattle.std.proofs.lemmas.Bool.{ne_eqb}
-use Rattle.std.proofs.lemmas.List.{reverse-append, length-reverse, length-set, length-map, length_push, map-set, get_or_read, get_or-set_same, get_or-set_other, set-get_or}
-use Rattle.bus_ledger.specs.BusValue.{SeatValue, Traffic, nobody, seat_at, IsLive, IsUnit}
+use Rattle.std.proofs.lemmas.List.{reverse-append, length-reverse, length-set, length_push, map-set, get_or_read, get_or-set_same, get_or-set_other, set-get_or}
+use Rattle.bus_ledger.specs.BusValue.{SeatValue, Traffic, nobody, seat_at, IsUnit}
 use Rattle.bus_ledger.specs.Joining.{live_units}
 use Rattle.bus_ledger.specs.Changes.{leaving, left, sending, carried_from, carried_frame, queued, joined}
 use Rattle.bus_ledger.specs.declared.traffic.QueuedFrame.{QueuedFrame}
@@ -39,7 +39,7 @@ use Rattle.std.specs.Option.{option_map}
 use Rattle.garage.specs.Answers.{with_begun, Hears}
 use Rattle.garage.specs.declared.steps.HeardOne.TheVariants as heard
 use Rattle.journal.specs.Fits.{Fits}
-use Rattle.journal.specs.Journal.{GarageValue, state_after, state_of, AllFit, joins, tallied, tally_of, one_more}
+use Rattle.journal.specs.Journal.{GarageValue, state_after, state_of, AllFit, joins, tallied, tally_of}
 use Rattle.journal.specs.declared.event.Event.{Event}
 use Rattle.journal.specs.declared.event.Event.TheVariants.{Join, Hear, Begin, Turned, Carry, Read, Ordered, Leave}
 use Rattle.journal.specs.declared.tally.Tally.{Tally}

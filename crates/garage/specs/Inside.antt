@@ -2,7 +2,7 @@
 use Rattle.std.specs.Prelude.{ℕ, suc, ◌≡◌, ◌+◌, ◌*◌, ◌<◌, ◌≤◌, ◌^◌, List, map, reverse, length, slice_index_or, vec_len, vec_capacity}
 use Rattle.bus_ledger.specs.BusValue.{seat_at}
 use Rattle.bus_ledger.specs.Joining.{live_units}
-use Rattle.journal.specs.State.{Settings, State, UnitState}
+use Rattle.journal.specs.State.{Settings, UnitState}
 use Rattle.journal.specs.Journal.{GarageValue, state_of, AllFit, joins, tally_of}
 use Rattle.journal.specs.declared.tally.Tally.{Tally}
 use Rattle.node_core.specs.NodeValue.{new_node}

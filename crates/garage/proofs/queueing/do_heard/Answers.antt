@@ -1,5 +1,5 @@
-use Rattle.std.proofs.Common.{arith, ap, sym, subst, length, ◌∙◌}
-use Rattle.bus_ledger.specs.BusValue.{Traffic, IsLive, seat_at}
+use Rattle.std.proofs.Common.{arith, ap, sym, subst, length}
+use Rattle.bus_ledger.specs.BusValue.{Traffic, IsLive}
 use Rattle.garage.proofs.Traffics.{Keeps, keeps_heard, keeps_withdrawn_by, keeps_then, live_kept}
 use Rattle.garage.proofs.queueing.do_heard.Goals as goal
 

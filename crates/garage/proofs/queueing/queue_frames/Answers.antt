@@ -1,6 +1,5 @@
-use Rattle.std.proofs.Common.{arith, ap, ◌∙◌, sym, subst, length, ◌<◌}
+use Rattle.std.proofs.Common.{arith, ap, ◌∙◌, sym, subst}
 use Rattle.bus_ledger.specs.BusValue.{Traffic, IsLive, seat_at}
-use Rattle.bus_ledger.specs.Changes.{queued}
 use Rattle.journal.specs.Steps.{untagged}
 use Rattle.garage.proofs.Traffics.{ok_of, put_more, IsLive-queued, own_queued}
 use Rattle.garage.proofs.queueing.queue_frames.Goals as goal

@@ -1,4 +1,4 @@
-use Rattle.std.proofs.Common.{ℕ, ◌≡◌, ◌+◌, ◌≤◌, map, take, drop, length}
+use Rattle.std.proofs.Common.{◌≡◌, ◌+◌, ◌≤◌, map, take, length}
 use Rattle.bus_ledger.specs.BusValue.{spare_at, IsLive, seat_at}
 use Rattle.journal.specs.Steps.{put_all, untagged}
 use Rattle.garage.proofs.queueing.queue_frames.Given as goal

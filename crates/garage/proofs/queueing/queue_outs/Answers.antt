@@ -1,4 +1,4 @@
-use Rattle.std.proofs.Common.{arith, ap, ◌∙◌, sym, subst, length, ◌<◌, Option}
+use Rattle.std.proofs.Common.{arith, ap, ◌∙◌, sym, subst, Option}
 use Rattle.bus_ledger.specs.BusValue.{Traffic, IsLive, seat_at}
 use Rattle.bus_ledger.specs.Changes.{queued, queued_frame}
 use Rattle.bus_ledger.specs.declared.traffic.Tag.{Tag}

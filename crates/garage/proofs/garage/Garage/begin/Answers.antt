@@ -1,15 +1,11 @@
-use Rattle.std.proofs.Common.{ℕ, suc, false, not, ◌≡◌, arith, refl, ap, ◌∙◌, sym, subst, List, ◌++◌, ◌∷◌, [], ◌+◌, ◌-◌, ◌*◌, ◌≤◌, ◌<◌, length, map, Option}
+use Rattle.std.proofs.Common.{ℕ, suc, false, not, ◌≡◌, arith, refl, ap, ◌∙◌, sym, subst, List, ◌++◌, ◌∷◌, [], ◌+◌, ◌-◌, ◌≤◌, length, map}
 use Rattle.std.proofs.lemmas.List.{length-set, length-map}
-use Rattle.std.specs.Option.{is_none, IfSome}
+use Rattle.std.specs.Option.{is_none}
 use Rattle.std.specs.Vec.{with_item}
-use Rattle.fault_memory.specs.Memory.{MemoryValue, IsLawfulMemory}
-use Rattle.dm_messages.specs.declared.kind.Kind.TheVariants.{Dm1}
+use Rattle.fault_memory.specs.Memory.{IsLawfulMemory}
 use Rattle.bus_ledger.specs.BusValue.{Traffic, seat_at}
 use Rattle.bus_ledger.specs.Joining.{live_units}
-use Rattle.node_core.specs.NodeValue.{NodeValue}
-use Rattle.node_core.specs.Beginning.{begins, IsFew}
-use Rattle.node_core.specs.declared.heard.Started.{Started}
-use Rattle.node_core.specs.declared.heard.Started.TheVariants as started
+use Rattle.node_core.specs.Beginning.{IsFew}
 use Rattle.node_core.specs.declared.out.Out.{Out}
 use Rattle.journal.specs.State.{State, UnitState, unit_at}
 use Rattle.journal.specs.Steps.{put_all, tagged}
@@ -19,7 +15,7 @@ use Rattle.journal.specs.declared.event.Event.TheVariants.{Begin}
 use Rattle.garage.specs.declared.garage.Place.{Place}
 use Rattle.garage.proofs.BeginLemmas.{begin_did, begins_of, begun_as, joins_begin'}
 use Rattle.garage.proofs.Traffics.{some_live, puts, keeps_refl}
-use Rattle.garage.proofs.Standing.{state, place_few, place_within, unit_now, bus_unit, unit_is, units_same, place_tally, stands_more, tallies_one, fresh_one, added}
+use Rattle.garage.proofs.Standing.{state, place_few, place_within, unit_now, bus_unit, unit_is, units_same, place_tally, stands_more, tallies_one, fresh_one}
 use Rattle.garage.proofs.garage.Garage.begin.Goals as goal
 
 pub overflow_add-place : goal.overflow_add-place

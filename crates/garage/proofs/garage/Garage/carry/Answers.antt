@@ -1,12 +1,11 @@
-use Rattle.std.proofs.Common.{arith, refl, ap, ◌∙◌, sym, subst, List, ◌++◌, ◌∷◌, [], ◌+◌, ◌-◌, length}
+use Rattle.std.proofs.Common.{arith, refl, ap, ◌∙◌, sym, subst, List, ◌++◌, ◌∷◌, [], length}
 use Rattle.std.proofs.lemmas.List.{length-set, length_push}
 use Rattle.bus_ledger.specs.BusValue.{Traffic, seat_at}
-use Rattle.bus_ledger.specs.Changes.{carried_from, sending, carried_frame}
+use Rattle.bus_ledger.specs.Changes.{carried_from, carried_frame}
 use Rattle.bus_ledger.specs.Joining.{live_units}
 use Rattle.bus_ledger.specs.Carrying.{IsNext, Carries}
 use Rattle.bus_ledger.specs.declared.traffic.Carried.{Carried}
 use Rattle.bus_ledger.specs.declared.traffic.Carried.TheVariants.{Frame}
-use Rattle.bus_ledger.specs.declared.traffic.QueuedFrame.{QueuedFrame}
 use Rattle.journal.specs.State.{State}
 use Rattle.journal.specs.declared.event.Event.{Event}
 use Rattle.journal.specs.declared.event.Event.TheVariants.{Carry}

@@ -1,26 +1,25 @@
-use Rattle.std.proofs.Common.{ℕ, suc, ◌≡◌, arith, refl, ap, ◌∙◌, sym, subst, List, ◌++◌, ◌∷◌, [], ◌+◌, ◌-◌, ◌*◌, ◌≤◌, ◌<◌, ◌^◌, length, map, reverse, set, Bool, slice_get, Some, Option}
-use Rattle.std.proofs.lemmas.List.{length-set, length-map, length_push, map-set}
+use Rattle.std.proofs.Common.{ℕ, ◌≡◌, arith, refl, ap, ◌∙◌, sym, subst, List, ◌++◌, ◌∷◌, [], ◌-◌, ◌<◌, length, map, set, Bool, slice_get, Some}
+use Rattle.std.proofs.lemmas.List.{length-set, length-map, map-set}
 use Rattle.std.specs.Option.{option_map}
-use Rattle.can_frame.specs.FrameValue.{FrameValue}
 use Rattle.fault_memory.specs.Memory.{MemoryValue, IsLawfulMemory}
-use Rattle.bus_ledger.specs.BusValue.{Traffic, IsUnit, seat_at}
+use Rattle.bus_ledger.specs.BusValue.{Traffic, seat_at}
 use Rattle.bus_ledger.specs.Changes.{heard_more}
 use Rattle.bus_ledger.specs.Joining.{live_units}
 use Rattle.bus_ledger.specs.declared.traffic.CarriedFrame.{CarriedFrame}
 use Rattle.node_core.specs.NodeValue.{NodeValue}
-use Rattle.node_core.specs.Reaction.{reaction, node_after, memory_after}
+use Rattle.node_core.specs.Reaction.{reaction, node_after}
 use Rattle.node_core.specs.Deed.{heard_of}
 use Rattle.journal.specs.State.{State, UnitState, unit_at}
 use Rattle.journal.specs.Steps.{put_all, tagged, is_session, session_message_after, withdrawn_by, next_for}
-use Rattle.journal.specs.Journal.{GarageValue, state_of, one_more}
+use Rattle.journal.specs.Journal.{one_more}
 use Rattle.journal.specs.declared.event.Event.{Event}
 use Rattle.journal.specs.declared.event.Event.TheVariants.{Hear}
 use Rattle.std.specs.Vec.{with_item}
 use Rattle.garage.specs.Inside.{unit_of}
 use Rattle.garage.specs.Answers.{with_begun}
 use Rattle.garage.specs.declared.garage.Place.{Place}
-use Rattle.garage.proofs.Traffics.{some_live, PutsOn, puts, keeps_heard, keeps_withdrawn_by, keeps_then}
-use Rattle.garage.proofs.Standing.{state, place_few, place_within, unit_now, bus_unit, unit_is, hear_did, begun_length, begun_few, next_within, joins_hear, place_tally, stands_more, tallies_one, fresh_one, added, hears_of, still, same_place}
+use Rattle.garage.proofs.Traffics.{some_live, puts, keeps_heard, keeps_withdrawn_by, keeps_then}
+use Rattle.garage.proofs.Standing.{state, place_few, place_within, unit_now, bus_unit, unit_is, hear_did, begun_length, begun_few, next_within, joins_hear, place_tally, stands_more, tallies_one, fresh_one, hears_of, still, same_place}
 use Rattle.garage.proofs.garage.Garage.hear.Goals as goal
 
 pub invariant_of-self-in_err-heard : goal.invariant_of-self-in_err-heard

@@ -1,11 +1,10 @@
-use Rattle.std.proofs.Common.{ℕ, suc, ◌≡◌, arith, refl, ap, ◌∙◌, sym, subst, List, ◌++◌, ◌∷◌, [], ◌+◌, ◌-◌, ◌≤◌, ◌<◌, ◌^◌, length, map, reverse, Some, Option}
-use Rattle.std.proofs.lemmas.List.{length-set, length-map, length_push, map_push, map-set}
-use Rattle.bus_ledger.specs.BusValue.{Traffic, IsUnit, seat_at}
+use Rattle.std.proofs.Common.{ℕ, suc, ◌≡◌, arith, refl, ap, ◌∙◌, sym, subst, List, ◌++◌, ◌∷◌, [], ◌+◌, ◌<◌, ◌^◌, length, map, reverse, Some}
+use Rattle.std.proofs.lemmas.List.{length_push, map_push}
+use Rattle.bus_ledger.specs.BusValue.{Traffic, seat_at}
 use Rattle.bus_ledger.specs.Joining.{live_units}
 use Rattle.journal.specs.State.{State, UnitState, new_unit}
-use Rattle.journal.specs.Journal.{GarageValue, state_of, one_more, tally_of}
+use Rattle.journal.specs.Journal.{GarageValue, state_of, tally_of}
 use Rattle.journal.specs.declared.event.Event.{Event}
-use Rattle.journal.specs.declared.tally.Tally.{Tally}
 use Rattle.garage.specs.Inside.{unit_of, place_at}
 use Rattle.garage.specs.declared.garage.Place.{Place}
 use Rattle.garage.specs.declared.garage.Garage.TheInside.{Inside}

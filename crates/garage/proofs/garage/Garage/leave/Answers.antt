@@ -1,11 +1,10 @@
-use Rattle.std.proofs.Common.{arith, refl, ap, ◌∙◌, sym, subst, List, ◌++◌, ◌∷◌, [], ◌+◌, ◌-◌, length}
+use Rattle.std.proofs.Common.{arith, refl, ap, ◌∙◌, sym, ◌+◌, ◌-◌, length}
 use Rattle.std.proofs.lemmas.List.{length-set}
-use Rattle.bus_ledger.specs.BusValue.{Traffic, IsUnit, seat_at}
+use Rattle.bus_ledger.specs.BusValue.{Traffic, seat_at}
 use Rattle.bus_ledger.specs.Changes.{left}
 use Rattle.bus_ledger.specs.Joining.{live_units}
 use Rattle.journal.specs.State.{State}
 use Rattle.journal.specs.Journal.{one_more}
-use Rattle.journal.specs.declared.event.Event.{Event}
 use Rattle.journal.specs.declared.event.Event.TheVariants.{Leave}
 use Rattle.journal.specs.declared.tally.Tally.{Tally}
 use Rattle.garage.proofs.Traffics.{some_live, live_left}

@@ -1,4 +1,4 @@
-use Rattle.std.proofs.Common.{rules, arith, refl, ap, ◌<◌, ◌^◌, ◌∙◌, sym, ◌∷◌, [], map, Some}
+use Rattle.std.proofs.Common.{rules, arith, refl, ap, ◌<◌, ◌^◌, ◌∙◌, ◌∷◌, [], map, Some}
 use Rattle.address_claim.specs.Frames.{claim_frame_value}
 use Rattle.can_frame.specs.FrameValue.{FrameValue}
 use Rattle.bus_ledger.specs.BusValue.{Traffic}

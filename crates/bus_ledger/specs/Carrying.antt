@@ -22,6 +22,10 @@ pub record IsNext (t : Traffic) (k : ℕ) (q : QueuedFrame) : Type 0 where
   pub offers : offer t k ≡ Some q
   pub wins : (j : ℕ) (r : QueuedFrame) → offer t j ≡ Some r → Wins k q j r
 
+-- some seat has a frame to carry, and has heard the whole wire
+abbrev pub CanCarry : Traffic → Type 0
+CanCarry t = (k : ℕ) × (q : QueuedFrame) × IsNext t k q
+
 -- no seat wants a frame carried
 abbrev pub IsIdle : Traffic → Type 0
 IsIdle t = (k : ℕ) → (seat_at t k).queue ≡ []

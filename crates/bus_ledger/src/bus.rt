@@ -44,17 +44,19 @@ impl Bus {
     ghost use Rattle.bus_ledger.specs.BusValue.{IsLive, IsUnit, KeepsSpares, seat_at, spare_at};
     ghost use Rattle.bus_ledger.specs.Changes.{carried_from, heard_more, joined, kept, left, new_traffic, queued, queued_frame, withdrawn};
     ghost use Rattle.bus_ledger.specs.Joining.{join_refusal};
-    ghost use Rattle.bus_ledger.specs.Carrying.{Carries, IsChoice, IsNext, offer};
+    ghost use Rattle.bus_ledger.specs.Carrying.{CanCarry, Carries, IsChoice, IsNext, offer};
     ghost use Rattle.bus_ledger.specs.Reception.{after_reading, next_reading, unread};
     ghost use Rattle.bus_ledger.specs.Ledger.{IsSound, counts_of};
 
     /// A bus with the station alone, on seat 0, whose window has room for `window` unread frames, 1 to 4,096.
+    /// The station's queue has room for one frame.
     ///
     /// Refused where there is no memory.
     pub fn new(alloc: Global, station: Name, window: u32) -> Result<Bus, BusError>
         requires { (0 < window) × (window ≤ 4096) }
         ensures ok { IfOk result (λ b. b.traffic ≡ new_traffic station window) }
         ensures err { IfErr result (λ e. e ≡ BusError.OutOfMemory) }
+        ensures room { IfOk result (λ b. 1 ≤ spare_at b 0) }
     {
         let mut seats = Vec::with_capacity(alloc, 1)?;
         let mut live = Vec::with_capacity(alloc, 1)?;
@@ -198,6 +200,7 @@ impl Bus {
         requires { length self.old.traffic.wire + 1 < 2 ^ 32 }
         ensures ok { IfOk result (λ a. Carries self.old.traffic a self.new.traffic) }
         ensures err { IfErr result (λ e. (e ≡ BusError.OutOfMemory) × (self.new.traffic ≡ self.old.traffic)) }
+        ensures could { OnErr result (CanCarry self.old.traffic) }
         ensures spares { KeepsSpares self.old self.new }
     {
         let Some((seat, queued)) = self.next_sender() else {

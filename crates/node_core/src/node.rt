@@ -126,6 +126,7 @@ impl Node {
         ensures refused { IfErr result (λ e. e ≡ NodeError.OutOfMemory) }
         ensures kept { OnErr result (self.new ≡ self.old) }
         ensures memory_kept { OnErr result (memory_of unit.new ≡ memory_of unit.old) }
+        ensures unasked { OnErr result (unit.new ≡ unit.old) }
     {
         match ParameterGroup::read(frame) {
             ParameterGroup::AddressClaimed { source, name } => Ok(self.hear_claim(
@@ -141,7 +142,7 @@ impl Node {
                 source,
                 dest,
                 bytes,
-            } => Ok(self.hear_packet(alloc, source, dest, bytes, unit)?),
+            } => self.hear_packet(alloc, source, dest, bytes, unit),
             ParameterGroup::CannotClaim { .. }
             | ParameterGroup::Acknowledgment(_)
             | ParameterGroup::Diagnostic { .. }

@@ -46,6 +46,7 @@ impl Node {
         ensures refused { IfErr result (λ e. e ≡ NodeError.OutOfMemory) }
         ensures kept { OnErr result (self.new ≡ self.old) }
         ensures memory_kept { OnErr result (memory_of unit.new ≡ memory_of unit.old) }
+        ensures unasked { OnErr result (unit.new ≡ unit.old) }
     {
         if !self.is_concerned(request.dest) {
             return Ok(Heard::nothing(alloc));
@@ -89,6 +90,7 @@ impl Node {
         ensures few { IfOk result (λ h. length h.put ≤ 256) }
         ensures refused { IfErr result (λ e. e ≡ NodeError.OutOfMemory) }
         ensures memory_kept { OnErr result (memory_of unit.new ≡ memory_of unit.old) }
+        ensures unasked { OnErr result (unit.new ≡ unit.old) }
     {
         match wanted {
             Wanted::Message(kind) => self.message_to_all(alloc, kind, address, unit.memory()),
@@ -146,6 +148,7 @@ impl Node {
         ensures refused { IfErr result (λ e. e ≡ NodeError.OutOfMemory) }
         ensures kept { OnErr result (self.new ≡ self.old) }
         ensures memory_kept { OnErr result (memory_of unit.new ≡ memory_of unit.old) }
+        ensures unasked { OnErr result (unit.new ≡ unit.old) }
     {
         match wanted {
             Wanted::Message(kind) => self.asked_for_message(
@@ -221,6 +224,7 @@ fn asked_to_clear(
     ensures memory { IfOk result (λ h. memory_of unit.new ≡ (if h.agreed then cleared_by which (memory_of unit.old) else memory_of unit.old)) }
     ensures refused { IfErr result (λ e. e ≡ NodeError.OutOfMemory) }
     ensures memory_kept { OnErr result (memory_of unit.new ≡ memory_of unit.old) }
+    ensures unasked { OnErr result (unit.new ≡ unit.old) }
 {
     let mut room = Vec::with_capacity(alloc, 1)?;
     let agreed = put_clear(which, unit);

@@ -1,12 +1,13 @@
-ghost use Rattle.std.specs.Prelude.{◌≡◌, ◌≤◌, ◌<◌, IfOk, OnErr, IfSome, Some, true, [], length, vec_len, vec_capacity};
+ghost use Rattle.std.specs.Prelude.{◌≡◌, ◌≤◌, ◌<◌, IfOk, IfErr, OnErr, IfSome, Some, true, [], length, vec_len, vec_capacity};
 
 use crate::commanding::{HalfCommand, for_name, is_broadcast};
+use crate::error::NodeError;
 use crate::heard::{Heard, Withdraw};
 use crate::node::Node;
 use crate::out::{Out, Outs};
 use can_frame::Pgn;
 use requests::Commanded;
-use std::alloc::{AllocError, Global};
+use std::alloc::Global;
 use unit_trait::Unit;
 
 impl Node {
@@ -32,13 +33,15 @@ impl Node {
         destination: u8,
         bytes: &[u8],
         unit: &mut dyn Unit,
-    ) -> Result<Heard, AllocError>
+    ) -> Result<Heard, NodeError>
         ensures name { name_of unit.new ≡ name_of unit.old }
         ensures heard { IfOk result (λ h. h ≡ heard_of h.agreed (on_packet self.old h.agreed source destination bytes.now)) }
         ensures node { IfOk result (λ h. self.new ≡ after (packet_joined self.old source destination bytes.now) (on_packet self.old h.agreed source destination bytes.now)) }
         ensures memory { memory_of unit.new ≡ memory_of unit.old }
         ensures few { IfOk result (λ h. length h.put ≤ 256) }
+        ensures refused { IfErr result (λ e. e ≡ NodeError.OutOfMemory) }
         ensures kept { OnErr result (self.new ≡ self.old) }
+        ensures unasked { OnErr result (unit.new ≡ unit.old) }
     {
         let Some(command) = self.command_heard(source, destination, bytes) else {
             self.join_packet(source, destination, bytes);

@@ -1,3 +1,4 @@
 pub mod Begins
+pub mod Unasked
 pub mod NineBytes
 pub mod PartLists

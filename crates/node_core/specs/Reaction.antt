@@ -18,7 +18,7 @@ use Rattle.dm_messages.specs.declared.kind.Kind.{Kind}
 use Rattle.node_core.specs.NodeValue.{NodeValue, is_open, is_destination}
 use Rattle.node_core.specs.Deed.{Deed, Nothing, Replies, Begins, Sends, EndsSession, Claims, payload_of, heard_of, after}
 use Rattle.node_core.specs.Commanding.{started, continued, completed, half_from, is_broadcast, for_name}
-use Rattle.node_core.specs.Requested.{wanted_by, is_concerned, counts_from, cleared_by, acknowledgment}
+use Rattle.node_core.specs.Requested.{wanted_by, is_concerned, counts_from, is_clear, cleared_by, acknowledgment}
 use Rattle.node_core.specs.declared.commanding.HalfCommand.{HalfCommand}
 use Rattle.node_core.specs.declared.commanding.HalfCommand.TheVariants as half
 use Rattle.node_core.specs.declared.session.OpenSession.{OpenSession}
@@ -212,6 +212,17 @@ memory_after_group node memory agrees _ = memory
 
 abbrev pub memory_after : NodeValue → MemoryValue → Bool → FrameValue → MemoryValue
 memory_after node memory agrees f = memory_after_group node memory agrees (group_of f)
+
+-- whether a request that counts puts a clear to the holder of an address
+abbrev pub is_clear_put : ℕ → ℕ → Option ℕ → Bool
+is_clear_put pgn source None = false
+is_clear_put pgn source (Some address) = counts_from address source && is_clear (wanted_by pgn)
+
+-- whether something is put to the unit: to clear, or to obey a commanded address
+abbrev pub is_put : NodeValue → Group → Bool
+is_put node (Request pgn destination source) = is_concerned node.claimer.held destination && is_clear_put pgn source node.claimer.held
+is_put node (DataTransfer source destination bytes) = is_some (command_heard node source destination bytes)
+is_put node _ = false
 
 -- a frame heard, with what came of it: exactly what is owed, by what the unit chose
 pub record Reacts (f : FrameValue) (node : NodeValue) (memory : MemoryValue) (heard : Heard) (node' : NodeValue) (memory' : MemoryValue) : Type 0 where

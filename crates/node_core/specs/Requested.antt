@@ -1,5 +1,5 @@
 -- What a request asks of a unit (SAE J1939-21, J1939-73), and whom it concerns.
-use Rattle.std.specs.Prelude.{ℕ, Bool, ◌&&◌, ◌||◌, ◌==◌, not, nat_le, Option, if◌then◌else◌}
+use Rattle.std.specs.Prelude.{ℕ, Bool, true, false, ◌&&◌, ◌||◌, ◌==◌, not, nat_le, Option, if◌then◌else◌}
 use Rattle.can_frame.specs.FrameValue.{FrameValue}
 use Rattle.address_claim.specs.Claiming.{is_held}
 use Rattle.requests.specs.Layouts.{ack_frame_value}
@@ -37,3 +37,8 @@ cleared_by Previous m = cleared_previous m
 abbrev pub acknowledgment : ℕ → ℕ → ℕ → ℕ → FrameValue
 acknowledgment control requester pgn address =
     ack_frame_value (record { control = control; requester = requester; pgn = pgn; dest = 255; source = address })
+
+-- it asks to clear codes
+abbrev pub is_clear : Wanted → Bool
+is_clear (wanted.Clear which) = true
+is_clear _ = false

@@ -1,4 +1,4 @@
-ghost use Rattle.std.specs.Prelude.{◌≡◌, ◌≤◌, ◌↔◌, IfOk, IfErr, OnErr, IfSome, IsSome, IsErrOf, IsNone, Ok, length, option_map, true};
+ghost use Rattle.std.specs.Prelude.{◌≡◌, ◌≤◌, ◌↔◌, IfOk, IfErr, OnErr, IfSome, IsSome, IsErrOf, IsNone, Ok, length, option_map, true, false};
 ghost use Rattle.address_claim.specs.Frames.{claim_frame_value};
 
 use crate::commanding::HalfCommand;
@@ -41,7 +41,8 @@ impl Model for Node {
 impl Node {
     ghost use Rattle.address_claim.specs.Claiming.{is_held};
     ghost use Rattle.node_core.specs.Beginning.{IsFew, begins};
-    ghost use Rattle.node_core.specs.Reaction.{Reacts};
+    ghost use Rattle.node_core.specs.Reaction.{Reacts, is_put};
+    ghost use Rattle.parameter_group.specs.Group.{group_of};
     ghost use Rattle.node_core.specs.NodeValue.{new_node, is_destination, is_open};
     ghost use Rattle.node_core.specs.Deed.{heard_of, after, EndsSession};
 
@@ -127,6 +128,7 @@ impl Node {
         ensures kept { OnErr result (self.new ≡ self.old) }
         ensures memory_kept { OnErr result (memory_of unit.new ≡ memory_of unit.old) }
         ensures unasked { OnErr result (unit.new ≡ unit.old) }
+        ensures left_alone { is_put self.old (group_of frame.now) ≡ false → unit.new ≡ unit.old }
     {
         match ParameterGroup::read(frame) {
             ParameterGroup::AddressClaimed { source, name } => Ok(self.hear_claim(

@@ -1,6 +1,6 @@
-ghost use Rattle.std.specs.Prelude.{◌≡◌, ◌≤◌, IfOk, IfErr, OnOk, OnErr, length, true, if◌then◌else◌};
+ghost use Rattle.std.specs.Prelude.{◌≡◌, ◌≤◌, IfOk, IfErr, OnOk, OnErr, length, true, false, if◌then◌else◌};
 ghost use Rattle.node_core.specs.Deed.{Replies, beginning, heard_of};
-ghost use Rattle.node_core.specs.Requested.{cleared_by};
+ghost use Rattle.node_core.specs.Requested.{cleared_by, is_clear};
 ghost use Rattle.node_core.specs.Requested as requested;
 
 use crate::error::NodeError;
@@ -28,8 +28,9 @@ const BUSY: u8 = 3;
 impl Node {
     ghost use Rattle.node_core.specs.Deed.{after};
     ghost use Rattle.node_core.specs.Requested.{is_concerned};
-    ghost use Rattle.node_core.specs.Reaction.{on_request, asked_of_all, asked_at_address, asked_for_message, memory_asked, memory_after_request};
+    ghost use Rattle.node_core.specs.Reaction.{is_put, on_request, asked_of_all, asked_at_address, asked_for_message, memory_asked, memory_after_request};
     ghost use Rattle.node_core.specs.declared.requested.Wanted.TheVariants as wanted;
+    ghost use Rattle.parameter_group.specs.Group as group;
 
     /// Hears a request (SAE J1939-21).
     pub(super) fn hear_request(
@@ -47,6 +48,7 @@ impl Node {
         ensures kept { OnErr result (self.new ≡ self.old) }
         ensures memory_kept { OnErr result (memory_of unit.new ≡ memory_of unit.old) }
         ensures unasked { OnErr result (unit.new ≡ unit.old) }
+        ensures left_alone { is_put self.old (group.Request request.pgn request.dest request.source) ≡ false → unit.new ≡ unit.old }
     {
         if !self.is_concerned(request.dest) {
             return Ok(Heard::nothing(alloc));
@@ -91,6 +93,7 @@ impl Node {
         ensures refused { IfErr result (λ e. e ≡ NodeError.OutOfMemory) }
         ensures memory_kept { OnErr result (memory_of unit.new ≡ memory_of unit.old) }
         ensures unasked { OnErr result (unit.new ≡ unit.old) }
+        ensures left_alone { is_clear wanted ≡ false → unit.new ≡ unit.old }
     {
         match wanted {
             Wanted::Message(kind) => self.message_to_all(alloc, kind, address, unit.memory()),
@@ -149,6 +152,7 @@ impl Node {
         ensures kept { OnErr result (self.new ≡ self.old) }
         ensures memory_kept { OnErr result (memory_of unit.new ≡ memory_of unit.old) }
         ensures unasked { OnErr result (unit.new ≡ unit.old) }
+        ensures left_alone { is_clear wanted ≡ false → unit.new ≡ unit.old }
     {
         match wanted {
             Wanted::Message(kind) => self.asked_for_message(

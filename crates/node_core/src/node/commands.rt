@@ -1,4 +1,4 @@
-ghost use Rattle.std.specs.Prelude.{◌≡◌, ◌≤◌, ◌<◌, IfOk, IfErr, OnErr, IfSome, Some, true, [], length, vec_len, vec_capacity};
+ghost use Rattle.std.specs.Prelude.{◌≡◌, ◌≤◌, ◌<◌, IfOk, IfErr, OnErr, IfSome, Some, is_some, true, false, [], length, vec_len, vec_capacity};
 
 use crate::commanding::{HalfCommand, for_name, is_broadcast};
 use crate::error::NodeError;
@@ -42,6 +42,7 @@ impl Node {
         ensures refused { IfErr result (λ e. e ≡ NodeError.OutOfMemory) }
         ensures kept { OnErr result (self.new ≡ self.old) }
         ensures unasked { OnErr result (unit.new ≡ unit.old) }
+        ensures left_alone { is_some (command_heard self.old source destination bytes.now) ≡ false → unit.new ≡ unit.old }
     {
         let Some(command) = self.command_heard(source, destination, bytes) else {
             self.join_packet(source, destination, bytes);

@@ -1,4 +1,4 @@
-ghost use Rattle.std.specs.Prelude.{◌≡◌, ◌≤◌, ℕ, ◌∷◌, List, length, IfOk, OnOk, OnErr, IsOkUnless};
+ghost use Rattle.std.specs.Prelude.{◌≡◌, ◌≢◌, ◌≤◌, ℕ, ◌∷◌, List, length, IfOk, OnOk, OnErr, IsOkUnless};
 ghost use Rattle.bus_model.specs.Heard.{Settings};
 ghost use Rattle.can_frame.specs.declared.reading.Reading.{Reading as AnyReading};
 ghost use Rattle.parameter_group.specs.Group as group;
@@ -24,7 +24,7 @@ impl Station {
     /// Takes one reading, and says what to withdraw and to queue.
     ///
     /// A frame tells the station what it says; a gap makes it forget owners and all that is half joined; empty is nothing.
-    /// `OutOfMemory` leaves the station as it was.
+    /// `OutOfMemory` leaves the station as it was, and is never the answer to an empty reading.
     #[tactic(auto, using(crate::proofs::Few::few_frames))]
     pub fn take(&mut self, alloc: Global, reading: Reading) -> Result<Reaction, StationError>
         ensures step { OnOk result (self.new ≡ after_reading self.old reading) }
@@ -32,6 +32,7 @@ impl Station {
         ensures stands { OnOk result ((r : Settings) (grant : ℕ) (h : List AnyReading) → StandsFor r grant self.old h → StandsFor r grant self.new (reading ∷ h)) }
         ensures few { IfOk result (λ x. length x.put ≤ 2) }
         ensures err { OnErr result (self.new ≡ self.old) }
+        ensures not_empty { OnErr result (reading ≢ Reading.Empty) }
         ensures only_memory { IsOkUnless result StationError.OutOfMemory }
     {
         match reading {

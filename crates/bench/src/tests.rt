@@ -2,6 +2,7 @@ mod addresses;
 mod asked;
 mod faults;
 mod refusals;
+mod seats;
 mod units;
 
 use crate::script::script;

@@ -29,6 +29,7 @@ fn first_run(rt: HostRuntime) -> Result<(), Fail> {
     answers_as(&rt, rt.alloc(), &FIRST_RUN)
 }
 
+/// What a unit does as it works is its own, so no contract tells it: this test alone sees a unit that never thinks.
 const FLICKER_THINKS: Row = Row {
     script: "garage 0000000000000001 249 64 16 100000
 join 00000000000000A0 0 flicker 100 1

@@ -56,7 +56,7 @@ impl Model for Garage {
 impl Garage {
     ghost use Rattle.std.specs.Prelude.{◌≡◌, ℕ, ◌<◌, ◌≤◌, ◌⊎◌, ◌^◌, ◌↔◌, length, reverse, slice_get, IfOk, IfErr, IsErrOf, OnErr, Ok, Some};
     ghost use Rattle.std.specs.Option.{option_map};
-    ghost use Rattle.bus_ledger.specs.Carrying.{IsIdle, IsWaiting};
+    ghost use Rattle.bus_ledger.specs.Carrying.{CanCarry, IsIdle, IsWaiting};
     ghost use Rattle.bus_ledger.specs.Ledger.{counts_of};
     ghost use Rattle.bus_ledger.specs.Joining.{live_units};
     ghost use Rattle.bus_ledger.specs.Reception.{next_reading};
@@ -66,7 +66,6 @@ impl Garage {
     ghost use Rattle.journal.specs.Worlds.{station_of};
     ghost use Rattle.journal.specs.declared.event.Event.TheVariants.{Carry, Read};
     ghost use Rattle.garage.specs.Carrying.{Carries};
-    ghost use Rattle.garage.specs.Causes.{CanCarry};
     ghost use Rattle.garage.specs.Room.{IsFull};
 
     /// Carries one frame; nothing changes where the answer is `Idle` or `Waiting`.

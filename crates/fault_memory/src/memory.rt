@@ -157,7 +157,8 @@ impl FaultMemory {
     /// The same lamps and codes, in memory of their own.
     #[tactic(auto, using(crate::proofs::Lawful::copy_is_lawful))]
     pub fn copy(&self) -> Result<FaultMemory, AllocError>
-        ensures { IfOk result (λ m. m ≡ self.now) }
+        ensures same { IfOk result (λ m. m ≡ self.now) }
+        ensures lawful { IfOk result IsLawfulMemory }
     {
         let active = self.active.clone()?;
         let previous = self.previous.clone()?;

@@ -1,6 +1,7 @@
 pub mod Standing
 pub mod Traffics
 pub mod Headline
+mod InHand
 mod SeatKept
 mod OrderLemmas
 mod OpeningLemmas

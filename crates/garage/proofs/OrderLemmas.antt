@@ -145,7 +145,3 @@ reacts r t =
       units = put_units 0 qs u ∙ kept.units;
       queued = λ j. (let b = put_bound 0 qs u j in let k = kept.queued j in let n = length-map r.put untagged in omega arith);
     }
-
--- the station's seat is live on every bus
-pub station_live : (t : Traffic) → (seat_at t 0).live ≡ true → IsLive t 0
-station_live t live = (given t.seats 0 live, live)

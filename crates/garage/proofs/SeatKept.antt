@@ -1,5 +1,5 @@
 -- A unit that hears, begins a message or ends a turn keeps its seat.
-use Rattle.std.proofs.Common.{ℕ, false, ◌≡◌, ◌<◌, Bool, List, [], ◌∷◌, Option, Some, None, map, length, refl, sym, ap, ◌∙◌, subst, arith}
+use Rattle.std.proofs.Common.{ℕ, false, true, ◌≡◌, ◌+◌, ◌<◌, nat_eq, eq-eqb, Bool, List, [], ◌∷◌, Option, Some, None, map, length, refl, sym, ap, ◌∙◌, subst, arith}
 use Rattle.std.proofs.lemmas.List.{length-set, get_or-set_same}
 use Rattle.can_frame.specs.FrameValue.{FrameValue}
 use Rattle.fault_memory.specs.Memory.{MemoryValue}
@@ -20,13 +20,16 @@ use Rattle.node_core.specs.declared.heard.Withdraw.{Withdraw}
 use Rattle.node_core.specs.declared.heard.Withdraw.TheVariants as withdraw
 use Rattle.journal.specs.State.{State, unit_at}
 use Rattle.journal.specs.Steps.{put_all, withdrawn_by, after_hearing, after_hear_of, after_starting, after_begin_of, next_for, tagged, is_session, session_message_after}
-use Rattle.journal.specs.Journal.{GarageValue, Adds, IsSeated, state_after, state_of, tally_of, with_event}
+use Rattle.journal.specs.Journal.{GarageValue, Adds, IsSeated, joins, state_after, state_of, tallied, tally_of, with_event}
+use Rattle.journal.specs.declared.event.Event.{Event}
+use Rattle.journal.specs.declared.tally.Tally.{Tally}
 use Rattle.journal.specs.declared.event.Event.TheVariants.{Hear, Begin, Turned}
-use Rattle.garage.specs.Answers.{Hears, Begins}
+use Rattle.garage.specs.Answers.{Hears, Begins, counted_hearing, counted_beginning}
 use Rattle.garage.specs.declared.steps.HeardOne.{HeardOne}
 use Rattle.garage.specs.declared.steps.HeardOne.TheVariants as heard
 use Rattle.garage.specs.declared.steps.Begin.{Begin as Began}
 use Rattle.garage.specs.declared.steps.Begin.TheVariants as began
+use Rattle.garage.proofs.Standing.{tally_more}
 
 -- the seat is as live as it was, under the same NAME, among as many seats
 pub record KeepsSeat (k : ℕ) (t t' : Traffic) : Type 0 where
@@ -136,3 +139,25 @@ still_seated g g' k name before events h seated e = record {
   named = h.name ∙ seated.named;
   counted = sym e;
 }
+
+-- one event more of its own
+more_events : (k : ℕ) (g g' : GarageValue) (e : Event) (n : ℕ) → ((t : Tally) → (tallied k (joins g.journal) e t).events ≡ t.events + 1) → Adds g e g' → (tally_of k g.journal).events ≡ n → (tally_of k g'.journal).events ≡ n + 1
+more_events k g g' e n rule h is =
+    ap (λ (v : GarageValue). (tally_of k v.journal).events) h.adds
+    ∙ (ap (λ (t : Tally). t.events) (tally_more k e g.journal) ∙ (rule (tally_of k g.journal) ∙ ap (λ (i : ℕ). i + 1) is))
+
+itself : (k : ℕ) → nat_eq k k ≡ true
+itself k = eq-eqb k k refl
+
+pub hearing_counted : (g : GarageValue) (k : ℕ) (memory : MemoryValue) (h : HeardOne) (g' : GarageValue) (memory' : MemoryValue) (n : ℕ)
+    → Hears g k memory h g' memory' → (tally_of k g.journal).events ≡ n → (tally_of k g'.journal).events ≡ counted_hearing n h
+hearing_counted g k memory (heard.Frame f) g' memory' n h is = more_events k g g' (Hear k memory h.1.0) n (λ t. rw (itself k) refl) h.1.1 is
+hearing_counted g k memory heard.Nothing g' memory' n h is = ap (λ (v : GarageValue). (tally_of k v.journal).events) h.1 ∙ is
+
+pub beginning_counted : (g : GarageValue) (k : ℕ) (memory : MemoryValue) (b : Began) (g' : GarageValue) (n : ℕ)
+    → Begins g k memory b g' → (tally_of k g.journal).events ≡ n → (tally_of k g'.journal).events ≡ counted_beginning n b
+beginning_counted g k memory began.Begun g' n h is = more_events k g g' (Begin k memory) n (λ t. rw (itself k) refl) h is
+beginning_counted g k memory began.Held g' n h is = ap (λ (v : GarageValue). (tally_of k v.journal).events) h.1 ∙ is
+
+pub turn_counted : (g : GarageValue) (k : ℕ) (g' : GarageValue) (n : ℕ) → Adds g (Turned k) g' → (tally_of k g.journal).events ≡ n → (tally_of k g'.journal).events ≡ n + 1
+turn_counted g k g' n h is = more_events k g g' (Turned k) n (λ t. rw (itself k) refl) h is

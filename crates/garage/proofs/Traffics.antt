@@ -4,7 +4,7 @@ use Rattle.std.specs.List.{count_by}
 use Rattle.std.proofs.lemmas.List.{length-set, length-map, length_push, get_or-set_same, get_or-set_other, take_more, map-append, set_past, get_or_push}
 use Rattle.std.proofs.lemmas.List.Sums.{sum_by-set, sum_by_push}
 use Rattle.bus_ledger.specs.BusValue.{SeatValue, Traffic, nobody, seat_at, IsLive, IsUnit}
-use Rattle.bus_ledger.specs.Changes.{newcomer, joined, queueing, queued, leaving, left, with_seat, heard_more, withdrawn}
+use Rattle.bus_ledger.specs.Changes.{newcomer, joined, queueing, queued, leaving, left, with_seat, hearing, heard_more, withdrawn}
 use Rattle.bus_ledger.specs.Reception.{after_reading, passes}
 use Rattle.can_frame.specs.declared.reading.Reading.{Reading}
 use Rattle.bus_ledger.specs.declared.traffic.Which.{Which}
@@ -16,7 +16,6 @@ use Rattle.bus_ledger.specs.Carrying.{offer}
 use Rattle.bus_ledger.specs.declared.traffic.QueuedFrame.{QueuedFrame}
 use Rattle.journal.specs.Steps.{put_all, withdrawn_by, reacted, untagged}
 use Rattle.station_table.specs.declared.reaction.Reaction.{Reaction}
-use Rattle.bus_ledger.specs.Ledger.{IsSound}
 
 pub same_or_not : (k j : ℕ) → (k ≡ j) ⊎ (k ≢ j)
 same_or_not zero zero = inl refl
@@ -238,8 +237,15 @@ pub puts_reacted : (r : Reaction) (t v : Traffic) → Keeps t v → PutsOn (leng
 puts_reacted r t v keeps =
     subst (λ (n : ℕ). PutsOn n t (reacted r v)) (length-map r.put untagged) (puts 0 (map untagged r.put) t _ (keeps_then t v _ keeps (keeps_withdrawn_if r.withdraw v)))
 
-pub station_live : (t : Traffic) → IsSound t → IsLive t 0
-station_live t s = (given t.seats 0 s.station, s.station)
+-- the station's seat was given and is not gone
+pub station_live : (t : Traffic) → (seat_at t 0).live ≡ true → IsLive t 0
+station_live t live = (given t.seats 0 live, live)
+
+pub live_read : (t : Traffic) (r : Reading) → IsLive t 0 → IsLive (after_reading r t) 0
+live_read t r h = (
+  omega (arith, length-set t.seats 0 (hearing (passes r) (seat_at t 0))),
+  ap (λ (s : SeatValue). s.live) (get_or-set_same t.seats 0 (hearing (passes r) (seat_at t 0)) nobody h.0) ∙ h.1,
+)
 
 -- one unit more is live
 pub joined_units : (t : Traffic) (name : ℕ) → (seat_at t 0).live ≡ true → live_units (joined name t) ≡ live_units t + 1

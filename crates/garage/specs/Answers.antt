@@ -34,6 +34,16 @@ abbrev pub Reads : GarageValue → Reading → GarageValue → Type 0
 Reads old reading.Empty new = (next_reading (state_of old).traffic ≡ reading.Empty) × (new ≡ old)
 Reads old r new = Adds old (event.Read r) new
 
+-- a unit's count of its own events after hearing: one more where a frame was heard
+abbrev pub counted_hearing : ℕ → HeardOne → ℕ
+counted_hearing n (heard.Frame f) = n + 1
+counted_hearing n heard.Nothing = n
+
+-- and after beginning: one more where a DM1 began
+abbrev pub counted_beginning : ℕ → Begin → ℕ
+counted_beginning n begin.Begun = n + 1
+counted_beginning n begin.Held = n
+
 -- how many messages have begun, with this one
 abbrev pub with_begun : ℕ → Option Begun → ℕ
 with_begun n None = n

@@ -63,6 +63,7 @@ impl Garage {
     ghost use Rattle.station_table.specs.KeptValue.{entries_under};
     ghost use Rattle.bus_model.specs.Heard.{entries_heard, missed_count};
     ghost use Rattle.journal.specs.Journal.{state_of, tally_of, readings_of, shown_of, Adds};
+    ghost use Rattle.journal.specs.Promises.{IsLawful};
     ghost use Rattle.journal.specs.Worlds.{station_of};
     ghost use Rattle.journal.specs.declared.event.Event.TheVariants.{Carry, Read};
     ghost use Rattle.garage.specs.Carrying.{Carries};
@@ -129,8 +130,12 @@ impl Garage {
     }
 
     /// How many events the journal holds.
+    ///
+    /// Whoever has a garage learns here that it is lawful: each event of its journal fits what came before, so every law of
+    /// journals (`journal`) holds of it.
     pub fn events(&self) -> u32
-        ensures { result ≡ length self.now.journal }
+        ensures count { result ≡ length self.now.journal }
+        ensures lawful { IsLawful self.now }
     {
         self.journal.len() as u32
     }

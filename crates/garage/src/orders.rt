@@ -98,7 +98,6 @@ impl Garage {
             Err(refusal) => return Err(GarageError::from(refusal)),
         };
         make_room(&mut self.journal, self.live + 1, self.limit)?;
-        let _sound = self.bus.wire_len();
         self.bus.reserve(0, MOST_ORDERED)?;
         react(&mut self.bus, &reaction);
         self.journal.push_reserved(Event::Ordered { order });

@@ -6,9 +6,10 @@ ghost use Rattle.bus_ledger.specs.declared.error.BusError.TheVariants as bus;
 ghost use Rattle.fault_memory.specs.Changes.{changed, Grows};
 ghost use Rattle.fault_memory.specs.declared.error.FaultError.{FaultError as AnyFault};
 ghost use Rattle.journal.specs.Journal.{state_of, tally_of, Adds, IsSeated};
+ghost use Rattle.journal.specs.Promises.{IsLawful};
 ghost use Rattle.journal.specs.declared.event.Event.TheVariants.{Join, Turned, Leave};
 ghost use Rattle.journal.specs.Steps.{next_for};
-ghost use Rattle.garage.specs.Answers.{Hears, Begins};
+ghost use Rattle.garage.specs.Answers.{Hears, Begins, counted_hearing, counted_beginning};
 ghost use Rattle.garage.specs.Causes.{held_at, has_open_dm1};
 ghost use Rattle.garage.specs.Refusals.{IsJoinRefusal};
 ghost use Rattle.garage.specs.Room.{IsFull, IsFullForJoin};
@@ -31,7 +32,7 @@ pub struct Parked {
     events: u32,
 }
 
-/// A boxed unit in its seat. It borrows the garage.
+/// A boxed unit in its seat. It borrows the garage, which has a live seat with this number, NAME and count of events.
 ///
 /// Where it is dropped the box is dropped too, and the unit leaves the bus: its queued frames are withdrawn and counted, and
 /// the seat is gone.
@@ -41,7 +42,7 @@ pub struct Plug<'a, B = Box<dyn Unit>> {
     seat: u32,
     name: Name,
     events: u32,
-    ghost seated: { IsSeated garage.now seat name events },
+    pub ghost seated: { IsSeated garage.now seat name events },
 }
 
 impl Parked {
@@ -145,7 +146,8 @@ impl Garage {
     /// How many events of its own a live unit has.
     fn events_of(&self, seat: u32) -> u32
         requires { IsUnit (state_of self.now).traffic seat }
-        ensures { result ≡ (tally_of seat self.now.journal).events }
+        ensures count { result ≡ (tally_of seat self.now.journal).events }
+        ensures lawful { IsLawful self.now }
     {
         self.places[seat as usize - 1].tally.events
     }
@@ -190,7 +192,19 @@ impl Garage {
 }
 
 impl<'a> Plug<'a> {
-    /// Lets the unit hear its next frame, if there is one that it has not heard.
+    /// How many events of its own the unit has in the journal of the garage.
+    ///
+    /// Whoever has a plug learns here that its unit is seated, and that the garage is lawful.
+    pub fn events(&self) -> u32
+        ensures count { result ≡ self.now.events }
+        ensures seated { IsSeated self.now.garage.now self.now.seat self.now.name self.now.events }
+        ensures lawful { IsLawful self.now.garage.now }
+    {
+        self.garage.events_of(self.seat)
+    }
+
+    /// Lets the unit hear its next frame, if there is one that it has not heard. Where it heard one, its count of events is one
+    /// more.
     ///
     /// Refused where there is one: `BookFull`, then `OutOfMemory`; then nothing changed.
     pub fn hear(&mut self, alloc: Global) -> Result<HeardOne, GarageError>
@@ -198,6 +212,7 @@ impl<'a> Plug<'a> {
         ensures same { self.new.garage.ghost_name ≡ self.old.garage.ghost_name }
         ensures kept { (self.new.seat ≡ self.old.seat) × (self.new.name ≡ self.old.name) × (name_of self.new.unit ≡ name_of self.old.unit) }
         ensures ok { IfOk result (λ h. Hears self.old.garage.now self.old.seat (memory_of self.old.unit) h self.new.garage.now (memory_of self.new.unit)) }
+        ensures counted { IfOk result (λ h. self.new.events ≡ counted_hearing self.old.events h) }
         ensures nothing { (result ≡ Ok HeardOne.Nothing) ↔ (next_for (state_of self.old.garage.now) self.old.seat ≡ None) }
         ensures full { IsErrOf result GarageError.BookFull ↔ (IsSome (next_for (state_of self.old.garage.now) self.old.seat) × IsFull self.old.garage.now) }
         ensures only { IfErr result (λ e. (e ≡ GarageError.BookFull) ⊎ (e ≡ GarageError.OutOfMemory)) }
@@ -208,7 +223,7 @@ impl<'a> Plug<'a> {
         Ok(heard)
     }
 
-    /// Begins a DM1 of the unit's memory, to all.
+    /// Begins a DM1 of the unit's memory, to all. Where it began, the unit's count of events is one more.
     ///
     /// Refused: `Unclaimed` where the unit holds no address; then, where no DM1 session is open, `BookFull` and `OutOfMemory`.
     /// Then nothing changed.
@@ -217,6 +232,7 @@ impl<'a> Plug<'a> {
         ensures same { self.new.garage.ghost_name ≡ self.old.garage.ghost_name }
         ensures kept { (self.new.seat ≡ self.old.seat) × (self.new.name ≡ self.old.name) × (self.new.unit ≡ self.old.unit) }
         ensures ok { IfOk result (λ b. Begins self.old.garage.now self.old.seat (memory_of self.old.unit) b self.new.garage.now) }
+        ensures counted { IfOk result (λ b. self.new.events ≡ counted_beginning self.old.events b) }
         ensures unclaimed { IsErrOf result GarageError.Unclaimed ↔ IsNone (held_at self.old.garage.now self.old.seat) }
         ensures held { (result ≡ Ok Begin.Held) ↔ (IsSome (held_at self.old.garage.now self.old.seat) × (has_open_dm1 self.old.garage.now self.old.seat ≡ true)) }
         ensures full { IsErrOf result GarageError.BookFull ↔ (IsSome (held_at self.old.garage.now self.old.seat) × (has_open_dm1 self.old.garage.now self.old.seat ≡ false) × IsFull self.old.garage.now) }
@@ -228,7 +244,7 @@ impl<'a> Plug<'a> {
         Ok(begin)
     }
 
-    /// Tells the journal that a turn of the unit is over.
+    /// Tells the journal that a turn of the unit is over. The unit's count of events is one more.
     ///
     /// Refused: `BookFull`, then `OutOfMemory`; then nothing changed.
     pub fn turn(&mut self) -> Result<(), GarageError>
@@ -236,6 +252,7 @@ impl<'a> Plug<'a> {
         ensures same { self.new.garage.ghost_name ≡ self.old.garage.ghost_name }
         ensures kept { (self.new.seat ≡ self.old.seat) × (self.new.name ≡ self.old.name) × (self.new.unit ≡ self.old.unit) }
         ensures ok { OnOk result (Adds self.old.garage.now (Turned self.old.seat) self.new.garage.now) }
+        ensures counted { OnOk result (self.new.events ≡ self.old.events + 1) }
         ensures full { IsErrOf result GarageError.BookFull ↔ IsFull self.old.garage.now }
         ensures only { IfErr result (λ e. (e ≡ GarageError.BookFull) ⊎ (e ≡ GarageError.OutOfMemory)) }
         ensures err { OnErr result ((self.new.garage.now ≡ self.old.garage.now) × (self.new.events ≡ self.old.events)) }
@@ -245,11 +262,13 @@ impl<'a> Plug<'a> {
         Ok(())
     }
 
-    /// Takes the unit out of its seat, which stays. Takes no memory.
+    /// Takes the unit out of its seat, which stays: the garage has a live seat with the number, the NAME and the count of what
+    /// is parked, so that `attach` gives it back. Takes no memory.
     pub fn detach(self) -> Parked
         requires { Unit {0} }
         ensures parked { (result.unit ≡ self.entry.unit) × (result.seat ≡ self.entry.seat) × (result.events ≡ self.entry.events) }
         ensures garage { self.exit.0.now ≡ self.entry.garage.now }
+        ensures seated { IsSeated self.exit.0.now result.seat self.entry.name result.events }
     {
         let Plug {
             garage: _,

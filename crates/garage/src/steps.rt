@@ -68,7 +68,6 @@ impl Garage {
         ensures err { OnErr result (self.new ≡ self.old) }
     {
         let _number = name.number();
-        let _sound = self.bus.wire_len();
         self.bus.may_join(name)?;
         make_room(&mut self.journal, self.live + 2, self.limit)?;
         self.places.reserve(1)?;
@@ -111,12 +110,10 @@ impl Garage {
         ensures only { IfErr result (λ e. (e ≡ GarageError.BookFull) ⊎ (e ≡ GarageError.OutOfMemory)) }
         ensures err { OnErr result ((self.new ≡ self.old) × (memory_of unit.new ≡ memory_of unit.old)) }
     {
-        let _sound = self.bus.wire_len();
         let Some(frame) = self.bus.next_for(seat) else {
             return Ok(HeardOne::Nothing);
         };
         make_room(&mut self.journal, self.live + 1, self.limit)?;
-        let _lamps = unit.memory().lamps();
         let memory = unit.memory().copy()?;
         self.bus.reserve(seat, MOST_OUTS)?;
         let place = &mut self.places[seat as usize - 1];
@@ -161,7 +158,6 @@ impl Garage {
         ensures only { IfErr result (λ e. (e ≡ GarageError.Unclaimed) ⊎ (e ≡ GarageError.BookFull) ⊎ (e ≡ GarageError.OutOfMemory)) }
         ensures err { OnErr result (self.new ≡ self.old) }
     {
-        let _sound = self.bus.wire_len();
         let place = &self.places[seat as usize - 1];
         if place.node.held().is_none() {
             return Err(GarageError::Unclaimed);
@@ -170,7 +166,6 @@ impl Garage {
             return Ok(Begin::Held);
         }
         make_room(&mut self.journal, self.live + 1, self.limit)?;
-        let _lamps = unit.memory().lamps();
         let memory = unit.memory().copy()?;
         self.bus.reserve(seat, MOST_OUTS)?;
         let place = &self.places[seat as usize - 1];
@@ -217,7 +212,6 @@ impl Garage {
         requires { IsUnit (state_of self.old).traffic seat }
         ensures { Adds self.old (Leave seat) self.new }
     {
-        let _sound = self.bus.wire_len();
         let _ = self.bus.leave(seat);
         let place = &mut self.places[seat as usize - 1];
         place.tally.left += 1;
@@ -236,7 +230,6 @@ impl Garage {
         ensures only { IfErr result (λ e. (e ≡ GarageError.BookFull) ⊎ (e ≡ GarageError.OutOfMemory)) }
         ensures err { OnErr result (self.new ≡ self.old) }
     {
-        let _sound = self.bus.wire_len();
         let reading = self.bus.tap_peek();
         if is_empty(&reading) {
             return Ok(Reading::Empty);

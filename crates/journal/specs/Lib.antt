@@ -3,3 +3,4 @@ pub mod Steps
 pub mod Fits
 pub mod Journal
 pub mod Worlds
+pub mod Promises

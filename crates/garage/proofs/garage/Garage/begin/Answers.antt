@@ -15,6 +15,7 @@ use Rattle.journal.specs.declared.event.Event.TheVariants.{Begin}
 use Rattle.garage.specs.declared.garage.Place.{Place}
 use Rattle.garage.proofs.BeginLemmas.{begin_did, begins_of, begun_as, joins_begin'}
 use Rattle.garage.proofs.Traffics.{some_live, puts, keeps_refl}
+use Rattle.garage.proofs.InHand.{station_lives}
 use Rattle.garage.proofs.Standing.{state, place_few, place_within, unit_now, bus_unit, unit_is, units_same, place_tally, stands_more, tallies_one, fresh_one}
 use Rattle.garage.proofs.garage.Garage.begin.Goals as goal
 
@@ -31,7 +32,7 @@ queue_outs-requires-clause-few g c =
     let a = c.self.inside in
     let stands = c.self.invariant in
     let ub = bus_unit a c.args.seat stands (unit_now a c.args.self.now c.args.seat c.self.view_is c.requires) in
-    let one = some_live a.bus.traffic c.args.seat c.wire_len-sound.ensures.sound.station ub in
+    let one = some_live a.bus.traffic c.args.seat (station_lives a stands) ub in
     let q = stands.queued c.args.seat in
     let same = ap (λ (t : Traffic). (seat_at t c.args.seat).queued) c.reserve.ensures.traffic in
     let few : length c.in-Begun.put ≤ 256 = subst IsFew c.in-Begun.is c.in_ok-started.ensures.few in
@@ -62,8 +63,8 @@ invariant_of-self-2 g c =
     let same_first = unit_is a seat first stands h c.index-place.ensures in
     let some : is_none again.node.claimer.held ≡ false =
     ap is_none (ap (λ (v : UnitState). v.node.claimer.held) (sym same_again ∙ same_first) ∙ sym c.held.ensures.value) ∙ ap not (c.is_none.ensures ∙ ap not c.if-is_none.false) in
-    let mem_is = c.in_ok-memory.ensures ∙ c.memory-2.ensures in
-    let lawful : IsLawfulMemory memory = subst IsLawfulMemory (c.memory.ensures ∙ sym mem_is) c.lamps-lamps.ensures.lawful in
+    let mem_is = c.in_ok-memory.ensures.same ∙ c.memory.ensures in
+    let lawful : IsLawfulMemory memory = c.in_ok-memory.ensures.lawful in
     let put = c.in-Begun.put in
     let b = c.in-Begun.begun in
     let begins' = begins_of again.node.claimer.held again.node.session b put c.in_ok-started.started memory _ c.in-Begun.is mem_is c.in_ok-started.ensures.started in
@@ -124,8 +125,8 @@ returns-clause-ok g c =
     let same_first = unit_is a seat first stands h c.index-place.ensures in
     let some : is_none again.node.claimer.held ≡ false =
     ap is_none (ap (λ (v : UnitState). v.node.claimer.held) (sym same_again ∙ same_first) ∙ sym c.held.ensures.value) ∙ ap not (c.is_none.ensures ∙ ap not c.if-is_none.false) in
-    let mem_is = c.in_ok-memory.ensures ∙ c.memory-2.ensures in
-    let lawful : IsLawfulMemory memory = subst IsLawfulMemory (c.memory.ensures ∙ sym mem_is) c.lamps-lamps.ensures.lawful in
+    let mem_is = c.in_ok-memory.ensures.same ∙ c.memory.ensures in
+    let lawful : IsLawfulMemory memory = c.in_ok-memory.ensures.lawful in
     let put = c.in-Begun.put in
     let b = c.in-Begun.begun in
     let begins' = begins_of again.node.claimer.held again.node.session b put c.in_ok-started.started memory _ c.in-Begun.is mem_is c.in_ok-started.ensures.started in

@@ -19,6 +19,7 @@ use Rattle.garage.specs.Inside.{unit_of}
 use Rattle.garage.specs.Answers.{with_begun}
 use Rattle.garage.specs.declared.garage.Place.{Place}
 use Rattle.garage.proofs.Traffics.{some_live, puts, keeps_heard, keeps_withdrawn_by, keeps_then}
+use Rattle.garage.proofs.InHand.{station_lives}
 use Rattle.garage.proofs.Standing.{state, place_few, place_within, unit_now, bus_unit, unit_is, hear_did, begun_length, begun_few, next_within, joins_hear, place_tally, stands_more, tallies_one, fresh_one, hears_of, still, same_place}
 use Rattle.garage.proofs.garage.Garage.hear.Goals as goal
 
@@ -53,7 +54,7 @@ do_heard-requires-clause-few g c =
     let a = c.self.inside in
     let stands = c.self.invariant in
     let ub = bus_unit a c.args.seat stands (unit_now a c.args.self.now c.args.seat c.self.view_is c.requires) in
-    let one = some_live a.bus.traffic c.args.seat c.wire_len-sound.ensures.sound.station ub in
+    let one = some_live a.bus.traffic c.args.seat (station_lives a stands) ub in
     let q = stands.queued c.args.seat in
     let same = ap (λ (t : Traffic). (seat_at t c.args.seat).queued) c.reserve.ensures.traffic in
     let few = c.in_ok-heard.ensures.few in
@@ -85,8 +86,8 @@ invariant_of-self-2 g c =
     let same = unit_is a seat x stands h c.index_mut-place.ensures.value in
     let there = next_within t.wire (seat_at t seat).heard f (sym c.in-Some.ensures) in
     let next : next_for s seat ≡ Some f = ap (λ (b : Traffic). option_map (λ (c' : CarriedFrame). c'.frame) (slice_get b.wire (seat_at b seat).heard)) (sym stands.traffic) ∙ sym c.in-Some.ensures in
-    let mem_is = c.in_ok-memory.ensures ∙ c.memory-2.ensures in
-    let lawful = subst IsLawfulMemory (c.memory.ensures ∙ sym mem_is) c.lamps-lamps.ensures.lawful in
+    let mem_is = c.in_ok-memory.ensures.same ∙ c.memory.ensures in
+    let lawful = c.in_ok-memory.ensures.lawful in
     let reacts = c.in_ok-heard.ensures.heard in
     let is = hear_did seat memory f s x.node heard node' next (ap (λ (v : UnitState). v.node) same)
     (reacts.heard_is ∙ ap (λ (m : MemoryValue). heard_of heard.agreed (reaction x.node m heard.agreed f)) (sym mem_is))
@@ -152,8 +153,8 @@ returns-clause-ok g c =
     let same = unit_is a seat x stands h c.index_mut-place.ensures.value in
     let there = next_within t.wire (seat_at t seat).heard f (sym c.in-Some.ensures) in
     let next : next_for (state a) seat ≡ Some f = ap (λ (b : Traffic). option_map (λ (c' : CarriedFrame). c'.frame) (slice_get b.wire (seat_at b seat).heard)) (sym stands.traffic) ∙ sym c.in-Some.ensures in
-    let mem_is = c.in_ok-memory.ensures ∙ c.memory-2.ensures in
-    let lawful = subst IsLawfulMemory c.memory.ensures c.lamps-lamps.ensures.lawful in
+    let mem_is = c.in_ok-memory.ensures.same ∙ c.memory.ensures in
+    let lawful = subst IsLawfulMemory mem_is c.in_ok-memory.ensures.lawful in
     let reacts = c.in_ok-heard.ensures.heard in
     hears_of a (record {
       name = a.name;

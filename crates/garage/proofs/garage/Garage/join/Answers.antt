@@ -16,6 +16,7 @@ use Rattle.journal.specs.Steps.{untagged}
 use Rattle.journal.specs.declared.event.Event.TheVariants.{Join}
 use Rattle.bus_ledger.specs.Joining.{join_refusal}
 use Rattle.garage.proofs.Traffics.{PutsOn, puts, keeps_refl, joined_units, joined_queued}
+use Rattle.garage.proofs.InHand.{station_lives}
 use Rattle.garage.proofs.Standing.{state, join_is, joins_join, stands_more, tallies_push, fresh_join, added, seated_join}
 use Rattle.garage.proofs.garage.Garage.join.Goals as goal
 
@@ -34,7 +35,7 @@ invariant_of-self-2 c =
     let now = c.queue_frames.ensures ∙ (ap (λ (s : ℕ). queued s (untagged claim) c.join.new.self.traffic) did.0 ∙ ap (queued k (untagged claim)) did.2) in
     let is = join_is name want (state a) in
     let put : PutsOn 1 (joined name t) (queued k (untagged claim) (joined name t)) = puts k (untagged claim ∷ []) (joined name t) (joined name t) (keeps_refl (joined name t)) in
-    let more = joined_units t name c.wire_len-sound.ensures.sound.station in
+    let more = joined_units t name (station_lives a stands) in
     let lives = ap live_units now ∙ put.units in
     let wires = ap (λ (u : Traffic). length u.wire) now ∙ ap length put.wire in
     let many = ap (λ (u : Traffic). length u.seats) now in

@@ -8,6 +8,7 @@ use Rattle.journal.specs.Journal.{one_more}
 use Rattle.journal.specs.declared.event.Event.TheVariants.{Leave}
 use Rattle.journal.specs.declared.tally.Tally.{Tally}
 use Rattle.garage.proofs.Traffics.{some_live, live_left}
+use Rattle.garage.proofs.InHand.{station_lives}
 use Rattle.garage.proofs.Standing.{place_few, place_within, unit_now, units_same, joins_leave, place_tally, stands_more, tallies_one, fresh_one, bus_unit, leave_is, left_queued}
 use Rattle.garage.proofs.garage.Garage.leave.Goals as goal
 
@@ -31,14 +32,14 @@ pub overflow_sub-self : goal.overflow_sub-self
 overflow_sub-self c =
     let a = c.self.inside in
     let u = bus_unit a c.args.seat c.self.invariant (unit_now a c.args.self.now c.args.seat c.self.view_is c.requires) in
-    let s = some_live a.bus.traffic c.args.seat c.wire_len-sound.ensures.sound.station u in
+    let s = some_live a.bus.traffic c.args.seat (station_lives a c.self.invariant) u in
     let l = c.self.invariant.live in omega arith
 
 pub push_reserved-requires : goal.push_reserved-requires
 push_reserved-requires c =
     let a = c.self.inside in
     let u = bus_unit a c.args.seat c.self.invariant (unit_now a c.args.self.now c.args.seat c.self.view_is c.requires) in
-    let s = some_live a.bus.traffic c.args.seat c.wire_len-sound.ensures.sound.station u in
+    let s = some_live a.bus.traffic c.args.seat (station_lives a c.self.invariant) u in
     let l = c.self.invariant.live in let r = c.self.invariant.room in omega arith
 
 pub invariant_of-self : goal.invariant_of-self
@@ -51,8 +52,8 @@ invariant_of-self c =
     let low = u.0 in
     let h = place_within a c.args.seat stands u in
     let k = c.args.seat - 1 in
-    let gone = live_left a.bus.traffic c.args.seat c.wire_len-sound.ensures.sound.station ub in
-    let one = some_live a.bus.traffic c.args.seat c.wire_len-sound.ensures.sound.station ub in
+    let gone = live_left a.bus.traffic c.args.seat (station_lives a c.self.invariant) ub in
+    let one = some_live a.bus.traffic c.args.seat (station_lives a c.self.invariant) ub in
     let lives = ap live_units c.leave.ensures.traffic in
     let wires = ap (λ (t : Traffic). length t.wire) c.leave.ensures.traffic in
     let many = ap (λ (t : Traffic). length t.seats) c.leave.ensures.traffic in

@@ -10,15 +10,17 @@ use Rattle.journal.specs.declared.event.Event.{Event}
 use Rattle.journal.specs.declared.event.Event.TheVariants.{Ordered}
 use Rattle.garage.specs.Obeying.{Obeys}
 use Rattle.garage.proofs.Standing.{state, stands_more, tallies_still, fresh_still}
-use Rattle.garage.proofs.OrderLemmas.{joins_ordered, ordered_is, reacts, station_live}
+use Rattle.garage.proofs.OrderLemmas.{joins_ordered, ordered_is, reacts}
+use Rattle.garage.proofs.Traffics.{station_live}
+use Rattle.garage.proofs.InHand.{station_lives}
 use Rattle.garage.proofs.garage.Garage.obey.Goals as goal
 
 pub reserve-requires : goal.reserve-requires
-reserve-requires c = station_live c.self.inside.bus.traffic c.wire_len-sound.ensures.sound.station
+reserve-requires c = station_live c.self.inside.bus.traffic (station_lives c.self.inside c.self.invariant)
 
 pub react-requires-clause-live : goal.react-requires-clause-live
 react-requires-clause-live c =
-    subst (λ (t : Traffic). IsLive t 0) (sym c.reserve.ensures.traffic) (station_live c.self.inside.bus.traffic c.wire_len-sound.ensures.sound.station)
+    subst (λ (t : Traffic). IsLive t 0) (sym c.reserve.ensures.traffic) (station_live c.self.inside.bus.traffic (station_lives c.self.inside c.self.invariant))
 
 pub invariant_of-self-2 : goal.invariant_of-self-2
 invariant_of-self-2 c =

@@ -1,5 +1,5 @@
-use Rattle.std.proofs.Common.{arith, refl, ap, ◌∙◌, sym, List, ◌++◌, ◌∷◌, [], length}
-use Rattle.bus_ledger.specs.BusValue.{Traffic, seat_at}
+use Rattle.std.proofs.Common.{arith, refl, ap, ◌∙◌, sym, subst, List, ◌++◌, ◌∷◌, [], length}
+use Rattle.bus_ledger.specs.BusValue.{Traffic, IsLive, seat_at}
 use Rattle.bus_ledger.specs.Joining.{live_units}
 use Rattle.bus_ledger.specs.Reception.{next_reading, after_reading}
 use Rattle.can_frame.specs.declared.reading.Reading.{Reading}
@@ -11,12 +11,19 @@ use Rattle.journal.specs.State.{State}
 use Rattle.journal.specs.Steps.{reacted}
 use Rattle.journal.specs.declared.event.Event.{Event}
 use Rattle.journal.specs.declared.event.Event.TheVariants.{Read}
-use Rattle.garage.proofs.Traffics.{station_live, keeps_read, puts_reacted}
+use Rattle.garage.proofs.Traffics.{live_read, station_live, keeps_read, puts_reacted}
+use Rattle.garage.proofs.InHand.{station_lives}
 use Rattle.garage.proofs.Standing.{state, read_is, joins_read, stands_more, tallies_still, fresh_still}
 use Rattle.garage.proofs.garage.Garage.read.Goals as goal
 
 pub reserve-requires : goal.reserve-requires
-reserve-requires c = station_live c.self.inside.bus.traffic c.wire_len-sound.ensures.sound
+reserve-requires c = station_live c.self.inside.bus.traffic (station_lives c.self.inside c.self.invariant)
+
+pub react-requires-clause-live : goal.react-requires-clause-live
+react-requires-clause-live c =
+    let t = c.self.inside.bus.traffic in
+    let there : IsLive c.reserve.new.self.traffic 0 = subst (λ (u : Traffic). IsLive u 0) (sym c.reserve.ensures.traffic) (station_live t (station_lives c.self.inside c.self.invariant)) in
+    subst (λ (u : Traffic). IsLive u 0) (sym c.tap_next.ensures.traffic) (live_read c.reserve.new.self.traffic c.tap_next.result there)
 
 pub invariant_of-self-2 : goal.invariant_of-self-2
 invariant_of-self-2 c =

@@ -1,4 +1,5 @@
-use Rattle.garage.proofs.SeatKept.{is_unit, still_seated, unit_hears}
+use Rattle.std.proofs.Common.{◌∙◌}
+use Rattle.garage.proofs.SeatKept.{hearing_counted, is_unit, still_seated, unit_hears}
 use Rattle.garage.proofs.plug.Plug.hear.Goals as goal
 
 pub events_of-self-requires : goal.events_of-self-requires
@@ -11,5 +12,10 @@ pub invariant_of-self-2 : goal.invariant_of-self-2
 invariant_of-self-2 g c = record {
   seated = still_seated c.args.self.now.garage.now c.hear.new.self c.args.self.now.seat c.args.self.now.name c.args.self.now.events c.events_of-self.result
       (unit_hears c.args.self.now.garage.now c.args.self.now.seat _ c.in_ok-heard.heard c.hear.new.self _ c.in_ok-heard.ensures.ok c.args.self.now.seated.unit.1)
-      c.args.self.now.seated c.events_of-self.ensures;
+      c.args.self.now.seated c.events_of-self.ensures.count;
 }
+
+pub returns-clause-counted : goal.returns-clause-counted
+returns-clause-counted g c =
+    c.events_of-self.ensures.count
+    ∙ hearing_counted c.args.self.now.garage.now c.args.self.now.seat _ c.in_ok-heard.heard c.hear.new.self _ c.args.self.now.events c.in_ok-heard.ensures.ok c.args.self.now.seated.counted

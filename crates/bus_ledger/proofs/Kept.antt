@@ -1,7 +1,7 @@
 -- A carry, a join and a leave keep the fields of a bus in order.
 use Rattle.std.proofs.Common.{ℕ, ◌≡◌, ◌+◌, ◌<◌, ◌^◌, List, [], ◌∷◌, ◌++◌, map, length, get_or, set, not, ◌==◌, refl, sym, ap, ◌∙◌, subst, arith}
 use Rattle.std.specs.List.{filter}
-use Rattle.std.proofs.lemmas.List.{map-set, map_push, length-set, length-map, length_push, get_or_read}
+use Rattle.std.proofs.lemmas.List.{map-set, map_push, length-set, length-map, length_push, get_or_read, get_or_append_left}
 use Rattle.bus_ledger.specs.BusValue.{SeatValue, SeatBook, Traffic, BusValue, no_book, seat_at}
 use Rattle.bus_ledger.specs.Changes.{newcomer, joined, sending, leaving, left, carried_frame, carried_from}
 use Rattle.bus_ledger.specs.Carrying.{IsNext}
@@ -9,8 +9,10 @@ use Rattle.bus_ledger.specs.Ledger.{IsSound}
 use Rattle.bus_ledger.specs.Inside.{seat_of, traffic_of, view_of, live_numbers, IsKept}
 use Rattle.bus_ledger.specs.declared.bus.Bus.TheInside.{Inside}
 use Rattle.bus_ledger.specs.declared.traffic.QueuedFrame.{QueuedFrame}
+use Rattle.bus_ledger.specs.Window.{WindowValue, window_of, taken_in}
+use Rattle.bus_ledger.proofs.Windows.{window_set, window_same, window_carried, taken_size}
 use Rattle.bus_ledger.proofs.Live.{live_set, live_push, live_left}
-use Rattle.bus_ledger.proofs.Seats.{within, seat_is, sound_set, balanced_leaving}
+use Rattle.bus_ledger.proofs.Seats.{within, seat_is, sound_set, station_given, balanced_leaving}
 use Rattle.bus_ledger.proofs.Sounds.{sound_carried, sound_joined, live_within, offer_says, first_rest}
 
 -- the seat of an offer was given
@@ -39,9 +41,10 @@ seat_count a v is = sym (length-map a.seats.items seat_of) ∙ ap (λ (b : BusVa
 
 -- the value after a carry
 pub carry_traffic : (a b : Inside) (v : BusValue) (k : ℕ) (q : QueuedFrame) (x y : SeatBook) → view_of a ≡ v → k < length v.traffic.seats → x ≡ get_or a.seats.items k x
-    → y.seat ≡ sending x.seat → b.wire.items ≡ a.wire.items ++ carried_frame k q ∷ [] → b.seats.items ≡ set a.seats.items k y → b.window ≡ a.window
+    → y.seat ≡ sending x.seat → b.wire.items ≡ a.wire.items ++ carried_frame k q ∷ [] → b.seats.items ≡ set a.seats.items k y → b.tap ≡ taken_in k q.frame a.tap
     → traffic_of b ≡ carried_from k q v.traffic
-carry_traffic a b v k q x y is h read e wire seats window =
+carry_traffic a b v k q x y is h read e wire seats tap =
+    let window : b.tap.size ≡ a.tap.size = ap (λ (w : WindowValue). w.size) tap ∙ taken_size k q.frame a.tap in
     let y' : y.seat ≡ sending (seat_at (traffic_of a) k) = e ∙ ap sending (seat_is a (view_of a) k x refl (within a v k is h) read) in
     let s : map seat_of b.seats.items ≡ set (map seat_of a.seats.items) k (sending (seat_at (traffic_of a) k)) =
     ap (map seat_of) seats ∙ (map-set seat_of a.seats.items k y ∙ ap (λ (z : SeatValue). set (map seat_of a.seats.items) k z) y') in
@@ -49,18 +52,20 @@ carry_traffic a b v k q x y is h read e wire seats window =
     t ∙ ap (λ (w : BusValue). carried_from k q w.traffic) is
 
 pub carry_kept : (a b : Inside) (v : BusValue) (k : ℕ) (q : QueuedFrame) (x y : SeatBook) → view_of a ≡ v → IsKept a → IsNext v.traffic k q → x ≡ get_or a.seats.items k x
-    → y.seat ≡ sending x.seat → b.wire.items ≡ a.wire.items ++ carried_frame k q ∷ [] → b.seats.items ≡ set a.seats.items k y → b.live.items ≡ a.live.items → b.window ≡ a.window
+    → y.seat ≡ sending x.seat → b.wire.items ≡ a.wire.items ++ carried_frame k q ∷ [] → b.seats.items ≡ set a.seats.items k y → b.live.items ≡ a.live.items → b.tap ≡ taken_in k q.frame a.tap
     → length v.traffic.wire + 1 < 2 ^ 32 → IsKept b
-carry_kept a b v k q x y is kept next read e wire seats live window few =
+carry_kept a b v k q x y is kept next read e wire seats live tap few =
     let h = next_within v.traffic k q next in
     let in' = within a v k is h in
-    let t = carry_traffic a b v k q x y is h read e wire seats window in
+    let t = carry_traffic a b v k q x y is h read e wire seats tap in
     let sound : IsSound v.traffic = subst (λ (w : BusValue). IsSound w.traffic) is kept.sound in
     let longer = length_push a.wire.items (carried_frame k q) in
     let same_wire : length a.wire.items ≡ length v.traffic.wire = ap (λ (w : BusValue). length w.traffic.wire) is in
     let wire_now : length b.wire.items ≡ length (a.wire.items ++ carried_frame k q ∷ []) = ap length wire in
     record {
       sound = subst IsSound (sym t) (sound_carried v.traffic k q sound h next.offers);
+      tap = tap ∙ (ap (taken_in k q.frame) (kept.tap ∙ ap (λ (w : BusValue). window_of w.traffic) is)
+          ∙ (window_carried v.traffic k q h (offer_says (length v.traffic.wire) (seat_at v.traffic k) q next.offers).heard (sound.seats 0 (omega arith)).heard ∙ ap window_of (sym t)));
       live = live ∙ (kept.live ∙ (sym (live_set 0 a.seats.items k y (ap (λ (z : SeatValue). z.live) e ∙ ap (λ (w : SeatBook). w.seat.live) (get_or_read a.seats.items k x in' read no_book)))
           ∙ ap (live_numbers 0) (sym seats)));
       few_seats = let n = ap length seats ∙ length-set a.seats.items k y in let f = kept.few_seats in omega arith;
@@ -68,19 +73,28 @@ carry_kept a b v k q x y is kept next read e wire seats live window few =
     }
 
 -- the value after a join
-join_traffic : (a b : Inside) (name : ℕ) (y : SeatBook) → y.seat ≡ newcomer name (length a.wire.items) → b.wire.items ≡ a.wire.items → b.seats.items ≡ a.seats.items ++ y ∷ [] → b.window ≡ a.window
+join_traffic : (a b : Inside) (name : ℕ) (y : SeatBook) → y.seat ≡ newcomer name (length a.wire.items) → b.wire.items ≡ a.wire.items → b.seats.items ≡ a.seats.items ++ y ∷ [] → b.tap ≡ a.tap
     → traffic_of b ≡ joined name (traffic_of a)
 join_traffic a b name y e wire seats window =
     let s : map seat_of b.seats.items ≡ map seat_of a.seats.items ++ newcomer name (length a.wire.items) ∷ [] =
     ap (map seat_of) seats ∙ (map_push seat_of a.seats.items y ∙ ap (λ (z : SeatValue). map seat_of a.seats.items ++ z ∷ []) e) in
+    let size : b.tap.size ≡ a.tap.size = ap (λ (w : WindowValue). w.size) window in
     cc
 
+-- the newcomer comes after the station
+window_joined : (t : Traffic) (name : ℕ) → IsSound t → window_of (joined name t) ≡ window_of t
+window_joined t name s =
+    let h : 0 < length t.seats = station_given t s in
+    let same : (seat_at (joined name t) 0).heard ≡ (seat_at t 0).heard = rw get_or_append_left refl in
+    window_same t (joined name t) refl refl same
+
 pub join_kept : (a b : Inside) (name number : ℕ) (y : SeatBook) → IsKept a → y.seat ≡ newcomer name (length a.wire.items) → b.wire.items ≡ a.wire.items → b.seats.items ≡ a.seats.items ++ y ∷ []
-    → b.live.items ≡ a.live.items ++ number ∷ [] → b.window ≡ a.window → number ≡ length a.seats.items → length a.seats.items + 1 < 2 ^ 32 → IsKept b
+    → b.live.items ≡ a.live.items ++ number ∷ [] → b.tap ≡ a.tap → number ≡ length a.seats.items → length a.seats.items + 1 < 2 ^ 32 → IsKept b
 join_kept a b name number y kept e wire seats live window n few =
     let t = join_traffic a b name y e wire seats window in
     record {
       sound = subst IsSound (sym t) (sound_joined (traffic_of a) name kept.sound);
+      tap = window ∙ (kept.tap ∙ (sym (window_joined (traffic_of a) name kept.sound) ∙ ap window_of (sym t)));
       live = live ∙ (ap (λ (l : List ℕ). l ++ number ∷ []) kept.live ∙ (sym (live_push 0 number a.seats.items y (omega arith) (ap (λ (z : SeatValue). z.live) e)) ∙ ap (live_numbers 0) (sym seats)));
       few_seats = let m = ap length seats ∙ length_push a.seats.items y in omega arith;
       few_frames = let m = ap length wire in let f = kept.few_frames in omega arith;
@@ -88,22 +102,24 @@ join_kept a b name number y kept e wire seats live window n few =
 
 -- the value after a leave
 pub leave_traffic : (a b : Inside) (v : BusValue) (k : ℕ) (x y : SeatBook) → view_of a ≡ v → k < length v.traffic.seats → x ≡ get_or a.seats.items k x → y.seat ≡ leaving x.seat
-    → b.wire.items ≡ a.wire.items → b.seats.items ≡ set a.seats.items k y → b.window ≡ a.window → traffic_of b ≡ left k v.traffic
+    → b.wire.items ≡ a.wire.items → b.seats.items ≡ set a.seats.items k y → b.tap ≡ a.tap → traffic_of b ≡ left k v.traffic
 leave_traffic a b v k x y is h read e wire seats window =
     let y' : y.seat ≡ leaving (seat_at (traffic_of a) k) = e ∙ ap leaving (seat_is a (view_of a) k x refl (within a v k is h) read) in
     let s : map seat_of b.seats.items ≡ set (map seat_of a.seats.items) k (leaving (seat_at (traffic_of a) k)) =
     ap (map seat_of) seats ∙ (map-set seat_of a.seats.items k y ∙ ap (λ (z : SeatValue). set (map seat_of a.seats.items) k z) y') in
+    let size : b.tap.size ≡ a.tap.size = ap (λ (w : WindowValue). w.size) window in
     let t : traffic_of b ≡ left k (traffic_of a) = cc in
     t ∙ ap (λ (w : BusValue). left k w.traffic) is
 
 pub leave_kept : (a b : Inside) (v : BusValue) (k : ℕ) (x y : SeatBook) → view_of a ≡ v → IsKept a → 0 < k → k < length v.traffic.seats → x ≡ get_or a.seats.items k x → y.seat ≡ leaving x.seat
-    → b.wire.items ≡ a.wire.items → b.seats.items ≡ set a.seats.items k y → b.live.items ≡ filter (λ n. not (n == k)) a.live.items → b.window ≡ a.window → IsKept b
+    → b.wire.items ≡ a.wire.items → b.seats.items ≡ set a.seats.items k y → b.live.items ≡ filter (λ n. not (n == k)) a.live.items → b.tap ≡ a.tap → IsKept b
 leave_kept a b v k x y is kept above h read e wire seats live window =
     let in' = within a v k is h in
     let t = leave_traffic a b v k x y is h read e wire seats window in
     let sound : IsSound v.traffic = subst (λ (w : BusValue). IsSound w.traffic) is kept.sound in
     record {
       sound = subst IsSound (sym t) (sound_set v.traffic k (leaving (seat_at v.traffic k)) sound h (λ z. absurd (omega arith)) (balanced_leaving v.traffic.wire k (seat_at v.traffic k)));
+      tap = window ∙ (kept.tap ∙ (ap (λ (w : BusValue). window_of w.traffic) is ∙ (sym (window_set v.traffic k (leaving (seat_at v.traffic k)) h (λ z. absurd (omega arith))) ∙ ap window_of (sym t))));
       live = live ∙ (ap (filter (λ n. not (n == k))) kept.live ∙ (sym (live_left 0 a.seats.items k k y (omega arith) in' (ap (λ (z : SeatValue). z.live) e)) ∙ ap (live_numbers 0) (sym seats)));
       few_seats = let n = ap length seats ∙ length-set a.seats.items k y in let f = kept.few_seats in omega arith;
       few_frames = let m = ap length wire in let f = kept.few_frames in omega arith;

@@ -1,6 +1,9 @@
+pub mod Numbers
+pub mod Windows
 pub mod Seats
 pub mod Live
 pub mod Offering
 pub mod Sounds
 pub mod Names
 pub mod Kept
+pub mod Ledgers

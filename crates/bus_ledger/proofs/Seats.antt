@@ -1,11 +1,11 @@
 -- What a change of one seat does to the value of a bus.
-use Rattle.std.proofs.Common.{ℕ, suc, zero, ◌≡◌, ◌≢◌, ◌+◌, ◌<◌, ◌≤◌, List, [], ◌∷◌, map, length, get_or, set, drop, Bool, cond, true, false, not, Result, Ok, Err, OnOk, IfErr, refl, sym, ap, ◌∙◌, subst, arith, ◌⊎◌, inl, inr, ◌-◌, nat_lt, if◌then◌else◌}
+use Rattle.std.proofs.Common.{ℕ, suc, zero, ◌≡◌, ◌≢◌, ◌+◌, ◌<◌, ◌≤◌, List, [], ◌∷◌, map, length, get_or, set, drop, Bool, cond, true, false, not, Result, Ok, Err, OnOk, IfErr, refl, sym, ap, ◌∙◌, subst, arith, inl, inr, ◌-◌, nat_lt, if◌then◌else◌}
 use Rattle.std.proofs.lemmas.List.{map-set, length-set, length-drop, length-map, get_or_read, get_or-set_same, get_or-set_other, set-get_or, drop-drop, length_push}
 use Rattle.std.proofs.lemmas.List.Elements.{All-drop}
 use Rattle.std.specs.List.{All, filter}
 use Rattle.std.specs.Vec.{with_item}
 use Rattle.bus_ledger.specs.BusValue.{SeatValue, SeatBook, Traffic, BusValue, KeepsSpares, nobody, no_book, book_at, seat_at, spare_at}
-use Rattle.bus_ledger.specs.Changes.{with_seat, hearing, queueing, kept, is_in_session, withdrawing, leaving}
+use Rattle.bus_ledger.specs.Changes.{with_seat, hearing, heard_more, queueing, kept, is_in_session, withdrawing, leaving}
 use Rattle.bus_ledger.specs.declared.traffic.QueuedFrame.{QueuedFrame}
 use Rattle.bus_ledger.specs.declared.error.BusError.{BusError}
 use Rattle.bus_ledger.specs.declared.error.BusError.TheVariants.{OutOfMemory}
@@ -15,9 +15,12 @@ use Rattle.bus_ledger.specs.Ledger.{IsBalanced, IsSound}
 use Rattle.bus_ledger.specs.Reception.{unread, first_reading, next_reading, passes}
 use Rattle.can_frame.specs.declared.reading.Reading.{Reading}
 use Rattle.can_frame.specs.declared.reading.Reading.TheVariants.{Frame, Gap, Empty}
-use Rattle.bus_ledger.specs.Inside.{seat_of, spare_of, traffic_of, view_of, IsKept}
+use Rattle.bus_ledger.specs.Inside.{seat_of, spare_of, traffic_of, view_of, live_numbers, IsKept}
 use Rattle.bus_ledger.specs.declared.bus.Bus.TheInside.{Inside}
 use Rattle.bus_ledger.specs.declared.traffic.CarriedFrame.{CarriedFrame}
+use Rattle.bus_ledger.specs.Window.{WindowValue, window_of, rest_of}
+use Rattle.bus_ledger.proofs.Numbers.{same_or_not}
+use Rattle.bus_ledger.proofs.Windows.{window_set, window_rest, rest_size}
 use Rattle.bus_ledger.proofs.Live.{live_set}
 
 pub seat_book : (xs : List SeatBook) (k : ℕ) → get_or (map seat_of xs) k nobody ≡ (book_at xs k).seat
@@ -29,13 +32,6 @@ pub spare_book : (xs : List SeatBook) (k : ℕ) → get_or (map spare_of xs) k 0
 spare_book [] k = refl
 spare_book (x ∷ xs) zero = refl
 spare_book (x ∷ xs) (suc k) = spare_book xs k
-
--- two numbers are equal or not
-pub same_or_not : (k j : ℕ) → (k ≡ j) ⊎ (k ≢ j)
-same_or_not zero zero = inl refl
-same_or_not zero (suc j) = inr (λ e. omega arith)
-same_or_not (suc k) zero = inr (λ e. omega arith)
-same_or_not (suc k) (suc j) = elim (same_or_not k j) [ inl e ↦ inl (ap suc e) | inr n ↦ inr (λ e. n (omega arith)) ]
 
 -- a sound bus in which one seat changes and stays balanced is sound
 pub sound_set : (t : Traffic) (k : ℕ) (y : SeatValue) → IsSound t → k < length t.seats
@@ -57,7 +53,7 @@ sound_set t k y s in' live balanced = record {
 
 -- a bus in whose list of seats one is replaced
 abbrev pub placed : Inside → ℕ → SeatBook → Inside
-placed a k y = record { wire = a.wire; seats = with_item a.seats k y; live = a.live; window = a.window }
+placed a k y = record { wire = a.wire; seats = with_item a.seats k y; live = a.live; tap = a.tap }
 
 pub within : (a : Inside) (v : BusValue) (k : ℕ) → view_of a ≡ v → k < length v.traffic.seats → k < length a.seats.items
 within a v k is h =
@@ -77,7 +73,7 @@ spare_is a v k x is in' read =
 
 pub placed_traffic : (a : Inside) (v : BusValue) (k : ℕ) (y : SeatBook) (s : SeatValue) → view_of a ≡ v → y.seat ≡ s → traffic_of (placed a k y) ≡ with_seat v.traffic k s
 placed_traffic a v k y s is e =
-    ap (λ (l : List SeatValue). let t : Traffic = record { wire = a.wire.items; seats = l; window = a.window } in t) (map-set seat_of a.seats.items k y)
+    ap (λ (l : List SeatValue). let t : Traffic = record { wire = a.wire.items; seats = l; window = a.tap.size } in t) (map-set seat_of a.seats.items k y)
     ∙ (ap (λ (z : SeatValue). with_seat (traffic_of a) k z) e ∙ ap (λ (b : BusValue). with_seat b.traffic k s) is)
 
 -- a seat replaced by itself
@@ -106,18 +102,33 @@ placed_spares a v k x y is in' read grows j =
       | inr n ↦ other_spares a v k y is j n
     ]
 
--- a bus stays in order where one seat is replaced by one as live, which is balanced
-pub placed_kept : (a : Inside) (k : ℕ) (x y : SeatBook) → IsKept a → k < length a.seats.items → x ≡ get_or a.seats.items k x
-    → y.seat.live ≡ x.seat.live → (IsBalanced a.wire.items k x.seat → IsBalanced a.wire.items k y.seat) → IsKept (placed a k y)
-placed_kept a k x y kept in' read live balanced =
+placed_sound : (a : Inside) (k : ℕ) (x y : SeatBook) → IsKept a → k < length a.seats.items → x ≡ get_or a.seats.items k x
+    → y.seat.live ≡ x.seat.live → (IsBalanced a.wire.items k x.seat → IsBalanced a.wire.items k y.seat) → IsSound (traffic_of (placed a k y))
+placed_sound a k x y kept in' read live balanced =
     let s = seat_is a (view_of a) k x refl in' read in
     let in'' : k < length (map seat_of a.seats.items) = rw length-map in' in
+    subst (λ (l : List SeatValue). IsSound (record { wire = a.wire.items; seats = l; window = a.tap.size })) (sym (map-set seat_of a.seats.items k y))
+    (sound_set (traffic_of a) k y.seat kept.sound in''
+    (λ zero_is. live ∙ (ap (λ (b : SeatValue). b.live) s ∙ (ap (λ (n : ℕ). (seat_at (traffic_of a) n).live) zero_is ∙ kept.sound.station)))
+    (λ b. balanced (subst (λ (v : SeatValue). IsBalanced a.wire.items k v) (sym s) b)))
+
+placed_live : (a : Inside) (k : ℕ) (x y : SeatBook) → IsKept a → k < length a.seats.items → x ≡ get_or a.seats.items k x
+    → y.seat.live ≡ x.seat.live → a.live.items ≡ live_numbers 0 (set a.seats.items k y)
+placed_live a k x y kept in' read live =
+    kept.live ∙ sym (live_set 0 a.seats.items k y (live ∙ ap (λ (b : SeatBook). b.seat.live) (get_or_read a.seats.items k x in' read no_book)))
+
+-- a bus stays in order where one seat is replaced by one as live, which is balanced; the station's has heard as much
+pub placed_kept : (a : Inside) (k : ℕ) (x y : SeatBook) → IsKept a → k < length a.seats.items → x ≡ get_or a.seats.items k x
+    → y.seat.live ≡ x.seat.live → (k ≡ 0 → y.seat.heard ≡ x.seat.heard) → (IsBalanced a.wire.items k x.seat → IsBalanced a.wire.items k y.seat) → IsKept (placed a k y)
+placed_kept a k x y kept in' read live heard balanced =
+    let s = seat_is a (view_of a) k x refl in' read in
+    let in'' : k < length (map seat_of a.seats.items) = rw length-map in' in
+    let same : k ≡ 0 → y.seat.heard ≡ (seat_at (traffic_of a) 0).heard =
+    λ z. heard z ∙ (ap (λ (b : SeatValue). b.heard) s ∙ ap (λ (n : ℕ). (seat_at (traffic_of a) n).heard) z) in
     record {
-      sound = subst (λ (l : List SeatValue). IsSound (record { wire = a.wire.items; seats = l; window = a.window })) (sym (map-set seat_of a.seats.items k y))
-          (sound_set (traffic_of a) k y.seat kept.sound in''
-          (λ zero_is. live ∙ (ap (λ (b : SeatValue). b.live) s ∙ (ap (λ (n : ℕ). (seat_at (traffic_of a) n).live) zero_is ∙ kept.sound.station)))
-          (λ b. balanced (subst (λ (v : SeatValue). IsBalanced a.wire.items k v) (sym s) b)));
-      live = kept.live ∙ sym (live_set 0 a.seats.items k y (live ∙ ap (λ (b : SeatBook). b.seat.live) (get_or_read a.seats.items k x in' read no_book)));
+      sound = placed_sound a k x y kept in' read live balanced;
+      tap = kept.tap ∙ sym (ap window_of (placed_traffic a (view_of a) k y y.seat refl refl) ∙ window_set (traffic_of a) k y.seat in'' same);
+      live = placed_live a k x y kept in' read live;
       few_seats = rw (length-set a.seats.items k y) kept.few_seats;
       few_frames = kept.few_frames;
     }
@@ -142,16 +153,16 @@ pub changed_spares : (a : Inside) (v : BusValue) (k : ℕ) (x y : SeatBook) → 
 changed_spares a v k x y is h read grows = placed_spares a v k x y is (within a v k is h) read grows
 
 pub changed_kept : (a : Inside) (v : BusValue) (k : ℕ) (x y : SeatBook) → view_of a ≡ v → IsKept a → k < length v.traffic.seats → x ≡ get_or a.seats.items k x
-    → y.seat.live ≡ x.seat.live → (IsBalanced a.wire.items k x.seat → IsBalanced a.wire.items k y.seat) → IsKept (placed a k y)
-changed_kept a v k x y is kept h read live balanced = placed_kept a k x y kept (within a v k is h) read live balanced
+    → y.seat.live ≡ x.seat.live → (k ≡ 0 → y.seat.heard ≡ x.seat.heard) → (IsBalanced a.wire.items k x.seat → IsBalanced a.wire.items k y.seat) → IsKept (placed a k y)
+changed_kept a v k x y is kept h read live heard balanced = placed_kept a k x y kept (within a v k is h) read live heard balanced
 
 pub hear_kept : (a : Inside) (v : BusValue) (k n : ℕ) (x y : SeatBook) → view_of a ≡ v → IsKept a → k < length v.traffic.seats → x ≡ get_or a.seats.items k x
-    → y.seat ≡ hearing n x.seat → (seat_at v.traffic k).heard + n ≤ length v.traffic.wire → IsKept (placed a k y)
-hear_kept a v k n x y is kept h read e bound =
+    → y.seat ≡ hearing n x.seat → 0 < k → (seat_at v.traffic k).heard + n ≤ length v.traffic.wire → IsKept (placed a k y)
+hear_kept a v k n x y is kept h read e unit bound =
     let s = seat_is a v k x is (within a v k is h) read in
     let wire : a.wire.items ≡ v.traffic.wire = ap (λ (b : BusValue). b.traffic.wire) is in
     let bound' : x.seat.heard + n ≤ length a.wire.items = rw (wire, s) bound in
-    changed_kept a v k x y is kept h read (ap (λ (z : SeatValue). z.live) e)
+    changed_kept a v k x y is kept h read (ap (λ (z : SeatValue). z.live) e) (λ z. absurd (omega arith))
     (λ b. subst (λ (z : SeatValue). IsBalanced a.wire.items k z) (sym e) (balanced_hearing a.wire.items k n x.seat bound' b))
 
 -- a live seat stays balanced where it queues a frame
@@ -200,7 +211,7 @@ balanced_leaving wire k s b = record {
 
 pub same_kept : (a : Inside) (v : BusValue) (k : ℕ) (x y : SeatBook) → view_of a ≡ v → IsKept a → k < length v.traffic.seats → x ≡ get_or a.seats.items k x → y.seat ≡ x.seat → IsKept (placed a k y)
 same_kept a v k x y is kept h read e =
-    changed_kept a v k x y is kept h read (ap (λ (z : SeatValue). z.live) e) (λ b. subst (λ (z : SeatValue). IsBalanced a.wire.items k z) (sym e) b)
+    changed_kept a v k x y is kept h read (ap (λ (z : SeatValue). z.live) e) (λ z. ap (λ (w : SeatValue). w.heard) e) (λ b. subst (λ (z : SeatValue). IsBalanced a.wire.items k z) (sym e) b)
 
 pub same_traffic : (a : Inside) (v : BusValue) (k : ℕ) (x y : SeatBook) → view_of a ≡ v → k < length v.traffic.seats → x ≡ get_or a.seats.items k x → y.seat ≡ x.seat → traffic_of (placed a k y) ≡ v.traffic
 same_traffic a v k x y is h read e = placed_same a v k x y is (within a v k is h) read e
@@ -208,14 +219,14 @@ same_traffic a v k x y is h read e = placed_same a v k x y is (within a v k is h
 pub withdraw_kept : (a : Inside) (v : BusValue) (k : ℕ) (which : Which) (x y : SeatBook) → view_of a ≡ v → IsKept a → k < length v.traffic.seats → x ≡ get_or a.seats.items k x
     → y.seat ≡ withdrawing which x.seat → IsKept (placed a k y)
 withdraw_kept a v k which x y is kept h read e =
-    changed_kept a v k x y is kept h read (ap (λ (z : SeatValue). z.live) e)
+    changed_kept a v k x y is kept h read (ap (λ (z : SeatValue). z.live) e) (λ z. ap (λ (w : SeatValue). w.heard) e)
     (λ b. subst (λ (z : SeatValue). IsBalanced a.wire.items k z) (sym e) (balanced_withdrawing a.wire.items k which x.seat b))
 
 pub queue_kept : (a : Inside) (v : BusValue) (k : ℕ) (q : QueuedFrame) (x y : SeatBook) (r : Result (Unit {0}) BusError) → view_of a ≡ v → IsKept a → k < length v.traffic.seats → (seat_at v.traffic k).live ≡ true → x ≡ get_or a.seats.items k x
     → OnOk r (y.seat ≡ queueing q x.seat) → IfErr r (λ e. (e ≡ OutOfMemory) × (x.spare ≡ 0) × (y.seat ≡ x.seat)) → IsKept (placed a k y)
 queue_kept a v k q x y (Ok u) is kept h live read ok err =
     let s = seat_is a v k x is (within a v k is h) read in
-    changed_kept a v k x y is kept h read (ap (λ (z : SeatValue). z.live) ok)
+    changed_kept a v k x y is kept h read (ap (λ (z : SeatValue). z.live) ok) (λ z. ap (λ (w : SeatValue). w.heard) ok)
     (λ b. subst (λ (z : SeatValue). IsBalanced a.wire.items k z) (sym ok) (balanced_queueing a.wire.items k q x.seat (ap (λ (z : SeatValue). z.live) s ∙ live) b))
 queue_kept a v k q x y (Err e) is kept h live read ok err = same_kept a v k x y is kept h read err.2
 
@@ -283,9 +294,39 @@ passes_within t s =
     let r = reading_within (length (unread t)) t.window (unread t) refl in
     omega arith
 
-pub read_kept : (a : Inside) (v : BusValue) (n : ℕ) (x y : SeatBook) → view_of a ≡ v → IsKept a → x ≡ get_or a.seats.items 0 x → n ≡ passes (next_reading v.traffic)
-    → y.seat ≡ hearing n x.seat → IsKept (placed a 0 y)
-read_kept a v n x y is kept read passed e =
-    let sound : IsSound v.traffic = subst (λ (w : BusValue). IsSound w.traffic) is kept.sound in
-    let w = passes_within v.traffic sound in
-    hear_kept a v 0 n x y is kept (station_given v.traffic sound) read e (omega arith)
+-- a bus of which the station has taken a reading
+abbrev pub tapped : Inside → SeatBook → WindowValue → Inside
+tapped a y w = record { wire = a.wire; seats = with_item a.seats 0 y; live = a.live; tap = w }
+
+pub tapped_traffic : (a : Inside) (v : BusValue) (n : ℕ) (x y : SeatBook) (w : WindowValue) → view_of a ≡ v → IsKept a → x ≡ get_or a.seats.items 0 x → w ≡ rest_of a.tap
+    → y.seat ≡ hearing n x.seat → traffic_of (tapped a y w) ≡ heard_more 0 n v.traffic
+tapped_traffic a v n x y w is kept read rest e =
+    let sound : IsSound v.traffic = subst (λ (b : BusValue). IsSound b.traffic) is kept.sound in
+    let size : w.size ≡ a.tap.size = ap (λ (z : WindowValue). z.size) rest ∙ rest_size a.tap in
+    ap (λ (m : ℕ). let t : Traffic = record { wire = a.wire.items; seats = map seat_of (set a.seats.items 0 y); window = m } in t) size
+    ∙ changed_traffic (hearing n) a v 0 x y is (station_given v.traffic sound) read e
+
+pub read_kept : (a : Inside) (v : BusValue) (n : ℕ) (x y : SeatBook) (w : WindowValue) → view_of a ≡ v → IsKept a → x ≡ get_or a.seats.items 0 x → n ≡ passes (next_reading v.traffic) → w ≡ rest_of a.tap
+    → y.seat ≡ hearing n x.seat → IsKept (tapped a y w)
+read_kept a v n x y w is kept read passed rest e =
+    let sound : IsSound v.traffic = subst (λ (b : BusValue). IsSound b.traffic) is kept.sound in
+    let given = station_given v.traffic sound in
+    let within_wire = passes_within v.traffic sound in
+    let s = seat_is a v 0 x is (within a v 0 is given) read in
+    let wire : a.wire.items ≡ v.traffic.wire = ap (λ (b : BusValue). b.traffic.wire) is in
+    let bound : x.seat.heard + n ≤ length a.wire.items = rw (wire, s) (omega arith) in
+    let size : w.size ≡ a.tap.size = ap (λ (z : WindowValue). z.size) rest ∙ rest_size a.tap in
+    let in' = within a v 0 is given in
+    let live : y.seat.live ≡ x.seat.live = ap (λ (z : SeatValue). z.live) e in
+    let placed_is = placed_sound a 0 x y kept in' read live (λ b. subst (λ (z : SeatValue). IsBalanced a.wire.items 0 z) (sym e) (balanced_hearing a.wire.items 0 n x.seat bound b)) in
+    let before : a.tap ≡ window_of v.traffic = kept.tap ∙ ap (λ (b : BusValue). window_of b.traffic) is in
+    let now = tapped_traffic a v n x y w is kept read rest e in
+    let after : w ≡ window_of (traffic_of (tapped a y w)) =
+    rest ∙ (ap rest_of before ∙ (window_rest v.traffic given ∙ (ap (λ (m : ℕ). window_of (heard_more 0 m v.traffic)) (sym passed) ∙ ap window_of (sym now)))) in
+    record {
+      sound = subst (λ (m : ℕ). IsSound (record { wire = a.wire.items; seats = map seat_of (set a.seats.items 0 y); window = m })) (sym size) placed_is;
+      tap = after;
+      live = placed_live a 0 x y kept in' read live;
+      few_seats = rw (length-set a.seats.items 0 y) kept.few_seats;
+      few_frames = kept.few_frames;
+    }

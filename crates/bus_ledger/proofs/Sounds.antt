@@ -11,7 +11,7 @@ use Rattle.bus_ledger.specs.Carrying.{offered, offer}
 use Rattle.bus_ledger.specs.Ledger.{IsBalanced, IsSound, is_from}
 use Rattle.bus_ledger.specs.declared.traffic.QueuedFrame.{QueuedFrame}
 use Rattle.bus_ledger.specs.declared.traffic.CarriedFrame.{CarriedFrame}
-use Rattle.bus_ledger.proofs.Seats.{same_or_not}
+use Rattle.bus_ledger.proofs.Numbers.{same_or_not}
 
 -- what an offer says of its seat
 pub record IsOffer (n : ℕ) (s : SeatValue) (q : QueuedFrame) : Type 0 where

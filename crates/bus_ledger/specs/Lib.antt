@@ -3,6 +3,7 @@ pub mod Changes
 pub mod Joining
 pub mod Carrying
 pub mod Reception
+pub mod Window
 pub mod Ledger
 pub mod Refusals
 pub mod Offers

@@ -5,6 +5,7 @@ ghost use Rattle.bus_ledger.specs.Reception.{passes};
 use crate::error::BusError;
 use crate::offers::{best_offer, is_any_waiting, is_name_among};
 use crate::seat::Seat;
+use crate::tap::Tap;
 use crate::traffic::{Carried, CarriedFrame, Counts, QueuedFrame, Tag, Which};
 use can_frame::{Frame, Reading};
 use name_field::Name;
@@ -21,7 +22,8 @@ pub struct Bus {
     seats: Vec<Seat>,
     // the numbers of the live seats, in order
     live: Vec<u32>,
-    window: u32,
+    // the unread frames of the other seats, as far as the window holds them
+    tap: Tap,
 }
 
 impl Model for Bus {
@@ -37,8 +39,8 @@ impl Model for Bus {
 }
 
 impl Bus {
-    ghost use Rattle.std.specs.Prelude.{◌≡◌, ℕ, ◌<◌, ◌≤◌, ◌≢◌, ◌^◌, ◌+◌, ◌⊎◌, ◌↔◌, length, slice_get, Option, Some, None, IfOk, IfErr, OnOk, OnErr, MatchOption};
-    ghost use Rattle.std.specs.List.{All};
+    ghost use Rattle.std.specs.Prelude.{◌≡◌, ℕ, ◌<◌, ◌≤◌, ◌≢◌, ◌^◌, ◌+◌, ◌⊎◌, ◌↔◌, false, length, slice_get, Option, Some, None, IfSome, IfOk, IfErr, OnOk, OnErr, MatchOption};
+    ghost use Rattle.std.specs.List.{All, count_by};
     ghost use Rattle.std.specs.Option.{option_map, SomeIff};
     ghost use Rattle.std.specs.Result.{result_err};
     ghost use Rattle.bus_ledger.specs.BusValue.{IsLive, IsUnit, KeepsSpares, seat_at, spare_at};
@@ -46,10 +48,10 @@ impl Bus {
     ghost use Rattle.bus_ledger.specs.Joining.{join_refusal};
     ghost use Rattle.bus_ledger.specs.Carrying.{CanCarry, Carries, IsChoice, IsNext, offer};
     ghost use Rattle.bus_ledger.specs.Reception.{after_reading, next_reading, unread};
-    ghost use Rattle.bus_ledger.specs.Ledger.{IsSound, counts_of};
+    ghost use Rattle.bus_ledger.specs.Ledger.{IsSound, counts_of, is_from};
 
-    /// A bus with the station alone, on seat 0, whose window has room for `window` unread frames, 1 to 4,096.
-    /// The station's queue has room for one frame.
+    /// A bus with the station alone, on seat 0, whose window has room for `window` unread frames, 1 to 4,096; their memory
+    /// is taken here. The station's queue has room for one frame.
     ///
     /// Refused where there is no memory.
     pub fn new(alloc: Global, station: Name, window: u32) -> Result<Bus, BusError>
@@ -62,11 +64,12 @@ impl Bus {
         let mut live = Vec::with_capacity(alloc, 1)?;
         seats.push_reserved(Seat::new(alloc, station, 0)?);
         live.push_reserved(0);
+        let tap = Tap::new(alloc, window)?;
         Ok(Bus {
             wire: Vec::new(alloc),
             seats,
             live,
-            window,
+            tap,
         })
     }
 
@@ -96,7 +99,8 @@ impl Bus {
 
     /// What `join` would answer for this NAME, want of memory aside.
     pub fn may_join(&self, name: Name) -> Result<(), BusError>
-        ensures { result_err result ≡ join_refusal name self.now.traffic }
+        ensures refusal { result_err result ≡ join_refusal name self.now.traffic }
+        ensures sound { IsSound self.now.traffic }
     {
         if is_name_among(self.seats.as_slice(), self.live.as_slice(), name) {
             return Err(BusError::NameInUse);
@@ -121,7 +125,8 @@ impl Bus {
     /// The next frame that the seat has not heard, if there is one. It came from another seat.
     pub fn next_for(&self, seat: u32) -> Option<Frame>
         requires { IsUnit self.now.traffic seat }
-        ensures { result ≡ option_map (λ c. c.frame) (slice_get self.now.traffic.wire (seat_at self.now.traffic seat).heard) }
+        ensures frame { result ≡ option_map (λ c. c.frame) (slice_get self.now.traffic.wire (seat_at self.now.traffic seat).heard) }
+        ensures sound { IsSound self.now.traffic }
     {
         let heard = self.seats[seat as usize].heard();
         let next = self.wire.get(heard as usize)?;
@@ -145,6 +150,7 @@ impl Bus {
     pub fn reserve(&mut self, seat: u32, count: usize) -> Result<(), BusError>
         requires { IsLive self.old.traffic seat }
         ensures traffic { self.new.traffic ≡ self.old.traffic }
+        ensures sound { IsSound self.old.traffic }
         ensures ok { OnOk result (count ≤ spare_at self.new seat) }
         ensures err { IfErr result (λ e. (e ≡ BusError.OutOfMemory) × (spare_at self.old seat < count)) }
         ensures spares { KeepsSpares self.old self.new }
@@ -184,6 +190,7 @@ impl Bus {
     pub fn leave(&mut self, seat: u32) -> u32
         requires { IsUnit self.old.traffic seat }
         ensures traffic { self.new.traffic ≡ left seat self.old.traffic }
+        ensures sound { IsSound self.old.traffic }
         ensures count { result ≡ length (seat_at self.old.traffic seat).queue }
         ensures spares { (k : ℕ) → k ≢ seat → spare_at self.old k ≤ spare_at self.new k }
     {
@@ -214,6 +221,7 @@ impl Bus {
         });
         let place = &mut self.seats[seat as usize];
         place.send();
+        self.tap.take_in(seat, queued.frame);
         Ok(Carried::Frame {
             seat,
             frame: queued.frame,
@@ -259,16 +267,9 @@ impl Bus {
     pub fn tap_peek(&self) -> Reading
         ensures reading { result ≡ next_reading self.now.traffic }
         ensures others { All (λ c. c.seat ≢ 0) (unread self.now.traffic) }
+        ensures sound { IsSound self.now.traffic }
     {
-        let heard = self.seats[0].heard();
-        let unread = self.wire.len() as u32 - heard;
-        if unread > self.window {
-            return Reading::Gap(unread - self.window);
-        }
-        match self.wire.get(heard as usize) {
-            Some(carried) => Reading::Frame(carried.frame),
-            None => Reading::Empty,
-        }
+        self.tap.peek()
     }
 
     /// Takes the station's next reading. The frames of a gap are passed over.
@@ -278,7 +279,7 @@ impl Bus {
         ensures traffic { self.new.traffic ≡ after_reading result self.old.traffic }
         ensures spares { KeepsSpares self.old self.new }
     {
-        let reading = self.tap_peek();
+        let reading = self.tap.next();
         let passed = frames_of(&reading);
         let place = &mut self.seats[0];
         place.hear(passed);
@@ -286,8 +287,15 @@ impl Bus {
     }
 
     /// What became of the frames that a seat queued; nothing where the seat was never given.
+    ///
+    /// Each frame queued was carried, was withdrawn or waits. Those carried stand on the wire, those that wait in the
+    /// seat's queue, and none waits once the seat is gone.
     pub fn counts(&self, seat: u32) -> Option<Counts>
-        ensures { result ≡ option_map counts_of (slice_get self.now.traffic.seats seat) }
+        ensures counts { result ≡ option_map counts_of (slice_get self.now.traffic.seats seat) }
+        ensures balanced { IfSome result (λ c. c.queued ≡ c.carried + c.withdrawn + c.waiting) }
+        ensures carried { IfSome result (λ c. c.carried ≡ count_by (is_from seat) self.now.traffic.wire) }
+        ensures waiting { IfSome result (λ c. c.waiting ≡ length (seat_at self.now.traffic seat).queue) }
+        ensures gone { (seat_at self.now.traffic seat).live ≡ false → IfSome result (λ c. c.waiting ≡ 0) }
     {
         let place = self.seats.get(seat as usize)?;
         Some(place.counts())

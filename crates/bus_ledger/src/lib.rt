@@ -10,6 +10,7 @@ mod bus;
 mod error;
 mod offers;
 mod seat;
+mod tap;
 mod traffic;
 
 pub use bus::Bus;

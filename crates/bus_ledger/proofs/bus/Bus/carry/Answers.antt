@@ -14,15 +14,15 @@ send-requires c = record {
 pub invariant_of-self-2 : goal.invariant_of-self-2
 invariant_of-self-2 c =
     carry_kept c.self.inside _ c.args.self.now c.in-Some.seat c.in-Some.queued c.index_mut-place.result.now c.send.new.self c.self.view_is c.self.invariant c.in-Some.ensures c.index_mut-place.ensures.value c.send.ensures.seat
-    (grind (arith, common_steps)) refl refl refl c.requires
+    (grind (arith, common_steps)) refl refl c.take_in.ensures c.requires
 
 pub returns-clause-ok : goal.returns-clause-ok
 returns-clause-ok c = (
   c.in-Some.queued,
   c.in-Some.ensures,
   refl,
-  carry_traffic c.self.inside (record { wire = c.push_reserved.new.self; seats = with_item c.self.inside.seats c.in-Some.seat c.send.new.self; live = c.self.inside.live; window = c.self.inside.window }) c.args.self.now c.in-Some.seat c.in-Some.queued c.index_mut-place.result.now c.send.new.self c.self.view_is
-      (next_within c.args.self.now.traffic c.in-Some.seat c.in-Some.queued c.in-Some.ensures) c.index_mut-place.ensures.value c.send.ensures.seat (grind (arith, common_steps)) refl refl,
+  carry_traffic c.self.inside (record { wire = c.push_reserved.new.self; seats = with_item c.self.inside.seats c.in-Some.seat c.send.new.self; live = c.self.inside.live; tap = c.take_in.new.self }) c.args.self.now c.in-Some.seat c.in-Some.queued c.index_mut-place.result.now c.send.new.self c.self.view_is
+      (next_within c.args.self.now.traffic c.in-Some.seat c.in-Some.queued c.in-Some.ensures) c.index_mut-place.ensures.value c.send.ensures.seat (grind (arith, common_steps)) refl c.take_in.ensures,
 )
 
 pub returns-clause-spares : goal.returns-clause-spares

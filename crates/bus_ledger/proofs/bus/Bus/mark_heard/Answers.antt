@@ -6,7 +6,7 @@ use Rattle.bus_ledger.proofs.bus.Bus.mark_heard.Goals as goal
 pub invariant_of-self : goal.invariant_of-self
 invariant_of-self c =
     hear_kept c.self.inside c.args.self.now c.args.seat 1 c.index_mut-place.result.now c.hear.new.self c.self.view_is c.self.invariant c.requires.unit.1 c.index_mut-place.ensures.value
-    c.hear.ensures.seat (omega arith)
+    c.hear.ensures.seat c.requires.unit.0 (omega arith)
 
 pub returns-clause-traffic : goal.returns-clause-traffic
 returns-clause-traffic c =

@@ -1,0 +1,78 @@
+ghost use Rattle.std.specs.Prelude.{◌≡◌, ◌-◌, ◌<◌, ◌^◌, [], IfOk};
+ghost use Rattle.bus_ledger.specs.Window.{window, taken_in, reading_of, rest_of};
+
+use can_frame::{Frame, Reading};
+use circular_buffer::HeapCircularBuffer;
+use std::alloc::{AllocError, Global};
+use std::marker::Model;
+use std::mem;
+
+/// The station's window: a ring of the latest unread frames, and how many went out of it unread since the last reading.
+#[derive(Drop)]
+pub(crate) struct Tap {
+    ring: HeapCircularBuffer<Frame>,
+    missed: u32,
+}
+
+impl Model for Tap {
+    ghost use Rattle.std.specs.Prelude.{◌≤◌, ◌<◌, length};
+    ghost use Rattle.bus_ledger.specs.Window.{WindowValue};
+
+    ghost Value = { WindowValue };
+
+    ghost view = { λ t. record { size = t.ring.capacity; unread = t.ring.items; missed = t.missed } };
+
+    ghost invariant = { λ t. (0 < t.ring.capacity) × (length t.ring.items ≤ t.ring.capacity) };
+}
+
+impl Tap {
+    /// A window with room for so many frames, of which none has come yet. It takes all the memory that it will need.
+    pub(crate) fn new(alloc: Global, size: u32) -> Result<Tap, AllocError>
+        requires { 0 < size }
+        ensures { IfOk result (λ t. t ≡ window size [] 0) }
+    {
+        Ok(Tap {
+            ring: HeapCircularBuffer::with_capacity(alloc, size as usize)?,
+            missed: 0,
+        })
+    }
+
+    /// A frame was carried from a seat. The station's own is no reading; any other comes in, and where the ring is full the
+    /// oldest one goes out of it, and counts as missed.
+    pub(crate) fn take_in(&mut self, seat: u32, frame: Frame)
+        requires { self.old.missed < 2 ^ 32 - 1 }
+        ensures { self.new ≡ taken_in seat frame self.old }
+    {
+        if seat != 0 && self.ring.push_back(frame).is_some() {
+            self.missed += 1;
+        }
+    }
+
+    /// The next reading, which stays: the gap that was missed, else the oldest frame, or that there is none.
+    pub(crate) fn peek(&self) -> Reading
+        ensures { result ≡ reading_of self.now }
+    {
+        if self.missed > 0 {
+            return Reading::Gap(self.missed);
+        }
+        match self.ring.front() {
+            Some(frame) => Reading::Frame(*frame),
+            None => Reading::Empty,
+        }
+    }
+
+    /// Takes the next reading. After a gap nothing counts as missed.
+    pub(crate) fn next(&mut self) -> Reading
+        ensures reading { result ≡ reading_of self.old }
+        ensures rest { self.new ≡ rest_of self.old }
+    {
+        let missed = mem::take(&mut self.missed);
+        if missed > 0 {
+            return Reading::Gap(missed);
+        }
+        match self.ring.pop_front() {
+            Some(frame) => Reading::Frame(frame),
+            None => Reading::Empty,
+        }
+    }
+}

@@ -76,6 +76,7 @@ Continues st (Session d) older m (suc j) = sess m.name m.source d older ≡ Some
 pub record PartLaw (st : ℕ) (e : Item) (t : Tag) (older : List Item) : Type 0 where
   pub proper : IsProper t.message
   pub frame : e.frame ≡ frame_of_part t.message t.part
+  pub seat : e.seat ≡ t.message.seat
   pub name : e.name ≡ t.message.name
   pub unit : t.message.name ≢ st
   pub upto : t.part ≤ last_part_of t.message

@@ -103,6 +103,7 @@ pub part_same : (st : ℕ) (x : Item) (t : Tag) (xs ys : List Item) → LooksSam
 part_same st x t xs ys same order law = record {
   proper = law.proper;
   frame = law.frame;
+  seat = law.seat;
   name = law.name;
   unit = law.unit;
   upto = law.upto;

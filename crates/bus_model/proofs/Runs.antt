@@ -52,15 +52,15 @@ faulty_lawful = record {
   room = omega arith;
 }
 
-pub proper_new_memory : (number name : ℕ) (k : Kind) → IsProper (record { number = number; name = name; kind = k; memory = new_memory; source = 0; destination = 255 })
-proper_new_memory number name k = record { memory = new_lawful; source = omega arith; destination = inl refl }
+pub proper_new_memory : (number seat name : ℕ) (k : Kind) → IsProper (record { number = number; seat = seat; name = name; kind = k; memory = new_memory; source = 0; destination = 255 })
+proper_new_memory number seat name k = record { memory = new_lawful; source = omega arith; destination = inl refl }
 
-pub proper_faulty_memory : (number name : ℕ) (k : Kind) → IsProper (record { number = number; name = name; kind = k; memory = faulty_memory; source = 0; destination = 255 })
-proper_faulty_memory number name k = record { memory = faulty_lawful; source = omega arith; destination = inl refl }
+pub proper_faulty_memory : (number seat name : ℕ) (k : Kind) → IsProper (record { number = number; seat = seat; name = name; kind = k; memory = faulty_memory; source = 0; destination = 255 })
+proper_faulty_memory number seat name k = record { memory = faulty_lawful; source = omega arith; destination = inl refl }
 
-pub proper_session : (number name : ℕ) → IsProper (record { number = number; name = name; kind = Dm2; memory = faulty_memory; source = 0; destination = 249 })
+pub proper_session : (number seat name : ℕ) → IsProper (record { number = number; seat = seat; name = name; kind = Dm2; memory = faulty_memory; source = 0; destination = 249 })
 unfolding payload_of
-proper_session number name = record { memory = faulty_lawful; source = omega arith; destination = inr (omega arith, λ e. cc) }
+proper_session number seat name = record { memory = faulty_lawful; source = omega arith; destination = inr (omega arith, λ e. cc) }
 
 -- the small facts of its steps
 pub another_address : ◌≢◌ {A = ℕ} 249 0
@@ -113,7 +113,7 @@ each_way_run = (
             (_, _, [], (refl, refl), refl, (record { uncontested = refl; uncut = refl }), refl),
             (
               _,
-              (_, (refl, refl), refl, proper_new_memory _ _ Dm1, tt, refl),
+              (_, (refl, refl), refl, proper_new_memory _ _ _ Dm1, tt, refl),
               (
                 _,
                 (_, _, [], (refl, refl), refl, refl, refl),
@@ -122,7 +122,7 @@ each_way_run = (
                   (_, [], refl, tt, refl),
                   (
                     _,
-                    (_, (refl, refl), refl, proper_faulty_memory _ _ Dm1, tt, refl),
+                    (_, (refl, refl), refl, proper_faulty_memory _ _ _ Dm1, tt, refl),
                     (
                       _,
                       (_, _, (_ ∷ _ ∷ []), (refl, refl), refl, refl, refl),
@@ -149,7 +149,7 @@ each_way_run = (
                                     (_, [], refl, refl, refl),
                                     (
                                       _,
-                                      (_, _, [], (refl, refl), refl, ((record { uncontested = refl; uncut = refl }), refl, proper_session _ _, tt, (refl, another_address, refl)), refl),
+                                      (_, _, [], (refl, refl), refl, ((record { uncontested = refl; uncut = refl }), refl, proper_session _ _ _, tt, (refl, another_address, refl)), refl),
                                       (
                                         _,
                                         (_, _, [], (refl, refl), refl, refl, refl),
@@ -225,7 +225,7 @@ takeover_run = (
             (_, _, [], (refl, refl), refl, (record { uncontested = refl; uncut = refl }), refl),
             (
               _,
-              (_, (refl, refl), refl, proper_faulty_memory _ _ Dm1, tt, refl),
+              (_, (refl, refl), refl, proper_faulty_memory _ _ _ Dm1, tt, refl),
               (
                 _,
                 (_, _, (_ ∷ _ ∷ []), (refl, refl), refl, refl, refl),
@@ -258,7 +258,7 @@ takeover_run = (
                                   (_, _, [], (refl, refl), refl, tt, refl),
                                   (
                                     _,
-                                    (_, (refl, refl), refl, proper_new_memory _ _ Dm1, tt, refl),
+                                    (_, (refl, refl), refl, proper_new_memory _ _ _ Dm1, tt, refl),
                                     (
                                       _,
                                       (_, _, [], (refl, refl), refl, refl, refl),

@@ -60,16 +60,16 @@ part_from held Broadcast m (suc j) = tt
 part_from held (Session b) m zero = tt
 part_from held (Session b) m (suc j) = tt
 
-pub claimed_parts : (a : ℕ) (m : Message) (j : ℕ) (track : List Item) → IsProper m → j ≤ last_part_of m → claimed_by a (parts_upto m j ++ track) ≡ claimed_by a track
-claimed_parts a m zero track ok le = rw (says_part m 0 ok le) (part_no_claim a (way_of m) m 0 (claimed_by a track))
-claimed_parts a m (suc j) track ok le = rw (says_part m (suc j) ok le) (part_no_claim a (way_of m) m (suc j) (claimed_by a (parts_upto m j ++ track)) ∙ claimed_parts a m j track ok (omega arith))
+pub claimed_parts : (x a : ℕ) (m : Message) (j : ℕ) (track : List Item) → IsProper m → j ≤ last_part_of m → claimed_by a (parts_upto x m j ++ track) ≡ claimed_by a track
+claimed_parts x a m zero track ok le = rw (says_part m 0 ok le) (part_no_claim a (way_of m) m 0 (claimed_by a track))
+claimed_parts x a m (suc j) track ok le = rw (says_part m (suc j) ok le) (part_no_claim a (way_of m) m (suc j) (claimed_by a (parts_upto x m j ++ track)) ∙ claimed_parts x a m j track ok (omega arith))
 
 pub is_of_self : (m : Message) (j : ℕ) → is_of m.name m.kind (Some (tag_of m j)) ≡ true
 is_of_self m j = rw (same_test m.name) (same_kind_self m.kind)
 
-pub last_of_parts : (m : Message) (j : ℕ) (track : List Item) → last_of m.name m.kind (parts_upto m j ++ track) ≡ Some (tag_of m j)
-last_of_parts m zero track = rw (is_of_self m 0) refl
-last_of_parts m (suc j) track = rw (is_of_self m (suc j)) refl
+pub last_of_parts : (x : ℕ) (m : Message) (j : ℕ) (track : List Item) → last_of m.name m.kind (parts_upto x m j ++ track) ≡ Some (tag_of m j)
+last_of_parts x m zero track = rw (is_of_self m 0) refl
+last_of_parts x m (suc j) track = rw (is_of_self m (suc j)) refl
 
 pub kinds_apart : (k l : Kind) → k ≢ l → same_kind k l ≡ false
 kinds_apart Dm1 Dm1 h = absurd (h refl)
@@ -82,31 +82,31 @@ and_false true = refl
 and_false false = refl
 
 -- parts of another kind
-pub last_of_others : (n : ℕ) (k : Kind) (m : Message) (j : ℕ) (track : List Item) → m.kind ≢ k → last_of n k (parts_upto m j ++ track) ≡ last_of n k track
-last_of_others n k m zero track ne = rw (kinds_apart m.kind k ne, and_false (m.name == n)) refl
-last_of_others n k m (suc j) track ne = rw (kinds_apart m.kind k ne, and_false (m.name == n)) (last_of_others n k m j track ne)
+pub last_of_others : (x n : ℕ) (k : Kind) (m : Message) (j : ℕ) (track : List Item) → m.kind ≢ k → last_of n k (parts_upto x m j ++ track) ≡ last_of n k track
+last_of_others x n k m zero track ne = rw (kinds_apart m.kind k ne, and_false (m.name == n)) refl
+last_of_others x n k m (suc j) track ne = rw (kinds_apart m.kind k ne, and_false (m.name == n)) (last_of_others x n k m j track ne)
 
 -- parts of no session
-pub sess_others : (n a d : ℕ) (m : Message) (j : ℕ) (track : List Item) → IsProper m → j ≤ last_part_of m → is_session (way_of m) ≡ false → sess n a d (parts_upto m j ++ track) ≡ sess n a d track
-sess_others n a d m zero track ok le nos = rw (says_part m 0 ok le, part_breaks_none n a d m.name (way_of m) m 0, nos, and_false (m.name == n)) refl
-sess_others n a d m (suc j) track ok le nos = rw (says_part m (suc j) ok le, part_breaks_none n a d m.name (way_of m) m (suc j), nos, and_false (m.name == n)) (sess_others n a d m j track ok (omega arith) nos)
+pub sess_others : (x n a d : ℕ) (m : Message) (j : ℕ) (track : List Item) → IsProper m → j ≤ last_part_of m → is_session (way_of m) ≡ false → sess n a d (parts_upto x m j ++ track) ≡ sess n a d track
+sess_others x n a d m zero track ok le nos = rw (says_part m 0 ok le, part_breaks_none n a d m.name (way_of m) m 0, nos, and_false (m.name == n)) refl
+sess_others x n a d m (suc j) track ok le nos = rw (says_part m (suc j) ok le, part_breaks_none n a d m.name (way_of m) m (suc j), nos, and_false (m.name == n)) (sess_others x n a d m j track ok (omega arith) nos)
 
-pub sess_self : (m : Message) (d j : ℕ) (xs : List Item) → IsProper m → j ≤ last_part_of m → (way_of m) ≡ Session d → sess m.name m.source d (item_of_part m j ∷ xs) ≡ Some (tag_of m j)
-sess_self m d j xs ok le e = rw (says_part m j ok le, part_breaks_none m.name m.source d m.name (way_of m) m j, e, same_test m.name) refl
+pub sess_self : (x : ℕ) (m : Message) (d j : ℕ) (xs : List Item) → IsProper m → j ≤ last_part_of m → (way_of m) ≡ Session d → sess m.name m.source d (item_of_part x m j ∷ xs) ≡ Some (tag_of m j)
+sess_self x m d j xs ok le e = rw (says_part m j ok le, part_breaks_none m.name m.source d m.name (way_of m) m j, e, same_test m.name) refl
 
 -- what a later part looks back to, by its way
-pub continues_at : (st : ℕ) (w : Way) (m : Message) (j : ℕ) (xs : List Item) → IsProper m → j ≤ last_part_of m → (way_of m) ≡ w → Continues st w (item_of_part m j ∷ xs) m (suc j)
-continues_at st One m j xs ok le e = tt
-continues_at st Broadcast m j xs ok le e = rw (says_part m j ok le, part_not_foreign m.name m.source (way_of m) m j, e, same_test m.name) refl
-continues_at st (Session d) m j xs ok le e = sess_self m d j xs ok le e
+pub continues_at : (x st : ℕ) (w : Way) (m : Message) (j : ℕ) (xs : List Item) → IsProper m → j ≤ last_part_of m → (way_of m) ≡ w → Continues st w (item_of_part x m j ∷ xs) m (suc j)
+continues_at x st One m j xs ok le e = tt
+continues_at x st Broadcast m j xs ok le e = rw (says_part m j ok le, part_not_foreign m.name m.source (way_of m) m j, e, same_test m.name) refl
+continues_at x st (Session d) m j xs ok le e = sess_self x m d j xs ok le e
 
-pub continues_parts : (st : ℕ) (m : Message) (j : ℕ) (track : List Item) → IsProper m → j ≤ last_part_of m → Continues st (way_of m) (parts_upto m j ++ track) m (suc j)
-continues_parts st m zero track ok le = continues_at st (way_of m) m 0 track ok le refl
-continues_parts st m (suc j) track ok le = continues_at st (way_of m) m (suc j) (parts_upto m j ++ track) ok le refl
+pub continues_parts : (x st : ℕ) (m : Message) (j : ℕ) (track : List Item) → IsProper m → j ≤ last_part_of m → Continues st (way_of m) (parts_upto x m j ++ track) m (suc j)
+continues_parts x st m zero track ok le = continues_at x st (way_of m) m 0 track ok le refl
+continues_parts x st m (suc j) track ok le = continues_at x st (way_of m) m (suc j) (parts_upto x m j ++ track) ok le refl
 
-pub part_allowed : (st : ℕ) (m : Message) (j : ℕ) (older : List Item) → PartLaw st (item_of_part m j) (tag_of m j) older → Allowed st (item_of_part m j) older
-part_allowed st m j older law = record {
-  tagged = λ t g. let e : t ≡ tag_of m j = cc in subst (λ (v : Tag). PartLaw st (item_of_part m j) v older) (sym e) law;
+pub part_allowed : (x st : ℕ) (m : Message) (j : ℕ) (older : List Item) → PartLaw st (item_of_part x m j) (tag_of m j) older → Allowed st (item_of_part x m j) older
+part_allowed x st m j older law = record {
+  tagged = λ t g. let e : t ≡ tag_of m j = cc in subst (λ (v : Tag). PartLaw st (item_of_part x m j) v older) (sym e) law;
   plain = λ g h. cc;
   starts = λ g. cc;
   honest = subst (IsHonest m.name) (sym (says_part m j law.proper law.upto)) (part_honest m.name (way_of m) m j);
@@ -114,11 +114,12 @@ part_allowed st m j older law = record {
 }
 
 -- a new message's parts may stand behind what its seat has
-pub parts_lawful : (st : ℕ) (m : Message) (j : ℕ) (track : List Item) → IsProper m → m.name ≢ st → j ≤ last_part_of m → Lawful st track → claimed_by m.source track ≡ Some m.name → Continues st (way_of m) track m 0 → EachTag (λ t. t.message.number < m.number) track → Lawful st (parts_upto m j ++ track)
-parts_lawful st m zero track ok unit le law own first older = (
-  part_allowed st m 0 track (record {
+pub parts_lawful : (x st : ℕ) (m : Message) (j : ℕ) (track : List Item) → IsProper m → x ≡ m.seat → m.name ≢ st → j ≤ last_part_of m → Lawful st track → claimed_by m.source track ≡ Some m.name → Continues st (way_of m) track m 0 → EachTag (λ t. t.message.number < m.number) track → Lawful st (parts_upto x m j ++ track)
+parts_lawful x st m zero track ok own_seat unit le law own first older = (
+  part_allowed x st m 0 track (record {
     proper = ok;
     frame = refl;
+    seat = own_seat;
     name = refl;
     unit = unit;
     upto = le;
@@ -128,26 +129,28 @@ parts_lawful st m zero track ok unit le law own first older = (
   }),
   law,
 )
-parts_lawful st m (suc j) track ok unit le law own first older = (
-  part_allowed st m (suc j) (parts_upto m j ++ track) (record {
+parts_lawful x st m (suc j) track ok own_seat unit le law own first older = (
+  part_allowed x st m (suc j) (parts_upto x m j ++ track) (record {
     proper = ok;
     frame = refl;
+    seat = own_seat;
     name = refl;
     unit = unit;
     upto = le;
-    owned = claimed_parts m.source m j track ok (omega arith) ∙ own;
-    order = subst (λ (v : Option Tag). Follows v (tag_of m (suc j))) (sym (last_of_parts m j track)) (inr (refl, refl));
-    joined = continues_parts st m j track ok (omega arith);
+    owned = claimed_parts x m.source m j track ok (omega arith) ∙ own;
+    order = subst (λ (v : Option Tag). Follows v (tag_of m (suc j))) (sym (last_of_parts x m j track)) (inr (refl, refl));
+    joined = continues_parts x st m j track ok (omega arith);
   }),
-  parts_lawful st m j track ok unit (omega arith) law own first older,
+  parts_lawful x st m j track ok own_seat unit (omega arith) law own first older,
 )
 
 -- the next part of the open session
-pub next_lawful : (st : ℕ) (m : Message) (d j : ℕ) (track : List Item) → IsProper m → m.name ≢ st → (way_of m) ≡ Session d → suc j ≤ last_part_of m → Lawful st track → claimed_by m.source track ≡ Some m.name → last_of m.name m.kind track ≡ Some (tag_of m j) → sess m.name m.source d track ≡ Some (tag_of m j) → Lawful st (item_of_part m (suc j) ∷ track)
-next_lawful st m d j track ok unit w le law own last sofar = (
-  part_allowed st m (suc j) track (record {
+pub next_lawful : (x st : ℕ) (m : Message) (d j : ℕ) (track : List Item) → IsProper m → x ≡ m.seat → m.name ≢ st → (way_of m) ≡ Session d → suc j ≤ last_part_of m → Lawful st track → claimed_by m.source track ≡ Some m.name → last_of m.name m.kind track ≡ Some (tag_of m j) → sess m.name m.source d track ≡ Some (tag_of m j) → Lawful st (item_of_part x m (suc j) ∷ track)
+next_lawful x st m d j track ok own_seat unit w le law own last sofar = (
+  part_allowed x st m (suc j) track (record {
     proper = ok;
     frame = refl;
+    seat = own_seat;
     name = refl;
     unit = unit;
     upto = le;
@@ -163,13 +166,13 @@ pub plain_no_start : (f : Group) → IsPlain f → IsNoStart f
 plain_no_start (ConnectionManagement s d (Rts a b c k)) h = h
 plain_no_start _ h = tt
 
-pub sent_allowed : (st n : ℕ) (f : FrameValue) (g : Group) (older : List Item) → group_of f ≡ g → IsPlain g → IsHonest n g → IsVoiced n g older → Allowed st (plain n f) older
-sent_allowed st n f g older e p h v = record {
+pub sent_allowed : (st x n : ℕ) (f : FrameValue) (g : Group) (older : List Item) → group_of f ≡ g → IsPlain g → IsHonest n g → IsVoiced n g older → Allowed st (plain x n f) older
+sent_allowed st x n f g older e p h v = record {
   tagged = λ t i. cc;
   plain = λ t i. subst IsPlain (sym e) p;
   starts = λ t. subst IsNoStart (sym e) (plain_no_start g p);
   honest = subst (IsHonest n) (sym e) h;
-  voiced = subst (λ (x : Group). IsVoiced n x older) (sym e) v;
+  voiced = subst (λ (h : Group). IsVoiced n h older) (sym e) v;
 }
 
 pub claim_plain : (n : ℕ) (o : Option ℕ) → IsPlain (claim_group n o)

@@ -42,6 +42,7 @@ pub record OpenLaw (begun : List Message) (s : Seat) (t : Tag) : Type 0 where
   pub proper : IsProper t.message
   pub upto : t.part ≤ last_part_of t.message
   pub apart : dest ≢ t.message.source
+  pub seat : t.message.seat ≡ s.number
   pub name : t.message.name ≡ s.name
   pub held : s.held ≡ Some t.message.source
   pub booked : IsAmong t.message begun
@@ -92,6 +93,7 @@ open_heard begun s e t apart o law =
       proper = law.proper;
       upto = law.upto;
       apart = law.apart;
+      seat = law.seat;
       name = law.name;
       held = law.held;
       booked = law.booked;
@@ -184,14 +186,14 @@ heard_yields st wire begun s ahead e o hold lawful law i =
       ahead = ahead;
       reach = i;
       foreign = next.0;
-      track = (sent_allowed st s.name (claim_frame_value s.name o) (claim_group s.name o) (e ∷ s.heard) c (claim_plain s.name o) (claim_honest s.name o) (claim_voiced s.name o (e ∷ s.heard)), rest);
+      track = (sent_allowed st s.number s.name (claim_frame_value s.name o) (claim_group s.name o) (e ∷ s.heard) c (claim_plain s.name o) (claim_honest s.name o) (claim_voiced s.name o (e ∷ s.heard)), rest);
       own = λ a h. rw c (claim_owns s.name o a (claimed_by a (e ∷ s.heard)) h);
       mine = (record { name = refl; tags = λ t g. cc; voice = subst (IsFrom o) (sym c) (claim_from s.name o) }, tt);
       booked = (λ t g. cc, tt);
       session = λ t g. cc;
     }
 
-pub replied : (st : ℕ) (wire : List Item) (begun : List Message) (s : Seat) (f : FrameValue) → SeatLaw st wire begun s → IsReply s (group_of f) → SeatLaw st wire begun (record s { queue = plain s.name f ∷ s.queue })
+pub replied : (st : ℕ) (wire : List Item) (begun : List Message) (s : Seat) (f : FrameValue) → SeatLaw st wire begun s → IsReply s (group_of f) → SeatLaw st wire begun (record s { queue = plain s.number s.name f ∷ s.queue })
 replied st wire begun s f law may = record {
   unit = law.unit;
   small = law.small;
@@ -199,7 +201,7 @@ replied st wire begun s f law may = record {
   ahead = law.ahead;
   reach = law.reach;
   foreign = law.foreign;
-  track = (sent_allowed st s.name f (group_of f) (s.queue ++ s.heard) refl (reply_plain s (group_of f) may) (reply_honest s (group_of f) may) (reply_voiced s (group_of f) (s.queue ++ s.heard) may law.own), law.track);
+  track = (sent_allowed st s.number s.name f (group_of f) (s.queue ++ s.heard) refl (reply_plain s (group_of f) may) (reply_honest s (group_of f) may) (reply_voiced s (group_of f) (s.queue ++ s.heard) may law.own), law.track);
   own = λ a h. reply_owns s (group_of f) a (claimed_by a (s.queue ++ s.heard)) may (law.own a h);
   mine = (record { name = refl; tags = λ t g. cc; voice = reply_from s (group_of f) may }, law.mine);
   booked = (λ t g. cc, law.booked);
@@ -211,6 +213,7 @@ replied st wire begun s f law may = record {
         proper = p.proper;
         upto = p.upto;
         apart = p.apart;
+        seat = p.seat;
         name = p.name;
         held = p.held;
         booked = p.booked;
@@ -230,6 +233,7 @@ open_more m begun s t p = record {
   proper = p.proper;
   upto = p.upto;
   apart = p.apart;
+  seat = p.seat;
   name = p.name;
   held = p.held;
   booked = inr p.booked;
@@ -252,20 +256,20 @@ seat_more st wire m begun s law = record {
   session = λ t o. open_more m begun s t (law.session t o);
 }
 
-pub part_mine : (n : ℕ) (held : Option ℕ) (o : Option Tag) (m : Message) (j : ℕ) → IsProper m → j ≤ last_part_of m → m.name ≡ n → held ≡ Some m.source → InSession (way_of m) o m → IsMine n held o (item_of_part m j)
-part_mine n held o m j ok le e h i = record {
+pub part_mine : (x n : ℕ) (held : Option ℕ) (o : Option Tag) (m : Message) (j : ℕ) → IsProper m → j ≤ last_part_of m → m.name ≡ n → held ≡ Some m.source → InSession (way_of m) o m → IsMine n held o (item_of_part x m j)
+part_mine x n held o m j ok le e h i = record {
   name = e;
   tags = λ t g. let q : t ≡ tag_of m j = cc in subst (λ (v : Tag). (v.message.name ≡ n) × (held ≡ Some v.message.source) × InSession (way_of v.message) o v.message) (sym q) (e, h, i);
   voice = subst (IsFrom held) (sym (says_part m j ok le)) (part_from held (way_of m) m j);
 }
 
-pub parts_mine : (n : ℕ) (held : Option ℕ) (o : Option Tag) (m : Message) (j : ℕ) → IsProper m → j ≤ last_part_of m → m.name ≡ n → held ≡ Some m.source → InSession (way_of m) o m → Every (IsMine n held o) (parts_upto m j)
-parts_mine n held o m zero ok le e h i = (part_mine n held o m 0 ok le e h i, tt)
-parts_mine n held o m (suc j) ok le e h i = (part_mine n held o m (suc j) ok le e h i, parts_mine n held o m j ok (omega arith) e h i)
+pub parts_mine : (x n : ℕ) (held : Option ℕ) (o : Option Tag) (m : Message) (j : ℕ) → IsProper m → j ≤ last_part_of m → m.name ≡ n → held ≡ Some m.source → InSession (way_of m) o m → Every (IsMine n held o) (parts_upto x m j)
+parts_mine x n held o m zero ok le e h i = (part_mine x n held o m 0 ok le e h i, tt)
+parts_mine x n held o m (suc j) ok le e h i = (part_mine x n held o m (suc j) ok le e h i, parts_mine x n held o m j ok (omega arith) e h i)
 
-pub parts_booked : (m : Message) (begun : List Message) (j : ℕ) → Every (IsBooked (m ∷ begun)) (parts_upto m j)
-parts_booked m begun zero = (λ t g. inl cc, tt)
-parts_booked m begun (suc j) = (λ t g. inl cc, parts_booked m begun j)
+pub parts_booked : (x : ℕ) (m : Message) (begun : List Message) (j : ℕ) → Every (IsBooked (m ∷ begun)) (parts_upto x m j)
+parts_booked x m begun zero = (λ t g. inl cc, tt)
+parts_booked x m begun (suc j) = (λ t g. inl cc, parts_booked x m begun j)
 
 pub older_number : (begun : List Message) (xs : List Item) → Numbered begun → Every (IsBooked begun) xs → EachTag (λ t. t.message.number < length begun) xs
 older_number begun xs num h = every_weaker (IsBooked begun) (HasTag (λ t. t.message.number < length begun)) xs (λ x g t i. number_below t.message begun (g t i) num) h
@@ -310,42 +314,44 @@ pub not_open : (o : Option Tag) (k : Kind) (t : Tag) → IsNotOpen o k → o ≡
 not_open None k t h e = cc
 not_open (Some u) k t h e = let g : u ≡ t = cc in subst (λ (v : Tag). v.message.kind ≢ k) g h
 
-pub open_begun : (begun : List Message) (s : Seat) (m : Message) (w : Way) (t : Tag) (st : ℕ) → IsProper m → (way_of m) ≡ w → m.name ≡ s.name → s.held ≡ Some m.source → IsNotOpen s.session m.kind → ((d : ℕ) → w ≡ Session d → OpensAt st s m d) → ((t : Tag) → s.session ≡ Some t → OpenLaw begun s t) → session_opened w m s.session ≡ Some t → OpenLaw (m ∷ begun) (record s { queue = parts_upto m (first_parts w m) ++ s.queue; session = session_opened w m s.session }) t
-open_begun begun s m One t st ok e name held none opens law o = others begun s m (last_part_of m) t ok (le_refl (last_part_of m)) (ap is_session e) none (law t o) (not_open s.session m.kind t none o)
+pub open_begun : (begun : List Message) (s : Seat) (m : Message) (w : Way) (t : Tag) (st : ℕ) → IsProper m → (way_of m) ≡ w → m.seat ≡ s.number → m.name ≡ s.name → s.held ≡ Some m.source → IsNotOpen s.session m.kind → ((d : ℕ) → w ≡ Session d → OpensAt st s m d) → ((t : Tag) → s.session ≡ Some t → OpenLaw begun s t) → session_opened w m s.session ≡ Some t → OpenLaw (m ∷ begun) (record s { queue = parts_upto s.number m (first_parts w m) ++ s.queue; session = session_opened w m s.session }) t
+open_begun begun s m One t st ok e seat name held none opens law o = others begun s m (last_part_of m) t ok (le_refl (last_part_of m)) (ap is_session e) none (law t o) (not_open s.session m.kind t none o)
   where
-    others : (begun : List Message) (s : Seat) (m : Message) (j : ℕ) (t : Tag) → IsProper m → j ≤ last_part_of m → is_session (way_of m) ≡ false → IsNotOpen s.session m.kind → OpenLaw begun s t → t.message.kind ≢ m.kind → OpenLaw (m ∷ begun) (record s { queue = parts_upto m j ++ s.queue; session = s.session }) t
+    others : (begun : List Message) (s : Seat) (m : Message) (j : ℕ) (t : Tag) → IsProper m → j ≤ last_part_of m → is_session (way_of m) ≡ false → IsNotOpen s.session m.kind → OpenLaw begun s t → t.message.kind ≢ m.kind → OpenLaw (m ∷ begun) (record s { queue = parts_upto s.number m j ++ s.queue; session = s.session }) t
     others begun s m j t ok le nos none p ne =
-        let shape = append_assoc (parts_upto m j) s.queue s.heard in
+        let shape = append_assoc (parts_upto s.number m j) s.queue s.heard in
         record {
           dest = p.dest;
           way = p.way;
           proper = p.proper;
           upto = p.upto;
           apart = p.apart;
+          seat = p.seat;
           name = p.name;
           held = p.held;
           booked = inr p.booked;
-          last = ap (last_of t.message.name t.message.kind) shape ∙ (last_of_others t.message.name t.message.kind m j (s.queue ++ s.heard) (λ g. ne (sym g)) ∙ p.last);
-          sofar = ap (sess t.message.name t.message.source p.dest) shape ∙ (sess_others t.message.name t.message.source p.dest m j (s.queue ++ s.heard) ok le nos ∙ p.sofar);
+          last = ap (last_of t.message.name t.message.kind) shape ∙ (last_of_others s.number t.message.name t.message.kind m j (s.queue ++ s.heard) (λ g. ne (sym g)) ∙ p.last);
+          sofar = ap (sess t.message.name t.message.source p.dest) shape ∙ (sess_others s.number t.message.name t.message.source p.dest m j (s.queue ++ s.heard) ok le nos ∙ p.sofar);
         }
-open_begun begun s m Broadcast t st ok e name held none opens law o =
+open_begun begun s m Broadcast t st ok e seat name held none opens law o =
     let p = law t o in
     let ne = not_open s.session m.kind t none o in
     let nos : is_session (way_of m) ≡ false = ap is_session e in
-    let shape = append_assoc (parts_upto m (last_part_of m)) s.queue s.heard in
+    let shape = append_assoc (parts_upto s.number m (last_part_of m)) s.queue s.heard in
     record {
       dest = p.dest;
       way = p.way;
       proper = p.proper;
       upto = p.upto;
       apart = p.apart;
+      seat = p.seat;
       name = p.name;
       held = p.held;
       booked = inr p.booked;
-      last = ap (last_of t.message.name t.message.kind) shape ∙ (last_of_others t.message.name t.message.kind m (last_part_of m) (s.queue ++ s.heard) (λ g. ne (sym g)) ∙ p.last);
-      sofar = ap (sess t.message.name t.message.source p.dest) shape ∙ (sess_others t.message.name t.message.source p.dest m (last_part_of m) (s.queue ++ s.heard) ok (le_refl (last_part_of m)) nos ∙ p.sofar);
+      last = ap (last_of t.message.name t.message.kind) shape ∙ (last_of_others s.number t.message.name t.message.kind m (last_part_of m) (s.queue ++ s.heard) (λ g. ne (sym g)) ∙ p.last);
+      sofar = ap (sess t.message.name t.message.source p.dest) shape ∙ (sess_others s.number t.message.name t.message.source p.dest m (last_part_of m) (s.queue ++ s.heard) ok (le_refl (last_part_of m)) nos ∙ p.sofar);
     }
-open_begun begun s m (Session d) t st ok e name held none opens law o =
+open_begun begun s m (Session d) t st ok e seat name held none opens law o =
     let i : tag_of m 0 ≡ t = cc in
     let q = opens d refl in
     subst (OpenLaw (m ∷ begun) _) i (record {
@@ -354,21 +360,22 @@ open_begun begun s m (Session d) t st ok e name held none opens law o =
       proper = ok;
       upto = omega arith;
       apart = q.apart;
+      seat = seat;
       name = name;
       held = held;
       booked = inl refl;
       last = rw (is_of_self m 0) refl;
-      sofar = sess_self m d 0 (s.queue ++ s.heard) ok (omega arith) e;
+      sofar = sess_self s.number m d 0 (s.queue ++ s.heard) ok (omega arith) e;
     })
 
 -- a message begins
-pub begins : (st : ℕ) (wire : List Item) (begun : List Message) (s : Seat) (m : Message) → IsProper m → SeatLaw st wire begun s → Numbered begun → Every (IsBooked begun) wire → m.number ≡ length begun → m.name ≡ s.name → s.held ≡ Some m.source → IsNotOpen s.session m.kind → ((d : ℕ) → (way_of m) ≡ Session d → OpensAt st s m d) → SeatLaw st wire (m ∷ begun) (with_message s m)
-begins st wire begun s m ok law num booked number name held none opens =
+pub begins : (st : ℕ) (wire : List Item) (begun : List Message) (s : Seat) (m : Message) → IsProper m → SeatLaw st wire begun s → Numbered begun → Every (IsBooked begun) wire → m.number ≡ length begun → m.seat ≡ s.number → m.name ≡ s.name → s.held ≡ Some m.source → IsNotOpen s.session m.kind → ((d : ℕ) → (way_of m) ≡ Session d → OpensAt st s m d) → SeatLaw st wire (m ∷ begun) (with_message s m)
+begins st wire begun s m ok law num booked number seat name held none opens =
     let p = first_parts (way_of m) m in
     let onwire : Every (IsBooked begun) s.heard = every_rest (IsBooked begun) law.ahead s.heard (subst (Every (IsBooked begun)) law.reach booked) in
     let old : EachTag (λ t. t.message.number < m.number) (s.queue ++ s.heard) =
     subst (λ (v : ℕ). EachTag (λ t. t.message.number < v) (s.queue ++ s.heard)) (sym number) (older_number begun (s.queue ++ s.heard) num (every_append (IsBooked begun) s.queue s.heard law.booked onwire)) in
-    let shape : (parts_upto m p ++ s.queue) ++ s.heard ≡ parts_upto m p ++ (s.queue ++ s.heard) = append_assoc (parts_upto m p) s.queue s.heard in
+    let shape : (parts_upto s.number m p ++ s.queue) ++ s.heard ≡ parts_upto s.number m p ++ (s.queue ++ s.heard) = append_assoc (parts_upto s.number m p) s.queue s.heard in
     let o = session_opened (way_of m) m s.session in
     record {
       unit = law.unit;
@@ -377,12 +384,12 @@ begins st wire begun s m ok law num booked number name held none opens =
       ahead = law.ahead;
       reach = law.reach;
       foreign = law.foreign;
-      track = subst (Lawful st) (sym shape) (parts_lawful st m p (s.queue ++ s.heard) ok (λ g. law.unit (sym name ∙ g)) (first_le (way_of m) m) law.track (law.own m.source held ∙ ap Some (sym name)) (first_continues st s m (way_of m) opens) old);
-      own = λ a h. ap (claimed_by a) shape ∙ (claimed_parts a m p (s.queue ++ s.heard) ok (first_le (way_of m) m) ∙ law.own a h);
-      mine = every_append (IsMine s.name s.held o) (parts_upto m p) s.queue (parts_mine s.name s.held o m p ok (first_le (way_of m) m) name held (new_session (way_of m) m s.session))
+      track = subst (Lawful st) (sym shape) (parts_lawful s.number st m p (s.queue ++ s.heard) ok (sym seat) (λ g. law.unit (sym name ∙ g)) (first_le (way_of m) m) law.track (law.own m.source held ∙ ap Some (sym name)) (first_continues st s m (way_of m) opens) old);
+      own = λ a h. ap (claimed_by a) shape ∙ (claimed_parts s.number a m p (s.queue ++ s.heard) ok (first_le (way_of m) m) ∙ law.own a h);
+      mine = every_append (IsMine s.name s.held o) (parts_upto s.number m p) s.queue (parts_mine s.number s.name s.held o m p ok (first_le (way_of m) m) name held (new_session (way_of m) m s.session))
           (every_weaker (IsMine s.name s.held s.session) (IsMine s.name s.held o) s.queue (λ x i. mine_opened s.name s.held s.session m (way_of m) x (λ w. closed (way_of m) w opens) i) law.mine);
-      booked = every_append (IsBooked (m ∷ begun)) (parts_upto m p) s.queue (parts_booked m begun p) (booked_more m begun s.queue law.booked);
-      session = λ t e. open_begun begun s m (way_of m) t st ok refl name held none opens law.session e;
+      booked = every_append (IsBooked (m ∷ begun)) (parts_upto s.number m p) s.queue (parts_booked s.number m begun p) (booked_more m begun s.queue law.booked);
+      session = λ t e. open_begun begun s m (way_of m) t st ok refl seat name held none opens law.session e;
     }
   where
     closed : (w : Way) → is_session w ≡ true → ((d : ℕ) → w ≡ Session d → OpensAt st s m d) → s.session ≡ None
@@ -403,10 +410,10 @@ grants_one st wire begun s t law o le =
       ahead = law.ahead;
       reach = law.reach;
       foreign = law.foreign;
-      track = next_lawful st m p.dest t.part (s.queue ++ s.heard) p.proper (λ g. law.unit (sym p.name ∙ g)) p.way le law.track own p.last p.sofar;
+      track = next_lawful s.number st m p.dest t.part (s.queue ++ s.heard) p.proper (sym p.seat) (λ g. law.unit (sym p.name ∙ g)) p.way le law.track own p.last p.sofar;
       own = λ a h. rw (says_part m (suc t.part) p.proper le) (part_no_claim a (way_of m) m (suc t.part) (claimed_by a (s.queue ++ s.heard)) ∙ law.own a h);
       mine = (
-        part_mine s.name s.held (Some (tag_of m (suc t.part))) m (suc t.part) p.proper le p.name p.held (goes (way_of m) m refl),
+        part_mine s.number s.name s.held (Some (tag_of m (suc t.part))) m (suc t.part) p.proper le p.name p.held (goes (way_of m) m refl),
         every_weaker (IsMine s.name s.held s.session) (IsMine s.name s.held (Some (tag_of m (suc t.part)))) s.queue (λ x i. on x i) law.mine,
       );
       booked = (λ u g. let q : m ≡ u.message = cc in subst (λ (v : Message). IsAmong v begun) q p.booked, law.booked);
@@ -418,11 +425,12 @@ grants_one st wire begun s t law o le =
             proper = p.proper;
             upto = le;
             apart = p.apart;
+            seat = p.seat;
             name = p.name;
             held = p.held;
             booked = p.booked;
             last = rw (is_of_self m (suc t.part)) refl;
-            sofar = sess_self m p.dest (suc t.part) (s.queue ++ s.heard) p.proper le p.way;
+            sofar = sess_self s.number m p.dest (suc t.part) (s.queue ++ s.heard) p.proper le p.way;
           });
     }
   where
@@ -473,6 +481,7 @@ carries st wire begun s e rest law q h =
             proper = p.proper;
             upto = p.upto;
             apart = p.apart;
+            seat = p.seat;
             name = p.name;
             held = p.held;
             booked = p.booked;
@@ -501,8 +510,8 @@ others_carry st wire begun s e law ne = record {
 }
 
 -- a unit joins
-pub joins : (st : ℕ) (wire : List Item) (begun : List Message) (n a : ℕ) → n ≢ st → n < 2 ^ 64 → a ≤ 253 → Lawful st wire → SeatLaw st wire begun (record { name = n; live = true; held = Some a; queue = claim_alone n (Some a); heard = wire; session = None })
-joins st wire begun n a unit small hold lawful =
+pub joins : (st : ℕ) (wire : List Item) (begun : List Message) (x n a : ℕ) → n ≢ st → n < 2 ^ 64 → a ≤ 253 → Lawful st wire → SeatLaw st wire begun (record { number = x; name = n; live = true; held = Some a; queue = claim_alone x n (Some a); heard = wire; session = None })
+joins st wire begun x n a unit small hold lawful =
     let c = says_claim n (Some a) small hold in
     record {
       unit = unit;
@@ -511,7 +520,7 @@ joins st wire begun n a unit small hold lawful =
       ahead = [];
       reach = refl;
       foreign = tt;
-      track = (sent_allowed st n (claim_frame_value n (Some a)) (AddressClaimed a n) wire c tt refl tt, lawful);
+      track = (sent_allowed st x n (claim_frame_value n (Some a)) (AddressClaimed a n) wire c tt refl tt, lawful);
       own = λ b h. rw c (claim_owns n (Some a) b (claimed_by b wire) h);
       mine = (record { name = refl; tags = λ t g. cc; voice = subst (IsFrom (Some a)) (sym c) refl }, tt);
       booked = (λ t g. cc, tt);

@@ -67,7 +67,7 @@ lawful_traffic st begun wire law booked = record {
   parts = λ after before e t i g.
       let p = at after before e i in
       let q = p.tagged t g in
-      record { among = (every_rest (IsBooked begun) after (e ∷ before) (subst (Every (IsBooked begun)) i booked)).0 t g; upto = q.upto; frame = q.frame; seat = q.name };
+      record { among = (every_rest (IsBooked begun) after (e ∷ before) (subst (Every (IsBooked begun)) i booked)).0 t g; upto = q.upto; frame = q.frame; seat = q.seat; name = q.name };
   ordered = λ after between before e d t s i g h.
       let all = lawful_rest st after (e ∷ (between ++ d ∷ before)) (subst (Lawful st) i law) in
       (every_rest (HasTag (IsBefore t)) between (d ∷ before) (all_before st t (between ++ d ∷ before) all.1 (all.0.tagged t g).order)).0 s h;

@@ -10,7 +10,7 @@ use Rattle.parameter_group.specs.Group.{AddressClaimed, ConnectionManagement, Gr
 use Rattle.transport.specs.declared.control.Control.TheVariants.{Abort, Rts}
 use Rattle.bus_model.specs.Expected.{Missed, Own, Received, Reception, expected, is_claim, is_clear, passed, readings}
 use Rattle.bus_model.specs.Heard.{Settings, address_heard, entries_heard, is_contest}
-use Rattle.bus_model.specs.Machine.{AllMaySend, Answer, Ask, Begin, Begins, CanAsk, CanHold, Carry, Carry_station, Ends, Event, Grants, Hear, IsFit, IsFree, IsLive, IsNotOpen, Join, Leave, MayAnswer, MayOpen, MaySend, Miss, Quiet, Read, Replies, Run, Seat, Step, Turned, World, Yields, all_plain, answered, asking, claim_alone, granted, granted_one, joined_seat, message_at, missed, received, start, with_begun, with_heard, with_seat}
+use Rattle.bus_model.specs.Machine.{AllMaySend, Answer, Ask, Begin, Begins, CanAsk, CanHold, Carry, Carry_station, Ends, Event, Grants, Hear, IsFit, IsFree, IsLive, IsNotOpen, Join, Leave, MayAnswer, MayOpen, MaySend, Miss, Quiet, Read, Replies, Run, Seat, Step, Turned, World, Yields, all_plain, answered, asking, claim_alone, granted, granted_one, joined_seat, message_at, missed, received, start, station_seat, with_begun, with_heard, with_seat}
 use Rattle.bus_model.specs.Messages.{Broadcast, IsProper, Message, One, Session, Way, last_part_of, way_of}
 use Rattle.bus_model.specs.Traffic.{Item, Tag, claimed_by, owner_after, says}
 use Rattle.bus_model.proofs.Bridge.{address_first, address_gap, address_hold, address_read, claim_group, says_claim, session_destination, session_to}
@@ -124,14 +124,14 @@ claimed_missed st d [] xs law ne h = h
 claimed_missed st d (e ∷ es) xs law ne h = claimed_missed st d es xs law.1 ne.1 (unit_claim st d e (claimed_by d (es ++ xs)) law.0.honest ne.0 h).0
 
 -- the station's queue is its claim alone
-pub claims_alone : (r : Settings) (wire ahead : List Item) (path : List Reception) (o : Option ℕ) → IsFit r → address_heard r (readings path) ≡ o → wire ≡ ahead ++ passed path → Every (IsNotNamed r.name) ahead → Lawful r.name (passed path) → OnlyHeld r path → StationLaw r wire (claim_alone r.name o) path
+pub claims_alone : (r : Settings) (wire ahead : List Item) (path : List Reception) (o : Option ℕ) → IsFit r → address_heard r (readings path) ≡ o → wire ≡ ahead ++ passed path → Every (IsNotNamed r.name) ahead → Lawful r.name (passed path) → OnlyHeld r path → StationLaw r wire (claim_alone station_seat r.name o) path
 claims_alone r wire ahead path o fit at reach foreign lawful only =
     let c = says_claim r.name o fit.name (subst CanHold at (address_hold r (readings path) fit)) in
     record {
       ahead = ahead;
       reach = reach;
       foreign = foreign;
-      track = (sent_allowed r.name r.name (claim_frame_value r.name o) (claim_group r.name o) (passed path) c (claim_plain r.name o) (claim_honest r.name o) (claim_voiced r.name o (passed path)), lawful);
+      track = (sent_allowed r.name station_seat r.name (claim_frame_value r.name o) (claim_group r.name o) (passed path) c (claim_plain r.name o) (claim_honest r.name o) (claim_voiced r.name o (passed path)), lawful);
       own = λ a h. rw c (claim_owns r.name o a (claimed_by a (passed path)) (sym at ∙ h));
       mine = (record { name = refl; tags = λ t g. cc; voice = subst (λ (v : Option ℕ). IsFrom v (group_of (claim_frame_value r.name o))) (sym at) (subst (IsFrom o) (sym c) (claim_from r.name o)) }, tt);
       stations = (record { name = refl; tag = refl; honest = subst (IsHonest r.name) (sym c) (claim_honest r.name o) }, tt);
@@ -157,7 +157,7 @@ station_reads w e ahead fit lawful law i = go (is_contest r.name held (says e)) 
     only : OnlyHeld r (Received e ∷ w.path)
     only = only_read r e w.path rest.0 next.1 law.only
 
-    go : (b : Bool) → is_contest r.name held (says e) ≡ b → StationLaw r w.wire (if b then claim_alone r.name (address_heard r (readings (Received e ∷ w.path))) else w.asked) (Received e ∷ w.path)
+    go : (b : Bool) → is_contest r.name held (says e) ≡ b → StationLaw r w.wire (if b then claim_alone station_seat r.name (address_heard r (readings (Received e ∷ w.path))) else w.asked) (Received e ∷ w.path)
     go true c = claims_alone r w.wire ahead (Received e ∷ w.path) (address_heard r (readings (Received e ∷ w.path))) fit refl i next.0 rest only
     go false c =
         let same : address_heard r (readings (Received e ∷ w.path)) ≡ held = address_read r e.frame (readings w.path) c in
@@ -244,12 +244,12 @@ may_own n held (AddressClaimed s m) a d h e = rw h.1 (same (s == a))
     same false = e
 may_own n held _ a d h e = e
 
-pub station_asks : (r : Settings) (wire asked : List Item) (path : List Reception) (fs : List FrameValue) → StationLaw r wire asked path → AllMaySend r.name (address_heard r (readings path)) fs → StationLaw r wire (all_plain r.name fs ++ asked) path
+pub station_asks : (r : Settings) (wire asked : List Item) (path : List Reception) (fs : List FrameValue) → StationLaw r wire asked path → AllMaySend r.name (address_heard r (readings path)) fs → StationLaw r wire (all_plain station_seat r.name fs ++ asked) path
 station_asks r wire asked path [] law may = law
 station_asks r wire asked path (f ∷ fs) law may =
     let ih = station_asks r wire asked path fs law may.1 in
     let o = address_heard r (readings path) in
-    let older = (all_plain r.name fs ++ asked) ++ passed path in
+    let older = (all_plain station_seat r.name fs ++ asked) ++ passed path in
     record {
       ahead = ih.ahead;
       reach = ih.reach;
@@ -321,14 +321,14 @@ told_new begun p m n k number num booked =
 pub passed_booked : (w : World) → WorldLaw w → Every (IsBooked w.begun) (passed w.path)
 passed_booked w law = every_rest (IsBooked w.begun) law.station.ahead (passed w.path) (subst (Every (IsBooked w.begun)) law.station.reach law.booked)
 
-pub law_begun : (w : World) (x : ℕ) (s v : Seat) (m : Message) → WorldLaw w → IsLive w x s → v.name ≡ s.name → SeatLaw w.settings.name w.wire w.begun v → m.number ≡ length w.begun → m.name ≡ v.name → v.held ≡ Some m.source → IsProper m → IsNotOpen v.session m.kind → ((d : ℕ) → (way_of m) ≡ Session d → OpensAt w.settings.name v m d) → WorldLaw (with_begun w x v m)
-law_begun w x s v m law at name seat number mname held fit none opens = record {
+pub law_begun : (w : World) (x : ℕ) (s v : Seat) (m : Message) → WorldLaw w → IsLive w x s → v.name ≡ s.name → SeatLaw w.settings.name w.wire w.begun v → m.number ≡ length w.begun → m.seat ≡ v.number → m.name ≡ v.name → v.held ≡ Some m.source → IsProper m → IsNotOpen v.session m.kind → ((d : ℕ) → (way_of m) ≡ Session d → OpensAt w.settings.name v m d) → WorldLaw (with_begun w x v m)
+law_begun w x s v m law at name seat number mseat mname held fit none opens = record {
   settings = law.settings;
   wire = law.wire;
   booked = booked_more m w.begun w.wire law.booked;
   numbered = (number, law.numbered);
   proper = (fit, law.proper);
-  seats = each_set (SeatLaw w.settings.name w.wire (m ∷ w.begun)) w.seats x _ (λ y t ne h. seat_more w.settings.name w.wire m w.begun t (law.seats y t h)) (λ l. begins w.settings.name w.wire w.begun v m fit seat law.numbered law.booked number mname held none opens);
+  seats = each_set (SeatLaw w.settings.name w.wire (m ∷ w.begun)) w.seats x _ (λ y t ne h. seat_more w.settings.name w.wire m w.begun t (law.seats y t h)) (λ l. begins w.settings.name w.wire w.begun v m fit seat law.numbered law.booked number mseat mname held none opens);
   apart = apart_set w.seats x s _ law.apart (λ h. at) name;
   units = each_set (λ t. t.name ≢ w.settings.name) w.seats x _ (λ y t ne h. law.units y t h) (λ l g. law.units x s at (sym name ∙ g));
   station = law.station;
@@ -396,7 +396,7 @@ law_join w n a law free small hold = record {
   booked = law.booked;
   numbered = law.numbered;
   proper = law.proper;
-  seats = each_push (SeatLaw w.settings.name w.wire w.begun) w.seats (joined_seat w n a) law.seats (joins w.settings.name w.wire w.begun n a free.0 small hold law.wire);
+  seats = each_push (SeatLaw w.settings.name w.wire w.begun) w.seats (joined_seat w n a) law.seats (joins w.settings.name w.wire w.begun (suc (length w.seats)) n a free.0 small hold law.wire);
   apart = apart_push w.seats (joined_seat w n a) law.apart free.1;
   units = each_push (λ t. t.name ≢ w.settings.name) w.seats (joined_seat w n a) law.units free.0;
   station = law.station;
@@ -461,7 +461,7 @@ law_hear w x s e ahead (Begins kind memory source destination) law at h may =
     let quiet = heard_quiet w.settings.name w.wire w.begun s ahead e law.wire seat h (record { uncontested = may.0.uncontested; uncut = may.0.uncut }) in
     let rest = lawful_rest w.settings.name ahead (e ∷ s.heard) (subst (Lawful w.settings.name) h law.wire) in
     let m = message_at w (with_heard s e) kind memory source destination in
-    law_begun w x s (with_heard s e) m law at refl quiet refl refl may.1 may.2 may.3 (λ d i. opens_of w.settings.name s e m (way_of m) d may.2 rest.0 seat.mine may.1 may.4 refl i)
+    law_begun w x s (with_heard s e) m law at refl quiet refl refl refl may.1 may.2 may.3 (λ d i. opens_of w.settings.name s e m (way_of m) d may.2 rest.0 seat.mine may.1 may.4 refl i)
 law_hear w x s e ahead (Grants n) law at h may =
     let quiet = heard_quiet w.settings.name w.wire w.begun s ahead e law.wire (law.seats x s at) h (record { uncontested = may.0.uncontested; uncut = may.0.uncut }) in
     law_seat w x s (granted (with_heard s e) n) law at (granted_name n (with_heard s e)) (λ l. grants w.settings.name w.wire w.begun n (with_heard s e) may.1.0 quiet may.1.1 may.1.2)
@@ -501,7 +501,7 @@ pub law_step : (old : World) (event : Event) (new : World) → WorldLaw old → 
 law_step old (Join n a) new law h = subst WorldLaw (sym h.3) (law_join old n a law h.0 h.1 h.2)
 law_step old (Hear x answer) new law (s, e, ahead, at, i, may, is) = subst WorldLaw (sym is) (law_hear old x s e ahead answer law at i may)
 law_step old (Begin x kind memory source) new law (s, at, held, fit, none, is) =
-    subst WorldLaw (sym is) (law_begun old x s s (message_at old s kind memory source 255) law at refl (law.seats x s at) refl refl held fit none (λ d i. no_session old.settings.name s (message_at old s kind memory source 255) d refl i))
+    subst WorldLaw (sym is) (law_begun old x s s (message_at old s kind memory source 255) law at refl (law.seats x s at) refl refl refl held fit none (λ d i. no_session old.settings.name s (message_at old s kind memory source 255) d refl i))
 law_step old (Turned x) new law h = subst WorldLaw (sym h) law
 law_step old (Carry x) new law (s, e, rest, at, q, i, is) = subst WorldLaw (sym is) (law_carry old x s e rest law at q i)
 law_step old Carry_station new law (e, rest, q, i, is) = subst WorldLaw (sym is) (law_carry_station old e rest law q i)

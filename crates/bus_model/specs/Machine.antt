@@ -12,9 +12,14 @@ use Rattle.bus_model.specs.Traffic.{Tag, Item, says}
 use Rattle.bus_model.specs.Heard.{Settings, is_contest, address_heard}
 use Rattle.bus_model.specs.Expected.{Reception, Own, Received, Missed, readings, passed}
 
--- a seat of a unit: its NAME, the address it holds, what it wants carried, what it heard of the wire, and its open
--- session with the last part queued
+-- the number of the station's seat
+abbrev pub station_seat : ℕ
+station_seat = 0
+
+-- a seat of a unit: its number, its NAME, the address it holds, what it wants carried, what it heard of the wire, and its
+-- open session with the last part queued
 pub record Seat : Type 0 where
+  pub number : ℕ
   pub name : ℕ
   pub live : Bool
   pub held : Option ℕ
@@ -52,23 +57,23 @@ pub data Event : Type 0 where
   Miss : ℕ → List FrameValue → Event  -- the station is told of so many missed frames, and queues these
   Leave : (seat : ℕ) → Event
 
--- a frame that is no part of a message
-abbrev pub plain : ℕ → FrameValue → Item
-plain n f = record { name = n; frame = f; tag = None }
+-- a frame of the seat x under NAME n that is no part of a message
+abbrev pub plain : ℕ → ℕ → FrameValue → Item
+plain x n f = record { seat = x; name = n; frame = f; tag = None }
 
 -- each of these frames so
-abbrev pub all_plain : ℕ → List FrameValue → List Item
-all_plain n [] = []
-all_plain n (f ∷ fs) = plain n f ∷ all_plain n fs
+abbrev pub all_plain : ℕ → ℕ → List FrameValue → List Item
+all_plain x n [] = []
+all_plain x n (f ∷ fs) = plain x n f ∷ all_plain x n fs
 
--- the frame of a part, with its tag
-abbrev pub item_of_part : Message → ℕ → Item
-item_of_part m j = record { name = m.name; frame = frame_of_part m j; tag = Some (record { message = m; part = j }) }
+-- the frame of a part, queued by the seat x, with its tag
+abbrev pub item_of_part : ℕ → Message → ℕ → Item
+item_of_part x m j = record { seat = x; name = m.name; frame = frame_of_part m j; tag = Some (record { message = m; part = j }) }
 
 -- the parts up to that one, newest first
-abbrev pub parts_upto : Message → ℕ → List Item
-parts_upto m zero = item_of_part m 0 ∷ []
-parts_upto m (suc j) = item_of_part m (suc j) ∷ parts_upto m j
+abbrev pub parts_upto : ℕ → Message → ℕ → List Item
+parts_upto x m zero = item_of_part x m 0 ∷ []
+parts_upto x m (suc j) = item_of_part x m (suc j) ∷ parts_upto x m j
 
 -- what is queued at the beginning: all parts, but of a session the first alone
 abbrev pub first_parts : Way → Message → ℕ
@@ -139,7 +144,7 @@ MayOpen s g (Session d) a = IsRequestFrom d g × (d ≢ a) × (s.session ≡ Non
 -- the message that the seat begins
 abbrev pub message_at : World → Seat → Kind → MemoryValue → ℕ → ℕ → Message
 message_at w s kind memory source destination =
-    record { number = length w.begun; name = s.name; kind = kind; memory = memory; source = source; destination = destination }
+    record { number = length w.begun; seat = s.number; name = s.name; kind = kind; memory = memory; source = source; destination = destination }
 
 -- an address that can be held
 abbrev pub CanHold : Option ℕ → Type 0
@@ -168,25 +173,25 @@ with_heard s e = record s { heard = e ∷ s.heard }
 -- the seat begins the message: its first parts are queued
 abbrev pub with_message : Seat → Message → Seat
 with_message s m =
-    record s { queue = parts_upto m (first_parts (way_of m) m) ++ s.queue; session = session_opened (way_of m) m s.session }
+    record s { queue = parts_upto s.number m (first_parts (way_of m) m) ++ s.queue; session = session_opened (way_of m) m s.session }
 
 -- the world after that
 abbrev pub with_begun : World → ℕ → Seat → Message → World
 with_begun w x s m = record w { seats = set w.seats x (with_message s m); begun = m ∷ w.begun }
 
 -- a claim, or where there is no address a cannot claim, alone in the queue
-abbrev pub claim_alone : ℕ → Option ℕ → List Item
-claim_alone n held = plain n (claim_frame_value n held) ∷ []
+abbrev pub claim_alone : ℕ → ℕ → Option ℕ → List Item
+claim_alone x n held = plain x n (claim_frame_value n held) ∷ []
 
 -- the seat gives up or takes an address: all is withdrawn but the claim of it
 abbrev pub yielded : Seat → Option ℕ → Seat
-yielded s to = record s { held = to; queue = claim_alone s.name to; session = None }
+yielded s to = record s { held = to; queue = claim_alone s.number s.name to; session = None }
 
 -- one more packet of the open session
 abbrev pub granted_one : Seat → Option Tag → Seat
 granted_one s None = s
 granted_one s (Some t) =
-    record s { queue = item_of_part t.message (suc t.part) ∷ s.queue; session = Some (record { message = t.message; part = suc t.part }) }
+    record s { queue = item_of_part s.number t.message (suc t.part) ∷ s.queue; session = Some (record { message = t.message; part = suc t.part }) }
 
 -- that many more packets
 abbrev pub granted : Seat → ℕ → Seat
@@ -210,7 +215,7 @@ session_ended s = record s { queue = without_session s.queue; session = None }
 -- the world after a unit's answer
 abbrev pub answered : World → ℕ → Seat → Answer → World
 answered w x s Quiet = with_seat w x s
-answered w x s (Replies f) = with_seat w x (record s { queue = plain s.name f ∷ s.queue })
+answered w x s (Replies f) = with_seat w x (record s { queue = plain s.number s.name f ∷ s.queue })
 answered w x s (Begins kind memory source destination) = with_begun w x s (message_at w s kind memory source destination)
 answered w x s (Grants n) = with_seat w x (granted s n)
 answered w x s Ends = with_seat w x (session_ended s)
@@ -224,10 +229,11 @@ IsLive w x s = (slice_get w.seats x ≡ Some s) × (s.live ≡ true)
 abbrev pub IsFree : World → ℕ → Type 0
 IsFree w n = (n ≢ w.settings.name) × ((x : ℕ) (s : Seat) → IsLive w x s → s.name ≢ n)
 
--- a unit that joins counts the whole wire as heard, and claims its address
+-- a unit that joins gets the next number, counts the whole wire as heard, and claims its address; numbers are given in
+-- order of joining, from 1 on, and none is used again, since seats stay in the list
 abbrev pub joined_seat : World → ℕ → ℕ → Seat
 joined_seat w n a =
-    record { name = n; live = true; held = Some a; queue = claim_alone n (Some a); heard = w.wire; session = None }
+    record { number = suc (length w.seats); name = n; live = true; held = Some a; queue = claim_alone (suc (length w.seats)) n (Some a); heard = w.wire; session = None }
 
 -- the station's own address
 abbrev pub station_address : World → Option ℕ
@@ -249,7 +255,7 @@ AllMaySend n held (f ∷ fs) = MaySend n held (group_of f) × AllMaySend n held 
 
 -- the station's queue after a reading: its claim alone where its address was contested
 abbrev pub asked_after : World → Group → Option ℕ → List Item
-asked_after w g held = if is_contest w.settings.name (station_address w) g then claim_alone w.settings.name held else w.asked
+asked_after w g held = if is_contest w.settings.name (station_address w) g then claim_alone station_seat w.settings.name held else w.asked
 
 -- the station received the frame
 abbrev pub received : World → Item → World
@@ -258,11 +264,11 @@ received w e =
 
 -- after a gap the station withdraws its queue and claims again
 abbrev pub missed : World → List Item → World
-missed w es = record w { path = Missed es ∷ w.path; asked = claim_alone w.settings.name (station_address w) }
+missed w es = record w { path = Missed es ∷ w.path; asked = claim_alone station_seat w.settings.name (station_address w) }
 
 -- the station queues these frames
 abbrev pub asking : World → List FrameValue → World
-asking w frames = record w { asked = all_plain w.settings.name frames ++ w.asked }
+asking w frames = record w { asked = all_plain station_seat w.settings.name frames ++ w.asked }
 
 -- the station may send these frames now
 abbrev pub CanAsk : World → List FrameValue → Type 0
@@ -301,7 +307,7 @@ Run old (e ∷ es) new = (mid : World) × Step old e mid × Run mid es new
 -- nothing has happened yet; the station's claim is queued
 abbrev pub start : Settings → World
 start r =
-    record { settings = r; wire = []; seats = []; asked = claim_alone r.name (Some r.address); begun = []; path = [] }
+    record { settings = r; wire = []; seats = []; asked = claim_alone station_seat r.name (Some r.address); begun = []; path = [] }
 
 -- settings with a NAME of 64 bits and an address that can be held
 pub record IsFit (r : Settings) : Type 0 where

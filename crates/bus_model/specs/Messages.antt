@@ -6,10 +6,11 @@ use Rattle.dm_messages.specs.declared.kind.Kind.{Kind}
 use Rattle.fault_memory.specs.Memory.{MemoryValue, IsLawfulMemory}
 use Rattle.transport.specs.Messages.{last_part, part_of_message}
 
--- a message begun: how many were begun before it, the NAME of its unit, its kind, the unit's memory at that moment,
--- the address that it comes from, and the one that it goes to, 255 for all
+-- a message begun: how many were begun before it, the number of the seat that began it and the NAME of its unit, its
+-- kind, the unit's memory at that moment, the address that it comes from, and the one that it goes to, 255 for all
 pub record Message : Type 0 where
   pub number : ℕ
+  pub seat : ℕ
   pub name : ℕ
   pub kind : Kind
   pub memory : MemoryValue

@@ -9,8 +9,9 @@ pub record Tag : Type 0 where
   pub message : Message
   pub part : ℕ
 
--- a frame, queued or carried, with the NAME of the seat that queued it
+-- a frame, queued or carried, with the number and the NAME of the seat that queued it
 pub record Item : Type 0 where
+  pub seat : ℕ
   pub name : ℕ
   pub frame : FrameValue
   pub tag : Option Tag

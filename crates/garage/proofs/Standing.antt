@@ -344,9 +344,9 @@ hear_did k memory f s node h node' e n heard_is node_is =
     ∙ (ap (λ (m : NodeValue). after_hearing k memory (heard_of h.agreed (node_reaction m memory h.agreed f)) (node_after m memory h.agreed f) s) n
     ∙ (ap (λ (g : Heard). after_hearing k memory g (node_after node memory h.agreed f) s) (sym heard_is) ∙ ap (λ (m : NodeValue). after_hearing k memory h m s) (sym node_is)))
 
-pub begun_length : (ms : List Message) (name : ℕ) (memory : MemoryValue) (b : Option Begun) → length (begun_after ms name memory b) ≡ with_begun (length ms) b
-begun_length ms name memory None = refl
-begun_length ms name memory (Some b) = omega arith
+pub begun_length : (ms : List Message) (seat name : ℕ) (memory : MemoryValue) (b : Option Begun) → length (begun_after ms seat name memory b) ≡ with_begun (length ms) b
+begun_length ms seat name memory None = refl
+begun_length ms seat name memory (Some b) = omega arith
 
 pub begun_few : (n : ℕ) (b : Option Begun) → with_begun n b ≤ n + 1
 begun_few n None = omega arith

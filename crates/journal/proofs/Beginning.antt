@@ -1,5 +1,5 @@
 -- A unit that begins a message of its own accord takes the step of the law's machine.
-use Rattle.std.proofs.Common.{ℕ, suc, zero, ◌≡◌, ◌≢◌, ◌-◌, ◌<◌, List, ◌∷◌, map, length, get_or, set, Bool, true, false, Option, Some, if◌then◌else◌, refl, sym, ap, ◌∙◌, subst, arith, inl}
+use Rattle.std.proofs.Common.{ℕ, suc, zero, ◌≡◌, ◌≢◌, ◌-◌, ◌<◌, List, ◌∷◌, map, length, get_or, set, Bool, true, false, Option, Some, if◌then◌else◌, refl, sym, ap, ap₂, ◌∙◌, subst, arith, inl}
 use Rattle.std.proofs.lemmas.List.{set-get_or}
 use Rattle.std.proofs.lemmas.Option.{slice_get-get_or}
 use Rattle.fault_memory.specs.Memory.{MemoryValue, IsLawfulMemory}
@@ -30,18 +30,18 @@ use Rattle.journal.proofs.Answers.{held_small, not_open}
 use Rattle.journal.proofs.Places.{in_place, put_in_place, puts, puts_queue, puts_same}
 
 -- the message begun, under that NAME
-abbrev pub message_of : State → ℕ → MemoryValue → ℕ → Message
-message_of s name memory source = record { number = length s.begun; name = name; kind = Dm1; memory = memory; source = source; destination = 255 }
+abbrev pub message_of : State → ℕ → ℕ → MemoryValue → ℕ → Message
+message_of s seat name memory source = record { number = length s.begun; seat = seat; name = name; kind = Dm1; memory = memory; source = source; destination = 255 }
 
 -- the frames queued
 abbrev pub frames_of : State → ℕ → MemoryValue → ℕ → List QueuedFrame
 frames_of s i memory source =
-    parts_put (message_of s (seat_at s.traffic (suc i)).name memory source) (length s.begun) (get_or s.units i (new_unit 0 0)).session_message false
+    parts_put (message_of s (suc i) (seat_at s.traffic (suc i)).name memory source) (length s.begun) (get_or s.units i (new_unit 0 0)).session_message false
 
 -- the state after that
 abbrev pub state_begun : State → ℕ → MemoryValue → ℕ → State
 state_begun s i memory source =
-    changed s i (puts (frames_of s i memory source) (seat_at s.traffic (suc i))) (get_or s.units i (new_unit 0 0)) (message_of s (seat_at s.traffic (suc i)).name memory source ∷ s.begun)
+    changed s i (puts (frames_of s i memory source) (seat_at s.traffic (suc i))) (get_or s.units i (new_unit 0 0)) (message_of s (suc i) (seat_at s.traffic (suc i)).name memory source ∷ s.begun)
 
 -- it is not held back where no session of its kind is open
 closed_is : (o : Option OpenSession) (memory : MemoryValue) (source : ℕ) → begins o Dm1 memory source ≢ started.Held → is_open o Dm1 ≡ false
@@ -57,11 +57,11 @@ begins_is o memory source h = ap (λ (b : Bool). if b then started.Held else sta
 
 -- the seat and what the unit keeps, in their places
 placed : (s : State) (i : ℕ) (memory : MemoryValue) (source : ℕ) → suc i < length s.traffic.seats
-    → record s { traffic = put_all (suc i) (frames_of s i memory source) s.traffic; begun = message_of s (seat_at s.traffic (suc i)).name memory source ∷ s.begun } ≡ state_begun s i memory source
+    → record s { traffic = put_all (suc i) (frames_of s i memory source) s.traffic; begun = message_of s (suc i) (seat_at s.traffic (suc i)).name memory source ∷ s.begun } ≡ state_begun s i memory source
 placed s i memory source l =
     let v : SeatValue = seat_at s.traffic (suc i) in
     let qs : List QueuedFrame = frames_of s i memory source in
-    ap (λ (t : Traffic). record s { traffic = t; begun = message_of s v.name memory source ∷ s.begun }) (ap (put_all (suc i) qs) (in_place (suc i) s.traffic) ∙ put_in_place (suc i) qs s.traffic v l)
+    ap (λ (t : Traffic). record s { traffic = t; begun = message_of s (suc i) v.name memory source ∷ s.begun }) (ap (put_all (suc i) qs) (in_place (suc i) s.traffic) ∙ put_in_place (suc i) qs s.traffic v l)
     ∙ ap (λ (us : List UnitState). record (state_begun s i memory source) { units = us }) (sym (set-get_or s.units i (new_unit 0 0)))
 
 -- the state after it, with the number of the unit's last session
@@ -69,7 +69,7 @@ abbrev pub begun_by : State → ℕ → ℕ → MemoryValue → Started → Stat
 begun_by s i session_number memory started.Held = s
 begun_by s i session_number memory (started.Begun b put) = record s {
   traffic = put_all (suc i) (map (tagged (length s.begun) false session_number) put) s.traffic;
-  begun = message_begun (length s.begun) (seat_at s.traffic (suc i)).name memory b ∷ s.begun;
+  begun = message_begun (length s.begun) (suc i) (seat_at s.traffic (suc i)).name memory b ∷ s.begun;
 }
 
 starting_is : (s : State) (i : ℕ) (memory : MemoryValue) (z : Started) → after_starting (suc i) memory z s ≡ begun_by s i (get_or s.units i (new_unit 0 0)).session_message memory z
@@ -99,11 +99,12 @@ begin_at r s seats i memory source st l live lawful held closed =
     let u : UnitState = get_or s.units i (new_unit 0 0) in
     let x : Seat = get_or seats i no_seat in
     let w : World = world_of r s seats in
-    let m : Message = message_of s v.name memory source in
+    let m : Message = message_of s (suc i) v.name memory source in
     let qs = frames_of s i memory source in
     let seat : IsSeat s.begun (items_of s) v u x = st.seated i (omega arith) in
     let begun : IsSeat (m ∷ s.begun) (items_of s) (puts qs v) u (with_message x m) = seat_begins_to_all s.begun (items_of s) v (puts qs v) u x m u.session_message seat (puts_same qs v) refl refl refl (puts_queue qs v) in
-    let name : (puts qs v).name ≡ v.name = (puts_same qs v).name in (
+    let name : (puts qs v).name ≡ v.name = (puts_same qs v).name in
+    let number : x.number ≡ suc i = st.numbers i (omega arith) in (
       set seats i (with_message x m),
       (
         x,
@@ -112,9 +113,9 @@ begin_at r s seats i memory source st l live lawful held closed =
         record { memory = lawful; source = held_small u.node.claimer.held source seat.holdable held; destination = inl refl },
         not_open s.begun u.session_message v.name u.node.claimer.held u.node.session x.session Dm1 seat.session closed,
         began_world r s seats i (puts qs v) u (with_message x m) m st (omega arith) name refl
-            ∙ ap (λ (n : ℕ). record w { seats = set seats i (with_message x (message_of s n memory source)); begun = message_of s n memory source ∷ s.begun }) (sym seat.name),
+            ∙ ap₂ (λ (k n : ℕ). record w { seats = set seats i (with_message x (message_of s k n memory source)); begun = message_of s k n memory source ∷ s.begun }) (sym number) (sym seat.name),
       ),
-      began_stands r s seats i (puts qs v) u (with_message x m) m st (omega arith) name refl begun,
+      began_stands r s seats i (puts qs v) u (with_message x m) m st (omega arith) name refl begun number,
     )
 
 -- a unit that begins takes a step of the machine

@@ -13,7 +13,7 @@ use Rattle.journal.specs.State.{Settings, State, UnitState, new_unit}
 use Rattle.journal.specs.Steps.{after_carry_of, item_of}
 use Rattle.journal.specs.Worlds.{items_of, queued_item, world_of}
 use Rattle.journal.proofs.Seated.{AreKnown, IsKnown, IsSeat, Stands, no_seat}
-use Rattle.journal.proofs.Growth.{carried_push, items_same, seat_carried, seated_set}
+use Rattle.journal.proofs.Growth.{carried_push, items_same, numbers_set, seat_carried, seated_set}
 use Rattle.journal.proofs.Changed.{names_changed}
 use Rattle.journal.proofs.Coming.{live_seat, place_within}
 
@@ -54,7 +54,7 @@ unfolding after_carry_of sent
 sent_is j q s = rw (ne_eqb (suc j) 0 (λ e. omega arith)) refl
 
 carried_item : State → ℕ → QueuedFrame → Item
-carried_item s j q = queued_item s.begun (seat_at s.traffic (suc j)).name q
+carried_item s j q = queued_item s.begun (suc j) (seat_at s.traffic (suc j)).name q
 
 items_sent : (r : Settings) (s : State) (seats : List Seat) (j : ℕ) (q : QueuedFrame) → Stands r s seats → suc j < length s.traffic.seats → items_of (sent j q s) ≡ items_of s ++ carried_item s j q ∷ []
 unfolding sent carried_item
@@ -99,7 +99,7 @@ carry_runs r s seats j q st next = rw ((offer_says (length s.traffic.wire) (seat
     e = carried_item s j q
 
     rest : List Item
-    rest = reverse (map (queued_item s.begun v.name) (drop 1 v.queue))
+    rest = reverse (map (queued_item s.begun (suc j) v.name) (drop 1 v.queue))
 
     split : v.queue ≡ q ∷ drop 1 v.queue
     split = first_of v.queue q offers.2
@@ -107,8 +107,9 @@ carry_runs r s seats j q st next = rw ((offer_says (length s.traffic.wire) (seat
     queue : x.queue ≡ rest ++ e ∷ []
     queue =
         (st.seated j l).queue
-        ∙ (ap (λ (qs : List QueuedFrame). reverse (map (queued_item s.begun v.name) qs)) split
-        ∙ reverse-append (queued_item s.begun v.name q ∷ []) (map (queued_item s.begun v.name) (drop 1 v.queue)))
+        ∙ (ap (λ (k : ℕ). reverse (map (queued_item s.begun k v.name) v.queue)) (st.numbers j l)
+        ∙ (ap (λ (qs : List QueuedFrame). reverse (map (queued_item s.begun (suc j) v.name) qs)) split
+        ∙ reverse-append (queued_item s.begun (suc j) v.name q ∷ []) (map (queued_item s.begun (suc j) v.name) (drop 1 v.queue))))
 
     whole : take v.heard (items_of s) ≡ items_of s
     whole = (let h = offers.1 in let n = length-map s.traffic.wire (item_of s) in take_all v.heard (items_of s) (omega arith))
@@ -144,11 +145,12 @@ carry_runs r s seats j q st next = rw ((offer_says (length s.traffic.wire) (seat
           live = old.live;
           held = old.held;
           holdable = old.holdable;
-          queue = refl;
+          queue = ap (λ (k : ℕ). reverse (map (queued_item s.begun k v.name) (drop 1 v.queue))) (sym (st.numbers j l));
           known = known.1;
           heard = sym (ap reverse (take_all (v.heard + 1) (items_of s ++ e ∷ []) (omega arith)) ∙ reverse-append (items_of s) (e ∷ []));
           within = omega arith;
           session = old.session;
+          owner = old.owner;
         }
 
     zero' : seat_at now.traffic 0 ≡ seat_at s.traffic 0
@@ -185,6 +187,7 @@ carry_runs r s seats j q st next = rw ((offer_says (length s.traffic.wire) (seat
           carried = rw (length-set s.traffic.seats (suc j) (sending v)) (carried_push s.begun (length s.traffic.seats) s.traffic.wire (carried_frame (suc j) q) st.carried (record { seat = given; known = known.0 }));
           count = (let n = st.count in let m = length-set s.traffic.seats (suc j) (sending v) in omega arith);
           places = (let n = st.places in omega arith);
+          numbers = numbers_set seats j (length s.units) y st.places (st.numbers j l) st.numbers;
           seated = λ i lt. rw items (seated i lt);
         }
 

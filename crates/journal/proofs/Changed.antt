@@ -8,7 +8,7 @@ use Rattle.bus_model.specs.Machine.{Seat, World}
 use Rattle.journal.specs.State.{Settings, State, UnitState, new_unit}
 use Rattle.journal.specs.Worlds.{items_of, world_of}
 use Rattle.journal.proofs.Seated.{IsSeat, Stands, no_seat}
-use Rattle.journal.proofs.Growth.{all_known_still, carried_still, items_same, items_still, queue_still, same_or_not, seat_still, seated_set}
+use Rattle.journal.proofs.Growth.{all_known_still, carried_still, items_same, items_still, numbers_set, queue_still, same_or_not, seat_still, seated_set}
 
 -- unit j with this seat, and this that it keeps, and these messages begun
 abbrev pub changed : State → ℕ → SeatValue → UnitState → List Message → State
@@ -35,8 +35,8 @@ changed_items r s seats j v u st l e =
     items_same s (changed s j v u s.begun) s.traffic.wire (λ k lt. names_changed s j v e (omega arith) k) refl st.carried
 
 pub changed_stands : (r : Settings) (s : State) (seats : List Seat) (j : ℕ) (v : SeatValue) (u : UnitState) (x : Seat) → Stands r s seats → j < length s.units → v.name ≡ (seat_at s.traffic (suc j)).name
-    → IsSeat s.begun (items_of s) v u x → Stands r (changed s j v u s.begun) (set seats j x)
-changed_stands r s seats j v u x st l e seat =
+    → IsSeat s.begun (items_of s) v u x → x.number ≡ suc j → Stands r (changed s j v u s.begun) (set seats j x)
+changed_stands r s seats j v u x st l e seat number =
     let items = changed_items r s seats j v u st l e in
     let zero' = station_changed s j v in
     let long = length-set s.traffic.seats (suc j) v in
@@ -51,6 +51,7 @@ changed_stands r s seats j v u x st l e seat =
       carried = rw long st.carried;
       count = (let n = st.count in omega arith);
       places = (let n = st.places in omega arith);
+      numbers = λ i lt. numbers_set seats j (length s.units) x st.places number st.numbers i (omega arith);
       seated = λ i lt. rw items (seated_set (IsSeat s.begun (items_of s)) s.traffic.seats s.units seats j v u x st.count st.places seat st.seated i (omega arith));
     }
 
@@ -67,8 +68,8 @@ began_items r s seats j v u m st l e newest =
     items_still s (changed s j v u (m ∷ s.begun)) m s.traffic.wire (λ k lt. names_changed s j v e (omega arith) k) refl newest st.carried
 
 pub began_stands : (r : Settings) (s : State) (seats : List Seat) (j : ℕ) (v : SeatValue) (u : UnitState) (x : Seat) (m : Message) → Stands r s seats → j < length s.units → v.name ≡ (seat_at s.traffic (suc j)).name
-    → m.number ≡ length s.begun → IsSeat (m ∷ s.begun) (items_of s) v u x → Stands r (changed s j v u (m ∷ s.begun)) (set seats j x)
-began_stands r s seats j v u x m st l e newest seat =
+    → m.number ≡ length s.begun → IsSeat (m ∷ s.begun) (items_of s) v u x → x.number ≡ suc j → Stands r (changed s j v u (m ∷ s.begun)) (set seats j x)
+began_stands r s seats j v u x m st l e newest seat number =
     let items = began_items r s seats j v u m st l e newest in
     let zero' = station_changed s j v in
     let long = length-set s.traffic.seats (suc j) v in
@@ -83,6 +84,7 @@ began_stands r s seats j v u x m st l e newest seat =
       carried = rw long (carried_still m s.begun (length s.traffic.seats) s.traffic.wire newest st.carried);
       count = (let n = st.count in omega arith);
       places = (let n = st.places in omega arith);
+      numbers = λ i lt. numbers_set seats j (length s.units) x st.places number st.numbers i (omega arith);
       seated = λ i lt. rw items (seated_set (IsSeat (m ∷ s.begun) (items_of s)) s.traffic.seats s.units seats j v u x st.count st.places seat
           (λ i lt. seat_still m s.begun (items_of s) (seat_at s.traffic (suc i)) (get_or s.units i (new_unit 0 0)) (get_or seats i no_seat) newest (st.seated i lt)) i (omega arith));
     }
@@ -90,4 +92,4 @@ began_stands r s seats j v u x m st l e newest seat =
 pub began_world : (r : Settings) (s : State) (seats : List Seat) (j : ℕ) (v : SeatValue) (u : UnitState) (x : Seat) (m : Message) → Stands r s seats → j < length s.units → v.name ≡ (seat_at s.traffic (suc j)).name
     → m.number ≡ length s.begun → ◌≡◌ {A = World} (world_of r (changed s j v u (m ∷ s.begun)) (set seats j x)) (record (world_of r s seats) { seats = set seats j x; begun = m ∷ s.begun })
 began_world r s seats j v u x m st l e newest =
-    rw (began_items r s seats j v u m st l e newest, station_changed s j v, queue_still m s.begun (seat_at s.traffic 0).name (seat_at s.traffic 0).queue newest st.known) refl
+    rw (began_items r s seats j v u m st l e newest, station_changed s j v, queue_still m s.begun 0 (seat_at s.traffic 0).name (seat_at s.traffic 0).queue newest st.known) refl

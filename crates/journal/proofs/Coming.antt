@@ -50,11 +50,12 @@ leave_runs r s seats j st u =
       heard = old.heard;
       within = old.within;
       session = old.session;
+      owner = old.owner;
     } in
     let same : changed s j (leaving v) unit s.begun ≡ after_leave (suc j) s = rw (set-get_or s.units j (new_unit 0 0)) refl in (
       set seats j gone,
       (x, live_seat r s seats j st u, ap (λ (t : State). world_of r t (set seats j gone)) (sym same) ∙ changed_world r s seats j (leaving v) unit gone st l refl),
-      subst (λ (t : State). Stands r t (set seats j gone)) same (changed_stands r s seats j (leaving v) unit gone st l refl seat),
+      subst (λ (t : State). Stands r t (set seats j gone)) same (changed_stands r s seats j (leaving v) unit gone st l refl seat (st.numbers j l)),
     )
 
 -- ---- joining
@@ -113,6 +114,7 @@ new_seat r s seats n a small fits =
       heard = ap reverse (sym (take_all (length s.traffic.wire) (items_of s) (omega arith)));
       within = omega arith;
       session = tt;
+      owner = λ t e. cc;
     }
 
 pub join_runs : (r : Settings) (s : State) (seats : List Seat) (n a : ℕ) → Stands r s seats → join_refusal n s.traffic ≡ None → n < 2 ^ 64 → a ≤ 253
@@ -150,6 +152,10 @@ join_runs r s seats n a st may small fits =
         carried = carried_more s.begun (length s.traffic.seats) (length now.traffic.seats) s.traffic.wire (omega arith) st.carried;
         count = omega arith;
         places = omega arith;
+        numbers = λ i l. elim (same_or_not i (length s.units)) [
+          | inl e ↦ ap (λ (k : ℕ). (get_or (seats ++ x ∷ []) k no_seat).number) e ∙ (ap (λ (y : Seat). y.number) (get_or_push seats x no_seat (length s.units) places) ∙ ap suc (places ∙ sym e))
+          | inr other ↦ (let lt : i < length s.units = omega arith in ap (λ (y : Seat). y.number) (get_or_append_left seats (x ∷ []) no_seat i (omega arith)) ∙ st.numbers i lt)
+        ];
         seated = λ i l. elim (same_or_not i (length s.units)) [
           | inl e ↦ subst (λ (k : ℕ). IsSeat now.begun (items_of now) (seat_at now.traffic (suc k)) (get_or now.units k (new_unit 0 0)) (get_or (seats ++ x ∷ []) k no_seat)) (sym e)
               (rw (items, seats_joined n a s, get_or_push s.traffic.seats (newly n a s) nobody (suc (length s.units)) count, get_or_push s.units (new_unit n a) (new_unit 0 0) (length s.units) refl, get_or_push seats x no_seat (length s.units) places)

@@ -76,8 +76,9 @@ same_unit u g h = record { name = noted_name u.node g; held = noted_held u.node 
 -- ---- another session
 
 pub seat_session : (begun : List Message) (items : List Item) (v : SeatValue) (u u' : UnitState) (x : Seat) (t : Option PartOf) → IsSeat begun items v u x
-    → u'.node.claimer ≡ u.node.claimer → AreSession begun u'.session_message v.name u.node.claimer.held u'.node.session t → IsSeat begun items v u' (record x { session = t })
-seat_session begun items v u u' x t s same h = record {
+    → u'.node.claimer ≡ u.node.claimer → AreSession begun u'.session_message v.name u.node.claimer.held u'.node.session t → ((p : PartOf) → t ≡ Some p → p.message.seat ≡ x.number)
+    → IsSeat begun items v u' (record x { session = t })
+seat_session begun items v u u' x t s same h own = record {
   name = s.name;
   own = ap (λ c. c.name) same ∙ s.own;
   small = s.small;
@@ -89,25 +90,26 @@ seat_session begun items v u u' x t s same h = record {
   heard = s.heard;
   within = s.within;
   session = rw same h;
+  owner = own;
 }
 
 -- ---- a reply
 
 pub seat_replies : (begun : List Message) (items : List Item) (v y : SeatValue) (u : UnitState) (x : Seat) (f : FrameValue) → IsSeat begun items v u x → IsSameSeat v y → y.queue ≡ v.queue ++ queued_frame f None ∷ []
-    → IsSeat begun items y u (record x { queue = plain x.name f ∷ x.queue })
+    → IsSeat begun items y u (record x { queue = plain x.number x.name f ∷ x.queue })
 seat_replies begun items v y u x f s same e =
-    subst (λ (n : ℕ). IsSeat begun items y u (record x { queue = plain n f ∷ x.queue })) (sym s.name) (seat_put begun items v y u x (queued_frame f None ∷ []) s same e (tt, tt))
+    subst (λ (n : ℕ). IsSeat begun items y u (record x { queue = plain x.number n f ∷ x.queue })) (sym s.name) (seat_put begun items v y u x (queued_frame f None ∷ []) s same e (tt, tt))
 
 -- ---- a message begins
 
 -- its parts are put into the queue
 begins_parts : (begun : List Message) (items : List Item) (v y : SeatValue) (u : UnitState) (x : Seat) (m : Message) (session_number : ℕ) → IsSeat begun items v u x → IsSameSeat v y → m.number ≡ length begun → m.name ≡ v.name → IsLongToOne m
     → y.queue ≡ v.queue ++ parts_put m (length begun) session_number (not (m.destination == 255))
-    → IsSeat (m ∷ begun) items y u (record x { queue = parts_upto m (first_parts (way_of m) m) ++ x.queue })
+    → IsSeat (m ∷ begun) items y u (record x { queue = parts_upto x.number m (first_parts (way_of m) m) ++ x.queue })
 begins_parts begun items v y u x m session_number s same newest own long e =
     let qs : List QueuedFrame = parts_put m (length begun) session_number (not (m.destination == 255)) in
-    let put : items_put (m ∷ begun) v.name qs ≡ parts_upto m (first_parts (way_of m) m) =
-    ap (λ (n : ℕ). items_put (m ∷ begun) n qs) (sym own) ∙ begun_items begun m session_number newest long in
+    let put : items_put (m ∷ begun) x.number v.name qs ≡ parts_upto x.number m (first_parts (way_of m) m) =
+    ap (λ (n : ℕ). items_put (m ∷ begun) x.number n qs) (sym own) ∙ begun_items begun x.number m session_number newest long in
     subst (λ (l : List Item). IsSeat (m ∷ begun) items y u (record x { queue = l ++ x.queue })) put
     (seat_put (m ∷ begun) items v y u x qs (seat_still m begun items v u x newest s) same e (begun_known begun m session_number newest long))
 
@@ -116,21 +118,21 @@ pub seat_begins_to_all : (begun : List Message) (items : List Item) (v y : SeatV
     → (m.destination == 255) ≡ true → y.queue ≡ v.queue ++ parts_put m (length begun) session_number false
     → IsSeat (m ∷ begun) items y u (with_message x m)
 seat_begins_to_all begun items v y u x m session_number s same newest own all e =
-    subst (λ (o : Option PartOf). IsSeat (m ∷ begun) items y u (record x { queue = parts_upto m (first_parts (way_of m) m) ++ x.queue; session = o })) (sym (opens_none m x.session all))
+    subst (λ (o : Option PartOf). IsSeat (m ∷ begun) items y u (record x { queue = parts_upto x.number m (first_parts (way_of m) m) ++ x.queue; session = o })) (sym (opens_none m x.session all))
     (begins_parts begun items v y u x m session_number s same newest own (λ one. cc) (e ∙ ap (λ (b : Bool). v.queue ++ parts_put m (length begun) session_number (not b)) (sym all)))
 
 -- to one address
-pub seat_begins_session : (begun : List Message) (items : List Item) (v y : SeatValue) (u u' : UnitState) (x : Seat) (m : Message) → IsSeat begun items v u x → IsSameSeat v y → m.number ≡ length begun → m.name ≡ v.name
+pub seat_begins_session : (begun : List Message) (items : List Item) (v y : SeatValue) (u u' : UnitState) (x : Seat) (m : Message) → IsSeat begun items v u x → IsSameSeat v y → m.number ≡ length begun → m.seat ≡ x.number → m.name ≡ v.name
     → (m.destination == 255) ≡ false → IsLongToOne m → u.node.claimer.held ≡ Some m.source → u'.node.claimer ≡ u.node.claimer → u'.node.session ≡ Some (opened m.kind m.memory m.destination) → u'.session_message ≡ length begun
     → y.queue ≡ v.queue ++ parts_put m (length begun) (length begun) true
     → IsSeat (m ∷ begun) items y u' (with_message x m)
 unfolding payload_of
-seat_begins_session begun items v y u u' x m s same newest own one long held same' session number e =
+seat_begins_session begun items v y u u' x m s same newest seat own one long held same' session number e =
     let way : way_of m ≡ Session m.destination = way_session m long one in
     let opens : Some (record { message = m; part = 0 }) ≡ session_opened (way_of m) m x.session = rw way refl in
     let put = begins_parts begun items v y u x m (length begun) s same newest own long (e ∙ ap (λ (b : Bool). v.queue ++ parts_put m (length begun) (length begun) (not b)) (sym one)) in
-    subst (λ (o : Option PartOf). IsSeat (m ∷ begun) items y u' (record x { queue = parts_upto m (first_parts (way_of m) m) ++ x.queue; session = o })) opens
-    (seat_session (m ∷ begun) items y u u' (record x { queue = parts_upto m (first_parts (way_of m) m) ++ x.queue }) (Some (record { message = m; part = 0 })) put same'
+    subst (λ (o : Option PartOf). IsSeat (m ∷ begun) items y u' (record x { queue = parts_upto x.number m (first_parts (way_of m) m) ++ x.queue; session = o })) opens
+    (seat_session (m ∷ begun) items y u u' (record x { queue = parts_upto x.number m (first_parts (way_of m) m) ++ x.queue }) (Some (record { message = m; part = 0 })) put same'
     (rw (session, number) (record {
       found = found_newest m begun newest;
       number = omega arith;
@@ -142,7 +144,8 @@ seat_begins_session begun items v y u u' x m s same newest own one long held sam
       source = held;
       part = refl;
       way = way;
-    })))
+    }))
+    (λ p e. let i : m ≡ p.message = cc in subst (λ (q : Message). q.seat ≡ x.number) i seat))
 
 -- ---- further packets
 
@@ -167,8 +170,8 @@ seat_sends begun items v y u u' x o t source n session_number s same opened is h
     let count : o.sending.queued + 1 + n - (o.sending.queued + 1) ≡ n = omega arith in
     let put = marked_part (λ j. part.Session j) o.sending.payload o.sending.pgn source o.sending.dest in
     let qs : List QueuedFrame = map (tagged session_number false u.session_message) (parts_of_session o source n) in
-    let items_are : items_put begun v.name qs ≡ items_from m (t.part + 1) n =
-    ap reverse (items_each begun v.name m (tagged session_number false u.session_message) put
+    let items_are : items_put begun x.number v.name qs ≡ items_from x.number m (t.part + 1) n =
+    ap reverse (items_each begun x.number v.name m (tagged session_number false u.session_message) put
     (λ j. rw (is.found, is.payload, is.pgn, ← is.kind, is.destination, from, ← is.name) refl)
     (range_with_len (o.sending.queued + 1) (o.sending.queued + 1 + n - (o.sending.queued + 1))))
     ∙ rw (count, first) refl in
@@ -177,7 +180,7 @@ seat_sends begun items v y u u' x o t source n session_number s same opened is h
     (range_with_len (o.sending.queued + 1) (o.sending.queued + 1 + n - (o.sending.queued + 1))) in
     let sent = subst (λ (l : List Item). IsSeat begun items y u (record x { queue = l ++ x.queue })) items_are (seat_put begun items v y u x qs s same e known) in
     subst (λ (z : Seat). IsSeat begun items y u' z) (sym (granted_is x t n opened))
-    (seat_session begun items y u u' (record x { queue = items_from m (t.part + 1) n ++ x.queue }) (Some (record { message = m; part = t.part + n })) sent same'
+    (seat_session begun items y u u' (record x { queue = items_from x.number m (t.part + 1) n ++ x.queue }) (Some (record { message = m; part = t.part + n })) sent same'
     (rw (session, number, same.name) (record {
       found = is.found;
       number = is.number;
@@ -189,7 +192,8 @@ seat_sends begun items v y u u' x o t source n session_number s same opened is h
       source = is.source;
       part = (let p = is.part in omega arith);
       way = is.way;
-    })))
+    }))
+    (λ p e. let i : m ≡ p.message = cc in subst (λ (q : Message). q.seat ≡ x.number) i (s.owner t opened)))
 
 -- ---- the session ends
 
@@ -202,11 +206,12 @@ seat_ends begun items v y u u' x s same e same' session = record {
   live = s.live ∙ sym same.live;
   held = s.held ∙ ap (λ c. c.held) (sym same');
   holdable = rw same' s.holdable;
-  queue = rw (e, same.name, s.queue) (kept_items begun v.name v.queue s.known);
+  queue = rw (e, same.name, s.queue) (kept_items begun x.number v.name v.queue s.known);
   known = rw e (kept_known begun v.queue s.known);
   heard = s.heard ∙ ap (λ (n : ℕ). reverse (take n items)) (sym same.heard);
   within = rw same.heard s.within;
   session = rw session tt;
+  owner = λ t e. cc;
 }
 
 -- ---- all is withdrawn but a claim
@@ -225,4 +230,5 @@ seat_claims begun items v y u u' x to s same e hold name held session = record {
   heard = s.heard ∙ ap (λ (n : ℕ). reverse (take n items)) (sym same.heard);
   within = rw same.heard s.within;
   session = rw session tt;
+  owner = λ t e. cc;
 }

@@ -1,5 +1,5 @@
 -- A unit's seat after its deed is the seat of the law's machine after its answer.
-use Rattle.std.proofs.Common.{ℕ, suc, zero, ◌≡◌, ◌==◌, List, [], ◌∷◌, ◌++◌, map, length, set, Bool, true, false, not, Some, None, if◌then◌else◌, refl, sym, ap, ◌∙◌, subst, inl, inr}
+use Rattle.std.proofs.Common.{ℕ, suc, zero, ◌≡◌, ◌==◌, List, [], ◌∷◌, ◌++◌, map, length, set, Bool, true, false, not, Option, Some, None, if◌then◌else◌, refl, sym, ap, ◌∙◌, subst, inl, inr}
 use Rattle.std.proofs.lemmas.List.{append-nil}
 use Rattle.address_claim.specs.Frames.{claim_frame_value}
 use Rattle.parameter_group.specs.Group.{Group}
@@ -10,9 +10,9 @@ use Rattle.bus_ledger.specs.Changes.{kept, queued_frame}
 use Rattle.bus_ledger.specs.declared.traffic.QueuedFrame.{QueuedFrame}
 use Rattle.bus_ledger.specs.declared.traffic.Which.TheVariants as which
 use Rattle.bus_model.specs.Messages.{Message, payload_of}
-use Rattle.bus_model.specs.Traffic.{Item}
+use Rattle.bus_model.specs.Traffic.{Item, Tag as PartOf}
 use Rattle.bus_model.specs.Machine as machine
-use Rattle.bus_model.specs.Machine.{Answer, Seat, World, answered, granted, plain, session_ended, with_message, yielded}
+use Rattle.bus_model.specs.Machine.{Answer, Seat, World, answered, granted, granted_one, plain, session_ended, with_message, yielded}
 use Rattle.node_core.specs.Deed.{Deed, after, begun_of, opened, parts_begun, put_of, withdraw_of}
 use Rattle.node_core.specs.Deed as deed
 use Rattle.node_core.specs.Laws.{BeginsLawfully, IsLawfulDeed}
@@ -44,20 +44,37 @@ unit_after u g number d = record { node = after (noted_from u.node g) d; session
 -- the seat after an answer
 abbrev pub seat_answered : ℕ → Seat → Answer → Seat
 seat_answered number x machine.Quiet = x
-seat_answered number x (machine.Replies f) = record x { queue = plain x.name f ∷ x.queue }
+seat_answered number x (machine.Replies f) = record x { queue = plain x.number x.name f ∷ x.queue }
 seat_answered number x (machine.Begins kind memory source destination) =
-    with_message x (record { number = number; name = x.name; kind = kind; memory = memory; source = source; destination = destination })
+    with_message x (record { number = number; seat = x.number; name = x.name; kind = kind; memory = memory; source = source; destination = destination })
 seat_answered number x (machine.Grants n) = granted x n
 seat_answered number x machine.Ends = session_ended x
 seat_answered number x (machine.Yields to) = yielded x to
 
--- the messages begun after it
-abbrev pub begun_answered : List Message → ℕ → Answer → List Message
-begun_answered begun name (machine.Begins kind memory source destination) =
-    record { number = length begun; name = name; kind = kind; memory = memory; source = source; destination = destination } ∷ begun
-begun_answered begun name _ = begun
+-- an answer leaves its number
+pub answered_number : (number : ℕ) (x : Seat) (a : Answer) → (seat_answered number x a).number ≡ x.number
+answered_number number x machine.Quiet = refl
+answered_number number x (machine.Replies f) = refl
+answered_number number x (machine.Begins kind memory source destination) = refl
+answered_number number x (machine.Grants n) = granted_number n x
+  where
+    one_number : (x : Seat) (o : Option PartOf) → (granted_one x o).number ≡ x.number
+    one_number x None = refl
+    one_number x (Some t) = refl
 
-pub answered_is : (w : World) (i : ℕ) (x : Seat) (a : Answer) → answered w i x a ≡ record w { seats = set w.seats i (seat_answered (length w.begun) x a); begun = begun_answered w.begun x.name a }
+    granted_number : (n : ℕ) (x : Seat) → (granted x n).number ≡ x.number
+    granted_number zero x = refl
+    granted_number (suc n) x = granted_number n _ ∙ one_number x x.session
+answered_number number x machine.Ends = refl
+answered_number number x (machine.Yields to) = refl
+
+-- the messages begun after it
+abbrev pub begun_answered : List Message → ℕ → ℕ → Answer → List Message
+begun_answered begun seat name (machine.Begins kind memory source destination) =
+    record { number = length begun; seat = seat; name = name; kind = kind; memory = memory; source = source; destination = destination } ∷ begun
+begun_answered begun seat name _ = begun
+
+pub answered_is : (w : World) (i : ℕ) (x : Seat) (a : Answer) → answered w i x a ≡ record w { seats = set w.seats i (seat_answered (length w.begun) x a); begun = begun_answered w.begun x.number x.name a }
 answered_is w i x machine.Quiet = refl
 answered_is w i x (machine.Replies f) = refl
 answered_is w i x (machine.Begins kind memory source destination) = refl
@@ -65,27 +82,27 @@ answered_is w i x (machine.Grants n) = refl
 answered_is w i x machine.Ends = refl
 answered_is w i x (machine.Yields to) = refl
 
-pub begun_is : (begun : List Message) (u : UnitState) (g : Group) (name name' : ℕ) (memory : MemoryValue) (d : Deed) → IsLawfulDeed u.node memory g d → name' ≡ name
-    → begun_after begun name memory (begun_of d) ≡ begun_answered begun name' (answer_of d)
-begun_is begun u g name name' memory (deed.Begins kind memory' source destination) h e = rw (e, h.1.same) refl
-begun_is begun u g name name' memory deed.Nothing h e = refl
-begun_is begun u g name name' memory (deed.Replies f) h e = refl
-begun_is begun u g name name' memory (deed.Sends o source zero) h e = refl
-begun_is begun u g name name' memory (deed.Sends o source (suc n)) h e = refl
-begun_is begun u g name name' memory deed.EndsSession h e = refl
-begun_is begun u g name name' memory (deed.Claims n held) h e = refl
+pub begun_is : (begun : List Message) (u : UnitState) (g : Group) (seat seat' name name' : ℕ) (memory : MemoryValue) (d : Deed) → IsLawfulDeed u.node memory g d → seat' ≡ seat → name' ≡ name
+    → begun_after begun seat name memory (begun_of d) ≡ begun_answered begun seat' name' (answer_of d)
+begun_is begun u g seat seat' name name' memory (deed.Begins kind memory' source destination) h i e = rw (i, e, h.1.same) refl
+begun_is begun u g seat seat' name name' memory deed.Nothing h i e = refl
+begun_is begun u g seat seat' name name' memory (deed.Replies f) h i e = refl
+begun_is begun u g seat seat' name name' memory (deed.Sends o source zero) h i e = refl
+begun_is begun u g seat seat' name name' memory (deed.Sends o source (suc n)) h i e = refl
+begun_is begun u g seat seat' name name' memory deed.EndsSession h i e = refl
+begun_is begun u g seat seat' name name' memory (deed.Claims n held) h i e = refl
 
 -- a message begins
 begins : (begun : List Message) (items : List Item) (v y : SeatValue) (u : UnitState) (x : Seat) (g : Group) (memory : MemoryValue) (kind : Kind) (memory' : MemoryValue) (source destination : ℕ)
     → IsSeat begun items v (noting u g) x → BeginsLawfully u.node memory g kind memory' source destination → u.node.claimer.held ≡ (noting u g).node.claimer.held → IsSameSeat v y
     → y.queue ≡ v.queue ++ puts_of u (length begun) (deed.Begins kind memory' source destination)
-    → IsSeat (record { number = length begun; name = v.name; kind = kind; memory = memory'; source = source; destination = destination } ∷ begun) items y (unit_after u g (length begun) (deed.Begins kind memory' source destination))
-    (with_message x (record { number = length begun; name = v.name; kind = kind; memory = memory'; source = source; destination = destination }))
+    → IsSeat (record { number = length begun; seat = x.number; name = v.name; kind = kind; memory = memory'; source = source; destination = destination } ∷ begun) items y (unit_after u g (length begun) (deed.Begins kind memory' source destination))
+    (with_message x (record { number = length begun; seat = x.number; name = v.name; kind = kind; memory = memory'; source = source; destination = destination }))
 unfolding payload_of
 begins begun items v y u x g memory kind memory' source destination s b held same e = go (destination == 255) refl e
   where
     m : Message
-    m = record { number = length begun; name = v.name; kind = kind; memory = memory'; source = source; destination = destination }
+    m = record { number = length begun; seat = x.number; name = v.name; kind = kind; memory = memory'; source = source; destination = destination }
 
     long : (destination == 255) ≡ false → (length (payload_of m) == 8) ≡ false
     long one = elim (b.way) [
@@ -97,11 +114,11 @@ begins begun items v y u x g memory kind memory' source destination s b held sam
         → IsSeat (m ∷ begun) items y (record { node = if c then (noting u g).node else record (noting u g).node { session = Some (opened kind memory' destination) }; session_message = if not c then length begun else u.session_message }) (with_message x m)
     go true i f = seat_begins_to_all begun items v y (noting u g) x m u.session_message s same refl refl i f
     go false i f =
-        seat_begins_session begun items v y (noting u g) (record { node = record (noting u g).node { session = Some (opened kind memory' destination) }; session_message = length begun }) x m s same refl refl i long (sym held ∙ b.held) refl refl refl f
+        seat_begins_session begun items v y (noting u g) (record { node = record (noting u g).node { session = Some (opened kind memory' destination) }; session_message = length begun }) x m s same refl refl refl i long (sym held ∙ b.held) refl refl refl f
 
 pub deed_seat : (begun : List Message) (items : List Item) (v y : SeatValue) (u : UnitState) (x : Seat) (g : Group) (memory : MemoryValue) (d : Deed) → IsSeat begun items v u x → IsLawfulDeed u.node memory g d → IsSameSeat v y
     → y.queue ≡ kept_by (withdraw_of d) v.queue ++ puts_of u (length begun) d
-    → IsSeat (begun_after begun v.name memory (begun_of d)) items y (unit_after u g (length begun) d) (seat_answered (length begun) x (answer_of d))
+    → IsSeat (begun_after begun x.number v.name memory (begun_of d)) items y (unit_after u g (length begun) d) (seat_answered (length begun) x (answer_of d))
 deed_seat begun items v y u x g memory deed.Nothing s h same e =
     seat_same begun items v y (noting u g) x (seat_noted begun items v u (noting u g) x s (same_unit u g h.uncontested)) same (e ∙ append-nil v.queue)
 deed_seat begun items v y u x g memory (deed.Replies f) s h same e =
@@ -110,8 +127,8 @@ deed_seat begun items v y u x g memory (deed.Begins kind memory' source destinat
     let unit = same_unit u g h.0.uncontested in
     let noted = seat_noted begun items v u (noting u g) x s unit in
     rw (← h.1.same)
-    (subst (λ (n : ℕ). IsSeat (record { number = length begun; name = v.name; kind = kind; memory = memory'; source = source; destination = destination } ∷ begun) items y (unit_after u g (length begun) (deed.Begins kind memory' source destination))
-    (with_message x (record { number = length begun; name = n; kind = kind; memory = memory'; source = source; destination = destination })))
+    (subst (λ (n : ℕ). IsSeat (record { number = length begun; seat = x.number; name = v.name; kind = kind; memory = memory'; source = source; destination = destination } ∷ begun) items y (unit_after u g (length begun) (deed.Begins kind memory' source destination))
+    (with_message x (record { number = length begun; seat = x.number; name = n; kind = kind; memory = memory'; source = source; destination = destination })))
     (sym s.name) (begins begun items v y u x g memory kind memory' source destination noted h.1 (sym unit.held) same e))
 deed_seat begun items v y u x g memory (deed.Sends o source n) s h same e =
     let unit = same_unit u g h.0.uncontested in

@@ -46,9 +46,9 @@ pub all_known_still : (m : Message) (begun : List Message) (qs : List QueuedFram
 all_known_still m begun [] e k = tt
 all_known_still m begun (q ∷ qs) e k = (known_still m begun q.tag e k.0, all_known_still m begun qs e k.1)
 
-pub queue_still : (m : Message) (begun : List Message) (name : ℕ) (qs : List QueuedFrame) → m.number ≡ length begun → AreKnown begun qs → map (queued_item (m ∷ begun) name) qs ≡ map (queued_item begun name) qs
-queue_still m begun name [] e k = refl
-queue_still m begun name (q ∷ qs) e k = rw (part_still m begun q.tag e k.0, queue_still m begun name qs e k.1) refl
+pub queue_still : (m : Message) (begun : List Message) (k name : ℕ) (qs : List QueuedFrame) → m.number ≡ length begun → AreKnown begun qs → map (queued_item (m ∷ begun) k name) qs ≡ map (queued_item begun k name) qs
+queue_still m begun k name [] e h = refl
+queue_still m begun k name (q ∷ qs) e h = rw (part_still m begun q.tag e h.0, queue_still m begun k name qs e h.1) refl
 
 pub session_still : (m : Message) (begun : List Message) (number name : ℕ) (held : Option ℕ) (o : Option OpenSession) (t : Option PartOf) → m.number ≡ length begun
     → AreSession begun number name held o t → AreSession (m ∷ begun) number name held o t
@@ -76,11 +76,12 @@ seat_still m begun items v u x e s = record {
   live = s.live;
   held = s.held;
   holdable = s.holdable;
-  queue = s.queue ∙ ap reverse (sym (queue_still m begun v.name v.queue e s.known));
+  queue = s.queue ∙ ap reverse (sym (queue_still m begun x.number v.name v.queue e s.known));
   known = all_known_still m begun v.queue e s.known;
   heard = s.heard;
   within = s.within;
   session = session_still m begun u.session_message v.name u.node.claimer.held u.node.session x.session e s.session;
+  owner = s.owner;
 }
 
 -- ---- one frame more
@@ -98,6 +99,7 @@ seat_carried begun items e v u x s = record {
   heard = s.heard ∙ ap reverse (sym (take-append-le v.heard items (e ∷ []) s.within));
   within = (let l = s.within in omega (arith, length-append items (e ∷ [])));
   session = s.session;
+  owner = s.owner;
 }
 
 -- ---- items
@@ -148,4 +150,12 @@ seated_set R seats units xs j v u x ls lx h old i l = elim (same_or_not j i) [
       rw (get_or-set_same seats (suc i) v nobody (omega arith), get_or-set_same units i u (new_unit 0 0) l, get_or-set_same xs i x no_seat (omega arith)) h in
       subst (λ (y : ℕ). R (get_or (set seats (suc y) v) (suc i) nobody) (get_or (set units y u) i (new_unit 0 0)) (get_or (set xs y x) i no_seat)) (sym e) at)
   | inr n ↦ rw (get_or-set_other seats (suc j) (suc i) v nobody (λ e. n (omega arith)), get_or-set_other units j i u (new_unit 0 0) (λ e. n (sym e)), get_or-set_other xs j i x no_seat (λ e. n (sym e))) (old i l)
+]
+
+-- the machine's seats keep their numbers where one of them changed
+pub numbers_set : (xs : List Seat) (j n : ℕ) (x : Seat) → length xs ≡ n → x.number ≡ suc j → ((i : ℕ) → i < n → (get_or xs i no_seat).number ≡ suc i)
+    → (i : ℕ) → i < n → (get_or (set xs j x) i no_seat).number ≡ suc i
+numbers_set xs j n x lx h old i l = elim (same_or_not j i) [
+  | inl e ↦ ap (λ (k : ℕ). (get_or (set xs k x) i no_seat).number) e ∙ (ap (λ (y : Seat). y.number) (get_or-set_same xs i x no_seat (omega arith)) ∙ (h ∙ ap suc e))
+  | inr other ↦ ap (λ (y : Seat). y.number) (get_or-set_other xs j i x no_seat (λ e. other (sym e))) ∙ old i l
 ]

@@ -25,7 +25,7 @@ use Rattle.journal.proofs.Seated.{IsSeat, Stands, no_seat}
 use Rattle.journal.proofs.Changed.{began_stands, began_world, changed, changed_stands, changed_world}
 use Rattle.journal.proofs.Queues.{IsSameSeat}
 use Rattle.journal.proofs.Answers.{answer_of, deed_may, hold_back}
-use Rattle.journal.proofs.Doing.{answered_is, begun_is, deed_seat, kept_by, puts_of, seat_answered, unit_after}
+use Rattle.journal.proofs.Doing.{answered_is, answered_number, begun_is, deed_seat, kept_by, puts_of, seat_answered, unit_after}
 use Rattle.journal.proofs.Places.{around_at, found_at, put_in_place, puts, puts_queue, puts_same, seat_hears, then_same, withdrawn_in_place, withdraws, withdraws_queue, withdraws_same}
 
 -- the state with one seat changed is the world with it
@@ -34,15 +34,15 @@ pub record IsLanded (r : Settings) (s : State) (seats : List Seat) (i : ℕ) (y 
   pub world : ◌≡◌ {A = World} (world_of r (changed s i y u begun) (set seats i x)) (record (world_of r s seats) { seats = set seats i x; begun = begun })
 
 pub landed : (r : Settings) (s : State) (seats : List Seat) (i : ℕ) (y : SeatValue) (u : UnitState) (x : Seat) (memory : MemoryValue) (b : Option Begun) → Stands r s seats → i < length s.units → y.name ≡ (seat_at s.traffic (suc i)).name
-    → IsSeat (begun_after s.begun (seat_at s.traffic (suc i)).name memory b) (items_of s) y u x → IsLanded r s seats i y u x (begun_after s.begun (seat_at s.traffic (suc i)).name memory b)
-landed r s seats i y u x memory None st l e seat = record {
-  stands = changed_stands r s seats i y u x st l e seat;
+    → IsSeat (begun_after s.begun (suc i) (seat_at s.traffic (suc i)).name memory b) (items_of s) y u x → x.number ≡ suc i → IsLanded r s seats i y u x (begun_after s.begun (suc i) (seat_at s.traffic (suc i)).name memory b)
+landed r s seats i y u x memory None st l e seat number = record {
+  stands = changed_stands r s seats i y u x st l e seat number;
   world = changed_world r s seats i y u x st l e;
 }
-landed r s seats i y u x memory (Some b) st l e seat =
-    let m = message_begun (length s.begun) (seat_at s.traffic (suc i)).name memory b in
+landed r s seats i y u x memory (Some b) st l e seat number =
+    let m = message_begun (length s.begun) (suc i) (seat_at s.traffic (suc i)).name memory b in
     record {
-      stands = began_stands r s seats i y u x m st l e refl seat;
+      stands = began_stands r s seats i y u x m st l e refl seat number;
       world = began_world r s seats i y u x m st l e refl;
     }
 
@@ -53,7 +53,7 @@ seat_after s i d = puts (puts_of (get_or s.units i (new_unit 0 0)) (length s.beg
 -- the state after the deed
 abbrev pub state_after : State → ℕ → MemoryValue → Group → Deed → State
 state_after s i memory g d =
-    changed s i (seat_after s i d) (unit_after (get_or s.units i (new_unit 0 0)) g (length s.begun) d) (begun_after s.begun (seat_at s.traffic (suc i)).name memory (begun_of d))
+    changed s i (seat_after s i d) (unit_after (get_or s.units i (new_unit 0 0)) g (length s.begun) d) (begun_after s.begun (suc i) (seat_at s.traffic (suc i)).name memory (begun_of d))
 
 -- what stands in the seat's place
 traffic_after : (s : State) (i : ℕ) (d : Deed) → suc i < length s.traffic.seats
@@ -88,8 +88,11 @@ hear_deed r s seats i memory e d st l live memory_is at lawful =
     let y : SeatValue = seat_after s i d in
     let same : IsSameSeat (hearing 1 v) y = then_same (hearing 1 v) left y (withdraws_same (withdraw_of d) (hearing 1 v)) (puts_same qs left) in
     let queue : y.queue ≡ kept_by (withdraw_of d) v.queue ++ qs = puts_queue qs left ∙ ap (λ l. l ++ qs) (withdraws_queue (withdraw_of d) (hearing 1 v)) in
+    let number : x.number ≡ suc i = st.numbers i (omega arith) in
     let after_deed = deed_seat s.begun (items_of s) (hearing 1 v) y u (with_heard x e) g memory d heard lawful same queue in
-    let land = landed r s seats i y (unit_after u g (length s.begun) d) (seat_answered (length s.begun) (with_heard x e) (answer_of d)) memory (begun_of d) st (omega arith) same.name after_deed in
+    let land = landed r s seats i y (unit_after u g (length s.begun) d) (seat_answered (length s.begun) (with_heard x e) (answer_of d)) memory (begun_of d) st (omega arith) same.name
+    (subst (λ (k : ℕ). IsSeat (begun_after s.begun k v.name memory (begun_of d)) (items_of s) y (unit_after u g (length s.begun) d) (seat_answered (length s.begun) (with_heard x e) (answer_of d))) number after_deed)
+    (answered_number (length s.begun) (with_heard x e) (answer_of d) ∙ number) in
     let w : World = world_of r s seats in (
       set seats i (seat_answered (length s.begun) (with_heard x e) (answer_of d)),
       answer_of d,
@@ -101,7 +104,7 @@ hear_deed r s seats i memory e d st l live memory_is at lawful =
         around_at (items_of s) v.heard e at ∙ ap (λ (h : List Item). reverse (drop (suc v.heard) (items_of s)) ++ e ∷ h) (sym seat.heard),
         deed_may w (items_of s) (hearing 1 v) u (with_heard x e) g memory d heard (sender_below e.frame) memory_is lawful,
         land.world
-            ∙ (ap (λ (b : List Message). record w { seats = set seats i (seat_answered (length s.begun) (with_heard x e) (answer_of d)); begun = b }) (begun_is s.begun u g v.name x.name memory d lawful seat.name)
+            ∙ (ap (λ (b : List Message). record w { seats = set seats i (seat_answered (length s.begun) (with_heard x e) (answer_of d)); begun = b }) (begun_is s.begun u g (suc i) x.number v.name x.name memory d lawful number seat.name)
             ∙ sym (answered_is w i (with_heard x e) (answer_of d))),
       ),
       land.stands,

@@ -133,7 +133,7 @@ carried_names s q (suc i) l = ap (λ (v : SeatValue). v.name) ((own_sending s).o
 carried_items : (r : Settings) (s : State) (seats : List Seat) (q : QueuedFrame) → Stands r s seats → items_of (carried_state s q) ≡ items_of s ++ item_of s (carried_frame 0 q) ∷ []
 carried_items r s seats q stands =
     map-append (item_of (carried_state s q)) s.traffic.wire (carried_frame 0 q ∷ [])
-    ∙ ap₂ (λ (l : List Item) (n : ℕ). l ++ record { name = n; frame = q.frame; tag = (item_of s (carried_frame 0 q)).tag } ∷ []) (items_same s (carried_state s q) s.traffic.wire (carried_names s q) refl stands.carried) (own_sending s).name
+    ∙ ap₂ (λ (l : List Item) (n : ℕ). l ++ record { seat = 0; name = n; frame = q.frame; tag = (item_of s (carried_frame 0 q)).tag } ∷ []) (items_same s (carried_state s q) s.traffic.wire (carried_names s q) refl stands.carried) (own_sending s).name
 
 carried_stands : (r : Settings) (s : State) (seats : List Seat) (q : QueuedFrame) (rest : List QueuedFrame) → Stands r s seats → (seat_at s.traffic 0).heard ≡ length s.traffic.wire → (seat_at s.traffic 0).queue ≡ q ∷ rest → Stands r (carried_state s q) seats
 carried_stands r s seats q rest stands whole first = record {
@@ -147,6 +147,7 @@ carried_stands r s seats q rest stands whole first = record {
   carried = subst (λ (n : ℕ). AreCarried s.begun n (s.traffic.wire ++ c ∷ [])) (sym (own_sending s).places) (carried_push s.begun (length s.traffic.seats) s.traffic.wire c stands.carried (record { seat = given; known = known.0 }));
   count = (own_sending s).places ∙ stands.count;
   places = stands.places;
+  numbers = stands.numbers;
   seated = λ i l. seat_as items refl ((own_sending s).others i) refl (seat_carried s.begun (items_of s) (item_of s c) _ _ _ (stands.seated i l));
 }
   where
@@ -181,16 +182,16 @@ carried_runs r s seats q rest stands whole first = (
 )
   where
     item : QueuedFrame → Item
-    item = queued_item s.begun (seat_at s.traffic 0).name
+    item = queued_item s.begun 0 (seat_at s.traffic 0).name
 
     given : 0 < length s.traffic.seats
     given = (let n = stands.count in omega arith)
 
-    asked : queue_of s.begun (seat_at s.traffic 0) ≡ reverse (map item rest) ++ item q ∷ []
+    asked : queue_of s.begun 0 (seat_at s.traffic 0) ≡ reverse (map item rest) ++ item q ∷ []
     asked = ap (λ (qs : List QueuedFrame). reverse (map item qs)) first ∙ reverse-append (item q ∷ []) (map item rest)
 
-    left : queue_of s.begun (seat_at (carried_state s q).traffic 0) ≡ reverse (map item rest)
-    left = ap (queue_of s.begun) (set_at s.traffic (sending (seat_at s.traffic 0)) given) ∙ ap (λ (qs : List QueuedFrame). reverse (map item (drop 1 qs))) first
+    left : queue_of s.begun 0 (seat_at (carried_state s q).traffic 0) ≡ reverse (map item rest)
+    left = ap (queue_of s.begun 0) (set_at s.traffic (sending (seat_at s.traffic 0)) given) ∙ ap (λ (qs : List QueuedFrame). reverse (map item (drop 1 qs))) first
 
     world : world_of r (carried_state s q) seats
         ≡ record (world_of r s seats) { wire = item_of s (carried_frame 0 q) ∷ reverse (items_of s); asked = reverse (map item rest); path = Own (item_of s (carried_frame 0 q)) ∷ s.path }

@@ -102,26 +102,26 @@ withdrawn_heard false t h = refl
 -- ---- queues
 
 -- frames that are no parts of messages, in the order of the queue
-pub plain_queue : (begun : List Message) (n : ℕ) (fs : List FrameValue) → map (queued_item begun n) (map untagged fs) ≡ all_plain n fs
-plain_queue begun n [] = refl
-plain_queue begun n (f ∷ fs) = rw (plain_queue begun n fs) refl
+pub plain_queue : (begun : List Message) (k n : ℕ) (fs : List FrameValue) → map (queued_item begun k n) (map untagged fs) ≡ all_plain k n fs
+plain_queue begun k n [] = refl
+plain_queue begun k n (f ∷ fs) = rw (plain_queue begun k n fs) refl
 
-pub plain_append : (n : ℕ) (fs gs : List FrameValue) → all_plain n (fs ++ gs) ≡ all_plain n fs ++ all_plain n gs
-plain_append n [] gs = refl
-plain_append n (f ∷ fs) gs = rw (plain_append n fs gs) refl
+pub plain_append : (k n : ℕ) (fs gs : List FrameValue) → all_plain k n (fs ++ gs) ≡ all_plain k n fs ++ all_plain k n gs
+plain_append k n [] gs = refl
+plain_append k n (f ∷ fs) gs = rw (plain_append k n fs gs) refl
 
-plain_reverse : (n : ℕ) (fs : List FrameValue) → all_plain n (reverse fs) ≡ reverse (all_plain n fs)
-plain_reverse n [] = refl
-plain_reverse n (f ∷ fs) =
-    ap (all_plain n) (reverse-append (f ∷ []) fs)
-    ∙ (plain_append n (reverse fs) (f ∷ []) ∙ (ap (λ (l : List Item). l ++ plain n f ∷ []) (plain_reverse n fs) ∙ sym (reverse-append (plain n f ∷ []) (all_plain n fs))))
+plain_reverse : (k n : ℕ) (fs : List FrameValue) → all_plain k n (reverse fs) ≡ reverse (all_plain k n fs)
+plain_reverse k n [] = refl
+plain_reverse k n (f ∷ fs) =
+    ap (all_plain k n) (reverse-append (f ∷ []) fs)
+    ∙ (plain_append k n (reverse fs) (f ∷ []) ∙ (ap (λ (l : List Item). l ++ plain k n f ∷ []) (plain_reverse k n fs) ∙ sym (reverse-append (plain k n f ∷ []) (all_plain k n fs))))
 
 -- a queue with such frames behind it
-pub queue_put : (begun : List Message) (n : ℕ) (qs : List QueuedFrame) (fs : List FrameValue)
-    → reverse (map (queued_item begun n) (qs ++ map untagged fs)) ≡ all_plain n (reverse fs) ++ reverse (map (queued_item begun n) qs)
-queue_put begun n qs fs =
-    ap reverse (map-append (queued_item begun n) qs (map untagged fs) ∙ ap (λ l. map (queued_item begun n) qs ++ l) (plain_queue begun n fs))
-    ∙ (reverse-append (map (queued_item begun n) qs) (all_plain n fs) ∙ ap (λ l. l ++ reverse (map (queued_item begun n) qs)) (sym (plain_reverse n fs)))
+pub queue_put : (begun : List Message) (k n : ℕ) (qs : List QueuedFrame) (fs : List FrameValue)
+    → reverse (map (queued_item begun k n) (qs ++ map untagged fs)) ≡ all_plain k n (reverse fs) ++ reverse (map (queued_item begun k n) qs)
+queue_put begun k n qs fs =
+    ap reverse (map-append (queued_item begun k n) qs (map untagged fs) ∙ ap (λ l. map (queued_item begun k n) qs ++ l) (plain_queue begun k n fs))
+    ∙ (reverse-append (map (queued_item begun k n) qs) (all_plain k n fs) ∙ ap (λ l. l ++ reverse (map (queued_item begun k n) qs)) (sym (plain_reverse k n fs)))
 
 pub known_put : (begun : List Message) (qs : List QueuedFrame) (fs : List FrameValue) → AreKnown begun qs → AreKnown begun (qs ++ map untagged fs)
 known_put begun qs [] k = subst (AreKnown begun) (sym (append-nil qs)) k
@@ -159,6 +159,7 @@ stands_own r s t seats stands own units begun known within path = record {
   carried = rw (begun, own.places, own.wire) stands.carried;
   count = own.places ∙ (stands.count ∙ ap (λ (l : List UnitState). suc (length l)) (sym units));
   places = stands.places ∙ ap length (sym units);
+  numbers = λ i l. stands.numbers i (subst (λ (xs : List UnitState). i < length xs) units l);
   seated = λ i l.
       seat_as (items_own r s t seats stands own begun) begun (own.others i) (ap (λ (xs : List UnitState). get_or xs i (new_unit 0 0)) units)
       (stands.seated i (subst (λ (xs : List UnitState). i < length xs) units l));

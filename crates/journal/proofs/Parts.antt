@@ -20,29 +20,29 @@ use Rattle.journal.proofs.Growth.{found_newest}
 use Rattle.journal.proofs.Queues.{items_put, reverse_first}
 
 -- so many parts of a message from one on, newest first
-abbrev pub items_from : Message → ℕ → ℕ → List Item
-items_from m first count = reverse (map (item_of_part m) (range_with_len first count))
+abbrev pub items_from : ℕ → Message → ℕ → ℕ → List Item
+items_from k m first count = reverse (map (item_of_part k m) (range_with_len first count))
 
-items_more : (m : Message) (first count j : ℕ) → first + count ≡ j → items_from m first (count + 1) ≡ item_of_part m j ∷ items_from m first count
-items_more m first count j e =
-    ap reverse (map-range_with_len_more (item_of_part m) first count j e) ∙ reverse-append (map (item_of_part m) (range_with_len first count)) (item_of_part m j ∷ [])
+items_more : (k : ℕ) (m : Message) (first count j : ℕ) → first + count ≡ j → items_from k m first (count + 1) ≡ item_of_part k m j ∷ items_from k m first count
+items_more k m first count j e =
+    ap reverse (map-range_with_len_more (item_of_part k m) first count j e) ∙ reverse-append (map (item_of_part k m) (range_with_len first count)) (item_of_part k m j ∷ [])
 
-pub upto_is : (m : Message) (n : ℕ) → parts_upto m n ≡ items_from m 0 (n + 1)
-upto_is m zero = refl
-upto_is m (suc j) =
+pub upto_is : (k : ℕ) (m : Message) (n : ℕ) → parts_upto k m n ≡ items_from k m 0 (n + 1)
+upto_is k m zero = refl
+upto_is k m (suc j) =
     let one : suc j + 1 ≡ (j + 1) + 1 = omega arith in
-    ap (λ (l : List Item). item_of_part m (suc j) ∷ l) (upto_is m j)
-    ∙ (sym (items_more m 0 (j + 1) (suc j) (omega arith)) ∙ ap (λ (n : ℕ). items_from m 0 n) (sym one))
+    ap (λ (l : List Item). item_of_part k m (suc j) ∷ l) (upto_is k m j)
+    ∙ (sym (items_more k m 0 (j + 1) (suc j) (omega arith)) ∙ ap (λ (n : ℕ). items_from k m 0 n) (sym one))
 
 -- one that comes first is the oldest
-pub from_is : (m : Message) (j n : ℕ) (rest : List Item) → items_from m (suc j + 1) n ++ item_of_part m (suc j) ∷ rest ≡ items_from m (j + 1) (suc n) ++ rest
-from_is m j n rest =
+pub from_is : (k : ℕ) (m : Message) (j n : ℕ) (rest : List Item) → items_from k m (suc j + 1) n ++ item_of_part k m (suc j) ∷ rest ≡ items_from k m (j + 1) (suc n) ++ rest
+from_is k m j n rest =
     let one : j + 1 ≡ suc j = omega arith in
-    sym (rw (one, reverse_first (item_of_part m (suc j)) (map (item_of_part m) (range_with_len (suc j + 1) n))) (append_assoc (items_from m (suc j + 1) n) (item_of_part m (suc j) ∷ []) rest))
+    sym (rw (one, reverse_first (item_of_part k m (suc j)) (map (item_of_part k m) (range_with_len (suc j + 1) n))) (append_assoc (items_from k m (suc j + 1) n) (item_of_part k m (suc j) ∷ []) rest))
 
 -- further packets of the open session
 pub granted_is : (x : Seat) (t : PartOf) (n : ℕ) → x.session ≡ Some t
-    → granted x n ≡ record x { queue = items_from t.message (t.part + 1) n ++ x.queue; session = Some (record { message = t.message; part = t.part + n }) }
+    → granted x n ≡ record x { queue = items_from x.number t.message (t.part + 1) n ++ x.queue; session = Some (record { message = t.message; part = t.part + n }) }
 granted_is x t zero e =
     let none : t.part ≡ t.part + 0 = omega arith in
     ap (λ (o : Option PartOf). record x { session = o }) e ∙ ap (λ (k : ℕ). record x { session = Some (record { message = t.message; part = k }) }) none
@@ -51,16 +51,16 @@ granted_is x t (suc n) e =
     let next : PartOf = record { message = t.message; part = suc t.part } in
     ap (λ (o : Option PartOf). granted (granted_one x o) n) e
     ∙ (granted_is (granted_one x (Some t)) next n refl
-    ∙ (ap (λ (l : List Item). record x { queue = l; session = Some (record { message = t.message; part = suc t.part + n }) }) (from_is t.message t.part n x.queue)
-    ∙ ap (λ (k : ℕ). record x { queue = items_from t.message (t.part + 1) (suc n) ++ x.queue; session = Some (record { message = t.message; part = k }) }) one))
+    ∙ (ap (λ (l : List Item). record x { queue = l; session = Some (record { message = t.message; part = suc t.part + n }) }) (from_is x.number t.message t.part n x.queue)
+    ∙ ap (λ (k : ℕ). record x { queue = items_from x.number t.message (t.part + 1) (suc n) ++ x.queue; session = Some (record { message = t.message; part = k }) }) one))
 
 -- ---- as the unit puts them
 
 -- where each part is put as an item, all are
-pub items_each : (begun : List Message) (name : ℕ) (m : Message) (tag : Out → QueuedFrame) (put : ℕ → Out) → ((j : ℕ) → queued_item begun name (tag (put j)) ≡ item_of_part m j)
-    → (js : List ℕ) → map (queued_item begun name) (map tag (map put js)) ≡ map (item_of_part m) js
-items_each begun name m tag put each [] = refl
-items_each begun name m tag put each (j ∷ js) = rw (each j, items_each begun name m tag put each js) refl
+pub items_each : (begun : List Message) (k name : ℕ) (m : Message) (tag : Out → QueuedFrame) (put : ℕ → Out) → ((j : ℕ) → queued_item begun k name (tag (put j)) ≡ item_of_part k m j)
+    → (js : List ℕ) → map (queued_item begun k name) (map tag (map put js)) ≡ map (item_of_part k m) js
+items_each begun k name m tag put each [] = refl
+items_each begun k name m tag put each (j ∷ js) = rw (each j, items_each begun k name m tag put each js) refl
 
 pub known_each : (begun : List Message) (tag : Out → QueuedFrame) (put : ℕ → Out) → ((j : ℕ) → IsKnown begun (tag (put j)).tag) → (js : List ℕ) → AreKnown begun (map tag (map put js))
 known_each begun tag put each [] = tt
@@ -128,12 +128,12 @@ begun_known begun m session_number newest long =
     (λ j. record { message = m; found = found_newest m begun newest; kind = sym (way_is m long).session; number = omega arith })
     (range_with_len 0 (parts_first (payload_of m) m.destination - 0))
 
-pub begun_items : (begun : List Message) (m : Message) (session_number : ℕ) → m.number ≡ length begun → IsLongToOne m
-    → items_put (m ∷ begun) m.name (parts_put m (length begun) session_number (not (m.destination == 255))) ≡ parts_upto m (first_parts (way_of m) m)
+pub begun_items : (begun : List Message) (k : ℕ) (m : Message) (session_number : ℕ) → m.number ≡ length begun → IsLongToOne m
+    → items_put (m ∷ begun) k m.name (parts_put m (length begun) session_number (not (m.destination == 255))) ≡ parts_upto k m (first_parts (way_of m) m)
 unfolding frame_of_part
-begun_items begun m session_number newest long =
+begun_items begun k m session_number newest long =
     let count : parts_first (payload_of m) m.destination - 0 ≡ first_parts (way_of m) m + 1 = (let e = (way_is m long).parts in omega arith) in
-    ap reverse (items_each (m ∷ begun) m.name m (tagged (length begun) (not (m.destination == 255)) session_number) (marked_part (λ j. part.Begun j) (payload_of m) (pgn_of_kind m.kind) m.source m.destination)
+    ap reverse (items_each (m ∷ begun) k m.name m (tagged (length begun) (not (m.destination == 255)) session_number) (marked_part (λ j. part.Begun j) (payload_of m) (pgn_of_kind m.kind) m.source m.destination)
     (λ j. rw (found_newest m begun newest) refl)
     (range_with_len 0 (parts_first (payload_of m) m.destination - 0)))
-    ∙ (ap (λ (n : ℕ). items_from m 0 n) count ∙ sym (upto_is m (first_parts (way_of m) m)))
+    ∙ (ap (λ (n : ℕ). items_from k m 0 n) count ∙ sym (upto_is k m (first_parts (way_of m) m)))

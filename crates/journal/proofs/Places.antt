@@ -111,4 +111,5 @@ seat_hears begun items v u x e s at = record {
       ap (λ (l : List Item). e ∷ l) s.heard ∙ (sym (before_at items v.heard e at) ∙ ap (λ (n : ℕ). reverse (take n items)) one);
   within = (let l = within_at items v.heard e at in omega arith);
   session = s.session;
+  owner = s.owner;
 }

@@ -32,12 +32,12 @@ known_append begun [] rs a b = b
 known_append begun (q ∷ qs) rs a b = (a.0, known_append begun qs rs a.1 b)
 
 -- the items of some frames, newest first
-abbrev pub items_put : List Message → ℕ → List QueuedFrame → List Item
-items_put begun name qs = reverse (map (queued_item begun name) qs)
+abbrev pub items_put : List Message → ℕ → ℕ → List QueuedFrame → List Item
+items_put begun k name qs = reverse (map (queued_item begun k name) qs)
 
-pub put_append : (begun : List Message) (name : ℕ) (qs rs : List QueuedFrame) → items_put begun name (qs ++ rs) ≡ items_put begun name rs ++ items_put begun name qs
-put_append begun name qs rs =
-    ap reverse (map-append (queued_item begun name) qs rs) ∙ reverse-append (map (queued_item begun name) qs) (map (queued_item begun name) rs)
+pub put_append : (begun : List Message) (k name : ℕ) (qs rs : List QueuedFrame) → items_put begun k name (qs ++ rs) ≡ items_put begun k name rs ++ items_put begun k name qs
+put_append begun k name qs rs =
+    ap reverse (map-append (queued_item begun k name) qs rs) ∙ reverse-append (map (queued_item begun k name) qs) (map (queued_item begun k name) rs)
 
 pub reverse_first : {X : Type 0} (x : X) (xs : List X) → reverse (x ∷ xs) ≡ reverse xs ++ x ∷ []
 reverse_first x xs = reverse-append (x ∷ []) xs
@@ -56,11 +56,12 @@ seat_noted begun items v u u' x s same = record {
   heard = s.heard;
   within = s.within;
   session = rw (same.message, same.held, same.session) s.session;
+  owner = s.owner;
 }
 
 -- further frames at the end of the queue
 pub seat_put : (begun : List Message) (items : List Item) (v y : SeatValue) (u : UnitState) (x : Seat) (qs : List QueuedFrame) → IsSeat begun items v u x → IsSameSeat v y → y.queue ≡ v.queue ++ qs → AreKnown begun qs
-    → IsSeat begun items y u (record x { queue = items_put begun v.name qs ++ x.queue })
+    → IsSeat begun items y u (record x { queue = items_put begun x.number v.name qs ++ x.queue })
 seat_put begun items v y u x qs s same e known = record {
   name = s.name ∙ sym same.name;
   own = s.own ∙ sym same.name;
@@ -68,11 +69,12 @@ seat_put begun items v y u x qs s same e known = record {
   live = s.live ∙ sym same.live;
   held = s.held;
   holdable = s.holdable;
-  queue = rw (e, same.name, s.queue) (sym (put_append begun v.name v.queue qs));
+  queue = rw (e, same.name, s.queue) (sym (put_append begun x.number v.name v.queue qs));
   known = rw e (known_append begun v.queue qs s.known known);
   heard = s.heard ∙ ap (λ (n : ℕ). reverse (take n items)) (sym same.heard);
   within = rw same.heard s.within;
   session = rw same.name s.session;
+  owner = s.owner;
 }
 
 -- no further frame
@@ -104,15 +106,15 @@ kept_known begun (q ∷ qs) k = go (kept_known begun qs k.1) (is_in_session q)
     go ih true = ih
     go ih false = (k.0, ih)
 
-pub kept_items : (begun : List Message) (name : ℕ) (qs : List QueuedFrame) → AreKnown begun qs → without_session (items_put begun name qs) ≡ items_put begun name (kept which.Session qs)
-kept_items begun name [] k = refl
-kept_items begun name (q ∷ qs) k =
-    ap without_session (reverse_first (queued_item begun name q) (map (queued_item begun name) qs))
-    ∙ (without_append (items_put begun name qs) (queued_item begun name q ∷ [])
-    ∙ (ap (λ (l : List Item). l ++ without_session (queued_item begun name q ∷ [])) (kept_items begun name qs k.1)
-    ∙ go (is_in_session q) (known_kind begun q k.0)))
+pub kept_items : (begun : List Message) (k name : ℕ) (qs : List QueuedFrame) → AreKnown begun qs → without_session (items_put begun k name qs) ≡ items_put begun k name (kept which.Session qs)
+kept_items begun k name [] h = refl
+kept_items begun k name (q ∷ qs) h =
+    ap without_session (reverse_first (queued_item begun k name q) (map (queued_item begun k name) qs))
+    ∙ (without_append (items_put begun k name qs) (queued_item begun k name q ∷ [])
+    ∙ (ap (λ (l : List Item). l ++ without_session (queued_item begun k name q ∷ [])) (kept_items begun k name qs h.1)
+    ∙ go (is_in_session q) (known_kind begun q h.0)))
   where
     go : (b : Bool) → is_of_session (part_of begun q.tag) ≡ b
-        → items_put begun name (kept which.Session qs) ++ without_session (queued_item begun name q ∷ []) ≡ items_put begun name (if not b then q ∷ kept which.Session qs else kept which.Session qs)
-    go true e = rw e (append-nil (items_put begun name (kept which.Session qs)))
-    go false e = rw e (sym (reverse_first (queued_item begun name q) (map (queued_item begun name) (kept which.Session qs))))
+        → items_put begun k name (kept which.Session qs) ++ without_session (queued_item begun k name q ∷ []) ≡ items_put begun k name (if not b then q ∷ kept which.Session qs else kept which.Session qs)
+    go true e = rw e (append-nil (items_put begun k name (kept which.Session qs)))
+    go false e = rw e (sym (reverse_first (queued_item begun k name q) (map (queued_item begun k name) (kept which.Session qs))))

@@ -16,7 +16,7 @@ use Rattle.bus_model.specs.Messages.{Message}
 use Rattle.bus_model.specs.Traffic.{Item}
 use Rattle.bus_model.specs.Heard.{Settings as Station, address_heard, claimer_after, is_contest}
 use Rattle.bus_model.specs.Expected.{Reception, Received, Missed, passed, readings}
-use Rattle.bus_model.specs.Machine.{CanHold, IsFit, Seat, Step, World, all_plain, claim_alone, AllMaySend}
+use Rattle.bus_model.specs.Machine.{CanHold, IsFit, Seat, Step, World, all_plain, claim_alone, AllMaySend, station_seat}
 use Rattle.bus_model.specs.Machine.{Event as MachineEvent, Miss, Read as Reads}
 use Rattle.bus_model.proofs.Bridge.{address_gap, address_hold, claimer_name}
 use Rattle.station_table.specs.Reactions.{reaction, group_reaction}
@@ -58,22 +58,22 @@ reacted_known begun r t h k =
 
 -- the machine's queue after it
 abbrev pub asked_with : Bool → ℕ → Option ℕ → List Item → List Item
-asked_with claims n held asked = if claims then claim_alone n held else asked
+asked_with claims n held asked = if claims then claim_alone station_seat n held else asked
 
 kept_asked : (begun : List Message) (n : ℕ) (held : Option ℕ) (frames : List FrameValue) (qs : List QueuedFrame) (claims : Bool)
-    → all_plain n (frames ++ claims_of claims n held) ++ reverse (map (queued_item begun n) (kept_if claims qs))
-    ≡ all_plain n frames ++ asked_with claims n held (reverse (map (queued_item begun n) qs))
-kept_asked begun n held frames qs true = append-nil (all_plain n (frames ++ claims_of true n held)) ∙ plain_append n frames (claims_of true n held)
-kept_asked begun n held frames qs false = ap (λ (l : List FrameValue). all_plain n l ++ reverse (map (queued_item begun n) qs)) (append-nil frames)
+    → all_plain station_seat n (frames ++ claims_of claims n held) ++ reverse (map (queued_item begun station_seat n) (kept_if claims qs))
+    ≡ all_plain station_seat n frames ++ asked_with claims n held (reverse (map (queued_item begun station_seat n) qs))
+kept_asked begun n held frames qs true = append-nil (all_plain station_seat n (frames ++ claims_of true n held)) ∙ plain_append station_seat n frames (claims_of true n held)
+kept_asked begun n held frames qs false = ap (λ (l : List FrameValue). all_plain station_seat n l ++ reverse (map (queued_item begun station_seat n) qs)) (append-nil frames)
 
 pub reacted_asked : (begun : List Message) (r : Reaction) (t : Traffic) (n : ℕ) (claims : Bool) (held : Option ℕ) (a : Answers r n claims held) → 0 < length t.seats → (seat_at t 0).name ≡ n
-    → queue_of begun (seat_at (reacted r t) 0) ≡ all_plain n a.frames ++ asked_with claims n held (queue_of begun (seat_at t 0))
+    → queue_of begun station_seat (seat_at (reacted r t) 0) ≡ all_plain station_seat n a.frames ++ asked_with claims n held (queue_of begun station_seat (seat_at t 0))
 reacted_asked begun r t n claims held a h named =
-    ap₂ (λ (m : ℕ) (qs : List QueuedFrame). reverse (map (queued_item begun m) qs)) ((own_reacted r t).name ∙ named) (reacted_queue r t h)
-    ∙ (queue_put begun n (kept_if r.withdraw (seat_at t 0).queue) r.put
-    ∙ (ap₂ (λ (fs : List FrameValue) (b : Bool). all_plain n fs ++ reverse (map (queued_item begun n) (kept_if b (seat_at t 0).queue))) a.puts a.withdraws
+    ap₂ (λ (m : ℕ) (qs : List QueuedFrame). reverse (map (queued_item begun station_seat m) qs)) ((own_reacted r t).name ∙ named) (reacted_queue r t h)
+    ∙ (queue_put begun station_seat n (kept_if r.withdraw (seat_at t 0).queue) r.put
+    ∙ (ap₂ (λ (fs : List FrameValue) (b : Bool). all_plain station_seat n fs ++ reverse (map (queued_item begun station_seat n) (kept_if b (seat_at t 0).queue))) a.puts a.withdraws
     ∙ (kept_asked begun n held a.frames (seat_at t 0).queue claims
-    ∙ ap (λ (m : ℕ). all_plain n a.frames ++ asked_with claims n held (reverse (map (queued_item begun m) (seat_at t 0).queue))) (sym named))))
+    ∙ ap (λ (m : ℕ). all_plain station_seat n a.frames ++ asked_with claims n held (reverse (map (queued_item begun station_seat m) (seat_at t 0).queue))) (sym named))))
 
 -- ---- what the station passes over
 
@@ -145,17 +145,17 @@ world_parts e f g h = rw (e, f, g, h) refl
 
 -- a state whose bus has changed at the station's seat alone
 pub world_own : (r : Settings) (s t : State) (seats : List Seat) (asked : List Item) (path : List Reception) → Stands r s seats → OwnChange s.traffic t.traffic → t.begun ≡ s.begun
-    → queue_of s.begun (seat_at t.traffic 0) ≡ asked → t.path ≡ path
+    → queue_of s.begun station_seat (seat_at t.traffic 0) ≡ asked → t.path ≡ path
     → world_of r t seats ≡ record { settings = station_of r; wire = reverse (items_of s); seats = seats; asked = asked; begun = s.begun; path = path }
 world_own r s t seats asked path stands own begun queue way =
-    world_parts (items_own r s t seats stands own begun) (ap (λ (b : List Message). queue_of b (seat_at t.traffic 0)) begun ∙ queue) begun way
+    world_parts (items_own r s t seats stands own begun) (ap (λ (b : List Message). queue_of b station_seat (seat_at t.traffic 0)) begun ∙ queue) begun way
 
 -- what is asked after a reading
 read_asked : (r : Settings) (s : State) (seats : List Seat) (x : Reading) (claims : Bool) (held : Option ℕ) (a : Answers (reaction s.station x) r.name claims held) → Stands r s seats
-    → queue_of s.begun (seat_at (reacted (reaction s.station x) (taken x s.traffic)) 0) ≡ all_plain r.name a.frames ++ asked_with claims r.name held (queue_of s.begun (seat_at s.traffic 0))
+    → queue_of s.begun station_seat (seat_at (reacted (reaction s.station x) (taken x s.traffic)) 0) ≡ all_plain station_seat r.name a.frames ++ asked_with claims r.name held (queue_of s.begun station_seat (seat_at s.traffic 0))
 read_asked r s seats x claims held a stands =
     reacted_asked s.begun (reaction s.station x) (taken x s.traffic) r.name claims held a some ((own_heard (passes x) s.traffic).name ∙ stands.name)
-    ∙ ap (λ (v : SeatValue). all_plain r.name a.frames ++ asked_with claims r.name held (queue_of s.begun v)) (read_heard x s given)
+    ∙ ap (λ (v : SeatValue). all_plain station_seat r.name a.frames ++ asked_with claims r.name held (queue_of s.begun station_seat v)) (read_heard x s given)
   where
     given : 0 < length s.traffic.seats
     given = (let c = stands.count in omega arith)
@@ -168,7 +168,7 @@ pub read_world : (r : Settings) (s : State) (seats : List Seat) (x : Reading) (p
       settings = station_of r;
       wire = reverse (items_of s);
       seats = seats;
-      asked = all_plain r.name a.frames ++ asked_with claims r.name held (queue_of s.begun (seat_at s.traffic 0));
+      asked = all_plain station_seat r.name a.frames ++ asked_with claims r.name held (queue_of s.begun station_seat (seat_at s.traffic 0));
       begun = s.begun;
       path = path;
     }

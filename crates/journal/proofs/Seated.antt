@@ -55,14 +55,15 @@ pub record IsSeat (begun : List Message) (items : List Item) (v : SeatValue) (u 
   pub live : x.live ≡ v.live
   pub held : x.held ≡ u.node.claimer.held
   pub holdable : CanHold u.node.claimer.held
-  pub queue : x.queue ≡ queue_of begun v
+  pub queue : x.queue ≡ queue_of begun x.number v
   pub known : AreKnown begun v.queue
   pub heard : x.heard ≡ reverse (take v.heard items)
   pub within : v.heard ≤ length items
   pub session : AreSession begun u.session_message v.name u.node.claimer.held u.node.session x.session
+  pub owner : (t : PartOf) → x.session ≡ Some t → t.message.seat ≡ x.number
 
 abbrev pub no_seat : Seat
-no_seat = record { name = 0; live = false; held = None; queue = []; heard = []; session = None }
+no_seat = record { number = 0; name = 0; live = false; held = None; queue = []; heard = []; session = None }
 
 -- a carried frame's seat was given, and its tag names a message begun
 pub record IsCarried (begun : List Message) (seats : ℕ) (c : CarriedFrame) : Type 0 where
@@ -83,4 +84,5 @@ pub record Stands (r : Settings) (s : State) (seats : List Seat) : Type 0 where
   pub carried : AreCarried s.begun (length s.traffic.seats) s.traffic.wire
   pub count : length s.traffic.seats ≡ suc (length s.units)
   pub places : length seats ≡ length s.units
+  pub numbers : (i : ℕ) → i < length s.units → (get_or seats i no_seat).number ≡ suc i
   pub seated : (i : ℕ) → i < length s.units → IsSeat s.begun (items_of s) (seat_at s.traffic (suc i)) (get_or s.units i (new_unit 0 0)) (get_or seats i no_seat)

@@ -18,6 +18,7 @@ start_stands r = record {
   carried = tt;
   count = refl;
   places = refl;
+  numbers = λ i l. absurd (omega arith);
   seated = λ i l. absurd (omega arith);
 }
 

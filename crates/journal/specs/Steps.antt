@@ -75,13 +75,13 @@ is_session (Some b) = not (b.dest == 255)
 abbrev pub session_message_after : ℕ → ℕ → Option Begun → ℕ
 session_message_after before number begun = if is_session begun then number else before
 
-abbrev pub message_begun : ℕ → ℕ → MemoryValue → Begun → Message
-message_begun number name memory b =
-    record { number = number; name = name; kind = b.kind; memory = memory; source = b.source; destination = b.dest }
+abbrev pub message_begun : ℕ → ℕ → ℕ → MemoryValue → Begun → Message
+message_begun number seat name memory b =
+    record { number = number; seat = seat; name = name; kind = b.kind; memory = memory; source = b.source; destination = b.dest }
 
-abbrev pub begun_after : List Message → ℕ → MemoryValue → Option Begun → List Message
-begun_after begun name memory None = begun
-begun_after begun name memory (Some b) = message_begun (length begun) name memory b ∷ begun
+abbrev pub begun_after : List Message → ℕ → ℕ → MemoryValue → Option Begun → List Message
+begun_after begun seat name memory None = begun
+begun_after begun seat name memory (Some b) = message_begun (length begun) seat name memory b ∷ begun
 
 abbrev pub withdrawn_by : ℕ → Withdraw → Traffic → Traffic
 withdrawn_by k withdraw.Keep t = t
@@ -95,7 +95,7 @@ after_hearing k memory h node s =
     record s {
       traffic = put_all k (map (tagged (length s.begun) (is_session h.begun) session_number) h.put) (withdrawn_by k h.withdraw (heard_more k 1 s.traffic));
       units = slice_set s.units (k - 1) (record { node = node; session_message = session_number });
-      begun = begun_after s.begun (seat_at s.traffic k).name memory h.begun;
+      begun = begun_after s.begun k (seat_at s.traffic k).name memory h.begun;
     }
 
 -- the next frame that a seat has not heard
@@ -112,7 +112,7 @@ abbrev pub after_starting : ℕ → MemoryValue → Started → State → State
 after_starting k memory started.Held s = s
 after_starting k memory (started.Begun b put) s = record s {
   traffic = put_all k (map (tagged (length s.begun) false (unit_at s k).session_message) put) s.traffic;
-  begun = message_begun (length s.begun) (seat_at s.traffic k).name memory b ∷ s.begun;
+  begun = message_begun (length s.begun) k (seat_at s.traffic k).name memory b ∷ s.begun;
 }
 
 unfoldable pub after_begin_of : Option ℕ → ℕ → MemoryValue → State → State
@@ -129,9 +129,9 @@ abbrev pub part_of : List Message → Option Tag → Option PartOf
 part_of begun None = None
 part_of begun (Some t) = option_map (λ m. record { message = m; part = t.part }) (message_numbered t.message begun)
 
--- a carried frame with the NAME of its seat and the message that it is a part of
+-- a carried frame with the number and the NAME of its seat and the message that it is a part of
 abbrev pub item_of : State → CarriedFrame → Item
-item_of s c = record { name = (seat_at s.traffic c.seat).name; frame = c.frame; tag = part_of s.begun c.tag }
+item_of s c = record { seat = c.seat; name = (seat_at s.traffic c.seat).name; frame = c.frame; tag = part_of s.begun c.tag }
 
 abbrev pub received : List Reception → Option Item → List Reception
 received path None = path

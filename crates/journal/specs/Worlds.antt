@@ -5,7 +5,7 @@ use Rattle.bus_ledger.specs.declared.traffic.QueuedFrame.{QueuedFrame}
 use Rattle.bus_model.specs.Messages.{Message}
 use Rattle.bus_model.specs.Traffic.{Item}
 use Rattle.bus_model.specs.Heard.{Settings as Station}
-use Rattle.bus_model.specs.Machine.{Seat, World}
+use Rattle.bus_model.specs.Machine.{Seat, World, station_seat}
 use Rattle.journal.specs.State.{Settings, State}
 use Rattle.journal.specs.Steps.{item_of, part_of}
 
@@ -13,17 +13,17 @@ use Rattle.journal.specs.Steps.{item_of, part_of}
 abbrev pub station_of : Settings → Station
 station_of r = record { name = r.name; address = r.address }
 
--- the frames carried, the oldest first, each with the NAME of its seat and the message that it is a part of
+-- the frames carried, the oldest first, each with the number and the NAME of its seat and the message that it is a part of
 abbrev pub items_of : State → List Item
 items_of s = map (item_of s) s.traffic.wire
 
--- a queued frame likewise
-abbrev pub queued_item : List Message → ℕ → QueuedFrame → Item
-queued_item begun name q = record { name = name; frame = q.frame; tag = part_of begun q.tag }
+-- a frame queued by the seat k likewise
+abbrev pub queued_item : List Message → ℕ → ℕ → QueuedFrame → Item
+queued_item begun k name q = record { seat = k; name = name; frame = q.frame; tag = part_of begun q.tag }
 
 -- a seat's queue, newest first
-abbrev pub queue_of : List Message → SeatValue → List Item
-queue_of begun v = reverse (map (queued_item begun v.name) v.queue)
+abbrev pub queue_of : List Message → ℕ → SeatValue → List Item
+queue_of begun k v = reverse (map (queued_item begun k v.name) v.queue)
 
 -- the state with these seats of units
 abbrev pub world_of : Settings → State → List Seat → World
@@ -31,7 +31,7 @@ world_of r s seats = record {
   settings = station_of r;
   wire = reverse (items_of s);
   seats = seats;
-  asked = queue_of s.begun (seat_at s.traffic 0);
+  asked = queue_of s.begun station_seat (seat_at s.traffic station_seat);
   begun = s.begun;
   path = s.path;
 }

@@ -124,7 +124,7 @@ invariant_of-self-2 g c =
       station = stands.station ∙ sym (ap (λ (v : State). v.station) is);
       units = map-set unit_of a.places.items k p ∙ (ap (λ (l : ℕ). set (map unit_of a.places.items) k (record { node = node'; session_message = l })) last_is
           ∙ (ap (λ (us : List UnitState). set us k (record { node = node'; session_message = session_message_after (unit_at s seat).session_message (length s.begun) heard.begun })) stands.units ∙ sym (ap (λ (v : State). v.units) is)));
-      begun = counted ∙ (ap (λ (n : ℕ). with_begun n heard.begun) number ∙ (sym (begun_length s.begun (seat_at s.traffic seat).name memory heard.begun) ∙ sym (ap (λ (v : State). length v.begun) is)));
+      begun = counted ∙ (ap (λ (n : ℕ). with_begun n heard.begun) number ∙ (sym (begun_length s.begun seat (seat_at s.traffic seat).name memory heard.begun) ∙ sym (ap (λ (v : State). length v.begun) is)));
       joined = joins_hear seat memory heard.agreed _ ∙ (stands.joined ∙ sym (length-set a.places.items k p));
       tallies = tallies_one a.places.items _ (Hear seat memory heard.agreed) k seat p one_more stands.tallies (λ j t'. refl) (omega arith) h (ap one_more (place_tally a k x h c.index_mut-place.ensures.value));
       fresh = λ j l. fresh_one _ (Hear seat memory heard.agreed) seat (length a.places.items) one_more stands.fresh (λ i t'. refl) (omega arith) j (omega (arith, length-set a.places.items k));

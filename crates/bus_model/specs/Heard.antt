@@ -252,6 +252,15 @@ row_heard r n (Gap m ∷ older) = addressless (row_heard r n older)
 row_heard r n (Empty ∷ older) = row_heard r n older
 row_heard r n (Frame f ∷ older) = row_after r n (group_of f) older (row_heard r n older)
 
+-- the address in a row, if there is one
+abbrev pub address_in_row : Option RowHeard → Option ℕ
+address_in_row None = None
+address_in_row (Some row) = row.address
+
+-- the address known of a NAME
+abbrev pub address_known : Settings → ℕ → List Reading → Option ℕ
+address_known r n h = address_in_row (row_heard r n h)
+
 -- a NAME enters once
 abbrev pub with_name : ℕ → List ℕ → List ℕ
 with_name n names = if list_any (λ m. m == n) names then names else names ++ n ∷ []

@@ -1,5 +1,5 @@
 -- What a garage answers of its station is what the law says of its journal.
-use Rattle.std.proofs.Common.{◌≡◌, ℕ, List, Option, reverse, ap, ◌∙◌}
+use Rattle.std.proofs.Common.{◌≡◌, ℕ, List, Option, reverse, sym, ap, ◌∙◌, subst}
 use Rattle.std.specs.Option.{option_map}
 use Rattle.dm_messages.specs.declared.kind.Kind.{Kind}
 use Rattle.dm_messages.specs.declared.shown.Shown.{Shown}
@@ -16,7 +16,7 @@ use Rattle.garage.specs.Inside.{settings_of, view_of, Stands}
 use Rattle.garage.specs.declared.garage.Garage.TheInside.{Inside}
 
 -- its tables stand for the readings in the journal
-tables : (a : Inside) → Stands a → StandsFor (station_of (settings_of a)) a.grant (state_of (view_of a)).station (readings_of (reverse a.journal.items))
+pub tables : (a : Inside) → Stands a → StandsFor (station_of (settings_of a)) a.grant (state_of (view_of a)).station (readings_of (reverse a.journal.items))
 tables a stands = station (settings_of a) (reverse a.journal.items) stands.fits
 
 pub shown_expected : (a : Inside) (n : ℕ) (k : Kind) (l : List Shown) → l ≡ entries_under a.station.rows n k → Stands a → l ≡ shown_of (view_of a) n k
@@ -38,3 +38,7 @@ pub row_known_heard : (a : Inside) (n : ℕ) (o : Option Row) → o ≡ row_of a
 row_known_heard a n o e stands =
     row_as_heard (station_of (settings_of a)) a.grant (state_of (view_of a)).station (readings_of (reverse a.journal.items)) n o
     (e ∙ ap (λ (s : StationValue). row_of s.owners n (kept_under s.rows n)) stands.station) (tables a stands)
+
+-- as the garage keeps them
+pub kept_tables : (a : Inside) → Stands a → StandsFor (station_of (settings_of a)) a.grant a.station (readings_of (reverse a.journal.items))
+kept_tables a stands = subst (λ (s : StationValue). StandsFor (station_of (settings_of a)) a.grant s (readings_of (reverse a.journal.items))) (sym stands.station) (tables a stands)

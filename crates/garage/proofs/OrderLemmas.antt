@@ -1,5 +1,5 @@
 -- What the station is told to send is what the journal says of it, and is at most three frames.
-use Rattle.std.proofs.Common.{ℕ, suc, zero, ◌≡◌, ◌≢◌, ◌⊎◌, inl, inr, ◌↔◌, IfErr, ◌+◌, ◌≤◌, List, [], ◌∷◌, length, Option, Some, None, Result, Ok, Err, nat_lt, true, false, Bool, cond, refl, sym, ap, subst, map, if◌then◌else◌, ◌∙◌, arith}
+use Rattle.std.proofs.Common.{ℕ, suc, zero, ◌≡◌, ◌≢◌, ◌⊎◌, inl, inr, ◌↔◌, IfErr, IfOk, IsOk, IsOkUnless, ◌+◌, ◌≤◌, List, [], ◌∷◌, length, Option, Some, None, Result, Ok, Err, nat_lt, true, false, Bool, cond, refl, sym, ap, subst, map, if◌then◌else◌, ◌∙◌, arith, rules}
 use Rattle.can_frame.specs.FrameValue.{FrameValue}
 use Rattle.requests.specs.Layouts.{commanded_bytes}
 use Rattle.transport.specs.Messages.{parts_from, frames_of_message, last_part}
@@ -11,7 +11,7 @@ use Rattle.station_table.specs.StationValue.{StationValue}
 use Rattle.station_table.specs.declared.error.StationError.{StationError}
 use Rattle.station_table.specs.declared.reaction.Ask.{Ask}
 use Rattle.station_table.specs.declared.reaction.Reaction.{Reaction}
-use Rattle.journal.specs.Steps.{address_of_kept, asked_of, commanded, obeyed}
+use Rattle.journal.specs.Steps.{order_answer}
 use Rattle.journal.specs.declared.order.Order.TheVariants as order
 use Rattle.bus_ledger.specs.BusValue.{Traffic, IsLive, seat_at}
 use Rattle.bus_ledger.specs.Changes.{withdrawn}
@@ -30,33 +30,25 @@ use Rattle.garage.specs.Obeying.{Obeys}
 use Rattle.garage.specs.declared.garage.Garage.TheInside.{Inside}
 use Rattle.garage.specs.Refusals.{of_station}
 use Rattle.garage.specs.declared.error.GarageError.{GarageError}
+use Rattle.garage.specs.declared.error.GarageError.TheVariants.{BookFull}
 use Rattle.station_table.specs.declared.error.StationError.TheVariants as station
 use Rattle.garage.proofs.Traffics.{given, keeps_withdrawn_if, put_bound, put_seats, put_units, put_wire}
-
-same_address : (owners : List (Option ℕ)) (name : ℕ) (kept : Option KeptValue) → address_in (row_of owners name kept) ≡ address_of_kept owners name kept
-same_address owners name None = refl
-same_address owners name (Some kept) = refl
 
 one_frame : (f : FrameValue) (r : Reaction) → record { withdraw = false; put = f ∷ [] } ≡ r → length r.put ≤ 3
 one_frame f r e = let n : length r.put ≡ 1 = ap (λ (x : Reaction). length x.put) (sym e) in omega arith
 
-asked_as : (own to : Option ℕ) (ask : Ask) (r : Reaction) → ask_from own to ask ≡ Ok r → (asked_of own ask to ≡ Some r) × (length r.put ≤ 3)
-asked_as None to ask r e = absurd cc
-asked_as (Some own) None ask r e = absurd cc
-asked_as (Some own) (Some address) ask r e =
+few_asked : (own to : Option ℕ) (ask : Ask) (r : Reaction) → ask_from own to ask ≡ Ok r → length r.put ≤ 3
+few_asked None to ask r e = absurd cc
+few_asked (Some own) None ask r e = absurd cc
+few_asked (Some own) (Some address) ask r e =
     let same : asking own ask address ≡ r = cc in
-    (ap Some same, one_frame _ r same)
+    one_frame _ r same
 
 pub obeys_ask : (s : StationValue) (name : ℕ) (ask : Ask) (r : Reaction) → ask_answer s name ask ≡ Ok r → Obeys s (order.Ask name ask) r
-unfolding obeyed
-obeys_ask s name ask r e =
-    let to = same_address s.owners name (kept_under s.rows name) in
-    let a = asked_as s.claimer.held (address_of_kept s.owners name (kept_under s.rows name)) ask r (ap (λ (o : Option ℕ). ask_from s.claimer.held o ask) (sym to) ∙ e) in
-    record { queues = a.0; few = a.1 }
+obeys_ask s name ask r e = record { queues = e; few = few_asked s.claimer.held (address_in (row_of s.owners name (kept_under s.rows name))) ask r e }
 
 pub obeys_ask_all : (s : StationValue) (ask : Ask) (r : Reaction) → ask_all_answer s ask ≡ Ok r → Obeys s (order.AskAll ask) r
-unfolding obeyed
-obeys_ask_all s ask r e = let a = asked_as s.claimer.held (Some 255) ask r e in record { queues = a.0; few = a.1 }
+obeys_ask_all s ask r e = record { queues = e; few = few_asked s.claimer.held (Some 255) ask r e }
 
 length-parts_from : (payload : List ℕ) (pgn source dest j n : ℕ) → length (parts_from payload pgn source dest j n) ≡ n
 length-parts_from payload pgn source dest j zero = refl
@@ -67,14 +59,14 @@ three payload pgn source dest nine =
     let last : last_part payload ≡ 2 = rw nine refl in
     length-parts_from payload pgn source dest 0 (suc (last_part payload)) ∙ ap suc last
 
-commanded_as : (own : Option ℕ) (name address : ℕ) (r : Reaction) → command_from own name address ≡ Ok r → (commanded own name address ≡ Some r) × (length r.put ≤ 3)
-commanded_as None name address r e = absurd cc
-commanded_as (Some own) name address r e =
+few_commanded : (own : Option ℕ) (name address : ℕ) (r : Reaction) → command_from own name address ≡ Ok r → length r.put ≤ 3
+few_commanded None name address r e = absurd cc
+few_commanded (Some own) name address r e =
     let same : commanding own name address ≡ r = cc in
     let bytes : List ℕ = commanded_bytes (record { name = name; address = address }) in
     let nine : length bytes ≡ 9 = nine_bytes name address in
     let n : length r.put ≡ 3 = ap (λ (x : Reaction). length x.put) (sym same) ∙ three bytes 65240 own 255 nine in
-    (ap Some same, omega arith)
+    omega arith
   where
     nine_bytes : (name address : ℕ) → length (commanded_bytes (record { name = name; address = address })) ≡ 9
     nine_bytes name address = refl
@@ -84,10 +76,7 @@ within true e a r h = absurd cc
 within false e a r h = h
 
 pub obeys_command : (s : StationValue) (name address : ℕ) (r : Reaction) → command_answer s name address ≡ Ok r → Obeys s (order.Command name address) r
-unfolding obeyed
-obeys_command s name address r e =
-    let a = commanded_as s.claimer.held name address r (within (nat_lt 253 address) _ _ r e) in
-    record { queues = a.0; few = a.1 }
+obeys_command s name address r e = record { queues = e; few = few_commanded s.claimer.held name address r (within (nat_lt 253 address) _ _ r e) }
 
 -- a refusal of the station that is not for want of memory is the one that is told
 answered_as : (answer told : Result Reaction StationError) (e : StationError) → e ≢ station.OutOfMemory → IfErr answer (λ s. (s ≡ station.OutOfMemory) ⊎ (told ≡ Err s)) → answer ≡ Err e → told ≡ Err e
@@ -99,15 +88,49 @@ answered_as (Err s) told e other why is =
       | inr t ↦ t ∙ is
     ]
 
--- so the garage refuses as the station would, which is the journal's
-pub refused_as : {T : Type 0} (a : Inside) (g : GarageValue) → Stands a → view_of a ≡ g
-    → (result : Result T GarageError) (answer : Result Reaction StationError) (told : StationValue → Result Reaction StationError) (e : StationError) → e ≢ station.OutOfMemory
-    → ((s : StationError) → told a.station ≡ Err s → answer ≡ Err s) → IfErr answer (λ s. (s ≡ station.OutOfMemory) ⊎ (told a.station ≡ Err s))
-    → ((result ≡ Err (of_station e)) ↔ (answer ≡ Err e)) → ((result ≡ Err (of_station e)) ↔ (told (state_of g).station ≡ Err e))
-refused_as a g stands is result answer told e other refused why both =
-    let same : a.station ≡ (state_of g).station = stands.station ∙ ap (λ (v : GarageValue). (state_of v).station) is in
-    subst (λ (s : StationValue). (result ≡ Err (of_station e)) ↔ (told s ≡ Err e)) same
-    (λ r. answered_as answer (told a.station) e other why (both.0 r), λ t. both.1 (refused e t))
+-- what a call answers that has the station obey an order, to which the station would say this if memory allows
+pub record Refuses {T : Type 0} (result : Result T GarageError) (told : Result Reaction StationError) (full : Type 0) : Type 0 where
+  pub as_told : (e : StationError) → e ≢ station.OutOfMemory → ((result ≡ Err (of_station e)) ↔ (told ≡ Err e))
+  pub book_full : (result ≡ Err BookFull) ↔ (IsOk told × full)
+
+pub refuses : {T : Type 0} (result : Result T GarageError) (answer told : Result Reaction StationError) (full : Type 0) → (told ≢ Err station.OutOfMemory)
+    → ((s : StationError) → told ≡ Err s → answer ≡ Err s) → IfErr answer (λ s. (s ≡ station.OutOfMemory) ⊎ (told ≡ Err s)) → IfOk answer (λ x. told ≡ Ok x)
+    → ((e : StationError) → e ≢ station.OutOfMemory → ((result ≡ Err (of_station e)) ↔ (answer ≡ Err e))) → ((result ≡ Err BookFull) ↔ (IsOkUnless answer station.OutOfMemory × full))
+    → Refuses result told full
+refuses result answer told full never refused why ok as_answered as_full = record {
+  as_told = λ e other. (λ r. answered_as answer told e other why ((as_answered e other).0 r), λ t. (as_answered e other).1 (refused e t));
+  book_full = (λ r. (let p = as_full.0 r in (would answer told never refused p.0, p.1)), λ p. as_full.1 (did answer told why p.0, p.1));
+}
+  where
+    would : (answer told : Result Reaction StationError) → (told ≢ Err station.OutOfMemory) → ((s : StationError) → told ≡ Err s → answer ≡ Err s) → IsOkUnless answer station.OutOfMemory → IsOk told
+    would answer (Ok x) never refused h = refl
+    would answer (Err s) never refused h =
+        let is : answer ≡ Err s = refused s refl in
+        let memory : s ≡ station.OutOfMemory = subst (λ (a : Result Reaction StationError). IsOkUnless a station.OutOfMemory) is h in
+        absurd (never (ap Err memory))
+
+    did : (answer told : Result Reaction StationError) → IfErr answer (λ s. (s ≡ station.OutOfMemory) ⊎ (told ≡ Err s)) → IsOk told → IsOkUnless answer station.OutOfMemory
+    did (Ok x) told why h = search rules
+    did (Err s) told why h = elim why [ inl m ↦ m | inr t ↦ absurd (let e : IsOk {T = Reaction} (Err s) = subst (λ (a : Result Reaction StationError). IsOk a) t h in cc) ]
+
+pub both_ways : {A B C : Type 0} → (A ↔ B) → (B ↔ C) → (A ↔ C)
+both_ways f g = (λ a. g.0 (f.0 a), λ c. f.1 (g.1 c))
+
+pub full_of_one : {A K F R : Type 0} → (R ↔ (K × F)) → (K ↔ A) → (R ↔ (A × F))
+full_of_one f g = (λ r. (let p = f.0 r in (g.0 p.0, p.1)), λ p. f.1 (g.1 p.0, p.1))
+
+pub full_of_two : {A B K F R : Type 0} → (R ↔ (K × F)) → (K ↔ (A × B)) → (R ↔ (A × B × F))
+full_of_two f g = (λ r. (let p = f.0 r in let q = g.0 p.0 in (q.0, q.1, p.1)), λ p. f.1 (g.1 (p.0, p.1), p.2))
+
+pub ask_never : (own to : Option ℕ) (ask : Ask) → ask_from own to ask ≢ Err station.OutOfMemory
+ask_never None to ask e = absurd cc
+ask_never (Some own) None ask e = absurd cc
+ask_never (Some own) (Some address) ask e = absurd cc
+
+pub command_never : (own : Option ℕ) (name address : ℕ) (b : Bool) → (if b then Err station.NotAnAddress else command_from own name address) ≢ Err station.OutOfMemory
+command_never own name address true e = absurd cc
+command_never None name address false e = absurd cc
+command_never (Some own) name address false e = absurd cc
 
 pub not_held : station.NotHeld ≢ station.OutOfMemory
 not_held e = absurd cc
@@ -119,7 +142,7 @@ pub not_an_address : station.NotAnAddress ≢ station.OutOfMemory
 not_an_address e = absurd cc
 
 -- what the state becomes
-pub ordered_is : (o : Order) (s : State) (r : Reaction) → obeyed s.station o ≡ Some r → after (Ordered o) s ≡ record s { traffic = reacted r s.traffic }
+pub ordered_is : (o : Order) (s : State) (r : Reaction) → order_answer s.station o ≡ Ok r → after (Ordered o) s ≡ record s { traffic = reacted r s.traffic }
 unfolding after_order_of
 ordered_is o s r e = rw e refl
 

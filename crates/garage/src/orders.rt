@@ -1,6 +1,5 @@
-ghost use Rattle.std.specs.Prelude.{◌≡◌, ◌≢◌, ◌≤◌, ◌⊎◌, ◌↔◌, length, Result, Some, Err, IfOk, IsOk, IsErrOf, IsOkUnless, OnOk, OnErr, IfErr};
+ghost use Rattle.std.specs.Prelude.{◌≡◌, ◌≢◌, ◌≤◌, ◌<◌, ◌⊎◌, ◌↔◌, length, Result, Some, Err, IfOk, IsSome, IsNone, IsErrOf, IsOkUnless, OnOk, OnErr, IfErr};
 ghost use Rattle.station_table.specs.declared.error.StationError.{StationError as AnyRefusal};
-ghost use Rattle.station_table.specs.Orders.{ask_answer, ask_all_answer, command_answer};
 ghost use Rattle.journal.specs.declared.order.Order.TheVariants as order;
 ghost use Rattle.garage.specs.Refusals.{of_station};
 
@@ -17,10 +16,8 @@ use std::alloc::Global;
 const MOST_ORDERED: usize = 3;
 
 impl Garage {
-    ghost use Rattle.journal.specs.Journal.{state_of, Adds};
-    ghost use Rattle.journal.specs.Steps.{obeyed};
+    ghost use Rattle.journal.specs.Journal.{state_of, Adds, known_address, own_address};
     ghost use Rattle.journal.specs.declared.event.Event.TheVariants.{Ordered};
-    ghost use Rattle.station_table.specs.declared.error.StationError.TheVariants as station;
     ghost use Rattle.garage.specs.Obeying.{Obeys};
     ghost use Rattle.garage.specs.Room.{IsFull};
 
@@ -31,9 +28,9 @@ impl Garage {
     #[tactic(auto, using(crate::proofs::OrderLemmas::obeys_ask))]
     pub fn ask(&mut self, alloc: Global, name: Name, ask: Ask) -> Result<(), GarageError>
         ensures ok { OnOk result (Adds self.old (Ordered (order.Ask name ask)) self.new) }
-        ensures not_held { IsErrOf result GarageError.NotHeld ↔ (ask_answer (state_of self.old).station name ask ≡ Err station.NotHeld) }
-        ensures no_address { IsErrOf result GarageError.NoAddress ↔ (ask_answer (state_of self.old).station name ask ≡ Err station.NoAddress) }
-        ensures full { IsErrOf result GarageError.BookFull ↔ (IsOk (ask_answer (state_of self.old).station name ask) × IsFull self.old) }
+        ensures not_held { IsErrOf result GarageError.NotHeld ↔ IsNone (own_address self.old) }
+        ensures no_address { IsErrOf result GarageError.NoAddress ↔ (IsSome (own_address self.old) × IsNone (known_address self.old name)) }
+        ensures full { IsErrOf result GarageError.BookFull ↔ (IsSome (own_address self.old) × IsSome (known_address self.old name) × IsFull self.old) }
         ensures only { IfErr result (λ e. (e ≡ GarageError.NotHeld) ⊎ (e ≡ GarageError.NoAddress) ⊎ (e ≡ GarageError.BookFull) ⊎ (e ≡ GarageError.OutOfMemory)) }
         ensures err { OnErr result (self.new ≡ self.old) }
     {
@@ -48,8 +45,8 @@ impl Garage {
     #[tactic(auto, using(crate::proofs::OrderLemmas::obeys_ask_all))]
     pub fn ask_all(&mut self, alloc: Global, ask: Ask) -> Result<(), GarageError>
         ensures ok { OnOk result (Adds self.old (Ordered (order.AskAll ask)) self.new) }
-        ensures not_held { IsErrOf result GarageError.NotHeld ↔ (ask_all_answer (state_of self.old).station ask ≡ Err station.NotHeld) }
-        ensures full { IsErrOf result GarageError.BookFull ↔ (IsOk (ask_all_answer (state_of self.old).station ask) × IsFull self.old) }
+        ensures not_held { IsErrOf result GarageError.NotHeld ↔ IsNone (own_address self.old) }
+        ensures full { IsErrOf result GarageError.BookFull ↔ (IsSome (own_address self.old) × IsFull self.old) }
         ensures only { IfErr result (λ e. (e ≡ GarageError.NotHeld) ⊎ (e ≡ GarageError.BookFull) ⊎ (e ≡ GarageError.OutOfMemory)) }
         ensures err { OnErr result (self.new ≡ self.old) }
     {
@@ -65,9 +62,9 @@ impl Garage {
     #[tactic(auto, using(crate::proofs::OrderLemmas::obeys_command))]
     pub fn command(&mut self, alloc: Global, name: Name, address: u8) -> Result<(), GarageError>
         ensures ok { OnOk result (Adds self.old (Ordered (order.Command name address)) self.new) }
-        ensures not_an_address { IsErrOf result GarageError.NotAnAddress ↔ (command_answer (state_of self.old).station name address ≡ Err station.NotAnAddress) }
-        ensures not_held { IsErrOf result GarageError.NotHeld ↔ (command_answer (state_of self.old).station name address ≡ Err station.NotHeld) }
-        ensures full { IsErrOf result GarageError.BookFull ↔ (IsOk (command_answer (state_of self.old).station name address) × IsFull self.old) }
+        ensures not_an_address { IsErrOf result GarageError.NotAnAddress ↔ (253 < address) }
+        ensures not_held { IsErrOf result GarageError.NotHeld ↔ ((address ≤ 253) × IsNone (own_address self.old)) }
+        ensures full { IsErrOf result GarageError.BookFull ↔ ((address ≤ 253) × IsSome (own_address self.old) × IsFull self.old) }
         ensures only { IfErr result (λ e. (e ≡ GarageError.NotAnAddress) ⊎ (e ≡ GarageError.NotHeld) ⊎ (e ≡ GarageError.BookFull) ⊎ (e ≡ GarageError.OutOfMemory)) }
         ensures err { OnErr result (self.new ≡ self.old) }
     {

@@ -1,5 +1,5 @@
 -- What the station is told to send, and what it carries, are steps of the machine.
-use Rattle.std.proofs.Common.{ℕ, suc, zero, ◌≡◌, ◌+◌, ◌<◌, ◌≤◌, ◌==◌, ◌&&◌, List, [], ◌∷◌, ◌++◌, map, reverse, take, drop, length, slice_get, Bool, true, false, Option, Some, None, if◌then◌else◌, take_all, refl, sym, ap, ap₂, ◌∙◌, subst, arith}
+use Rattle.std.proofs.Common.{ℕ, suc, zero, ◌≡◌, ◌+◌, ◌<◌, ◌≤◌, ◌==◌, ◌&&◌, List, [], ◌∷◌, ◌++◌, map, reverse, take, drop, length, slice_get, Bool, true, false, Option, Some, None, Result, Ok, Err, nat_lt, if◌then◌else◌, take_all, refl, sym, ap, ap₂, ◌∙◌, subst, arith}
 use Rattle.std.proofs.lemmas.List.{length-append, length-map, reverse-append, map-append}
 use Rattle.address_claim.specs.Claiming.{is_held}
 use Rattle.bus_ledger.specs.BusValue.{SeatValue, seat_at}
@@ -14,13 +14,16 @@ use Rattle.bus_model.specs.Machine.{CanHold, Carry_station, IsFit, Seat, Step}
 use Rattle.bus_model.specs.Machine.{Ask as Asks}
 use Rattle.bus_model.proofs.Bridge.{truth}
 use Rattle.station_table.specs.KeptValue.{KeptValue, kept_under}
-use Rattle.station_table.specs.StandsFor.{still_owned}
+use Rattle.station_table.specs.Orders.{address_in, ask_from, command_from}
+use Rattle.station_table.specs.StandsFor.{row_of, still_owned}
+use Rattle.station_table.specs.declared.error.StationError.{StationError}
+use Rattle.station_table.specs.declared.error.StationError.TheVariants.{NotAnAddress}
 use Rattle.station_table.specs.StationValue.{StationValue, at}
 use Rattle.station_table.specs.Reactions.{asking, commanding}
 use Rattle.station_table.specs.declared.reaction.Ask.{Ask as Asked}
 use Rattle.station_table.specs.declared.reaction.Reaction.{Reaction}
 use Rattle.journal.specs.State.{Settings, State}
-use Rattle.journal.specs.Steps.{address_known, address_of_kept, after, after_carry_of, after_order_of, asked_of, commanded, item_of, obeyed, reacted}
+use Rattle.journal.specs.Steps.{after, after_carry_of, after_order_of, item_of, order_answer, reacted}
 use Rattle.journal.specs.Fits.{Fits}
 use Rattle.journal.specs.Worlds.{items_of, queued_item, queue_of, station_of, world_of}
 use Rattle.journal.specs.declared.event.Event.TheVariants.{Carry, Ordered}
@@ -46,7 +49,7 @@ abbrev IsByte : Option ℕ → Type 0
 IsByte None = Unit {0}
 IsByte (Some a) = a ≤ 255
 
-known_byte : (owners : List (Option ℕ)) (n : ℕ) (kept : Option KeptValue) → length owners ≡ 256 → IsByte (address_of_kept owners n kept)
+known_byte : (owners : List (Option ℕ)) (n : ℕ) (kept : Option KeptValue) → length owners ≡ 256 → IsByte (address_in (row_of owners n kept))
 known_byte owners n None long = tt
 known_byte owners n (Some kept) long = go kept.claimed
   where
@@ -58,24 +61,30 @@ known_byte owners n (Some kept) long = go kept.claimed
         at_owner true e = let l = owned_below owners a n e in omega arith
         at_owner false e = tt
 
-asks : (n : ℕ) (held : Option ℕ) (ask : Asked) (to : Option ℕ) (x : Reaction) → CanHold held → IsByte to → asked_of held ask to ≡ Some x → Answers x n false held
+asks : (n : ℕ) (held : Option ℕ) (ask : Asked) (to : Option ℕ) (x : Reaction) → CanHold held → IsByte to → ask_from held to ask ≡ Ok x → Answers x n false held
 asks n None ask to x hold byte e = absurd cc
 asks n (Some own) ask None x hold byte e = absurd cc
 asks n (Some own) ask (Some d) x hold byte e =
     let same : asking own ask d ≡ x = cc in
     subst (λ (y : Reaction). Answers y n false (Some own)) same (ask_answers n own ask d hold byte)
 
-commands : (n : ℕ) (held : Option ℕ) (name address : ℕ) (x : Reaction) → CanHold held → commanded held name address ≡ Some x → Answers x n false held
+commands : (n : ℕ) (held : Option ℕ) (name address : ℕ) (x : Reaction) → CanHold held → command_from held name address ≡ Ok x → Answers x n false held
 commands n None name address x hold e = absurd cc
 commands n (Some own) name address x hold e =
     let same : commanding own name address ≡ x = cc in
     subst (λ (y : Reaction). Answers y n false (Some own)) same (command_answers n own name address hold)
 
-order_answers : (n : ℕ) (s : StationValue) (o : Order) (x : Reaction) → length s.owners ≡ 256 → CanHold s.claimer.held → obeyed s o ≡ Some x → Answers x n false s.claimer.held
-unfolding obeyed
-order_answers n s (order.Ask name ask) x long hold e = asks n s.claimer.held ask (address_known s name) x hold (known_byte s.owners name (kept_under s.rows name) long) e
+-- a command that is not refused for its address
+within : (b : Bool) (e : StationError) (a : Result Reaction StationError) (x : Reaction) → (if b then Err e else a) ≡ Ok x → a ≡ Ok x
+within true e a x h = absurd cc
+within false e a x h = h
+
+order_answers : (n : ℕ) (s : StationValue) (o : Order) (x : Reaction) → length s.owners ≡ 256 → CanHold s.claimer.held → order_answer s o ≡ Ok x → Answers x n false s.claimer.held
+order_answers n s (order.Ask name ask) x long hold e =
+    asks n s.claimer.held ask (address_in (row_of s.owners name (kept_under s.rows name))) x hold (known_byte s.owners name (kept_under s.rows name) long) e
 order_answers n s (order.AskAll ask) x long hold e = asks n s.claimer.held ask (Some 255) x hold (omega arith) e
-order_answers n s (order.Command name address) x long hold e = commands n s.claimer.held name address x hold e
+order_answers n s (order.Command name address) x long hold e =
+    commands n s.claimer.held name address x hold (within (nat_lt 253 address) NotAnAddress (command_from s.claimer.held name address) x e)
 
 -- what the station is told to queue
 queued_runs : (r : Settings) (s : State) (seats : List Seat) (x : Reaction) → Stands r s seats → Answers x r.name false (address_heard (station_of r) (readings s.path)) → Runs r s (record s { traffic = reacted x s.traffic }) seats
@@ -101,7 +110,7 @@ queued_runs r s seats x stands a = (
 pub order_runs : (r : Settings) (s : State) (seats : List Seat) (o : Order) → IsFit (station_of r) → Stands r s seats → AtStation r s → Fits s (Ordered o) → Runs r s (after (Ordered o) s) seats
 unfolding after_order_of
 order_runs r s seats o fit stands at fits =
-    subst (λ (x : Option Reaction). Runs r s (after_order_of x s) seats) (sym fits.1)
+    subst (λ (x : Result Reaction StationError). Runs r s (after_order_of x s) seats) (sym fits.1)
     (queued_runs r s seats fits.0 stands
     (subst (λ (held : Option ℕ). Answers fits.0 r.name false held) (heard_held r s at)
     (order_answers r.name s.station o fits.0 at.places.0 (heard_holds r s fit at) fits.1)))

@@ -3,7 +3,7 @@ use Rattle.std.proofs.Common.{◌≡◌, List, [], ◌∷◌, refl, ap, ◌∙�
 use Rattle.can_frame.specs.declared.reading.Reading.{Reading}
 use Rattle.bus_model.specs.Expected.{readings}
 use Rattle.journal.specs.State.{Settings, State, unit_at}
-use Rattle.journal.specs.Steps.{after_read, next_for, obeyed}
+use Rattle.journal.specs.Steps.{after_read, next_for, order_answer}
 use Rattle.journal.specs.Fits.{Fits}
 use Rattle.journal.specs.Journal.{AllFit, readings_of, state_after}
 use Rattle.journal.specs.declared.event.Event.{Event}
@@ -23,5 +23,5 @@ path_readings r (Begin k memory ∷ older) f = (begin_same (unit_at (state_after
 path_readings r (Turned k ∷ older) f = path_readings r older f.1
 path_readings r (Carry k ∷ older) f = (carry_same _ k (state_after r older)).readings' ∙ path_readings r older f.1
 path_readings r (Read x ∷ older) f = read_more (state_after r older) x f.0 ∙ ap (λ (h : List Reading). x ∷ h) (path_readings r older f.1)
-path_readings r (Ordered o ∷ older) f = (order_same (obeyed (state_after r older).station o) (state_after r older)).readings' ∙ path_readings r older f.1
+path_readings r (Ordered o ∷ older) f = (order_same (order_answer (state_after r older).station o) (state_after r older)).readings' ∙ path_readings r older f.1
 path_readings r (Leave k ∷ older) f = (leave_same k (state_after r older)).readings' ∙ path_readings r older f.1

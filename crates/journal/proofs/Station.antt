@@ -1,5 +1,5 @@
 -- The station's tables stand for what it read.
-use Rattle.std.proofs.Common.{ℕ, ◌≡◌, ◌≢◌, ◌≤◌, ◌==◌, List, [], ◌∷◌, reverse, take, length, Bool, true, false, Option, Some, None, if◌then◌else◌, refl, sym, ap, ◌∙◌, subst, arith}
+use Rattle.std.proofs.Common.{ℕ, ◌≡◌, ◌≢◌, ◌≤◌, ◌==◌, List, [], ◌∷◌, reverse, take, length, Bool, true, false, Option, Some, None, Result, Ok, Err, if◌then◌else◌, refl, sym, ap, ◌∙◌, subst, arith}
 use Rattle.std.specs.Prelude.{nat_lt}
 use Rattle.std.proofs.lemmas.Bool.{ne_eqb}
 use Rattle.std.proofs.lemmas.List.{length-map, length-reverse, length-take-le}
@@ -22,10 +22,11 @@ use Rattle.fault_memory.specs.Memory.{MemoryValue}
 use Rattle.station_table.specs.StationValue.{StationValue}
 use Rattle.station_table.specs.StandsFor.{StandsFor}
 use Rattle.station_table.specs.Steps.{new_station, after_reading}
+use Rattle.station_table.specs.declared.error.StationError.{StationError}
 use Rattle.station_table.specs.declared.reaction.Reaction.{Reaction}
 use Rattle.station_table.proofs.Stands.{stands_new, stands_after}
 use Rattle.journal.specs.State.{Settings, State, start, unit_at}
-use Rattle.journal.specs.Steps.{after, after_join, after_hear_of, after_begin_of, after_starting, after_carry_of, after_read, after_order_of, after_leave, item_of, next_for, obeyed, path_after}
+use Rattle.journal.specs.Steps.{after, after_join, after_hear_of, after_begin_of, after_starting, after_carry_of, after_read, after_order_of, after_leave, item_of, next_for, order_answer, path_after}
 use Rattle.journal.specs.Fits.{Fits}
 use Rattle.journal.specs.Worlds.{station_of}
 use Rattle.journal.specs.declared.event.Event.{Event}
@@ -77,10 +78,10 @@ carry_same (Some q) k s = record { station = refl; readings' = own (k == 0) (ite
     own true p = refl
     own false p = refl
 
-pub order_same : (o : Option Reaction) (s : State) → SameStation s (after_order_of o s)
+pub order_same : (o : Result Reaction StationError) (s : State) → SameStation s (after_order_of o s)
 unfolding after_order_of
-order_same None s = record { station = refl; readings' = refl }
-order_same (Some r) s = record { station = refl; readings' = refl }
+order_same (Err e) s = record { station = refl; readings' = refl }
+order_same (Ok r) s = record { station = refl; readings' = refl }
 
 pub leave_same : (k : ℕ) (s : State) → SameStation s (after_leave k s)
 unfolding after_leave
@@ -123,5 +124,5 @@ station_stands r (Begin k memory) s at fits = same_at r s _ (begin_same (unit_at
 station_stands r (Turned k) s at fits = at
 station_stands r (Carry k) s at fits = same_at r s _ (carry_same _ k s) at
 station_stands r (Read x) s at fits = read_at r s x (next_is s.traffic x fits.0 fits.1) at
-station_stands r (Ordered o) s at fits = same_at r s _ (order_same (obeyed s.station o) s) at
+station_stands r (Ordered o) s at fits = same_at r s _ (order_same (order_answer s.station o) s) at
 station_stands r (Leave k) s at fits = same_at r s _ (leave_same k s) at

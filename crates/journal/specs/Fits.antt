@@ -1,5 +1,5 @@
 -- When an event may happen.
-use Rattle.std.specs.Prelude.{◌≡◌, ◌≢◌, ℕ, ◌<◌, ◌≤◌, ◌^◌, Some, None, length}
+use Rattle.std.specs.Prelude.{◌≡◌, ◌≢◌, ℕ, ◌<◌, ◌≤◌, ◌^◌, Some, None, Ok, length}
 use Rattle.can_frame.specs.declared.reading.Reading.TheVariants.{Empty}
 use Rattle.fault_memory.specs.Memory.{IsLawfulMemory}
 use Rattle.dm_messages.specs.declared.kind.Kind.TheVariants.{Dm1}
@@ -11,7 +11,7 @@ use Rattle.bus_ledger.specs.declared.traffic.QueuedFrame.{QueuedFrame}
 use Rattle.node_core.specs.Beginning.{begins}
 use Rattle.node_core.specs.declared.heard.Started.TheVariants.{Held}
 use Rattle.station_table.specs.declared.reaction.Reaction.{Reaction}
-use Rattle.journal.specs.Steps.{obeyed}
+use Rattle.journal.specs.Steps.{order_answer}
 use Rattle.journal.specs.State.{State, unit_at}
 use Rattle.journal.specs.declared.event.Event.{Event}
 use Rattle.journal.specs.declared.event.Event.TheVariants.{Join, Hear, Begin, Turned, Carry, Read, Ordered, Leave}
@@ -24,5 +24,5 @@ Fits s (Begin k memory) =
 Fits s (Turned k) = IsUnit s.traffic k
 Fits s (Carry k) = (q : QueuedFrame) × IsNext s.traffic k q
 Fits s (Read r) = (r ≡ next_reading s.traffic) × (r ≢ Empty)
-Fits s (Ordered order) = (r : Reaction) × (obeyed s.station order ≡ Some r)
+Fits s (Ordered order) = (r : Reaction) × (order_answer s.station order ≡ Ok r)
 Fits s (Leave k) = IsUnit s.traffic k

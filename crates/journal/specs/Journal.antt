@@ -1,9 +1,10 @@
 -- The journal, newest event first, and what it says.
-use Rattle.std.specs.Prelude.{◌≡◌, ℕ, ◌+◌, ◌==◌, List, [], ◌∷◌, reverse, if◌then◌else◌}
+use Rattle.std.specs.Prelude.{◌≡◌, ℕ, ◌+◌, ◌==◌, List, [], ◌∷◌, Option, reverse, if◌then◌else◌}
 use Rattle.bus_ledger.specs.BusValue.{IsUnit, seat_at}
 use Rattle.dm_messages.specs.declared.kind.Kind.{Kind}
 use Rattle.dm_messages.specs.declared.shown.Shown.{Shown}
 use Rattle.bus_model.specs.Expected.{expected}
+use Rattle.bus_model.specs.Heard.{address_heard, address_known}
 use Rattle.bus_model.specs.Machine.{IsFit}
 use Rattle.journal.specs.Worlds.{station_of}
 use Rattle.can_frame.specs.declared.reading.Reading.{Reading}
@@ -77,6 +78,14 @@ unfoldable pub readings_of : List Event → List Reading
 readings_of [] = []
 readings_of (Read reading ∷ older) = reading ∷ readings_of older
 readings_of (_ ∷ older) = readings_of older
+
+-- the station's own address, as its readings tell
+abbrev pub own_address : GarageValue → Option ℕ
+own_address g = address_heard (station_of g.settings) (readings_of g.journal)
+
+-- the address that its readings tell of a NAME
+abbrev pub known_address : GarageValue → ℕ → Option ℕ
+known_address g n = address_known (station_of g.settings) n (readings_of g.journal)
 
 -- what a garage is to show of a NAME: of its messages of that kind, those that came to the station on a clear path, in the
 -- order begun, each as the view of the fault memory with which it began

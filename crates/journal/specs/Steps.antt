@@ -1,5 +1,5 @@
 -- What each event changes. An event that nothing fits leaves the state as it is.
-use Rattle.std.specs.Prelude.{ℕ, ◌-◌, Bool, true, false, not, ◌==◌, List, [], ◌∷◌, ◌++◌, map, reverse, take, length, Option, Some, None, slice_get, slice_set, if◌then◌else◌}
+use Rattle.std.specs.Prelude.{ℕ, ◌-◌, Bool, true, false, not, ◌==◌, List, [], ◌∷◌, ◌++◌, map, reverse, take, length, Option, Some, None, Result, Ok, Err, slice_get, slice_set, if◌then◌else◌}
 use Rattle.std.specs.Option.{option_map}
 use Rattle.can_frame.specs.FrameValue.{FrameValue}
 use Rattle.can_frame.specs.declared.reading.Reading.{Reading}
@@ -31,11 +31,10 @@ use Rattle.node_core.specs.declared.out.Out.{Out}
 use Rattle.node_core.specs.declared.out.Part.{Part}
 use Rattle.node_core.specs.declared.out.Part.TheVariants as part
 use Rattle.station_table.specs.Steps.{after_reading}
-use Rattle.station_table.specs.Reactions.{reaction as station_reaction, asking, commanding}
+use Rattle.station_table.specs.Reactions.{reaction as station_reaction}
 use Rattle.station_table.specs.StationValue.{StationValue}
-use Rattle.station_table.specs.KeptValue.{KeptValue, kept_under}
-use Rattle.station_table.specs.StandsFor.{still_owned}
-use Rattle.station_table.specs.declared.reaction.Ask.{Ask as Asked}
+use Rattle.station_table.specs.Orders.{ask_answer, ask_all_answer, command_answer}
+use Rattle.station_table.specs.declared.error.StationError.{StationError}
 use Rattle.journal.specs.declared.order.Order.{Order}
 use Rattle.journal.specs.declared.order.Order.TheVariants.{Ask, AskAll, Command}
 use Rattle.station_table.specs.declared.reaction.Reaction.{Reaction}
@@ -172,32 +171,15 @@ after_read r s = record s {
 unfoldable pub after_leave : ℕ → State → State
 after_leave k s = record s { traffic = left k s.traffic }
 
-abbrev pub address_of_kept : List (Option ℕ) → ℕ → Option KeptValue → Option ℕ
-address_of_kept owners name None = None
-address_of_kept owners name (Some kept) = still_owned owners name kept.claimed
+-- what the station answers to an order, memory aside: what it queues, or why it refuses
+abbrev pub order_answer : StationValue → Order → Result Reaction StationError
+order_answer s (Ask name ask) = ask_answer s name ask
+order_answer s (AskAll ask) = ask_all_answer s ask
+order_answer s (Command name address) = command_answer s name address
 
--- the address of the NAME's last claim, where it is still its owner
-abbrev pub address_known : StationValue → ℕ → Option ℕ
-address_known s name = address_of_kept s.owners name (kept_under s.rows name)
-
-abbrev pub asked_of : Option ℕ → Asked → Option ℕ → Option Reaction
-asked_of None ask destination = None
-asked_of (Some own) ask None = None
-asked_of (Some own) ask (Some destination) = Some (asking own ask destination)
-
-abbrev pub commanded : Option ℕ → ℕ → ℕ → Option Reaction
-commanded None name address = None
-commanded (Some own) name address = Some (commanding own name address)
-
--- what an order makes the station queue, if it can be obeyed
-unfoldable pub obeyed : StationValue → Order → Option Reaction
-obeyed s (Ask name ask) = asked_of s.claimer.held ask (address_known s name)
-obeyed s (AskAll ask) = asked_of s.claimer.held ask (Some 255)
-obeyed s (Command name address) = commanded s.claimer.held name address
-
-unfoldable pub after_order_of : Option Reaction → State → State
-after_order_of None s = s
-after_order_of (Some r) s = record s { traffic = reacted r s.traffic }
+unfoldable pub after_order_of : Result Reaction StationError → State → State
+after_order_of (Err e) s = s
+after_order_of (Ok r) s = record s { traffic = reacted r s.traffic }
 
 abbrev pub after : Event → State → State
 after (Join name address) s = after_join name address s
@@ -206,5 +188,5 @@ after (Begin k memory) s = after_begin_of (unit_at s k).node.claimer.held k memo
 after (Turned k) s = s
 after (Carry k) s = after_carry_of (slice_get (seat_at s.traffic k).queue 0) k s
 after (Read r) s = after_read r s
-after (Ordered order) s = after_order_of (obeyed s.station order) s
+after (Ordered order) s = after_order_of (order_answer s.station order) s
 after (Leave k) s = after_leave k s

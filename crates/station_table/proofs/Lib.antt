@@ -5,6 +5,7 @@ pub mod HalfLemmas
 pub mod Known
 pub mod Lines
 pub mod Messages
+pub mod Orders
 pub mod OwnAddress
 pub mod Queries
 pub mod RowLemmas

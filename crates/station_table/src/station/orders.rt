@@ -1,4 +1,6 @@
-ghost use Rattle.std.specs.Prelude.{◌≡◌, ◌⊎◌, ◌≤◌, Ok, Err, length, IfOk, IfErr};
+ghost use Rattle.std.specs.Prelude.{◌≡◌, ◌⊎◌, ◌≤◌, ℕ, List, Ok, Err, length, IfOk, IfErr};
+ghost use Rattle.bus_model.specs.Heard.{Settings};
+ghost use Rattle.can_frame.specs.declared.reading.Reading.{Reading as AnyReading};
 ghost use Rattle.station_table.specs.Reactions as reactions;
 ghost use Rattle.station_table.specs.declared.error.StationError.{StationError as AnyRefusal};
 
@@ -16,16 +18,19 @@ use transport::message_part;
 const GLOBAL_ADDRESS: u8 = 255;
 
 impl Station {
-    ghost use Rattle.station_table.specs.Orders.{ask_answer, ask_all_answer, command_answer};
+    ghost use Rattle.station_table.specs.Orders.{AreAsked, IsAsked, IsCommanded, ask_answer, ask_all_answer, command_answer};
+    ghost use Rattle.station_table.specs.StandsFor.{StandsFor};
 
     /// Asks the unit of this NAME; the station stays as it is.
     ///
     /// Refused, in this order: `NotHeld` where the station holds no address, `NoAddress` where it knows none of that NAME,
     /// `OutOfMemory`.
+    #[tactic(auto, using(crate::proofs::Orders::asked_as_heard))]
     pub fn ask(&self, alloc: Global, name: Name, ask: Ask) -> Result<Reaction, StationError>
         ensures ok { IfOk result (λ x. ask_answer self.now name ask ≡ Ok x) }
         ensures refused { (e : AnyRefusal) → ask_answer self.now name ask ≡ Err e → result ≡ Err e }
         ensures why { IfErr result (λ e. (e ≡ StationError.OutOfMemory) ⊎ (ask_answer self.now name ask ≡ Err e)) }
+        ensures heard { (r : Settings) (grant : ℕ) (h : List AnyReading) → StandsFor r grant self.now h → IsAsked r h name (ask_answer self.now name ask) }
     {
         let Some(own) = self.held() else {
             return Err(StationError::NotHeld);
@@ -42,10 +47,12 @@ impl Station {
     /// Asks all; the station stays as it is.
     ///
     /// Refused, in this order: `NotHeld` where the station holds no address, `OutOfMemory`.
+    #[tactic(auto, using(crate::proofs::Orders::all_asked_as_heard))]
     pub fn ask_all(&self, alloc: Global, ask: Ask) -> Result<Reaction, StationError>
         ensures ok { IfOk result (λ x. ask_all_answer self.now ask ≡ Ok x) }
         ensures refused { (e : AnyRefusal) → ask_all_answer self.now ask ≡ Err e → result ≡ Err e }
         ensures why { IfErr result (λ e. (e ≡ StationError.OutOfMemory) ⊎ (ask_all_answer self.now ask ≡ Err e)) }
+        ensures heard { (r : Settings) (grant : ℕ) (h : List AnyReading) → StandsFor r grant self.now h → AreAsked r h (ask_all_answer self.now ask) }
     {
         let Some(own) = self.held() else {
             return Err(StationError::NotHeld);
@@ -56,10 +63,12 @@ impl Station {
     /// Commands the unit of this NAME to hold an address, by a broadcast of nine bytes; the station stays as it is.
     ///
     /// Refused, in this order: `NotAnAddress` for 254 and 255, `NotHeld` where the station holds no address, `OutOfMemory`.
+    #[tactic(auto, using(crate::proofs::Orders::commanded_as_heard))]
     pub fn command(&self, alloc: Global, name: Name, address: u8) -> Result<Reaction, StationError>
         ensures ok { IfOk result (λ x. command_answer self.now name address ≡ Ok x) }
         ensures refused { (e : AnyRefusal) → command_answer self.now name address ≡ Err e → result ≡ Err e }
         ensures why { IfErr result (λ e. (e ≡ StationError.OutOfMemory) ⊎ (command_answer self.now name address ≡ Err e)) }
+        ensures heard { (r : Settings) (grant : ℕ) (h : List AnyReading) → StandsFor r grant self.now h → IsCommanded r h address (command_answer self.now name address) }
     {
         if address > 253 {
             return Err(StationError::NotAnAddress);

@@ -1,10 +1,25 @@
-use Rattle.station_table.specs.Orders.{ask_all_answer}
-use Rattle.station_table.specs.StationValue.{StationValue}
+use Rattle.std.specs.Prelude.{◌≡◌, ◌↔◌, Err, IsNone, IsSome, reverse}
+use Rattle.std.proofs.Common.{subst}
 use Rattle.station_table.specs.declared.error.StationError.TheVariants as station
-use Rattle.garage.proofs.OrderLemmas.{refused_as, not_held}
+use Rattle.journal.specs.Journal.{GarageValue, own_address, readings_of}
+use Rattle.journal.specs.Worlds.{station_of}
+use Rattle.garage.specs.Inside.{settings_of}
+use Rattle.garage.specs.Room.{IsFull}
+use Rattle.garage.specs.declared.error.GarageError.TheVariants.{BookFull, NotHeld}
+use Rattle.garage.proofs.Headline.{kept_tables}
+use Rattle.garage.proofs.OrderLemmas.{ask_never, both_ways, full_of_one, refuses, not_held}
 use Rattle.garage.proofs.garage.Garage.ask_all.Goals as goal
 
 pub returns-clause-not_held : goal.returns-clause-not_held
 returns-clause-not_held c =
-    refused_as c.self.inside c.args.self.now c.self.invariant c.self.view_is c.obey.result c.ask_all-answer.result (λ (s : StationValue). ask_all_answer s c.args.ask) station.NotHeld not_held
-    c.ask_all-answer.ensures.refused c.ask_all-answer.ensures.why (c.obey.ensures.refused station.NotHeld not_held)
+    let a = c.self.inside in
+    let heard = c.ask_all-answer.ensures.heard (station_of (settings_of a)) a.grant (readings_of (reverse a.journal.items)) (kept_tables a c.self.invariant) in
+    let refusals = refuses c.obey.result c.ask_all-answer.result _ (IsFull c.args.self.now) (ask_never _ _ c.args.ask) c.ask_all-answer.ensures.refused c.ask_all-answer.ensures.why c.ask_all-answer.ensures.ok c.obey.ensures.refused c.obey.ensures.full in
+    subst (λ (g : GarageValue). (c.obey.result ≡ Err NotHeld) ↔ IsNone (own_address g)) c.self.view_is (both_ways (refusals.as_told station.NotHeld not_held) heard.not_held)
+
+pub returns-clause-full : goal.returns-clause-full
+returns-clause-full c =
+    let a = c.self.inside in
+    let heard = c.ask_all-answer.ensures.heard (station_of (settings_of a)) a.grant (readings_of (reverse a.journal.items)) (kept_tables a c.self.invariant) in
+    let refusals = refuses c.obey.result c.ask_all-answer.result _ (IsFull c.args.self.now) (ask_never _ _ c.args.ask) c.ask_all-answer.ensures.refused c.ask_all-answer.ensures.why c.ask_all-answer.ensures.ok c.obey.ensures.refused c.obey.ensures.full in
+    subst (λ (g : GarageValue). (c.obey.result ≡ Err BookFull) ↔ (IsSome (own_address g) × IsFull c.args.self.now)) c.self.view_is (full_of_one refusals.book_full heard.asked)

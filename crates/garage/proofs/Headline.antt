@@ -1,16 +1,24 @@
 -- What a garage answers of its station is what the law says of its journal.
-use Rattle.std.proofs.Common.{◌≡◌, ℕ, List, Option, reverse, sym, ap, ◌∙◌, subst}
+use Rattle.std.proofs.Common.{◌≡◌, ℕ, true, List, Option, reverse, sym, ap, ◌∙◌, subst}
 use Rattle.std.specs.Option.{option_map}
+use Rattle.std.specs.Prelude.{◌↔◌}
 use Rattle.dm_messages.specs.declared.kind.Kind.{Kind}
 use Rattle.dm_messages.specs.declared.shown.Shown.{Shown}
-use Rattle.bus_model.specs.Heard.{entries_heard, missed_count, row_heard}
+use Rattle.bus_model.specs.ClearPath.{IsOnClearPath, NoneMissed}
+use Rattle.bus_model.specs.Expected.{is_clear}
+use Rattle.bus_model.specs.Heard.{entries_heard, missed_count, row_heard, unread_count}
+use Rattle.bus_model.specs.LawfulTraffic.{IsLawfulTraffic}
+use Rattle.bus_model.specs.Messages.{Message, IsAmong}
+use Rattle.bus_model.specs.Whole.{received_whole}
 use Rattle.station_table.specs.KeptValue.{entries_under, kept_under}
 use Rattle.station_table.specs.StandsFor.{StandsFor, row_of, row_heard_as}
 use Rattle.station_table.specs.StationValue.{StationValue}
 use Rattle.station_table.specs.declared.row.Row.{Row}
 use Rattle.station_table.proofs.Queries.{row_as_heard}
 use Rattle.journal.specs.Journal.{readings_of, shown_of, state_of}
+use Rattle.journal.specs.Promises.{IsFromOwner, wire_of}
 use Rattle.journal.specs.Worlds.{station_of}
+use Rattle.journal.proofs.Lifted.{from_owner, lawful_wire, looks_back, quiet}
 use Rattle.journal.proofs.Headline.{exact, readable, station}
 use Rattle.garage.specs.Inside.{settings_of, view_of, Stands}
 use Rattle.garage.specs.declared.garage.Garage.TheInside.{Inside}
@@ -42,3 +50,20 @@ row_known_heard a n o e stands =
 -- as the garage keeps them
 pub kept_tables : (a : Inside) → Stands a → StandsFor (station_of (settings_of a)) a.grant a.station (readings_of (reverse a.journal.items))
 kept_tables a stands = subst (λ (s : StationValue). StandsFor (station_of (settings_of a)) a.grant s (readings_of (reverse a.journal.items))) (sym stands.station) (tables a stands)
+
+pub shown_quiet : (a : Inside) (n : ℕ) (k : Kind) (l : List Shown) → l ≡ entries_under a.station.rows n k → Stands a → NoneMissed (state_of (view_of a)).path
+    → l ≡ reverse (received_whole n k (state_of (view_of a)).begun (state_of (view_of a)).path)
+shown_quiet a n k l e stands whole = shown_expected a n k l e stands ∙ quiet (view_of a) stands.fits whole n k
+
+pub path_looks_back : (a : Inside) (m : Message) → Stands a → IsAmong m (state_of (view_of a)).begun
+    → (is_clear m (state_of (view_of a)).path ≡ true) ↔ IsOnClearPath m (state_of (view_of a)).path
+path_looks_back a m stands among = looks_back (view_of a) stands.fits m among
+
+pub unread_heard : (a : Inside) (n : ℕ) → n ≡ a.station.unread → Stands a → n ≡ unread_count (station_of (settings_of a)) (readings_of (reverse a.journal.items))
+unread_heard a n e stands = e ∙ (ap (λ (s : StationValue). s.unread) stands.station ∙ (tables a stands).unread)
+
+pub wire_lawful : (a : Inside) → Stands a → IsLawfulTraffic (state_of (view_of a)).begun (wire_of (state_of (view_of a)))
+wire_lawful a stands = lawful_wire (view_of a) stands.fits
+
+pub frame_from_owner : (a : Inside) (i : ℕ) → Stands a → IsFromOwner (state_of (view_of a)) i
+frame_from_owner a i stands = from_owner (view_of a) stands.fits i

@@ -54,16 +54,21 @@ impl Model for Garage {
 }
 
 impl Garage {
-    ghost use Rattle.std.specs.Prelude.{◌≡◌, ℕ, ◌<◌, ◌≤◌, ◌⊎◌, ◌^◌, ◌↔◌, length, reverse, slice_get, IfOk, IfErr, IsErrOf, OnErr, Ok, Some};
+    ghost use Rattle.std.specs.Prelude.{◌≡◌, ℕ, ◌<◌, ◌≤◌, ◌⊎◌, ◌^◌, ◌↔◌, length, reverse, slice_get, true, IfOk, IfErr, IsErrOf, OnErr, Ok, Some};
     ghost use Rattle.std.specs.Option.{option_map};
     ghost use Rattle.bus_ledger.specs.Carrying.{CanCarry, IsIdle, IsWaiting};
     ghost use Rattle.bus_ledger.specs.Ledger.{counts_of};
     ghost use Rattle.bus_ledger.specs.Joining.{live_units};
     ghost use Rattle.bus_ledger.specs.Reception.{next_reading};
     ghost use Rattle.station_table.specs.KeptValue.{entries_under};
-    ghost use Rattle.bus_model.specs.Heard.{entries_heard, missed_count};
+    ghost use Rattle.bus_model.specs.Heard.{entries_heard, missed_count, unread_count};
+    ghost use Rattle.bus_model.specs.ClearPath.{IsOnClearPath, NoneMissed};
+    ghost use Rattle.bus_model.specs.Expected.{is_clear};
+    ghost use Rattle.bus_model.specs.LawfulTraffic.{IsLawfulTraffic};
+    ghost use Rattle.bus_model.specs.Messages.{Message, IsAmong};
+    ghost use Rattle.bus_model.specs.Whole.{received_whole};
     ghost use Rattle.journal.specs.Journal.{state_of, tally_of, readings_of, shown_of, Adds};
-    ghost use Rattle.journal.specs.Promises.{IsLawful};
+    ghost use Rattle.journal.specs.Promises.{IsFromOwner, IsLawful, wire_of};
     ghost use Rattle.journal.specs.Worlds.{station_of};
     ghost use Rattle.journal.specs.declared.event.Event.TheVariants.{Carry, Read};
     ghost use Rattle.garage.specs.Carrying.{Carries};
@@ -95,10 +100,16 @@ impl Garage {
     ///
     /// They are exactly the views of the fault memories with which units of that NAME began messages of that kind whose
     /// frames were all read on a clear path, in the order begun (`expected`).
-    #[tactic(auto, using(crate::proofs::Headline::shown_expected, crate::proofs::Headline::shown_heard))]
+    ///
+    /// - `quiet`: where nothing was missed they are the views of all messages whose last part was read; so in particular where
+    ///   each address was claimed under one NAME only.
+    /// - `looks_back`: what a clear path is, said without the walk of `expected`.
+    #[tactic(auto, using(crate::proofs::Headline::shown_expected, crate::proofs::Headline::shown_heard, crate::proofs::Headline::shown_quiet, crate::proofs::Headline::path_looks_back))]
     pub fn shown(&self, name: Name, kind: Kind) -> &[Shown]
         ensures expected { result.now ≡ shown_of self.now name kind }
         ensures heard { result.now ≡ reverse (entries_heard (station_of self.now.settings) name kind (readings_of self.now.journal)) }
+        ensures quiet { NoneMissed (state_of self.now).path → result.now ≡ reverse (received_whole name kind (state_of self.now).begun (state_of self.now).path) }
+        ensures looks_back { (m : Message) → IsAmong m (state_of self.now).begun → (is_clear m (state_of self.now).path ≡ true) ↔ IsOnClearPath m (state_of self.now).path }
         ensures kept { result.now ≡ entries_under (state_of self.now).station.rows name kind }
     {
         self.station.shown(name, kind)
@@ -114,9 +125,10 @@ impl Garage {
     }
 
     /// How many messages the station could not read: none.
-    #[tactic(auto, using(crate::proofs::Headline::none_unread))]
+    #[tactic(auto, using(crate::proofs::Headline::none_unread, crate::proofs::Headline::unread_heard))]
     pub fn unread(&self) -> u64
         ensures none { result ≡ 0 }
+        ensures heard { result ≡ unread_count (station_of self.now.settings) (readings_of self.now.journal) }
         ensures kept { result ≡ (state_of self.now).station.unread }
     {
         self.station.unread()
@@ -148,15 +160,24 @@ impl Garage {
     }
 
     /// How many frames were carried.
+    ///
+    /// They are lawful traffic: each frame of a message is that part of it and comes from its seat, and the parts of messages
+    /// stand in their order.
+    #[tactic(auto, using(crate::proofs::Headline::wire_lawful))]
     pub fn wire_len(&self) -> u32
-        ensures { result ≡ length (state_of self.now).traffic.wire }
+        ensures len { result ≡ length (state_of self.now).traffic.wire }
+        ensures lawful { IsLawfulTraffic (state_of self.now).begun (wire_of (state_of self.now)) }
     {
         self.bus.wire_len()
     }
 
     /// The i-th frame carried, counted from 0.
+    ///
+    /// Where it is a part of a message, the last claim of the message's source before it bears the NAME of its seat.
+    #[tactic(auto, using(crate::proofs::Headline::frame_from_owner))]
     pub fn wire_frame(&self, i: u32) -> Option<Frame>
-        ensures { result ≡ option_map (λ c. c.frame) (slice_get (state_of self.now).traffic.wire i) }
+        ensures frame { result ≡ option_map (λ c. c.frame) (slice_get (state_of self.now).traffic.wire i) }
+        ensures sender { IsFromOwner (state_of self.now) i }
     {
         self.bus.wire_frame(i)
     }

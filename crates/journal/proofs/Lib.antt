@@ -21,3 +21,4 @@ pub mod Starting
 pub mod Readings
 pub mod Reaching
 pub mod Headline
+pub mod Lifted

@@ -7,6 +7,7 @@
 mod event;
 mod laws;
 mod order;
+mod promises;
 mod tally;
 
 pub use event::Event;
@@ -14,4 +15,8 @@ pub use laws::{
     journal_is_a_run, nothing_stays_unread, shown_is_expected, station_stands_for_its_readings,
 };
 pub use order::Order;
+pub use promises::{
+    clear_path_looks_back, lists_only_grow, nothing_missed_shows_all, traffic_is_lawful,
+    who_sends_holds_the_address,
+};
 pub use tally::Tally;

@@ -46,7 +46,7 @@ overflow_add-place g c =
 pub do_heard-requires-clause-next : goal.do_heard-requires-clause-next
 do_heard-requires-clause-next g c =
     let a = c.self.inside in
-    let there = next_within a.bus.traffic.wire (seat_at a.bus.traffic c.args.seat).heard c.in-Some.frame (sym c.in-Some.ensures) in
+    let there = next_within a.bus.traffic.wire (seat_at a.bus.traffic c.args.seat).heard c.in-Some.frame (sym c.in-Some.ensures.frame) in
     subst (λ (t : Traffic). (seat_at t c.args.seat).heard < length t.wire) (sym c.reserve.ensures.traffic) there
 
 pub do_heard-requires-clause-few : goal.do_heard-requires-clause-few
@@ -84,8 +84,8 @@ invariant_of-self-2 g c =
     let last = c.last_session-place.result in
     let p : Place = (record { node = node'; session_message = last; tally = one_more x.tally }) in
     let same = unit_is a seat x stands h c.index_mut-place.ensures.value in
-    let there = next_within t.wire (seat_at t seat).heard f (sym c.in-Some.ensures) in
-    let next : next_for s seat ≡ Some f = ap (λ (b : Traffic). option_map (λ (c' : CarriedFrame). c'.frame) (slice_get b.wire (seat_at b seat).heard)) (sym stands.traffic) ∙ sym c.in-Some.ensures in
+    let there = next_within t.wire (seat_at t seat).heard f (sym c.in-Some.ensures.frame) in
+    let next : next_for s seat ≡ Some f = ap (λ (b : Traffic). option_map (λ (c' : CarriedFrame). c'.frame) (slice_get b.wire (seat_at b seat).heard)) (sym stands.traffic) ∙ sym c.in-Some.ensures.frame in
     let mem_is = c.in_ok-memory.ensures.same ∙ c.memory.ensures in
     let lawful = c.in_ok-memory.ensures.lawful in
     let reacts = c.in_ok-heard.ensures.heard in
@@ -151,8 +151,8 @@ returns-clause-ok g c =
     let heard = c.in_ok-heard.heard in
     let memory = c.in_ok-memory.memory in
     let same = unit_is a seat x stands h c.index_mut-place.ensures.value in
-    let there = next_within t.wire (seat_at t seat).heard f (sym c.in-Some.ensures) in
-    let next : next_for (state a) seat ≡ Some f = ap (λ (b : Traffic). option_map (λ (c' : CarriedFrame). c'.frame) (slice_get b.wire (seat_at b seat).heard)) (sym stands.traffic) ∙ sym c.in-Some.ensures in
+    let there = next_within t.wire (seat_at t seat).heard f (sym c.in-Some.ensures.frame) in
+    let next : next_for (state a) seat ≡ Some f = ap (λ (b : Traffic). option_map (λ (c' : CarriedFrame). c'.frame) (slice_get b.wire (seat_at b seat).heard)) (sym stands.traffic) ∙ sym c.in-Some.ensures.frame in
     let mem_is = c.in_ok-memory.ensures.same ∙ c.memory.ensures in
     let lawful = subst IsLawfulMemory mem_is c.in_ok-memory.ensures.lawful in
     let reacts = c.in_ok-heard.ensures.heard in

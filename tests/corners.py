@@ -551,7 +551,7 @@ def room(writer):
 
 def session_at_the_limit(writer):
     """The journal is full while a session is open, a frame is queued or unread; then all that may still be answered."""
-    writer.make_garage(limit=writer.random.randrange(30, 60))
+    writer.make_garage(limit=writer.random.randrange(50, 110))
     writer.join("00000000000000A0", writer.one_of(0, 0, 0, 249), "plain")
     writer.join()
     writer.say("set", 1, 100, 1, writer.one_of(2, 3, 9))
@@ -582,6 +582,28 @@ def session_at_the_limit(writer):
         writer.say(*writer.random.choice([("carry", MANY), ("hear", seat, MANY), ("read", MANY), ("round", MANY), ("dm1", seat), ("dm1", 1)]))
         if writer.chance(40):
             writer.random.choice([writer.join, writer.command, writer.ask, writer.turn, writer.query, writer.leave])()
+
+
+def cut_short(writer):
+    """A repeating command has more to do than the journal has room for."""
+    writer.make_garage(limit=writer.random.randrange(30, 36), name=STATIONS[0])
+    for name, address in (("00000000000000A0", 0), ("00000000000000B0", 1)):
+        writer.say("join", name, address, "plain")
+    writer.say("round", MANY)
+    for _ in range(5):
+        writer.say("dm1", writer.one_of(1, 2))
+    writer.say("hear", writer.one_of(1, 2), writer.one_of(0, 1))
+    writer.say("carry", writer.one_of(1, 3))
+    writer.say("dm1", 1)
+    writer.say("dm1", 2)
+    left = writer.one_of(1, 1, 2)
+    while room(writer) > left:
+        writer.say("turn", 1)
+    behind = min(writer.seats(), key=lambda seat: writer.garage.seats[seat].heard)
+    for _ in range(3):
+        writer.say(*writer.random.choice([("hear", behind, MANY), ("read", MANY), ("carry", MANY), ("round", MANY)]))
+    for _ in range(6):
+        writer.any_line()
 
 
 def full_house(writer):
@@ -673,7 +695,7 @@ def wide_window(writer):
     writer.say("carry", 1)
 
 
-PLANS = {mixed: 68, lines_alone: 10, at_the_limit: 8, session_at_the_limit: 8, full_house: 2, full_memory: 10, counted_out: 2,
+PLANS = {mixed: 68, lines_alone: 10, at_the_limit: 8, session_at_the_limit: 8, cut_short: 8, full_house: 2, full_memory: 10, counted_out: 2,
          no_free_address: 5, wide_window: 2}
 
 

@@ -1,0 +1,259 @@
+"""What a run of random scripts must reach, and how often the model reached it.
+
+Each rule of the unit, of the station, of the bus and of the script has its cases here, by the words with which the model
+counts them. A word that is not here is an error. A case that a long run does not reach is one that the scripts do not test.
+"""
+
+UNIT = """
+a unit hears a cannot-claim
+a unit hears a claim of an address that it does not hold
+a unit defends its address against a higher NAME
+a unit moves, since it may take another address
+a unit moves past an address that is noted for another NAME
+a unit may take another address, but none is free
+a unit loses its address to a lower NAME
+a unit that claims anew ends its session
+a unit that claims anew withdraws parts of messages
+a unit ends its session since its destination is claimed
+a unit withdraws the frames of its session alone
+a unit is asked at its address for a claim
+a unit is asked among all for a claim
+a unit is asked among all for a claim that it cannot make
+a unit is asked for a claim by one without an address
+a unit without an address is asked for something else
+a unit is asked from its own address for something else
+a unit is asked at its address for a short message
+a unit is asked at its address for a short message with a session of that kind open
+a unit is asked at its address for a short message with a session of the other kind open
+a unit is asked at its address for a long message
+a unit is asked at its address for a long message with a session of that kind open
+a unit is asked at its address for a long message with a session of the other kind open
+a unit is asked among all for a short message
+a unit is asked among all for a short message with a session of that kind open
+a unit is asked among all for a short message with a session of the other kind open
+a unit is asked among all for a long message
+a unit is asked among all for a long message with a session of that kind open
+a unit is asked among all for a long message with a session of the other kind open
+a unit is asked at its address for DM3
+a unit is asked at its address for DM3 with no code to clear
+a unit is asked at its address for DM3 and refuses
+a unit is asked at its address for DM3 and refuses with no code to clear
+a unit is asked at its address for DM11
+a unit is asked at its address for DM11 with no code to clear
+a unit is asked at its address for DM11 and refuses
+a unit is asked at its address for DM11 and refuses with no code to clear
+a unit is asked among all for DM3
+a unit is asked among all for DM3 with no code to clear
+a unit is asked among all for DM3 and refuses
+a unit is asked among all for DM3 and refuses with no code to clear
+a unit is asked among all for DM11
+a unit is asked among all for DM11 with no code to clear
+a unit is asked among all for DM11 and refuses
+a unit is asked among all for DM11 and refuses with no code to clear
+a unit is asked at its address for what it does not know
+a unit is asked among all for what it does not know
+a unit is sent a request to send
+a unit is sent a control message that is not of its session
+a unit is granted a part
+a unit is granted the rest
+a unit is granted packet 255
+a unit is granted packets that are not the following ones
+a unit's session is acknowledged
+a unit's session is acknowledged before all is queued
+a unit hears the announcement of a commanded address
+a unit hears the announcement of another broadcast
+a unit hears a packet to all that completes no command
+a unit hears a command to another NAME
+a unit is commanded and refuses
+a unit obeys a command
+a unit obeys a command without an address
+a unit obeys a command to the address that it holds
+a unit hears a request to another
+a unit hears a control message to another
+a unit hears a packet to one alone
+a unit hears an acknowledgment
+a unit hears a DM1 or DM2
+a DM1 begins with a session of the other kind open
+a unit that is no flicker thinks
+a flicker heals
+a flicker sets
+a flicker's change is refused SpnTooLarge
+a flicker's change is refused FmiTooLarge
+a flicker's change is refused Full
+"""
+
+STATION = """
+the station meets a gap
+the station without an address meets a gap
+the station meets a gap after a gap
+the station withdraws frames after a gap
+the station reads a claim of an address without owner
+the station reads a claim by the owner again
+the station reads a claim that takes an address from another NAME
+the station reads a cannot-claim
+the station drops a half joined broadcast since its source is claimed by another NAME
+the station drops a half joined session since its source is claimed by another NAME
+the station hears a cannot-claim
+the station hears a claim of an address that it does not hold
+the station defends its address against a higher NAME
+the station moves, since it may take another address
+the station moves past an address that is noted for another NAME
+the station may take another address, but none is free
+the station loses its address to a lower NAME
+the station drops sessions since it has to claim anew
+the station withdraws frames since it has to claim anew
+the station keeps an acknowledgment
+the station reads an acknowledgment for another
+the station reads an acknowledgment from an address without owner
+the station shows a DM1 by a single frame
+the station shows a DM1 by a broadcast
+the station shows a DM1 by a session
+the station shows a DM2 by a single frame
+the station shows a DM2 by a broadcast
+the station shows a DM2 by a session
+the station passes over a message from an address without owner
+the station joins a broadcast
+the station does not join a broadcast
+the station drops a half joined broadcast for a new one
+the station reads a further packet of a broadcast
+the station reads a packet of a broadcast that it does not join
+the station joins a session
+the station replaces a session
+the station aborts what it is asked to let send
+the station grants further packets
+the station reads a further packet of a session
+the station reads a packet of a session that it does not join
+the station reads a control message or packet that is not for it
+"""
+
+BUS = """
+several seats want to send
+several seats want to send the same identifier
+a seat that has not heard all is passed over
+a window of 1 frame overflows
+a window of 4096 frames overflows
+a NAME joins again
+a unit leaves with a session open
+a unit leaves with frames of a message queued
+hear: nothing, at the limit
+carry: idle, at the limit
+carry: waiting, at the limit
+read: nothing, at the limit
+dm1: held, at the limit
+"""
+
+ANSWERS = """
+a garage again is a bad line
+a command before the garage is a bad line
+garage: ok
+join: plain
+join: guarded
+join: flicker
+set: new
+set: active already
+set: back
+set: back at the greatest count
+set: ok
+set: ok, none
+heal: ok
+heal: ok, none
+lamps: ok
+think: ok
+turn: ok
+leave: ok
+dm1: begun
+dm1: held
+hear: until the count
+hear: until nothing is left
+hear: none
+read: until the count
+read: until nothing is left
+read: none
+carry: until the count
+carry: idle
+carry: waiting
+carry: none
+round: until the count
+round: idle
+round: none
+ask: one
+ask: all
+ask: dm1
+ask: dm2
+ask: dm3
+ask: dm11
+ask: claim
+ask: a number
+command: ok
+shown: none
+shown: one
+shown: several
+row: unknown
+row: an address
+row: no address
+row: an acknowledgment
+row: no acknowledgment
+counts: of the station
+counts: of a live unit
+counts: of a unit that is gone
+stats: none missed
+stats: some missed
+frame: a frame
+frame: no frame
+"""
+
+REFUSALS = {
+    "garage": "BadName BadSetting", "join": "BadName NotAnAddress NameInUse TooManySeats BookFull",
+    "set": "SpnTooLarge FmiTooLarge Full", "heal": "SpnTooLarge FmiTooLarge NotActive", "turn": "BookFull", "hear": "BookFull",
+    "dm1": "Unclaimed BookFull", "carry": "BookFull", "read": "BookFull", "round": "BookFull",
+    "ask": "BadName PgnTooLarge NotHeld NoAddress BookFull", "command": "BadName NotAnAddress NotHeld BookFull",
+    "shown": "BadName", "row": "BadName",
+}
+SEVERAL = ["set", "heal", "hear", "carry", "read", "round"]  # a refusal leaves what was done before it
+EARLIER = ["join", "dm1", "ask", "command"]  # these have refusals that come before the limit's
+BAD_LINES = ["garage", "join", "set", "heal", "lamps", "think", "turn", "leave", "hear", "dm1", "carry", "read", "round", "ask",
+             "command", "shown", "row", "counts", "stats", "frame", "fly"]  # `fly`: no command at all
+NO_SEAT = ["set", "heal", "lamps", "think", "turn", "leave", "hear", "dm1", "counts"]
+
+# Cases that need a frame that neither a unit nor the station of this bus ever sends at that moment. Why: a unit never hears
+# its own NAME's claims; the station grants at least one packet, begins no session and answers its own requests by nobody;
+# an unreadable frame has no sender; and a session's destination is claimed anew before it could be aborted.
+FROM_OUTSIDE = """
+a unit hears a claim of its own NAME
+a unit moves to an address that it claimed before
+a unit is asked by one without an address for something else
+a unit's session is aborted
+a unit is granted no packet
+a unit is announced a broadcast to it alone
+a unit hears no announcement in a control message to all
+a unit is commanded an address that nobody can hold
+a unit hears a frame of another kind
+the station hears a claim of its own NAME
+the station moves to an address that it claimed before
+the station is asked for its claim
+the station is asked for what it does not know
+the station reads a request that it does not answer
+the station can't read a message
+the station reads a request to send from nobody's address
+the station reads a packet out of order
+the station aborts a session for a packet out of order
+the station reads an abort
+the station reads a frame of another kind
+"""
+
+
+def lines(text):
+    return text.strip().splitlines()
+
+
+WANTED = lines(UNIT) + lines(STATION) + lines(BUS) + lines(ANSWERS) + [
+    f"{command}: refused {refusal}" for command, refusals in REFUSALS.items() for refusal in refusals.split()
+] + [f"{command}: refused after some" for command in SEVERAL] + [
+    f"{command}: another refusal at the limit" for command in EARLIER
+] + [f"{command}: bad line" for command in BAD_LINES] + [f"{command}: no seat" for command in NO_SEAT]
+
+COUNTS = {case: 0 for case in WANTED + lines(FROM_OUTSIDE)}
+
+
+def reach(case):
+    COUNTS[case] += 1

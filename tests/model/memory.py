@@ -1,0 +1,115 @@
+"""Fault memories, and what a DM1 or DM2 says of them (J1939-73, 5.7.1, 5.7.2, 5.7.3, 5.7.11)."""
+
+from .frames import DM1
+
+MOST_CODES = 445  # what a message of 1,785 bytes has room for
+LAST_SPN, LAST_FMI = 524287, 31  # 19 bits and 5 bits
+LAST_COUNT = 126  # 127 stands for "not available"
+OFF = b"\x00\xff"  # no lamp on; flash codes all "not available"
+
+
+class Refused(Exception):
+    """A call that was refused: it changed nothing."""
+
+    def __init__(self, refusal):
+        super().__init__(refusal)
+        self.refusal = refusal
+
+
+class Code:
+    """A trouble code: suspect parameter, failure mode, occurrence count."""
+
+    __slots__ = ("spn", "fmi", "count")
+
+    def __init__(self, spn, fmi, count):
+        self.spn, self.fmi, self.count = spn, fmi, count
+
+    def data(self):
+        """Four bytes: SPN bits 0 to 7, 8 to 15, then 16 to 18 above the FMI; the count, its top bit 0."""
+        return bytes([self.spn & 255, self.spn >> 8 & 255, self.spn >> 16 << 5 | self.fmi, self.count])
+
+    def text(self):
+        return f"{self.spn}/{self.fmi}/{self.count}"
+
+
+class Memory:
+    """Two lamp bytes, the active codes, the codes that were active before. No pair of SPN and FMI stands twice."""
+
+    def __init__(self):
+        self.lamps, self.active, self.previous = OFF, [], []
+
+    @staticmethod
+    def find(codes, spn, fmi):
+        return next((code for code in codes if code.spn == spn and code.fmi == fmi), None)
+
+    @staticmethod
+    def check(spn, fmi):
+        if spn > LAST_SPN:
+            raise Refused("SpnTooLarge")
+        if fmi > LAST_FMI:
+            raise Refused("FmiTooLarge")
+
+    def set(self, spn, fmi):
+        """A fault is there: a code that was active before comes back, counted once more; a new one has count 1."""
+        self.check(spn, fmi)
+        if self.find(self.active, spn, fmi):
+            return "active already"
+        code = self.find(self.previous, spn, fmi)
+        if code:
+            self.previous.remove(code)
+            self.active.append(Code(spn, fmi, min(code.count + 1, LAST_COUNT)))
+            return "back at the greatest count" if code.count == LAST_COUNT else "back"
+        if len(self.active) + len(self.previous) == MOST_CODES:
+            raise Refused("Full")
+        self.active.append(Code(spn, fmi, 1))
+        return "new"
+
+    def heal(self, spn, fmi):
+        """A fault is gone: its code goes to the end of the previous ones, its count as it was."""
+        self.check(spn, fmi)
+        code = self.find(self.active, spn, fmi)
+        if not code:
+            raise Refused("NotActive")
+        self.active.remove(code)
+        self.previous.append(code)
+
+    def clear_active(self):
+        """What DM11 asks for: no active codes, all lamps off. Nothing becomes a previous code."""
+        self.lamps, self.active = OFF, []
+
+    def clear_previous(self):
+        """What DM3 asks for. The lamps stay."""
+        self.previous = []
+
+    def payload(self, kind):
+        """The bytes of a message of that kind: lamps, then active codes (DM1) or previous ones (DM2).
+
+        Up to one code there are always 8 bytes: no code is four zeros, the rest is filled with FF.
+        """
+        codes = self.active if kind == DM1 else self.previous
+        data = self.lamps + b"".join(code.data() for code in codes)
+        if not codes:
+            data += bytes(4)
+        return data + b"\xff" * (8 - len(data))
+
+
+def read_message(payload):
+    """What a payload shows: lamps and codes; None where it can't be read.
+
+    8 bytes hold no code (bytes 3 to 6 all 00 or all FF) or one; 2 + 4n bytes hold n codes, from 2 on. A group with the
+    old conversion method (top bit of its last byte) can't be read, nor can four zeros among several groups.
+    """
+    if len(payload) == 8:
+        groups = [] if payload[2:6] in (bytes(4), b"\xff" * 4) else [payload[2:6]]
+    elif 10 <= len(payload) <= 2 + 4 * MOST_CODES and len(payload) % 4 == 2:
+        groups = [payload[at : at + 4] for at in range(2, len(payload), 4)]
+    else:
+        return None
+    if any(group[3] > 127 or group == bytes(4) for group in groups):
+        return None
+    return payload[:2], [Code(g[0] | g[1] << 8 | g[2] >> 5 << 16, g[2] & 31, g[3]) for g in groups]
+
+
+def entry_text(shown):
+    lamps, codes = shown
+    return lamps.hex().upper() + "".join(" " + code.text() for code in codes) + ("" if codes else " -")

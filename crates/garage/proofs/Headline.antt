@@ -24,7 +24,7 @@ use Rattle.garage.specs.Inside.{settings_of, view_of, Stands}
 use Rattle.garage.specs.declared.garage.Garage.TheInside.{Inside}
 
 -- its tables stand for the readings in the journal
-tables : (a : Inside) → Stands a → StandsFor (station_of (settings_of a)) a.grant (state_of (view_of a)).station (readings_of (reverse a.journal.items))
+pub tables : (a : Inside) → Stands a → StandsFor (station_of (settings_of a)) a.grant (state_of (view_of a)).station (readings_of (reverse a.journal.items))
 tables a stands = station (settings_of a) (reverse a.journal.items) stands.fits
 
 pub shown_expected : (a : Inside) (n : ℕ) (k : Kind) (l : List Shown) → l ≡ entries_under a.station.rows n k → Stands a → l ≡ shown_of (view_of a) n k

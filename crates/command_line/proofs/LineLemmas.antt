@@ -15,7 +15,7 @@ use Rattle.clap.specs.declared.parser.matches.ArgMatches.TheViews.{out-ArgMatche
 use Rattle.clap.specs.declared.parser.matches.SubCommand.{SubCommand}
 use Rattle.clap.proofs.OnLiterals.{clap_on_literals}
 use Rattle.command_line.specs.CommandLine.{AsksForScript, bench_app, faults_in, line_fault_of}
-use Rattle.command_line.specs.declared.LineFault.TheVariants.{Memory}
+use Rattle.command_line.specs.declared.fault.LineFault.TheVariants.{Memory}
 
 pub is_exact : is_simple_and_free bench_app ≡ true
 unfolding clap_on_literals

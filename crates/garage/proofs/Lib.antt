@@ -6,3 +6,4 @@ mod SeatKept
 mod OrderLemmas
 mod OpeningLemmas
 mod BeginLemmas
+mod Lines

@@ -6,3 +6,4 @@ pub mod Causes
 pub mod Answers
 pub mod Obeying
 pub mod Opening
+pub mod Snapshots

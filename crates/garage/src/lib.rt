@@ -9,10 +9,12 @@ mod plug;
 mod queries;
 mod queueing;
 mod room;
+mod snapshot;
 mod steps;
 
 pub use bus_ledger::{Carried, Counts};
 pub use error::GarageError;
 pub use garage::Garage;
 pub use plug::{Parked, Plug};
+pub use snapshot::{Newest, RowLine, Snapshot};
 pub use steps::{Begin, HeardOne};

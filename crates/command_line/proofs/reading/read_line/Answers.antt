@@ -1,6 +1,6 @@
 use Rattle.std.proofs.Common.{Err, inl, inr, ap, ◌∙◌}
 use Rattle.command_line.proofs.LineLemmas.{is_err_of, names_job, no_fault, on_ok, only_memory}
-use Rattle.command_line.proofs.read_line.Goals as goal
+use Rattle.command_line.proofs.reading.read_line.Goals as goal
 
 pub returns-in_err-matches-clause-script : goal.returns-in_err-matches-clause-script
 returns-in_err-matches-clause-script c = λ asks.

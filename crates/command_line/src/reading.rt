@@ -1,0 +1,69 @@
+ghost use Rattle.std.specs.Prelude.{◌≡◌, ◌⊎◌, ◌↔◌, [], IfErr, IfOk, OnOk, codes, map, string_bytes};
+ghost use Rattle.clap.specs.Words.{app_of, subcommand_name_of, IsAmong};
+ghost use Rattle.command_line.specs.CommandLine.{AsksForHelp, AsksForScript, IsInRange, bench_app, faults_in};
+
+use crate::fault::LineFault;
+use crate::{Job, script, threads};
+use clap::error::ErrorKind;
+use clap::{ArgMatches, Command};
+use std::alloc::{AllocError, Global};
+
+/// Reads the words of a command line, the program's name first.
+///
+/// # Errors
+/// - `Help`: the words ask for help or for the version.
+/// - `Refused`: the words are none of the program's, or a number is not 1 to 100,000.
+/// - `Memory`: memory ran out.
+pub fn read_line(alloc: Global, words: &[String]) -> Result<Job, LineFault>
+    ensures range { IfOk result IsInRange }
+    ensures taken { OnOk result (faults_in (map string_bytes words.now) ≡ []) }
+    ensures help { result ≡ Err LineFault.Help → AsksForHelp (map string_bytes words.now) }
+    ensures script { AsksForScript (map string_bytes words.now) → (result ≡ Ok Job.Script) ⊎ (result ≡ Err LineFault.Memory) }
+{
+    let command = bench_command(alloc)?;
+    let matches = command.try_get_matches_from(words)?;
+    job_of(&matches)
+}
+
+/// The page that the words ask for, of help or of the version; `None` where they ask for neither.
+///
+/// # Errors
+/// - memory ran out.
+pub fn page(alloc: Global, words: &[String]) -> Result<Option<String>, AllocError> {
+    let command = bench_command(alloc)?;
+    let error = match command.try_get_matches_from(words) {
+        Ok(_) => return Ok(None),
+        Err(error) => error,
+    };
+    match error.kind() {
+        ErrorKind::OutOfMemory => Err(AllocError),
+        ErrorKind::DisplayHelp | ErrorKind::DisplayVersion => Ok(Some(format!(in alloc; "{error}")?)),
+        _ => Ok(None),
+    }
+}
+
+/// The job of the subcommand that was met.
+fn job_of(matches: &ArgMatches<'_>) -> Result<Job, LineFault>
+    ensures range { IfOk result IsInRange }
+    ensures script { (result ≡ Ok Job.Script) ↔ (subcommand_name_of matches.now ≡ Some (codes "script")) }
+    ensures refused { IfErr result (λ fault. fault ≡ LineFault.Refused) }
+{
+    match matches.subcommand() {
+        Some(("script", _)) => Ok(Job::Script),
+        Some(("threads", found)) => threads::job(found),
+        _ => Err(LineFault::Refused),
+    }
+}
+
+/// The program's command with its subcommands.
+fn bench_command<'a>(alloc: Global) -> Result<Command<'a>, AllocError>
+    ensures { IfOk result (λ c. app_of c ≡ bench_app) }
+{
+    Command::new(alloc, "j1939bench")
+        .version("1.0")
+        .about("A diagnostic station for SAE J1939 with simulated control units")
+        .after_help(threads::VEHICLE)
+        .subcommand_required(true)
+        .subcommand(script::command(alloc))?
+        .subcommand(threads::command(alloc)?)
+}

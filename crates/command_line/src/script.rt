@@ -1,0 +1,37 @@
+ghost use Rattle.std.specs.Prelude.{◌≡◌, codes, false};
+ghost use Rattle.clap.specs.declared.builder.command.Command.TheViews.{out-Command as fields_of};
+ghost use Rattle.clap.specs.Simple.{shape_of};
+ghost use Rattle.command_line.specs.CommandLine.{script_shape};
+
+use clap::Command;
+use std::alloc::Global;
+
+/// What a script's lines may be.
+const LINES: &str = "\
+Commands, one a line; an empty line, and one that begins with #, has no answer:
+
+  garage NAME ADDRESS WINDOW GRANT LIMIT   the bus and its station; comes first, and once
+  join NAME ADDRESS KIND                   a unit; KIND is plain, guarded or flicker SPN FMI
+  leave SEAT                               the unit is taken off the bus
+  set SEAT SPN FMI [N]                     N codes become active
+  heal SEAT SPN FMI [N]                    N codes become previously active
+  lamps SEAT HHHH                          lamps and flash codes
+  think SEAT, turn SEAT                    the unit does its own work; ends a turn
+  dm1 SEAT                                 the unit begins a DM1
+  hear SEAT [N], read [N]                  the unit hears, the station reads
+  carry [N], round N                       frames are carried; all hear, read and carry
+  ask NAME|all WHAT                        WHAT is dm1, dm2, dm3, dm11, claim or a PGN
+  command NAME ADDRESS                     the unit is commanded to another address
+  shown NAME dm1|dm2, row NAME, stats      what the station shows and knows
+  counts SEAT, frame I                     a seat's frames; a frame of the wire
+  report                                   a line for each NAME";
+
+/// The subcommand `script`.
+pub(crate) fn command<'a>(alloc: Global) -> Command<'a>
+    ensures shape { shape_of result ≡ script_shape }
+    ensures local { (fields_of result).has_globals ≡ false }
+{
+    Command::new(alloc, "script")
+        .about("Reads commands from standard input and writes an answer line for each")
+        .after_help(LINES)
+}

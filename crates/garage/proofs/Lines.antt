@@ -1,0 +1,54 @@
+-- The lines of a snapshot.
+use Rattle.std.proofs.Common.{◌≡◌, ℕ, ◌+◌, ◌<◌, List, [], ◌∷◌, ◌++◌, Option, Some, None, arith, length, map, take, get_or, refl, sym, ap, ◌∙◌}
+use Rattle.std.proofs.lemmas.List.{map-append, take_more}
+use Rattle.std.proofs.lemmas.Option.{slice_get-get_or, slice_get_within}
+use Rattle.std.specs.Prelude.{slice_get}
+use Rattle.std.specs.Option.{option_map}
+use Rattle.bus_model.specs.Heard.{RowHeard, names_heard}
+use Rattle.station_table.specs.StationValue.{StationValue}
+use Rattle.station_table.specs.StandsFor.{row_heard_as}
+use Rattle.station_table.specs.declared.row.Row.{Row}
+use Rattle.station_table.proofs.Queries.{name_as_heard, names_as_heard}
+use Rattle.journal.specs.Journal.{GarageValue, readings_of, state_of}
+use Rattle.journal.specs.Worlds.{station_of}
+use Rattle.garage.specs.Inside.{settings_of, view_of, Stands}
+use Rattle.garage.specs.Snapshots.{address_in, line_of}
+use Rattle.garage.specs.declared.garage.Garage.TheInside.{Inside}
+use Rattle.garage.specs.declared.snapshot.RowLine.{RowLine}
+use Rattle.garage.proofs.Headline.{tables}
+
+pub names_heard_of : (a : Inside) (n : ℕ) → n ≡ length a.station.rows → Stands a → n ≡ length (names_heard (readings_of (view_of a).journal))
+names_heard_of a n e stands =
+    names_as_heard (station_of (settings_of a)) a.grant (state_of (view_of a)).station (readings_of (view_of a).journal) n
+    (e ∙ ap (λ (s : StationValue). length s.rows) stands.station) (tables a stands)
+
+pub name_heard_at : (a : Inside) (place : ℕ) (o : Option ℕ) → o ≡ slice_get (map (λ e. e.0) a.station.rows) place → Stands a
+    → o ≡ slice_get (names_heard (readings_of (view_of a).journal)) place
+name_heard_at a place o e stands =
+    name_as_heard (station_of (settings_of a)) a.grant (state_of (view_of a)).station (readings_of (view_of a).journal) place o
+    (e ∙ ap (λ (s : StationValue). slice_get (map (λ e. e.0) s.rows) place) stands.station) (tables a stands)
+
+-- a row's address is the one that was heard
+pub address_in_row : (row : Row) (h : Option RowHeard) → option_map row_heard_as (Some row) ≡ h → row.address ≡ address_in h
+address_in_row row h e = ap address_in e
+
+pub no_address : (h : Option RowHeard) → None ≡ h → None ≡ address_in h
+no_address h e = ap address_in e
+
+some_same : {A : Type 0} (x y : A) → Some x ≡ Some y → x ≡ y
+some_same x y e = cc
+
+take_one_more : (xs : List ℕ) (i x : ℕ) → slice_get xs i ≡ Some x → take (i + 1) xs ≡ take i xs ++ x ∷ []
+take_one_more xs i x e =
+    let same : get_or xs i x ≡ x = some_same _ _ (sym (slice_get-get_or xs i x (slice_get_within xs i x e)) ∙ e) in
+    take_more xs i x (slice_get_within xs i x e) ∙ ap (λ y. take i xs ++ y ∷ []) same
+
+-- one NAME more, one line more
+pub line_more : (g : GarageValue) (names : List ℕ) (i n : ℕ) (rows new : List RowLine) → slice_get names i ≡ Some n → rows ≡ map (line_of g) (take i names)
+    → new ≡ rows ++ line_of g n ∷ [] → new ≡ map (line_of g) (take (i + 1) names)
+line_more g names i n rows new at before e =
+    e ∙ (ap (λ l. l ++ line_of g n ∷ []) before ∙ (sym (map-append (line_of g) (take i names) (n ∷ [])) ∙ ap (map (line_of g)) (sym (take_one_more names i n at))))
+
+-- within the list there is a NAME
+pub name_is_there : {P : Type 0} (names : List ℕ) (i n : ℕ) → i < n → n ≡ length names → None ≡ slice_get names i → P
+name_is_there names i n l e none = absurd (cc (none, slice_get-get_or names i 0 (omega (arith, l, e))))

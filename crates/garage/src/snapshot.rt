@@ -1,0 +1,122 @@
+ghost use Rattle.std.specs.Prelude.{◌≡◌};
+ghost use Rattle.garage.specs.Snapshots.{newest_of};
+
+use crate::error::GarageError;
+use crate::garage::Garage;
+use dm_messages::{Kind, Shown};
+use name_field::Name;
+use std::alloc::Global;
+use trouble_code::Lamps;
+
+/// What the newest DM1 entry of a NAME tells.
+#[derive(Clone, Copy, Debug, PartialEq, Eq)]
+pub struct Newest {
+    /// Its lamps, and how they flash.
+    pub lamps: Lamps,
+    /// How many codes it has.
+    pub codes: usize,
+}
+
+/// What the station knows of a NAME, in one line.
+#[derive(Clone, Copy, Debug, PartialEq, Eq)]
+pub struct RowLine {
+    /// The NAME.
+    pub name: Name,
+    /// The address that it holds, 0 to 253, where one is known.
+    pub address: Option<u8>,
+    /// How many DM1 entries it has.
+    pub dm1: usize,
+    /// How many DM2 entries it has.
+    pub dm2: usize,
+    /// The newest of its DM1 entries; none where there is none.
+    pub newest: Option<Newest>,
+}
+
+/// What the station knows: a line for each NAME, in the order of the NAMEs' first claims.
+#[derive(Debug, Drop)]
+pub struct Snapshot {
+    /// The lines.
+    pub rows: Vec<RowLine>,
+    /// How many frames the station was told of as missed.
+    pub missed: u64,
+    /// How many messages the station could not read.
+    pub unread: u64,
+}
+
+impl Garage {
+    ghost use Rattle.std.specs.Prelude.{◌≡◌, ◌<◌, IfOk, IfErr, length, map, slice_get};
+    ghost use Rattle.bus_model.specs.Heard.{missed_count, names_heard, row_heard};
+    ghost use Rattle.journal.specs.Worlds.{station_of};
+    ghost use Rattle.journal.specs.Journal.{readings_of};
+    ghost use Rattle.garage.specs.Snapshots.{address_in, line_of};
+
+    /// What the station knows now, of every NAME that it read a claim of. Its lines hold what `row` and `shown` answer.
+    ///
+    /// Refused only where there is no memory.
+    #[tactic(auto, using(crate::proofs::Lines::line_more, crate::proofs::Lines::name_is_there))]
+    pub fn snapshot(&self, alloc: Global) -> Result<Snapshot, GarageError>
+        ensures rows { IfOk result (λ s. s.rows.items ≡ map (line_of self.now) (names_heard (readings_of self.now.journal))) }
+        ensures missed { IfOk result (λ s. s.missed ≡ missed_count (readings_of self.now.journal)) }
+        ensures unread { IfOk result (λ s. s.unread ≡ 0) }
+        ensures err { IfErr result (λ e. e ≡ GarageError.OutOfMemory) }
+    {
+        let mut rows = Vec::new(alloc);
+        for place in 0..self.names() {
+            if let Some(name) = self.name_at(place) {
+                let entries = self.shown(name, Kind::Dm1);
+                rows.push(RowLine {
+                    name,
+                    address: self.address_of(name),
+                    dm1: entries.len(),
+                    dm2: self.shown(name, Kind::Dm2).len(),
+                    newest: newest_among(entries),
+                })?;
+            }
+        }
+        Ok(Snapshot {
+            rows,
+            missed: self.missed(),
+            unread: self.unread(),
+        })
+    }
+
+    /// How many NAMEs the station read a claim of.
+    #[tactic(auto, using(crate::proofs::Lines::names_heard_of))]
+    fn names(&self) -> usize
+        ensures { result ≡ length (names_heard (readings_of self.now.journal)) }
+    {
+        self.station.names()
+    }
+
+    /// The NAME at a place, counted from 0, in the order of the first claims.
+    #[tactic(auto, using(crate::proofs::Lines::name_heard_at))]
+    fn name_at(&self, place: usize) -> Option<Name>
+        ensures { result ≡ slice_get (names_heard (readings_of self.now.journal)) place }
+    {
+        self.station.name_at(place)
+    }
+
+    /// The address that a NAME holds, where one is known.
+    #[tactic(auto, using(crate::proofs::Lines::address_in_row, crate::proofs::Lines::no_address))]
+    fn address_of(&self, name: Name) -> Option<u8>
+        ensures { result ≡ address_in (row_heard (station_of self.now.settings) name (readings_of self.now.journal)) }
+    {
+        match self.row(name) {
+            Some(row) => row.address,
+            None => None,
+        }
+    }
+}
+
+/// The newest entry, the last of the list.
+fn newest_among(entries: &[Shown]) -> Option<Newest>
+    ensures { result ≡ newest_of entries.now }
+{
+    match entries.last() {
+        Some(entry) => Some(Newest {
+            lamps: entry.lamps,
+            codes: entry.codes.as_slice().len(),
+        }),
+        None => None,
+    }
+}

@@ -1,0 +1,64 @@
+-- Which vehicle a TOML document describes.
+use Rattle.std.specs.Prelude.{ℕ, ℤ, pos, ◌≡◌, ◌≤◌, List, [], ◌∷◌, Option, Some, None, codes, option_and_then}
+use Rattle.name_field.specs.NameText.{IsNameText}
+use Rattle.hex_text.specs.Hex.{hex_value}
+use Rattle.toml.specs.Data.{Data, Items, no_items, item, get, as_integer, as_str, as_array}
+use Rattle.script_line.specs.declared.command.UnitKind.{UnitKind}
+use Rattle.script_line.specs.declared.command.UnitKind.TheVariants.{Plain, Guarded, Flicker}
+use Rattle.vehicle.specs.declared.Station.{Station}
+use Rattle.vehicle.specs.declared.UnitLine.{UnitLine}
+use Rattle.vehicle.specs.declared.Vehicle.{Vehicle}
+
+-- the whole number at a key
+abbrev pub number_at : List ℕ → Data → Option ℤ
+number_at key d = option_and_then as_integer (get key d)
+
+-- the text at a key
+abbrev pub text_at : List ℕ → Data → Option (List ℕ)
+text_at key d = option_and_then as_str (get key d)
+
+-- the key has the number, which lies within the two ends
+abbrev pub HasNumber : Data → List ℕ → ℕ → ℕ → ℕ → Type 0
+HasNumber d key n least most = (number_at key d ≡ Some (pos n)) × (least ≤ n) × (n ≤ most)
+
+-- the key "name" has the sixteen digits of the NAME
+abbrev pub HasName : Data → ℕ → Type 0
+HasName d name = (text : List ℕ) × (text_at (codes "name") d ≡ Some text) × IsNameText text × (name ≡ hex_value text)
+
+-- the station's NAME, and four numbers in their ranges
+pub record HoldsStation (d : Data) (s : Station) : Type 0 where
+  pub name : HasName d s.name
+  pub address : HasNumber d (codes "address") s.address 0 253
+  pub window : HasNumber d (codes "window") s.window 1 4096
+  pub grant : HasNumber d (codes "grant") s.grant 1 255
+  pub limit : HasNumber d (codes "limit") s.limit 1 16777216
+
+-- the word at the key "kind", and a flicker's two numbers
+abbrev pub HoldsKind : Data → UnitKind → Type 0
+HoldsKind d Plain = text_at (codes "kind") d ≡ Some (codes "plain")
+HoldsKind d Guarded = text_at (codes "kind") d ≡ Some (codes "guarded")
+HoldsKind d (Flicker spn fmi) = (text_at (codes "kind") d ≡ Some (codes "flicker"))
+    × HasNumber d (codes "spn") spn 0 524287 × HasNumber d (codes "fmi") fmi 0 31
+
+-- a unit's NAME, its address and its kind
+pub record HoldsUnit (d : Data) (u : UnitLine) : Type 0 where
+  pub name : HasName d u.name
+  pub address : HasNumber d (codes "address") u.address 0 253
+  pub kind : HoldsKind d u.kind
+
+-- one unit for each item, in order
+abbrev pub HoldsUnits : Items → List UnitLine → Type 0
+HoldsUnits no_items [] = Unit {0}
+HoldsUnits no_items (u ∷ us) = ⊥
+HoldsUnits (item d ds) [] = ⊥
+HoldsUnits (item d ds) (u ∷ us) = HoldsUnit d u × HoldsUnits ds us
+
+-- the units at the key "unit": none where there is no such key
+abbrev pub HoldsUnitsAt : Option Data → List UnitLine → Type 0
+HoldsUnitsAt None us = us ≡ []
+HoldsUnitsAt (Some d) us = (ds : Items) × (as_array d ≡ Some ds) × HoldsUnits ds us
+
+-- the document has the values of the vehicle at its keys
+pub record HoldsVehicle (d : Data) (v : Vehicle) : Type 0 where
+  pub station : (s : Data) × (get (codes "station") d ≡ Some s) × HoldsStation s v.station
+  pub units : HoldsUnitsAt (get (codes "unit") d) v.units.items

@@ -56,6 +56,7 @@ fn run<R: Runtime + AllocGlobal>(rt: &R) -> Result<(), Fault> {
     let alloc = rt.alloc();
     match read_line(alloc, words.as_slice()) {
         Ok(Job::Script) => script::script(alloc, &mut rt.reader(), &mut io::writer(rt)),
+        Ok(Job::Threads { .. }) => Err(Fault::CommandLine),
         Err(LineFault::Help) => println!(rt; "{USAGE}").map_err(|_| Fault::Write),
         Err(LineFault::Refused) => Err(Fault::CommandLine),
         Err(LineFault::Memory) => Err(Fault::Memory),

@@ -1,0 +1,12 @@
+mod asked;
+mod claims;
+mod codes;
+mod frames;
+mod groups;
+mod hex;
+mod lines;
+mod memories;
+mod names;
+mod packets;
+mod views;
+mod words;

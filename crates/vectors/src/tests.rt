@@ -8,5 +8,6 @@ mod lines;
 mod memories;
 mod names;
 mod packets;
+mod vehicles;
 mod views;
 mod words;

@@ -9,6 +9,3 @@ mod error;
 pub use claim::{Claim, claim_frame, read_claim};
 pub use claimer::{ClaimStep, Claimer};
 pub use error::ClaimError;
-
-#[cfg(test)]
-mod tests;

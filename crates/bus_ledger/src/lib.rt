@@ -16,6 +16,3 @@ mod traffic;
 pub use bus::Bus;
 pub use error::BusError;
 pub use traffic::{Carried, CarriedFrame, Counts, QueuedFrame, Tag, Which};
-
-#[cfg(test)]
-mod tests;

@@ -13,6 +13,3 @@ pub use frames::Frames;
 pub use id::{Id, IdTooLarge};
 pub use pgn::{Pgn, PgnTooLarge};
 pub use reading::Reading;
-
-#[cfg(test)]
-mod tests;

@@ -27,6 +27,3 @@ pub enum Job {
         report: bool,
     },
 }
-
-#[cfg(test)]
-mod tests;

@@ -6,8 +6,6 @@ mod error;
 mod kind;
 mod reading;
 mod shown;
-#[cfg(test)]
-mod tests;
 mod writing;
 
 pub use error::ReadError;

@@ -4,8 +4,6 @@
 mod change;
 mod error;
 mod memory;
-#[cfg(test)]
-mod tests;
 
 pub use change::FaultChange;
 pub use error::FaultError;

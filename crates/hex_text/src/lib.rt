@@ -30,6 +30,3 @@ fn is_hex_text(text: &str, digits: usize) -> bool
     let bytes = text.as_bytes();
     bytes.len() == digits && bytes.iter().all(|b| b.is_ascii_hexdigit())
 }
-
-#[cfg(test)]
-mod tests;

@@ -205,6 +205,3 @@ fn above(high: u64, width: u32, low: u64) -> u64
 {
     high << width | low
 }
-
-#[cfg(test)]
-mod tests;

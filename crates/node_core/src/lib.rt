@@ -15,6 +15,3 @@ pub use error::NodeError;
 pub use heard::{Begun, Heard, Started, Withdraw};
 pub use node::Node;
 pub use out::{Out, Outs, Part};
-
-#[cfg(test)]
-mod tests;

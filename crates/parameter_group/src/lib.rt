@@ -134,6 +134,3 @@ fn acknowledged(frame: &Frame) -> ParameterGroup<'static>
         Err(_) => ParameterGroup::Other,
     }
 }
-
-#[cfg(test)]
-mod tests;

@@ -11,6 +11,3 @@ pub use acknowledgment::Ack;
 pub use commanded::Commanded;
 pub use not_this::NotThis;
 pub use request::Request;
-
-#[cfg(test)]
-mod tests;

@@ -14,6 +14,3 @@ pub use command::{Asked, Command, NameWord, Receiver, UnitKind};
 pub use numbers::{read_lamps, read_number, read_small_number};
 pub use read::{is_silent, read_command};
 pub use words::Words;
-
-#[cfg(test)]
-mod tests;

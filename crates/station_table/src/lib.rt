@@ -15,6 +15,3 @@ pub use error::StationError;
 pub use reaction::{Ask, Reaction};
 pub use row::{AckSeen, Row};
 pub use station::Station;
-
-#[cfg(test)]
-mod tests;

@@ -16,6 +16,3 @@ pub use payload::Payload;
 pub use pieces::{packets, part};
 pub use sending::Sending;
 pub use took::Took;
-
-#[cfg(test)]
-mod tests;

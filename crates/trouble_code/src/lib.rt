@@ -8,8 +8,6 @@ mod codes;
 mod dtc;
 mod error;
 mod lamps;
-#[cfg(test)]
-mod tests;
 
 pub use codes::Codes;
 pub use dtc::Dtc;

@@ -6,6 +6,3 @@ mod unit;
 
 pub use refused::Refused;
 pub use unit::Unit;
-
-#[cfg(test)]
-mod tests;

@@ -65,6 +65,3 @@ pub struct Vehicle {
     /// Its units, in the order of the text.
     pub units: Vec<UnitLine>,
 }
-
-#[cfg(test)]
-mod tests;

@@ -1,4 +1,6 @@
-use crate::{Name, NameError, NameFields};
+//! NAMEs, their fields and their text.
+
+use name_field::{Name, NameError, NameFields};
 use std::test::Fail;
 
 fn example() -> NameFields {

@@ -1,8 +1,10 @@
-use crate::ParameterGroup;
+//! What one frame says.
+
 use address_claim::claim_frame;
 use can_frame::{Frame, Pgn};
 use dm_messages::Kind;
 use name_field::Name;
+use parameter_group::ParameterGroup;
 use requests::{Ack, Request};
 use std::test::Fail;
 use transport::{Control, control_frame, packet_frame};

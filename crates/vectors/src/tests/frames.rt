@@ -1,4 +1,6 @@
-use crate::{Frame, FrameError, Frames, Id, Pgn, PgnTooLarge, Reading};
+//! Identifiers, frames and parameter groups.
+
+use can_frame::{Frame, FrameError, Frames, Id, Pgn, PgnTooLarge, Reading};
 use std::test::Fail;
 
 #[test]

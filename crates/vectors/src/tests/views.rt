@@ -1,4 +1,6 @@
-use crate::{Kind, ReadError, Shown, payload, read};
+//! DM1 and DM2.
+
+use dm_messages::{Kind, ReadError, Shown, payload, read};
 use fault_memory::{FaultChange, FaultMemory};
 use std::alloc::Global;
 use std::process::Abort;

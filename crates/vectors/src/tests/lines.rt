@@ -1,7 +1,9 @@
-use crate::{Asked, Command, NameWord, Receiver, UnitKind, is_silent, read_command};
+//! Lines of a script.
+
 use can_frame::{Pgn, PgnTooLarge};
 use dm_messages::Kind;
 use name_field::{Name, NameError};
+use script_line::{Asked, Command, NameWord, Receiver, UnitKind, is_silent, read_command};
 use std::process::Abort;
 use trouble_code::Lamps;
 

@@ -1,6 +1,8 @@
-use crate::{Ack, Commanded, NotThis, Request};
+//! Requests, acknowledgments and commanded addresses.
+
 use can_frame::{Frame, Pgn};
 use name_field::Name;
+use requests::{Ack, Commanded, NotThis, Request};
 use std::test::Fail;
 
 #[test]

@@ -1,4 +1,6 @@
-use crate::{Bus, BusError, Carried, Counts, Which};
+//! The wire, the queues of the seats, and what the station reads.
+
+use bus_ledger::{Bus, BusError, Carried, Counts, Which};
 use can_frame::{Frame, Reading};
 use name_field::Name;
 use std::process::Abort;

@@ -1,4 +1,6 @@
-use crate::{FaultChange, FaultError, FaultMemory};
+//! Fault memories.
+
+use fault_memory::{FaultChange, FaultError, FaultMemory};
 use std::alloc::Global;
 use std::test::Fail;
 use trouble_code::{Dtc, LampName, Lamps};

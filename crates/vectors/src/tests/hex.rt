@@ -1,4 +1,6 @@
-use crate::read_hex;
+//! Hexadecimal digits, read and printed.
+
+use hex_text::read_hex;
 use std::test::Fail;
 
 #[test]

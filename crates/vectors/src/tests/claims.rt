@@ -1,4 +1,6 @@
-use crate::{ClaimError, ClaimStep, Claimer, claim_frame, read_claim};
+//! Claims of addresses.
+
+use address_claim::{ClaimError, ClaimStep, Claimer, claim_frame, read_claim};
 use can_frame::Frame;
 use name_field::Name;
 use std::test::Fail;

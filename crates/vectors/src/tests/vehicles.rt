@@ -1,4 +1,6 @@
-use crate::{UnitKind, VehicleFault, read_vehicle};
+//! Vehicles as TOML texts.
+
+use vehicle::{UnitKind, VehicleFault, read_vehicle};
 use std::test::Fail;
 
 const STATION: &str = "[station]

@@ -1,5 +1,7 @@
-use crate::{Codes, Dtc, DtcError, LampName, Lamps};
+//! Trouble codes and lamps.
+
 use std::test::Fail;
+use trouble_code::{Codes, Dtc, DtcError, LampName, Lamps};
 
 #[test]
 fn bit_ends(rt: HostRuntime) -> Result<(), Fail> {

@@ -1,4 +1,6 @@
-use crate::{Job, LineFault, page, read_line};
+//! The words of the command line.
+
+use command_line::{Job, LineFault, page, read_line};
 use std::alloc::{AllocError, Global};
 use std::test::Fail;
 

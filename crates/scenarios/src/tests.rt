@@ -1,0 +1,7 @@
+mod bus;
+mod frame_text;
+mod node;
+mod seats;
+mod station;
+mod told;
+mod unit;

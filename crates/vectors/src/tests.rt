@@ -1,0 +1,13 @@
+mod asked;
+mod claims;
+mod codes;
+mod frames;
+mod groups;
+mod hex;
+mod lines;
+mod memories;
+mod names;
+mod packets;
+mod vehicles;
+mod views;
+mod words;

@@ -9,3 +9,5 @@ pub mod LawfulTraffic
 pub mod Whole
 pub mod LookBack
 pub mod Example
+pub mod Whose
+pub mod Marks

@@ -1,7 +1,7 @@
 //! The law of the station's lists: what they must be, and that they are, over every list of events.
 #![tactic(auto)]
 
-ghost use Rattle.std.specs.Prelude.{◌≡◌, ℕ, List, ◌∷◌, ◌++◌, ◌↔◌, Some, true};
+ghost use Rattle.std.specs.Prelude.{◌≡◌, ℕ, ◌+◌, List, slice_get, ◌∷◌, ◌++◌, ◌↔◌, Some, true};
 ghost use Rattle.dm_messages.specs.declared.kind.Kind.{Kind};
 ghost use Rattle.dm_messages.specs.declared.shown.Shown.{Shown};
 ghost use Rattle.bus_model.specs.Messages.{Message, IsAmong};
@@ -14,7 +14,9 @@ ghost use Rattle.bus_model.specs.Expected.{expected, readings, is_clear};
 ghost use Rattle.bus_model.specs.ClearPath.{IsOnClearPath, NoneMissed};
 ghost use Rattle.bus_model.specs.Whole.{received_whole};
 ghost use Rattle.bus_model.specs.Example.{example_settings, ShowsEachWay, ShowsAfterTakeover};
-ghost use Rattle.bus_model.specs.Machine.{World, Event, IsFit, Step, Run, start};
+ghost use Rattle.bus_model.specs.Machine.{World, Seat, Event, IsFit, Step, Run, start};
+ghost use Rattle.bus_model.specs.Marks.{IsMarkedBy};
+ghost use Rattle.bus_model.specs.Whose.{IsFromItsSeat};
 
 /// The lists are exact: after every list of events, under each NAME and kind, the entries heard are the entries expected.
 pub fn lists_are_exact()
@@ -29,6 +31,22 @@ pub fn who_sends_holds_the_address()
 /// Lawful traffic: each frame of a message is that part of it and comes from its seat, and parts stand in their order.
 pub fn traffic_is_lawful()
     ensures { (settings : Settings) → IsFit settings → (events : List Event) (w : World) → Run (start settings) events w → IsLawfulTraffic w.begun w.wire }
+{}
+
+/// Seats have numbers, given in order of joining from 1 on and never again: the seat in place x has number x + 1.
+pub fn seats_are_numbered()
+    ensures { (settings : Settings) → IsFit settings → (events : List Event) (w : World) → Run (start settings) events w → (x : ℕ) (s : Seat) → slice_get w.seats x ≡ Some s → s.number ≡ x + 1 }
+{}
+
+/// Each frame on the wire comes from the station or from a seat that joined, and bears that seat's number and NAME.
+pub fn frames_come_from_their_seats()
+    ensures { (settings : Settings) → IsFit settings → (events : List Event) (w : World) → Run (start settings) events w → (after before : List Item) (e : Item) → w.wire ≡ after ++ e ∷ before → IsFromItsSeat w e }
+{}
+
+/// The path is the wire as its readings mark it: the frames that are not the station's own, in order, where a frame marks the
+/// next one as received and a gap of n the next n as missed; later ones have no mark.
+pub fn path_is_marked()
+    ensures { (settings : Settings) → IsFit settings → (events : List Event) (w : World) → Run (start settings) events w → IsMarkedBy (readings w.path) w.wire w.path }
 {}
 
 /// Nothing unreadable: each message of a unit that ends can be read.

@@ -20,3 +20,5 @@ pub mod Ends
 pub mod Runs
 pub mod Whose
 pub mod Marks
+pub mod Rows
+pub mod Names

@@ -11,3 +11,4 @@ pub mod LookBack
 pub mod Example
 pub mod Whose
 pub mod Marks
+pub mod RowsLookBack

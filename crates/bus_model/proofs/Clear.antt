@@ -24,8 +24,12 @@ pub anchor : (a : ℕ) (path : List Reception) → is_anchored a path ≡ true �
 anchor a [] h = cc
 anchor a (Missed es ∷ path) h = cc
 anchor a (Own e ∷ path) h =
-    let p = anchor a path h in
-    record { lower = Own e ∷ p.lower; claim = p.claim; before = p.before; split = ap (λ (v : List Reception). Own e ∷ v) p.split; is_it = p.is_it; whole = p.whole; latest = p.latest }
+    elim (pick_cases (is_claim a (says e)) false (is_anchored a path) true h) [
+      | inl w ↦ cc w.1
+      | inr w ↦
+          (let p = anchor a path w.1 in
+          record { lower = Own e ∷ p.lower; claim = p.claim; before = p.before; split = ap (λ (v : List Reception). Own e ∷ v) p.split; is_it = p.is_it; whole = p.whole; latest = (w.0, p.latest) })
+    ]
 anchor a (Received e ∷ path) h =
     elim (pick_cases (is_claim a (says e)) true (is_anchored a path) true h) [
       | inl w ↦ record { lower = []; claim = e; before = path; split = refl; is_it = w.0; whole = tt; latest = tt }
@@ -197,15 +201,11 @@ not_twice st m j e d mid before law g h =
     let q = subst (EachTag (IsBefore (tag_of m j))) (passed_append mid (Received d ∷ before)) all in
     elim ((every_rest (HasTag (IsBefore (tag_of m j))) (passed mid) (d ∷ passed before) q).0 (tag_of m j) h refl refl) [ inl u ↦ omega arith | inr u ↦ omega arith ]
 
-pub anchored_from : (a : ℕ) (lower before : List Reception) (claim : Item) → NoneMissed lower → is_claim a (says claim) ≡ true → is_anchored a (lower ++ Received claim ∷ before) ≡ true
-anchored_from a [] before claim w c = rw c refl
-anchored_from a (Own e ∷ lower) before claim w c = anchored_from a lower before claim w c
-anchored_from a (Missed es ∷ lower) before claim w c = absurd w
-anchored_from a (Received e ∷ lower) before claim w c = rw (anchored_from a lower before claim w c) (same (is_claim a (says e)))
-  where
-    same : (b : Bool) → (if b then true else true) ≡ true
-    same true = refl
-    same false = refl
+pub anchored_from : (a : ℕ) (lower before : List Reception) (claim : Item) → NoneMissed lower → NoClaim a lower → is_claim a (says claim) ≡ true → is_anchored a (lower ++ Received claim ∷ before) ≡ true
+anchored_from a [] before claim w l c = rw c refl
+anchored_from a (Own e ∷ lower) before claim w l c = rw l.0 (anchored_from a lower before claim w l.1 c)
+anchored_from a (Missed es ∷ lower) before claim w l c = absurd w
+anchored_from a (Received e ∷ lower) before claim w l c = rw l.0 (anchored_from a lower before claim w l.1 c)
 
 pub unbroken_from : (st : ℕ) (begun : List Message) (m : Message) (upper older : List Reception) (first : Item) → Numbered begun → IsAmong m begun → Lawful st (passed (upper ++ Received first ∷ older)) → Every (IsBooked begun) (passed (upper ++ Received first ∷ older)) → NoneMissed upper → is_part m 0 first.tag ≡ true → first.tag ≡ Some (tag_of m 0) → is_anchored m.source older ≡ true → is_unbroken m (upper ++ Received first ∷ older) ≡ true
 unbroken_from st begun m [] older first num among law b w f g a = rw (f, a) refl
@@ -243,6 +243,6 @@ found_clear st begun m path num among law b h =
     let law2 = subst (λ (v : List Reception). Lawful st (passed v)) h.stretch lower in
     let b2 = subst (λ (v : List Reception). Every (IsBooked begun) (passed v)) h.stretch blower in
     let first_booked = (every_rest (IsBooked begun) (passed h.upper) (h.first ∷ passed rest) (subst (Every (IsBooked begun)) (passed_append h.upper (Received h.first ∷ rest)) b2)).0 in
-    let u = unbroken_from st begun m h.upper rest h.first num among law2 b2 h.upper_whole h.is_first (part_is begun m 0 h.first.tag num among first_booked h.is_first) (anchored_from m.source h.lower h.before h.claim h.lower_whole h.is_claim') in
+    let u = unbroken_from st begun m h.upper rest h.first num among law2 b2 h.upper_whole h.is_first (part_is begun m 0 h.first.tag num among first_booked h.is_first) (anchored_from m.source h.lower h.before h.claim h.lower_whole h.latest h.is_claim') in
     let u2 : is_unbroken m (Received h.last ∷ h.older) ≡ true = ap (is_unbroken m) h.stretch ∙ u in
     ap (is_clear m) h.split ∙ clear_from st begun m h.after h.older h.last num among lawful booked h.is_last (part_is begun m (last_part_of m) h.last.tag num among blower.0 h.is_last) u2

@@ -18,3 +18,7 @@ pub mod Half
 pub mod HalfSession
 pub mod Ends
 pub mod Runs
+pub mod Whose
+pub mod Marks
+pub mod Rows
+pub mod Names

@@ -43,9 +43,17 @@ own_skip st n a e d own ne h = go (says e) own.honest h
     go (AddressClaimed b m) i h = elim (pick_cases (b == a) (Some m) d (Some n) h) [ inl w ↦ absurd (ne (let g : m ≡ n = cc in sym g ∙ (i ∙ own.name))) | inr w ↦ w.1 ]
     go _ i h = h
 
+-- nor is it a claim of that address
+pub own_no_claim : (st n a : ℕ) (e : Item) (d : Option ℕ) → IsStations st e → n ≢ st → owner_after a (says e) d ≡ Some n → is_claim a (says e) ≡ false
+own_no_claim st n a e d own ne h = go (says e) own.honest h
+  where
+    go : (f : Group) → IsHonest e.name f → owner_after a f d ≡ Some n → is_claim a f ≡ false
+    go (AddressClaimed b m) i h = elim (pick_cases (b == a) (Some m) d (Some n) h) [ inl w ↦ absurd (ne (let g : m ≡ n = cc in sym g ∙ (i ∙ own.name))) | inr w ↦ w.0 ]
+    go _ i h = refl
+
 pub owner_anchored : (st a n : ℕ) (path : List Reception) → Marked st path → n ≢ st → claimed_by a (passed path) ≡ Some n → owner_heard a (readings path) ≡ (if is_anchored a path then Some n else None)
 owner_anchored st a n [] mk ne h = refl
-owner_anchored st a n (Own e ∷ path) mk ne h = owner_anchored st a n path mk.1 ne (own_skip st n a e (claimed_by a (passed path)) mk.0 ne h)
+owner_anchored st a n (Own e ∷ path) mk ne h = rw (own_no_claim st n a e (claimed_by a (passed path)) mk.0 ne h) (owner_anchored st a n path mk.1 ne (own_skip st n a e (claimed_by a (passed path)) mk.0 ne h))
 owner_anchored st a n (Missed es ∷ path) mk ne h = refl
 owner_anchored st a n (Received e ∷ path) mk ne h = owner_step a n (says e) (claimed_by a (passed path)) (owner_heard a (readings path)) (is_anchored a path) (owner_anchored st a n path mk.1 ne) h
 

@@ -9,14 +9,15 @@ use Rattle.bus_model.specs.Whole.{is_received, received_whole}
 use Rattle.bus_model.proofs.Clear.{part_is}
 use Rattle.bus_model.proofs.Lawful.{Lawful, is_of, last_of, tag_of}
 use Rattle.bus_model.proofs.Lookback.{Every, claimed_by_skip, pick_cases, same_kind_self, same_test}
-use Rattle.bus_model.proofs.Path.{Marked, first_is_part, later_part, not_first, own_skip}
+use Rattle.bus_model.proofs.Path.{Marked, first_is_part, later_part, not_first, own_no_claim, own_skip}
 use Rattle.bus_model.proofs.Units.{IsBooked, Numbered}
 use Rattle.bus_model.proofs.Wire.{follows_last}
 
 pub anchored_whole : (st a n : ℕ) (path : List Reception) → NoneMissed path → Marked st path → n ≢ st → claimed_by a (passed path) ≡ Some n → is_anchored a path ≡ true
 anchored_whole st a n [] whole mk ne h = cc
 anchored_whole st a n (Missed es ∷ path) whole mk ne h = absurd whole
-anchored_whole st a n (Own e ∷ path) whole mk ne h = anchored_whole st a n path whole mk.1 ne (own_skip st n a e (claimed_by a (passed path)) mk.0 ne h)
+anchored_whole st a n (Own e ∷ path) whole mk ne h =
+    rw (own_no_claim st n a e (claimed_by a (passed path)) mk.0 ne h) (anchored_whole st a n path whole mk.1 ne (own_skip st n a e (claimed_by a (passed path)) mk.0 ne h))
 anchored_whole st a n (Received e ∷ path) whole mk ne h = go (is_claim a (says e)) refl (anchored_whole st a n path whole mk.1 ne)
   where
     go : (b : Bool) → is_claim a (says e) ≡ b → (claimed_by a (passed path) ≡ Some n → is_anchored a path ≡ true) → (if b then true else is_anchored a path) ≡ true

@@ -18,15 +18,15 @@ NoneMissed (Own e ∷ path) = NoneMissed path
 NoneMissed (Received e ∷ path) = NoneMissed path
 NoneMissed (Missed es ∷ path) = ⊥
 
--- no claim of the address was received
+-- no claim of the address, be it the station's own
 abbrev pub NoClaim : ℕ → List Reception → Type 0
 NoClaim a [] = Unit {0}
-NoClaim a (Own e ∷ path) = NoClaim a path
+NoClaim a (Own e ∷ path) = (is_claim a (says e) ≡ false) × NoClaim a path
 NoClaim a (Received e ∷ path) = (is_claim a (says e) ≡ false) × NoClaim a path
 NoClaim a (Missed es ∷ path) = NoClaim a path
 
--- each part was received; the last claim of the source before part 0 was received; and from that claim to the last
--- part nothing was missed
+-- each part was received; the last claim of the source before part 0, whoever made it, was received; and from that claim
+-- to the last part nothing was missed
 pub record IsOnClearPath (m : Message) (path : List Reception) : Type 0 where
   pub parts : (j : ℕ) → j ≤ last_part_of m → IsReceived m j path
   pub after : List Reception  -- what came after the last part

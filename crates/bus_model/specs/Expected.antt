@@ -41,10 +41,10 @@ abbrev pub is_part : Message → ℕ → Option Tag → Bool
 is_part m j None = false
 is_part m j (Some t) = t.message.number == m.number && t.part == j
 
--- the last claim of the address was received, and nothing was missed since
+-- the last claim of the address, be it the station's own, was received, and nothing was missed since
 abbrev pub is_anchored : ℕ → List Reception → Bool
 is_anchored a [] = false
-is_anchored a (Own e ∷ older) = is_anchored a older
+is_anchored a (Own e ∷ older) = if is_claim a (says e) then false else is_anchored a older
 is_anchored a (Missed es ∷ older) = false
 is_anchored a (Received e ∷ older) = if is_claim a (says e) then true else is_anchored a older
 

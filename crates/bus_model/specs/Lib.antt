@@ -9,3 +9,6 @@ pub mod LawfulTraffic
 pub mod Whole
 pub mod LookBack
 pub mod Example
+pub mod Whose
+pub mod Marks
+pub mod RowsLookBack

@@ -1,20 +1,24 @@
 //! The law of the station's lists: what they must be, and that they are, over every list of events.
 #![tactic(auto)]
 
-ghost use Rattle.std.specs.Prelude.{◌≡◌, ℕ, List, ◌∷◌, ◌++◌, ◌↔◌, Some, true};
+ghost use Rattle.std.specs.Prelude.{◌≡◌, ℕ, ◌+◌, List, slice_get, ◌∷◌, ◌++◌, ◌↔◌, Some, IsSome, true};
 ghost use Rattle.dm_messages.specs.declared.kind.Kind.{Kind};
 ghost use Rattle.dm_messages.specs.declared.shown.Shown.{Shown};
 ghost use Rattle.bus_model.specs.Messages.{Message, IsAmong};
 ghost use Rattle.bus_model.specs.Traffic.{Tag, Item, claimed_by};
 ghost use Rattle.bus_model.specs.LawfulTraffic.{IsLawfulTraffic};
 ghost use Rattle.can_frame.specs.declared.reading.Reading.{Reading};
-ghost use Rattle.bus_model.specs.Heard.{Settings, Entry, owner_heard, ended, entries_heard, unread_count};
+ghost use Rattle.bus_model.specs.Heard.{Settings, Entry, AckHeard, ack_of, address_known, counted, ended, entries_heard, is_unreadable, missed_count, names_heard, owner_heard, row_heard, unread_count};
+ghost use Rattle.bus_model.specs.RowsLookBack.{AreNames, IsKnownAt, IsLastAnswer, WasNamed, gap_of, moments};
+ghost use Rattle.std.specs.List.{count_by, sum_by};
 ghost use Rattle.bus_model.specs.LookBack.{IsOwner, EndsMessage};
 ghost use Rattle.bus_model.specs.Expected.{expected, readings, is_clear};
 ghost use Rattle.bus_model.specs.ClearPath.{IsOnClearPath, NoneMissed};
 ghost use Rattle.bus_model.specs.Whole.{received_whole};
 ghost use Rattle.bus_model.specs.Example.{example_settings, ShowsEachWay, ShowsAfterTakeover};
-ghost use Rattle.bus_model.specs.Machine.{World, Event, IsFit, Step, Run, start};
+ghost use Rattle.bus_model.specs.Machine.{World, Seat, Event, IsFit, Step, Run, start};
+ghost use Rattle.bus_model.specs.Marks.{IsMarkedBy};
+ghost use Rattle.bus_model.specs.Whose.{IsFromItsSeat};
 
 /// The lists are exact: after every list of events, under each NAME and kind, the entries heard are the entries expected.
 pub fn lists_are_exact()
@@ -29,6 +33,22 @@ pub fn who_sends_holds_the_address()
 /// Lawful traffic: each frame of a message is that part of it and comes from its seat, and parts stand in their order.
 pub fn traffic_is_lawful()
     ensures { (settings : Settings) → IsFit settings → (events : List Event) (w : World) → Run (start settings) events w → IsLawfulTraffic w.begun w.wire }
+{}
+
+/// Seats have numbers, given in order of joining from 1 on and never again: the seat in place x has number x + 1.
+pub fn seats_are_numbered()
+    ensures { (settings : Settings) → IsFit settings → (events : List Event) (w : World) → Run (start settings) events w → (x : ℕ) (s : Seat) → slice_get w.seats x ≡ Some s → s.number ≡ x + 1 }
+{}
+
+/// Each frame on the wire comes from the station or from a seat that joined, and bears that seat's number and NAME.
+pub fn frames_come_from_their_seats()
+    ensures { (settings : Settings) → IsFit settings → (events : List Event) (w : World) → Run (start settings) events w → (after before : List Item) (e : Item) → w.wire ≡ after ++ e ∷ before → IsFromItsSeat w e }
+{}
+
+/// The path is the wire as its readings mark it: the frames that are not the station's own, in order, where a frame marks the
+/// next one as received and a gap of n the next n as missed; later ones have no mark.
+pub fn path_is_marked()
+    ensures { (settings : Settings) → IsFit settings → (events : List Event) (w : World) → Run (start settings) events w → IsMarkedBy (readings w.path) w.wire w.path }
 {}
 
 /// Nothing unreadable: each message of a unit that ends can be read.
@@ -61,6 +81,27 @@ pub fn owner_looks_back()
 /// Look-back form of the messages that end, over any list of readings: in one frame, by broadcast and by session.
 pub fn messages_look_back()
     ensures { (settings : Settings) → IsFit settings → (reading : Reading) (older : List Reading) (entry : Entry) → (ended settings reading older ≡ Some entry) ↔ EndsMessage settings reading older entry }
+{}
+
+/// Look-back form of a row, over any list of readings: there is one once a claim or cannot claim of the NAME was read; its
+/// address is the one that the NAME claimed, where nothing took it since; its acknowledgment is the last to the station.
+pub fn rows_look_back()
+    ensures there { (settings : Settings) (n : ℕ) (readings : List Reading) → IsSome (row_heard settings n readings) ↔ WasNamed n readings }
+    ensures address { (settings : Settings) (n a : ℕ) (readings : List Reading) → (address_known settings n readings ≡ Some a) ↔ IsKnownAt n a readings }
+    ensures ack { (settings : Settings) (n : ℕ) (ack : AckHeard) (readings : List Reading) → (ack_of (row_heard settings n readings) ≡ Some ack) ↔ IsLastAnswer settings n ack readings }
+{}
+
+/// Look-back form of the NAMEs, over any list of readings: those of the claims and cannot claims read, in the order of their
+/// first.
+pub fn names_look_back()
+    ensures { (readings : List Reading) → AreNames readings (names_heard readings) }
+{}
+
+/// Look-back form of the two counts, over any list of readings: all frames that gaps told of, and all readings at which a
+/// message ended that cannot be read, each at most the greatest 64-bit number.
+pub fn counts_look_back()
+    ensures missed { (readings : List Reading) → missed_count readings ≡ counted (sum_by gap_of readings) }
+    ensures unread { (settings : Settings) (readings : List Reading) → unread_count settings readings ≡ counted (count_by (λ (m : Reading × List Reading). is_unreadable (ended settings m.0 m.1)) (moments readings)) }
 {}
 
 /// The machine is not empty: one run shows an entry by a single frame, one by a broadcast of two packets and one by a

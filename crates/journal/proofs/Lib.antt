@@ -19,6 +19,7 @@ pub mod Reading
 pub mod Ordering
 pub mod Starting
 pub mod Readings
+pub mod Marking
 pub mod Reaching
 pub mod Headline
 pub mod Lifted

@@ -1,13 +1,18 @@
-ghost use Rattle.std.specs.Prelude.{◌≡◌, ℕ, List, reverse};
+ghost use Rattle.std.specs.Prelude.{◌≡◌, ◌≤◌, ℕ, List, reverse};
 ghost use Rattle.dm_messages.specs.declared.kind.Kind.{Kind};
 ghost use Rattle.bus_model.specs.Expected.{expected};
 ghost use Rattle.bus_model.specs.Machine.{Event as Step, Run, Seat, start};
 ghost use Rattle.station_table.specs.KeptValue.{entries_under};
 ghost use Rattle.station_table.specs.StandsFor.{StandsFor};
-ghost use Rattle.journal.specs.Journal.{AllFit, readings_of, state_after};
-ghost use Rattle.journal.specs.State.{Settings};
+ghost use Rattle.bus_model.specs.Marks.{IsMarkedBy};
+ghost use Rattle.journal.specs.Fits.{Fits};
+ghost use Rattle.journal.specs.Journal.{AllFit, GarageValue, readings_of, state_after, state_of};
+ghost use Rattle.journal.specs.Promises.{IsLawful, wire_of};
+ghost use Rattle.journal.specs.State.{Settings, State};
 ghost use Rattle.journal.specs.Worlds.{station_of, world_of};
 ghost use Rattle.journal.specs.declared.event.Event.{Event};
+ghost use Rattle.journal.specs.declared.event.Event.TheVariants.{Ordered};
+ghost use Rattle.journal.specs.declared.order.Order.TheVariants.{Command};
 
 /// A journal is a run of the law's machine: the state that a journal leads to, whose every event fits what came before,
 /// is a world that the machine reaches.
@@ -29,4 +34,15 @@ pub fn shown_is_expected()
 /// No message of a unit that came to its end was unreadable.
 pub fn nothing_stays_unread()
     ensures { (settings : Settings) (journal : List Event) → AllFit settings journal → (state_after settings journal).station.unread ≡ 0 }
+{}
+
+/// The station's path is the wire as the readings in the journal mark it: of the frames that are not the station's own, in
+/// order, a frame marks the next one as received and a gap of n the next n as missed; later ones have no mark.
+pub fn path_is_marked()
+    ensures { (g : GarageValue) → IsLawful g → IsMarkedBy (readings_of g.journal) (wire_of (state_of g)) (state_of g).path }
+{}
+
+/// A command that fits is to an address that can be held, 0 to 253.
+pub fn commanded_addresses_can_be_held()
+    ensures { (s : State) (name address : ℕ) → Fits s (Ordered (Command name address)) → address ≤ 253 }
 {}

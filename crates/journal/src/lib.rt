@@ -12,7 +12,8 @@ mod tally;
 
 pub use event::Event;
 pub use laws::{
-    journal_is_a_run, nothing_stays_unread, shown_is_expected, station_stands_for_its_readings,
+    commanded_addresses_can_be_held, journal_is_a_run, nothing_stays_unread, path_is_marked,
+    shown_is_expected, station_stands_for_its_readings,
 };
 pub use order::Order;
 pub use promises::{

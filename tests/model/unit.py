@@ -275,8 +275,11 @@ class Unit:
             reach("a unit is sent a request to send")
             if frame.source <= LAST_ADDRESS:
                 self.put(abort(control_pgn(frame), frame.source, self.held))
+        elif what == BAM:
+            reach("a unit is announced a broadcast to it alone")
         elif session is None or frame.source != session.dest or control_pgn(frame) != session.kind:
-            reach("a unit is sent a control message that is not of its session")
+            name = {CTS: "a grant", END_OF_MESSAGE: "an acknowledgment of the end", ABORT: "an abort"}[what]
+            reach(f"a unit is sent {name} that is not of its session")
         elif what == CTS:
             self.hear_grant(frame.data[1], frame.data[2])
         elif what == END_OF_MESSAGE:
@@ -285,11 +288,9 @@ class Unit:
                 self.end_session()
             else:
                 reach("a unit's session is acknowledged before all is queued")
-        elif what == ABORT:
+        else:
             reach("a unit's session is aborted")
             self.end_session()
-        else:
-            reach("a unit is announced a broadcast to it alone")
 
     def hear_grant(self, granted, following):
         """A grant is honoured where it begins at the first packet not yet queued. None keeps the session open."""

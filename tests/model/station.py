@@ -5,9 +5,9 @@ an address, which message a packet completes and where a NAME stands are all sai
 """
 
 from .cases import reach
-from .frames import (ABORT, ACKNOWLEDGMENT, BAM, CLAIM, COMMANDED_ADDRESS, CONTROL, CTS, DM1, DM2, GLOBAL, LAST_ADDRESS,
-                     NEGATIVE, NULL, PACKET, REQUEST, RTS, abort, acknowledgment, broadcast, claim, claimed_name, control_of,
-                     control_pgn, control_size, cts, end_of_message, in_order, joined, number, packets_of, request, requested)
+from .frames import (ABORT, ACKNOWLEDGMENT, BAM, CLAIM, COMMANDED_ADDRESS, CONTROL, DM1, DM2, GLOBAL, LAST_ADDRESS, NEGATIVE,
+                     NULL, PACKET, RTS, abort, acknowledgment, broadcast, claim, claimed_name, control_of, control_pgn,
+                     control_size, cts, end_of_message, in_order, joined, number, request, requested)
 from .memory import Refused, read_message
 from .unit import contend
 

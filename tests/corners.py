@@ -85,7 +85,7 @@ class Writer:
     def kind(self):
         spn, fmi = self.random.choice(CODES)
         if self.chance(12):
-            spn, fmi = self.one_of((524288, 1), (5, 32), (100, 255), (4294967295, 255))
+            spn, fmi = self.one_of((524288, 1), (5, 32), (5, 129), (100, 255), (4294967295, 255))
         return self.random.choice(["plain"] * 5 + ["guarded"] * 3 + [f"flicker {spn} {fmi}"] * 2)
 
     def count(self):
@@ -120,7 +120,7 @@ class Writer:
     def change(self):
         spn, fmi = self.random.choice(CODES)
         if self.chance(10):
-            spn, fmi = self.one_of((524288, 1), (5, 32), (7, 255), (524286, 4), (4294967295, 255), (600000, 40))
+            spn, fmi = self.one_of((524288, 1), (5, 32), (7, 129), (7, 255), (524286, 4), (4294967295, 255), (600000, 40))
         count = self.random.choice(["", "", "0", "1", "2", "3", "5"])
         self.say(self.one_of("set", "set", "heal"), self.seat(), spn, fmi, count)
 
@@ -685,6 +685,25 @@ def no_free_address(writer):
     writer.say("round", MANY)
 
 
+def late_listening(writer):
+    """Hundreds of frames are neither heard nor read, and then all are in one round, but for what the window does not hold."""
+    writer.make_garage(window=writer.random.choice([100, 300, 1000, 4096]), name=STATIONS[0])
+    for name, address in (("00000000000000A0", 0), ("00000000000000B0", 1)):
+        writer.say("join", name, address, "plain")
+    writer.say("round", MANY)
+    writer.say("set", 1, 1000, 1, writer.random.choice([100, 300, 445]))
+    for _ in range(2):
+        writer.say("dm1", 1)
+    writer.say("carry", writer.random.choice([20, 65, 70, 129, 200, 258, 300, MANY]))
+    if writer.chance(30):
+        writer.say("hear", 2, writer.random.choice([10, 66, 200, 300, MANY]))
+    if writer.chance(30):
+        writer.say("read", writer.random.choice([10, 66, 200, 300, MANY]))
+    writer.say("round", writer.random.choice([0, 0, 1, 2, 301, 302, MANY]))
+    for words in (("read", MANY), ("hear", 2, MANY), ("stats",), ("round", MANY), ("shown", "00000000000000A0", "dm1")):
+        writer.say(*words)
+
+
 def wide_window(writer):
     """The widest window, and as many frames as it holds or a few more."""
     writer.make_garage(window=4096)
@@ -701,7 +720,7 @@ def wide_window(writer):
 
 
 PLANS = {mixed: 68, lines_alone: 10, at_the_limit: 8, session_at_the_limit: 8, cut_short: 8, full_house: 2, full_memory: 10,
-         counted_out: 2, no_free_address: 5, wide_window: 2}
+         counted_out: 2, no_free_address: 5, late_listening: 3, wide_window: 2}
 
 
 def script(seed):

@@ -13,12 +13,13 @@ from .unit import contend
 
 
 class Reading:
-    """A frame that was read (None for a gap), the station's address then, and whether the station then lost its sessions."""
+    """A frame that was read, None for a gap; and whether the station had to claim its address anew, for which its sessions
+    were dropped."""
 
-    __slots__ = ("frame", "address", "contested")
+    __slots__ = ("frame", "contested")
 
-    def __init__(self, frame, address):
-        self.frame, self.address, self.contested = frame, address, False
+    def __init__(self, frame):
+        self.frame, self.contested = frame, False
 
 
 class Station:
@@ -145,13 +146,13 @@ class Station:
         if self.readings and self.readings[-1].frame is None:
             reach("the station meets a gap after a gap")
         self.missed += missed
-        self.readings.append(Reading(None, self.held))
+        self.readings.append(Reading(None))
         self.withdraw()
         self.put(claim(self.name, self.held), request(CLAIM, GLOBAL, NULL if self.held is None else self.held))
 
     def take(self, frame):
         place = len(self.readings)
-        self.readings.append(Reading(frame, self.held))
+        self.readings.append(Reading(frame))
         if claimed_name(frame) is not None:
             self.take_claim(frame, place)
         elif requested(frame) is not None:

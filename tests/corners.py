@@ -11,6 +11,10 @@ UNITS = ["0000000000000000", "0000000000000005", "00000000000000A0", "0000000000
          "00000000000000C0", "8000000000000002", "80000000000000B0", "90000300258004D2", "FFFFFFFFFFFFFFFF"]
 ADDRESSES = [0, 1, 10, 128, 129, 247, 248, 252, 253]
 CODES = [(100, 1), (104, 1), (7, 1), (0, 0), (524287, 31), (1208, 3), (65535, 0), (65536, 5)]
+ONE = "0000000000000001"
+NO_GARAGES = ["XY 249 4 16 100", "00000000000000010 249 4 16 100"] + [ONE + " " + settings for settings in (
+    "254 4 16 100", "255 4 16 100", "249 0 16 100", "249 4097 16 100", "249 4 0 100", "249 4 16 0", "249 4 16 16777217",
+    "256 4 16 100", "249 4 256 100", "249 4294967296 16 100", "249 4 16", "249 4 16 100 1", "249 +4 16 100")]
 ASKED = ["dm1", "dm2", "dm1", "dm2", "dm3", "dm11", "claim", "65259", "65226", "65227", "60928", "0", "130762", "16777215"]
 
 
@@ -81,7 +85,7 @@ class Writer:
     def kind(self):
         spn, fmi = self.random.choice(CODES)
         if self.chance(12):
-            spn, fmi = self.one_of((524288, 1), (5, 32), (100, 255), (4294967295, 255))
+            spn, fmi = self.one_of((524288, 1), (5, 32), (5, 129), (100, 255), (4294967295, 255))
         return self.random.choice(["plain"] * 5 + ["guarded"] * 3 + [f"flicker {spn} {fmi}"] * 2)
 
     def count(self):
@@ -93,12 +97,7 @@ class Writer:
         if self.chance(6):
             self.say(self.one_of("join 0000000000000001 0 plain", "round 1", "stats", "hear 1", "fly", "carry", "row XY"))
         while self.chance(25):
-            self.say("garage", *self.random.choice([
-                ("XY", 249, 4, 16, 100), ("00000000000000010", 249, 4, 16, 100), ("0000000000000001", 254, 4, 16, 100), ("0000000000000001", 249, 0, 16, 100),
-                ("0000000000000001", 249, 4097, 16, 100), ("0000000000000001", 249, 4, 0, 100), ("0000000000000001", 249, 4, 16, 0),
-                ("0000000000000001", 249, 4, 16, 16777217), ("0000000000000001", 256, 4, 16, 100), ("0000000000000001", 255, 4, 16, 100),
-                ("0000000000000001", 249, 4, 256, 100), ("0000000000000001", 249, 4294967296, 16, 100), ("0000000000000001", 249, 4, 16),
-                ("0000000000000001", 249, 4, 16, 100, 1), ("0000000000000001", 249, "+4", 16, 100)]))
+            self.say("garage", self.random.choice(NO_GARAGES))
         window = window or self.one_of(1, 2, 3, 4, 5, 8, 16, 64, 64, 64, 4096)
         grant = grant or self.one_of(1, 1, 2, 3, 4, 7, 16, 16, 255)
         self.say("garage", name or self.random.choice(STATIONS), self.random.choice([249, 249, 249, 0, 128, 253]), window, grant,
@@ -121,7 +120,7 @@ class Writer:
     def change(self):
         spn, fmi = self.random.choice(CODES)
         if self.chance(10):
-            spn, fmi = self.one_of((524288, 1), (5, 32), (7, 255), (524286, 4), (4294967295, 255), (600000, 40))
+            spn, fmi = self.one_of((524288, 1), (5, 32), (7, 129), (7, 255), (524286, 4), (4294967295, 255), (600000, 40))
         count = self.random.choice(["", "", "0", "1", "2", "3", "5"])
         self.say(self.one_of("set", "set", "heal"), self.seat(), spn, fmi, count)
 
@@ -168,7 +167,8 @@ class Writer:
     def misspelt(self):
         """A line with one thing wrong in it: a word that is missing, too many, another or misspelt, or odd spaces."""
         line = self.random.choice([
-            "join {name} 3 plain", "join {name} 3 flicker 100 1", "set {seat} 100 1 2", "heal {seat} 100 1 2", "lamps {seat} 04FF",
+            "join {name} 3 plain", "join {name} 3 flicker 100 1", "set {seat} 100 1 2", "heal {seat} 100 1 2",
+            "lamps {seat} 04FF",
             "think {seat}", "turn {seat}", "leave {seat}", "hear {seat} 1", "dm1 {seat}", "carry 1", "read 1", "round 1",
             "ask {name} dm1", "ask all dm3", "command {name} 7", "shown {name} dm1", "row {name}", "counts {seat}", "stats",
             "frame 0", "garage {name} 249 4 16 100"]).format(seat=self.seat(), name=self.name())
@@ -180,9 +180,11 @@ class Writer:
         elif way == 1:
             words.insert(at + 1, self.one_of("1", "plain", "x", "0", "dm1", "#"))
         elif way == 2:
-            words[at] = self.one_of("-1", "+1", "256", "255", "4294967296", "99999999999999999999", "1.0", "0x1", "", "\u0661", "1\t", "1_0")
+            words[at] = self.one_of("-1", "+1", "256", "255", "4294967296", "99999999999999999999", "1.0", "0x1", "", "\u0661",
+                                    "1\t", "1_0")
         elif way == 3:
-            words[at] = self.one_of("XY", words[at] + "0", words[at][:-1], words[at].lower(), words[at].upper(), "\u00e9" + words[at])
+            word = words[at]
+            words[at] = self.one_of("XY", word + "0", word[:-1], word.lower(), word.upper(), "\u00e9" + word)
         elif way == 4:
             words[at] = words[at] + self.one_of("\t", "\r", ",", "\u00a0", "s")
         elif way == 5:
@@ -190,7 +192,8 @@ class Writer:
         elif way == 6:
             words[at] += " " * self.random.randrange(4)
         elif way == 7:
-            words = self.one_of([""], [" "], ["#"], [" #"], ["# fly"], ["fly"], ["  "], ["\t"], ["\r"], [" stats "], ["stats\r"])
+            words = self.one_of([""], [" "], ["#"], [" #"], ["# fly"], ["fly"], ["  "], ["\t"], ["\r"], [" stats "],
+                                ["stats\r"])
         else:
             words[at] = self.one_of("all", "ALL", "none", "dm1", "DM1", "dm3", "plain", "Plain", "flicker", "guarded")
         if words and words[0] in COMMANDS | {"fly": 0} or way in (0, 4, 7) or self.chance(50):
@@ -576,10 +579,12 @@ def session_at_the_limit(writer):
         writer.say("turn", writer.random.choice(writer.seats()))
     for _ in range(2):
         behind = min(writer.seats() or [1], key=lambda seat: writer.garage.seats[seat].heard)
-        writer.say(*writer.random.choice([("hear", behind, MANY), ("hear", behind, MANY), ("read", MANY), ("carry", MANY), ("round", MANY)]))
+        writer.say(*writer.random.choice([("hear", behind, MANY), ("hear", behind, MANY), ("read", MANY), ("carry", MANY),
+                                          ("round", MANY)]))
     for _ in range(30):
         seat = writer.seat()
-        writer.say(*writer.random.choice([("carry", MANY), ("hear", seat, MANY), ("read", MANY), ("round", MANY), ("dm1", seat), ("dm1", 1)]))
+        writer.say(*writer.random.choice([("carry", MANY), ("hear", seat, MANY), ("read", MANY), ("round", MANY), ("dm1", seat),
+                                          ("dm1", 1)]))
         if writer.chance(40):
             writer.random.choice([writer.join, writer.command, writer.ask, writer.turn, writer.query, writer.leave])()
 
@@ -680,6 +685,25 @@ def no_free_address(writer):
     writer.say("round", MANY)
 
 
+def late_listening(writer):
+    """Hundreds of frames are neither heard nor read, and then all are in one round, but for what the window does not hold."""
+    writer.make_garage(window=writer.random.choice([100, 300, 1000, 4096]), name=STATIONS[0])
+    for name, address in (("00000000000000A0", 0), ("00000000000000B0", 1)):
+        writer.say("join", name, address, "plain")
+    writer.say("round", MANY)
+    writer.say("set", 1, 1000, 1, writer.random.choice([100, 300, 445]))
+    for _ in range(2):
+        writer.say("dm1", 1)
+    writer.say("carry", writer.random.choice([20, 65, 70, 129, 200, 258, 300, MANY]))
+    if writer.chance(30):
+        writer.say("hear", 2, writer.random.choice([10, 66, 200, 300, MANY]))
+    if writer.chance(30):
+        writer.say("read", writer.random.choice([10, 66, 200, 300, MANY]))
+    writer.say("round", writer.random.choice([0, 0, 1, 2, 301, 302, MANY]))
+    for words in (("read", MANY), ("hear", 2, MANY), ("stats",), ("round", MANY), ("shown", "00000000000000A0", "dm1")):
+        writer.say(*words)
+
+
 def wide_window(writer):
     """The widest window, and as many frames as it holds or a few more."""
     writer.make_garage(window=4096)
@@ -695,8 +719,8 @@ def wide_window(writer):
     writer.say("carry", 1)
 
 
-PLANS = {mixed: 68, lines_alone: 10, at_the_limit: 8, session_at_the_limit: 8, cut_short: 8, full_house: 2, full_memory: 10, counted_out: 2,
-         no_free_address: 5, wide_window: 2}
+PLANS = {mixed: 68, lines_alone: 10, at_the_limit: 8, session_at_the_limit: 8, cut_short: 8, full_house: 2, full_memory: 10,
+         counted_out: 2, no_free_address: 5, late_listening: 3, wide_window: 2}
 
 
 def script(seed):

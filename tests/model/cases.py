@@ -53,7 +53,9 @@ a unit is asked among all for DM11 and refuses with no code to clear
 a unit is asked at its address for what it does not know
 a unit is asked among all for what it does not know
 a unit is sent a request to send
-a unit is sent a control message that is not of its session
+a unit is sent a grant that is not of its session
+a unit is sent an acknowledgment of the end that is not of its session
+a unit is sent an abort that is not of its session
 a unit is granted a part
 a unit is granted the rest
 a unit is granted packet 255

@@ -5,20 +5,21 @@ an address, which message a packet completes and where a NAME stands are all sai
 """
 
 from .cases import reach
-from .frames import (ABORT, ACKNOWLEDGMENT, BAM, CLAIM, COMMANDED_ADDRESS, CONTROL, CTS, DM1, DM2, GLOBAL, LAST_ADDRESS,
-                     NEGATIVE, NULL, PACKET, REQUEST, RTS, abort, acknowledgment, broadcast, claim, claimed_name, control_of,
-                     control_pgn, control_size, cts, end_of_message, in_order, joined, number, packets_of, request, requested)
+from .frames import (ABORT, ACKNOWLEDGMENT, BAM, CLAIM, COMMANDED_ADDRESS, CONTROL, DM1, DM2, GLOBAL, LAST_ADDRESS, NEGATIVE,
+                     NULL, PACKET, RTS, abort, acknowledgment, broadcast, claim, claimed_name, control_of, control_pgn,
+                     control_size, cts, end_of_message, in_order, joined, number, request, requested)
 from .memory import Refused, read_message
 from .unit import contend
 
 
 class Reading:
-    """A frame that was read (None for a gap), the station's address then, and whether the station then lost its sessions."""
+    """A frame that was read, None for a gap; and whether the station had to claim its address anew, for which its sessions
+    were dropped."""
 
-    __slots__ = ("frame", "address", "contested")
+    __slots__ = ("frame", "contested")
 
-    def __init__(self, frame, address):
-        self.frame, self.address, self.contested = frame, address, False
+    def __init__(self, frame):
+        self.frame, self.contested = frame, False
 
 
 class Station:
@@ -145,13 +146,13 @@ class Station:
         if self.readings and self.readings[-1].frame is None:
             reach("the station meets a gap after a gap")
         self.missed += missed
-        self.readings.append(Reading(None, self.held))
+        self.readings.append(Reading(None))
         self.withdraw()
         self.put(claim(self.name, self.held), request(CLAIM, GLOBAL, NULL if self.held is None else self.held))
 
     def take(self, frame):
         place = len(self.readings)
-        self.readings.append(Reading(frame, self.held))
+        self.readings.append(Reading(frame))
         if claimed_name(frame) is not None:
             self.take_claim(frame, place)
         elif requested(frame) is not None:

@@ -100,16 +100,15 @@ class Unit:
     # Looking back over what was heard.
 
     def heard_before(self, place):
-        """The frames heard before a place of the wire, the latest first."""
-        wire, seat = self.wire, self.seat
+        """The frames heard before a place of the wire, each with its own place, the latest first."""
         for at in range(place - 1, self.joined - 1, -1):
-            carried_by, frame = wire[at]
-            if carried_by != seat:
-                yield frame
+            carried_by, frame = self.wire[at]
+            if carried_by != self.seat:
+                yield at, frame
 
     def noted(self, address, place):
         """The NAME in the last claim of an address heard before a place."""
-        for frame in self.heard_before(place):
+        for _, frame in self.heard_before(place):
             if frame.source == address and frame.pgn == CLAIM and claimed_name(frame) is not None:
                 return claimed_name(frame)
         return None
@@ -117,34 +116,28 @@ class Unit:
     def whole_command(self, place):
         """The nine bytes of a commanded address that are whole with the packet at that place, or None.
 
-        Looking back there are that source's packets 2 and 1, then the broadcast's announcement; between them no claim
-        of the source's address that takes it from the NAME under which it was noted.
+        Looking back there are that source's packets 2 and 1, then the announcement of nine bytes; between them no claim of
+        the source's address under another NAME than the one that was noted for it then.
         """
-        source, packets = self.wire[place][1].source, [self.wire[place][1].data]
-        claims = []
-        for frame in self.heard_before(place):
-            if frame.source != source:
+        last = self.wire[place][1]
+        packets, names = [last.data], []
+        for at, frame in self.heard_before(place):
+            if frame.source != last.source:
                 continue
             if frame.pgn == PACKET and frame.dest == GLOBAL:
                 packets.insert(0, frame.data)
             elif claimed_name(frame) is not None:
-                claims.insert(0, claimed_name(frame))
+                names.insert(0, claimed_name(frame))
             elif frame.dest == GLOBAL and control_of(frame) == BAM:
-                whole = control_pgn(frame) == COMMANDED_ADDRESS and control_size(frame) == 9 and in_order(packets, 2)
                 break
         else:
             return None
-        if not whole or source > LAST_ADDRESS:
+        before = self.noted(last.source, at)
+        if before is not None:
+            names.insert(0, before)
+        if any(name != names[0] for name in names) or not in_order(packets, 2) or last.source > LAST_ADDRESS:
             return None
-        if claims:
-            before = self.noted(source, self.place_of(frame, place))
-            owners = ([before] if before is not None else []) + claims
-            if any(owner != owners[0] for owner in owners):
-                return None
-        return joined(packets, 9)
-
-    def place_of(self, frame, place):
-        return next(at for at in range(place - 1, -1, -1) if self.wire[at][1] is frame)
+        return joined(packets, 9) if control_pgn(frame) == COMMANDED_ADDRESS and control_size(frame) == 9 else None
 
     # The rules.
 
@@ -275,8 +268,11 @@ class Unit:
             reach("a unit is sent a request to send")
             if frame.source <= LAST_ADDRESS:
                 self.put(abort(control_pgn(frame), frame.source, self.held))
+        elif what == BAM:
+            reach("a unit is announced a broadcast to it alone")
         elif session is None or frame.source != session.dest or control_pgn(frame) != session.kind:
-            reach("a unit is sent a control message that is not of its session")
+            name = {CTS: "a grant", END_OF_MESSAGE: "an acknowledgment of the end", ABORT: "an abort"}[what]
+            reach(f"a unit is sent {name} that is not of its session")
         elif what == CTS:
             self.hear_grant(frame.data[1], frame.data[2])
         elif what == END_OF_MESSAGE:
@@ -285,11 +281,9 @@ class Unit:
                 self.end_session()
             else:
                 reach("a unit's session is acknowledged before all is queued")
-        elif what == ABORT:
+        else:
             reach("a unit's session is aborted")
             self.end_session()
-        else:
-            reach("a unit is announced a broadcast to it alone")
 
     def hear_grant(self, granted, following):
         """A grant is honoured where it begins at the first packet not yet queued. None keeps the session open."""

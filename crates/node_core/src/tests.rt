@@ -1,4 +1,4 @@
-use crate::{Heard, Node, NodeError, Part, Started, Withdraw};
+use crate::{Answer, Heard, Node, NodeError, Part, Started, Withdraw};
 use can_frame::Frame;
 use dm_messages::Kind;
 use fault_memory::{FaultChange, FaultError, FaultMemory};
@@ -22,6 +22,12 @@ impl Unit for Told {
     ghost memory_of = { λ u. u.memory };
 
     ghost wants = { λ u. u.willing };
+
+    ghost Works = { λ u v. v ≡ u };
+
+    ghost Takes = { λ u _ v. v.willing ≡ u.willing };
+
+    ghost Answers = { λ u _ agrees v. (agrees ≡ u.willing) × (v.willing ≡ u.willing) };
 
     fn name(&self) -> Name {
         self.name
@@ -175,7 +181,7 @@ fn asks_the_unit_before_it_clears(rt: HostRuntime) -> Result<(), Fail> {
     let refused = Frame::new(0x18E8FF00, &[1, 0xFF, 0xFF, 0xFF, 0xF9, 0xD3, 0xFE, 0x00])?;
     let heard = make_node().hear(rt.alloc(), &dm11, &mut unwilling)?;
     expect_put(&rt, &heard, 1, 0, refused, None);
-    assert!(rt; !heard.agreed);
+    assert_eq!(rt; heard.answer, Answer::Declined);
     assert_eq!(rt; unwilling.memory.active().len(), 2);
     Ok(())
 }

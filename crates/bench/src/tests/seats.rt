@@ -1,10 +1,11 @@
 //! Units between steps and in their seats.
 
 use crate::deed::left;
-use crate::kinds::Plain;
+use crate::kinds::Simulated;
 use bus_ledger::Counts;
 use garage::{Garage, GarageError, Parked, Plug};
 use name_field::Name;
+use script_line::UnitKind;
 use std::alloc::Global;
 use std::test::Fail;
 use unit_trait::Unit;
@@ -56,13 +57,13 @@ fn stranger(rt: HostRuntime) -> Result<(), Fail> {
     let station = Name::from_number(1);
     let mut own = Garage::new(alloc, station, 249, 64, 16, 100)?;
     let mut other = Garage::new(alloc, station, 249, 64, 16, 100)?;
-    let unit: Box<dyn Unit> = Box::new(alloc, Plain::new(alloc, Name::from_number(0xA0)))?;
+    let unit: Box<dyn Unit> = Box::new(alloc, Simulated::new(alloc, Name::from_number(0xA0), UnitKind::Plain))?;
     let parked = mounted(alloc, &mut own, unit)?;
     let refusal = refused_and_taken(&mut own, &mut other, parked);
     assert_eq!(rt; refusal, Some(GarageError::Stranger));
     assert_eq!(rt; own.live(), 0);
     let name = Name::from_number(0xA1);
-    let unit: Box<dyn Unit> = Box::new(alloc, Plain::new(alloc, name))?;
+    let unit: Box<dyn Unit> = Box::new(alloc, Simulated::new(alloc, name, UnitKind::Plain))?;
     let parked = mounted(alloc, &mut own, unit)?;
     let refusal = disowned_by(&mut other, parked);
     assert_eq!(rt; refusal, Some((GarageError::Stranger, name)));
@@ -96,7 +97,7 @@ fn scope_left_early(rt: HostRuntime) -> Result<(), Fail> {
     let alloc = rt.alloc();
     // the journal has room for the join, the begin and the leave, and for no turn
     let mut garage = Garage::new(alloc, Name::from_number(1), 249, 64, 16, 3)?;
-    let unit: Box<dyn Unit> = Box::new(alloc, Plain::new(alloc, Name::from_number(0xA0)))?;
+    let unit: Box<dyn Unit> = Box::new(alloc, Simulated::new(alloc, Name::from_number(0xA0), UnitKind::Plain))?;
     let parked = mounted(alloc, &mut garage, unit)?;
     match last_turn(alloc, &mut garage, parked) {
         Ok(turned) => assert_eq!(rt; turned, Err(GarageError::BookFull)),

@@ -159,24 +159,27 @@ returns-clause-ok g c =
     let mem_is = c.in_ok-memory.ensures.same ∙ c.memory.ensures in
     let lawful = subst IsLawfulMemory mem_is c.in_ok-memory.ensures.lawful in
     let reacts = c.in_ok-heard.ensures.heard in
-    let answers : Question → Bool → _ → Type 0 = (goal.Unit-dyn g c.args.unit.now).Answers c.args.unit.now.1 in
-    (asked.0, asked.1, hears_of a (record {
-      name = a.name;
-      address = a.address;
-      window = a.window;
-      grant = a.grant;
-      limit = a.limit;
-      bus = c.do_heard.new.bus;
-      station = a.station;
-      places = with_item a.places (seat - 1) (record { node = c.hear.new.self; session_message = c.last_session-place.result; tally = one_more x.tally });
-      begun = c.begun_count-begun.result;
-      live = a.live;
-      journal = c.push_reserved.new.self;
-    })
-    c.args.self.now seat x.node f heard.answer memory _ _ answers c.args.unit.now.1 asked.0 c.self.view_is refl
-    (c.push_reserved.ensures.items ∙ ap (λ (l : List Event). l ++ Hear seat memory heard.answer ∷ []) c.make_room.ensures.items)
-    mem_is next (u, subst (λ (b : Traffic). (seat_at b seat).heard < length b.wire) stands.traffic there, lawful, is_answered (unit_at (state a) seat).node x.node (next_for (state a) seat) f heard.answer (ap (λ (v : UnitState). v.node) same) next reacts.answer_is)
-    (ap (λ (v : UnitState). v.node) same) reacts.memory_is asked.2)
+    let answers : Question → Bool → _ → Type 0 = (goal.Unit-dyn g c.args.unit.now).Answers c.args.unit.now.1 in (
+      asked.0,
+      asked.1,
+      hears_of a (record {
+        name = a.name;
+        address = a.address;
+        window = a.window;
+        grant = a.grant;
+        limit = a.limit;
+        bus = c.do_heard.new.bus;
+        station = a.station;
+        places = with_item a.places (seat - 1) (record { node = c.hear.new.self; session_message = c.last_session-place.result; tally = one_more x.tally });
+        begun = c.begun_count-begun.result;
+        live = a.live;
+        journal = c.push_reserved.new.self;
+      })
+          c.args.self.now seat x.node f heard.answer memory _ _ answers c.args.unit.now.1 asked.0 c.self.view_is refl
+          (c.push_reserved.ensures.items ∙ ap (λ (l : List Event). l ++ Hear seat memory heard.answer ∷ []) c.make_room.ensures.items)
+          mem_is next (u, subst (λ (b : Traffic). (seat_at b seat).heard < length b.wire) stands.traffic there, lawful, is_answered (unit_at (state a) seat).node x.node (next_for (state a) seat) f heard.answer (ap (λ (v : UnitState). v.node) same) next reacts.answer_is)
+          (ap (λ (v : UnitState). v.node) same) reacts.memory_is asked.2,
+    )
 
 pub returns-in_default-clause-ok : goal.returns-in_default-clause-ok
 returns-in_default-clause-ok g c =

@@ -1,78 +1,63 @@
-ghost use Rattle.std.specs.Prelude.{◌≡◌, true, false};
+ghost use Rattle.std.specs.Prelude.{◌≡◌};
+ghost use Rattle.bench.specs.Kinds.{is_willing, MayWork};
 
 use fault_memory::{FaultChange, FaultError, FaultMemory};
 use name_field::Name;
+use script_line::UnitKind;
 use std::alloc::Global;
 use unit_trait::{Refused, Unit};
 
-/// A unit that clears and obeys, and wants to tell of its active codes. Its own work is nothing.
+/// A simulated unit of a kind.
+///
+/// - Plain: it clears and obeys, and wants to tell of its active codes. Its own work is nothing.
+/// - Guarded: it neither clears nor obeys, and wants to tell nothing. Its own work is nothing.
+/// - Flicker: like a plain one, but its one code comes and goes as it works.
 #[derive(Debug, Drop)]
-pub struct Plain {
-    pub name: Name,
-    pub memory: FaultMemory,
+pub struct Simulated {
+    name: Name,
+    memory: FaultMemory,
+    kind: UnitKind,
 }
 
-/// A unit that neither clears nor obeys, and wants to tell nothing. Its own work is nothing.
-#[derive(Debug, Drop)]
-pub struct Guarded {
-    pub name: Name,
-    pub memory: FaultMemory,
-}
-
-/// A unit like a plain one, whose one code comes and goes as it works.
-#[derive(Debug, Drop)]
-pub struct Flicker {
-    pub name: Name,
-    pub memory: FaultMemory,
-    pub spn: u32,
-    pub fmi: u8,
-}
-
-impl Plain {
-    /// A unit with an empty fault memory.
-    pub fn new(alloc: Global, name: Name) -> Plain {
-        Plain {
+impl Simulated {
+    /// A unit with an empty fault memory. Takes no memory.
+    pub fn new(alloc: Global, name: Name, kind: UnitKind) -> Simulated {
+        Simulated {
             name,
             memory: FaultMemory::new(alloc),
-        }
-    }
-}
-
-impl Guarded {
-    /// A unit with an empty fault memory.
-    pub fn new(alloc: Global, name: Name) -> Guarded {
-        Guarded {
-            name,
-            memory: FaultMemory::new(alloc),
-        }
-    }
-}
-
-impl Flicker {
-    /// A unit with an empty fault memory, and the code that comes and goes.
-    pub fn new(alloc: Global, name: Name, spn: u32, fmi: u8) -> Flicker {
-        Flicker {
-            name,
-            memory: FaultMemory::new(alloc),
-            spn,
-            fmi,
+            kind,
         }
     }
 
-    fn is_active(&self) -> bool {
+    fn is_willing(&self) -> bool
+        ensures { result ≡ is_willing self.now.kind }
+    {
+        match self.kind {
+            UnitKind::Plain | UnitKind::Flicker { .. } => true,
+            UnitKind::Guarded => false,
+        }
+    }
+
+    fn is_active(&self, spn: u32, fmi: u8) -> bool {
         self.memory
             .active()
             .iter()
-            .any(|code| code.spn() == self.spn && code.fmi() == self.fmi)
+            .any(|code| code.spn() == spn && code.fmi() == fmi)
     }
 }
 
-impl Unit for Plain {
+impl Unit for Simulated {
     ghost name_of = { λ u. u.name };
 
     ghost memory_of = { λ u. u.memory };
 
-    ghost wants = { λ _. true };
+    ghost wants = { λ u. is_willing u.kind };
+
+    ghost Works = { λ u v. (v.kind ≡ u.kind) × MayWork u.kind u.memory v.memory };
+
+    ghost Takes = { λ u _ v. v.kind ≡ u.kind };
+
+    ghost Answers = { λ u _ agrees v. (agrees ≡ is_willing u.kind) × (v.kind ≡ u.kind) };
 
     fn name(&self) -> Name {
         self.name
@@ -82,89 +67,12 @@ impl Unit for Plain {
         &self.memory
     }
 
-    fn think(&mut self) {}
-
-    fn apply(&mut self, change: FaultChange) -> Result<(), FaultError> {
-        self.memory.apply(change)
-    }
-
-    fn clear_active(&mut self) -> Result<(), Refused> {
-        self.memory.clear_active();
-        Ok(())
-    }
-
-    fn clear_previous(&mut self) -> Result<(), Refused> {
-        self.memory.clear_previous();
-        Ok(())
-    }
-
-    fn commanded(&mut self, _address: u8) -> bool {
-        true
-    }
-
-    fn wants_dm1(&self) -> bool {
-        true
-    }
-}
-
-impl Unit for Guarded {
-    ghost name_of = { λ u. u.name };
-
-    ghost memory_of = { λ u. u.memory };
-
-    ghost wants = { λ _. false };
-
-    fn name(&self) -> Name {
-        self.name
-    }
-
-    fn memory(&self) -> &FaultMemory {
-        &self.memory
-    }
-
-    fn think(&mut self) {}
-
-    fn apply(&mut self, change: FaultChange) -> Result<(), FaultError> {
-        self.memory.apply(change)
-    }
-
-    fn clear_active(&mut self) -> Result<(), Refused> {
-        Err(Refused)
-    }
-
-    fn clear_previous(&mut self) -> Result<(), Refused> {
-        Err(Refused)
-    }
-
-    fn commanded(&mut self, _address: u8) -> bool {
-        false
-    }
-
-    fn wants_dm1(&self) -> bool {
-        false
-    }
-}
-
-impl Unit for Flicker {
-    ghost name_of = { λ u. u.name };
-
-    ghost memory_of = { λ u. u.memory };
-
-    ghost wants = { λ _. true };
-
-    fn name(&self) -> Name {
-        self.name
-    }
-
-    fn memory(&self) -> &FaultMemory {
-        &self.memory
-    }
-
-    /// Heals its code where that is active, and sets it where it is not. A refused change is let go.
+    /// A flicker heals its code where that is active, and sets it where it is not. A refused change is let go.
     fn think(&mut self) {
-        let spn = self.spn;
-        let fmi = self.fmi;
-        let change = if self.is_active() {
+        let UnitKind::Flicker { spn, fmi } = self.kind else {
+            return;
+        };
+        let change = if self.is_active(spn, fmi) {
             FaultChange::Heal { spn, fmi }
         } else {
             FaultChange::Set { spn, fmi }
@@ -177,20 +85,26 @@ impl Unit for Flicker {
     }
 
     fn clear_active(&mut self) -> Result<(), Refused> {
+        if !self.is_willing() {
+            return Err(Refused);
+        }
         self.memory.clear_active();
         Ok(())
     }
 
     fn clear_previous(&mut self) -> Result<(), Refused> {
+        if !self.is_willing() {
+            return Err(Refused);
+        }
         self.memory.clear_previous();
         Ok(())
     }
 
     fn commanded(&mut self, _address: u8) -> bool {
-        true
+        self.is_willing()
     }
 
     fn wants_dm1(&self) -> bool {
-        true
+        self.is_willing()
     }
 }

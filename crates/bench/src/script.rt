@@ -5,11 +5,11 @@ ghost use Rattle.bench.specs.Input.{input_limit};
 use crate::answer::{Answer, write_answer};
 use crate::fault::Fault;
 use crate::input::read_input;
-use crate::kinds::{Flicker, Guarded, Plain};
+use crate::kinds::Simulated;
 use crate::refusal::Refusal;
 use crate::workshop::Workshop;
-use garage::GarageError;
-use script_line::{Command, NameWord, UnitKind, is_silent, read_command};
+use garage::{Garage, GarageError};
+use script_line::{Command, is_silent, read_command};
 use std::alloc::Global;
 use std::io::{BufWriter, Read, Write};
 use std::str::Lines;
@@ -59,21 +59,9 @@ fn answer_lines<W: Write>(alloc: Global, text: &str, writer: &mut W) -> Result<(
                     kind,
                 },
             ) => {
-                let joined = match kind {
-                    UnitKind::Plain => match Box::new(alloc, Plain::new(alloc, name)) {
-                        Ok(unit) => workshop.join(unit, address),
-                        Err(_) => Err(Refusal::Garage(GarageError::OutOfMemory)),
-                    },
-                    UnitKind::Guarded => match Box::new(alloc, Guarded::new(alloc, name)) {
-                        Ok(unit) => workshop.join(unit, address),
-                        Err(_) => Err(Refusal::Garage(GarageError::OutOfMemory)),
-                    },
-                    UnitKind::Flicker { spn, fmi } => {
-                        match Box::new(alloc, Flicker::new(alloc, name, spn, fmi)) {
-                            Ok(unit) => workshop.join(unit, address),
-                            Err(_) => Err(Refusal::Garage(GarageError::OutOfMemory)),
-                        }
-                    }
+                let joined = match Box::new(alloc, Simulated::new(alloc, name, kind)) {
+                    Ok(unit) => workshop.join(unit, address),
+                    Err(_) => Err(Refusal::Garage(GarageError::OutOfMemory)),
                 };
                 write_answer(writer, joined)
             }
@@ -100,26 +88,20 @@ fn opened<W: Write>(
         if is_silent(line) {
             continue;
         }
-        let refusal = match read_command(line) {
-            Some(
-                Command::Garage {
-                    name,
-                    address,
-                    window,
-                    grant,
-                    limit,
-                },
-            ) => match workshop_of(alloc, name, address, window, grant, limit) {
-                Ok(workshop) => {
-                    if write_answer(writer, Ok(Answer::Done)).is_err() {
-                        workshop.close();
-                        return Err(Fault::Write);
-                    }
-                    return Ok(Some(workshop));
+        let made = match read_command(line) {
+            Some(command) => garage_of(alloc, command),
+            None => Err(Refusal::BadLine),
+        };
+        let refusal = match made {
+            Ok(garage) => {
+                let workshop = Workshop::new(alloc, garage);
+                if write_answer(writer, Ok(Answer::Done)).is_err() {
+                    workshop.close();
+                    return Err(Fault::Write);
                 }
-                Err(refusal) => refusal,
-            },
-            _ => Refusal::BadLine,
+                return Ok(Some(workshop));
+            }
+            Err(refusal) => refusal,
         };
         if write_answer(writer, Err(refusal)).is_err() {
             return Err(Fault::Write);
@@ -128,14 +110,19 @@ fn opened<W: Write>(
     Ok(None)
 }
 
-fn workshop_of(
-    alloc: Global,
-    name: NameWord,
-    address: u8,
-    window: u32,
-    grant: u8,
-    limit: u32,
-) -> Result<Workshop, Refusal> {
-    let name = name?;
-    Ok(Workshop::new(alloc, name, address, window, grant, limit)?)
+/// The garage that a command makes; any other command is refused here.
+fn garage_of(alloc: Global, command: Command) -> Result<Garage, Refusal> {
+    match command {
+        Command::Garage {
+            name,
+            address,
+            window,
+            grant,
+            limit,
+        } => {
+            let name = name?;
+            Ok(Garage::new(alloc, name, address, window, grant, limit)?)
+        }
+        _ => Err(Refusal::BadLine),
+    }
 }

@@ -5,7 +5,6 @@ use crate::refusal::Refusal;
 use bus_ledger::Carried;
 use can_frame::{PgnTooLarge, Reading};
 use garage::{Garage, GarageError};
-use name_field::Name;
 use script_line::{Asked, Command, Receiver};
 use station_table::Ask;
 use std::alloc::Global;
@@ -21,20 +20,13 @@ pub struct Workshop {
 }
 
 impl Workshop {
-    /// The garage with these settings, and no unit yet.
-    pub fn new(
-        alloc: Global,
-        name: Name,
-        address: u8,
-        window: u32,
-        grant: u8,
-        limit: u32,
-    ) -> Result<Workshop, GarageError> {
-        Ok(Workshop {
+    /// This garage, with no unit on the desk yet. Takes no memory.
+    pub fn new(alloc: Global, garage: Garage) -> Workshop {
+        Workshop {
             alloc,
-            garage: Garage::new(alloc, name, address, window, grant, limit)?,
+            garage,
             desk: Desk::new(alloc),
-        })
+        }
     }
 
     /// Puts a unit on the bus, which wants this address.

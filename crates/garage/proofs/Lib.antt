@@ -7,3 +7,4 @@ mod OrderLemmas
 mod OpeningLemmas
 mod BeginLemmas
 mod Lines
+pub mod Lent

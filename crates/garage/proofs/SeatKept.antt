@@ -9,8 +9,10 @@ use Rattle.bus_ledger.specs.declared.traffic.QueuedFrame.{QueuedFrame}
 use Rattle.bus_ledger.specs.declared.traffic.Which.{Which}
 use Rattle.bus_ledger.specs.declared.traffic.Which.TheVariants as which
 use Rattle.dm_messages.specs.declared.kind.Kind.TheVariants.{Dm1}
+use Rattle.node_core.specs.declared.heard.Answer.{Answer as UnitAnswer}
 use Rattle.node_core.specs.Beginning.{begins}
 use Rattle.node_core.specs.Deed.{heard_of}
+use Rattle.unit_trait.specs.declared.question.Question.{Question}
 use Rattle.node_core.specs.Reaction.{reaction, node_after}
 use Rattle.node_core.specs.NodeValue.{NodeValue}
 use Rattle.node_core.specs.declared.heard.Heard.{Heard}
@@ -84,12 +86,12 @@ keeps_hearing : (k : ℕ) (memory : MemoryValue) (h : Heard) (node : NodeValue) 
 keeps_hearing k memory h node s there =
     keeps_heard k h.withdraw (map (tagged (length s.begun) (is_session h.begun) (session_message_after (unit_at s k).session_message (length s.begun) h.begun)) h.put) s.traffic there
 
-keeps_hear : (o : Option FrameValue) (k : ℕ) (memory : MemoryValue) (agreed : Bool) (s : State) → k < length s.traffic.seats
-    → KeepsSeat k s.traffic (after_hear_of o k memory agreed s).traffic
+keeps_hear : (o : Option FrameValue) (k : ℕ) (memory : MemoryValue) (answered : UnitAnswer) (s : State) → k < length s.traffic.seats
+    → KeepsSeat k s.traffic (after_hear_of o k memory answered s).traffic
 unfolding after_hear_of
-keeps_hear None k memory agreed s h = keeps_itself k s.traffic
-keeps_hear (Some f) k memory agreed s h =
-    keeps_hearing k memory (heard_of agreed (reaction (unit_at s k).node memory agreed f)) (node_after (unit_at s k).node memory agreed f) s h
+keeps_hear None k memory answered s h = keeps_itself k s.traffic
+keeps_hear (Some f) k memory answered s h =
+    keeps_hearing k memory (heard_of answered (reaction (unit_at s k).node memory answered f)) (node_after (unit_at s k).node memory answered f) s h
 
 keeps_starting : (k : ℕ) (memory : MemoryValue) (st : Started) (s : State) → k < length s.traffic.seats
     → KeepsSeat k s.traffic (after_starting k memory st s).traffic
@@ -109,12 +111,12 @@ KeepsUnit k g g' = KeepsSeat k (state_of g).traffic (state_of g').traffic
 by_event : (k : ℕ) (g g' new : GarageValue) → g' ≡ new → KeepsUnit k g new → KeepsUnit k g g'
 by_event k g g' new e h = let P : GarageValue → Type 0 = λ v. KeepsUnit k g v in subst P (sym e) h
 
-pub unit_hears : (g : GarageValue) (k : ℕ) (memory : MemoryValue) (h : HeardOne) (g' : GarageValue) (memory' : MemoryValue)
-    → Hears g k memory h g' memory' → k < length (state_of g).traffic.seats → KeepsUnit k g g'
+pub unit_hears : {X : Type 0} (g : GarageValue) (k : ℕ) (memory : MemoryValue) (answers : Question → Bool → X → Type 0) (unit : X) (h : HeardOne) (g' : GarageValue) (memory' : MemoryValue) (unit' : X)
+    → Hears g k memory answers unit h g' memory' unit' → k < length (state_of g).traffic.seats → KeepsUnit k g g'
 unfolding state_after
-unit_hears g k memory (heard.Frame f) g' memory' h there =
+unit_hears g k memory answers unit (heard.Frame f) g' memory' unit' h there =
     by_event k g g' (with_event (Hear k memory h.1.0) g) h.1.1.adds (keeps_hear (next_for (state_of g) k) k memory h.1.0 (state_of g) there)
-unit_hears g k memory heard.Nothing g' memory' h there = by_event k g g' g h.1 (keeps_itself k (state_of g).traffic)
+unit_hears g k memory answers unit heard.Nothing g' memory' unit' h there = by_event k g g' g h.1 (keeps_itself k (state_of g).traffic)
 
 pub unit_begins : (g : GarageValue) (k : ℕ) (memory : MemoryValue) (b : Began) (g' : GarageValue)
     → Begins g k memory b g' → k < length (state_of g).traffic.seats → KeepsUnit k g g'
@@ -149,10 +151,10 @@ more_events k g g' e n rule h is =
 itself : (k : ℕ) → nat_eq k k ≡ true
 itself k = eq-eqb k k refl
 
-pub hearing_counted : (g : GarageValue) (k : ℕ) (memory : MemoryValue) (h : HeardOne) (g' : GarageValue) (memory' : MemoryValue) (n : ℕ)
-    → Hears g k memory h g' memory' → (tally_of k g.journal).events ≡ n → (tally_of k g'.journal).events ≡ counted_hearing n h
-hearing_counted g k memory (heard.Frame f) g' memory' n h is = more_events k g g' (Hear k memory h.1.0) n (λ t. rw (itself k) refl) h.1.1 is
-hearing_counted g k memory heard.Nothing g' memory' n h is = ap (λ (v : GarageValue). (tally_of k v.journal).events) h.1 ∙ is
+pub hearing_counted : {X : Type 0} (g : GarageValue) (k : ℕ) (memory : MemoryValue) (answers : Question → Bool → X → Type 0) (unit : X) (h : HeardOne) (g' : GarageValue) (memory' : MemoryValue) (unit' : X) (n : ℕ)
+    → Hears g k memory answers unit h g' memory' unit' → (tally_of k g.journal).events ≡ n → (tally_of k g'.journal).events ≡ counted_hearing n h
+hearing_counted g k memory answers unit (heard.Frame f) g' memory' unit' n h is = more_events k g g' (Hear k memory h.1.0) n (λ t. rw (itself k) refl) h.1.1 is
+hearing_counted g k memory answers unit heard.Nothing g' memory' unit' n h is = ap (λ (v : GarageValue). (tally_of k v.journal).events) h.1 ∙ is
 
 pub beginning_counted : (g : GarageValue) (k : ℕ) (memory : MemoryValue) (b : Began) (g' : GarageValue) (n : ℕ)
     → Begins g k memory b g' → (tally_of k g.journal).events ≡ n → (tally_of k g'.journal).events ≡ counted_beginning n b

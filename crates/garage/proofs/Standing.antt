@@ -21,6 +21,7 @@ use Rattle.address_claim.specs.Frames.{claim_frame_value}
 use Rattle.journal.specs.State.{new_unit}
 use Rattle.journal.specs.Journal.{Adds, with_event, IsSeated}
 use Rattle.journal.specs.Steps.{after_begin_of, after_starting}
+use Rattle.node_core.specs.declared.heard.Answer.{Answer as UnitAnswer}
 use Rattle.node_core.specs.Beginning.{begins}
 use Rattle.node_core.specs.declared.heard.Started.{Started}
 use Rattle.node_core.specs.declared.heard.Started.TheVariants as started
@@ -30,7 +31,9 @@ use Rattle.journal.specs.Steps.{after_hear_of, after_hearing, next_for, begun_af
 use Rattle.can_frame.specs.FrameValue.{FrameValue}
 use Rattle.node_core.specs.NodeValue.{NodeValue}
 use Rattle.node_core.specs.Deed.{heard_of}
-use Rattle.node_core.specs.Reaction.{reaction as node_reaction, node_after, memory_after}
+use Rattle.node_core.specs.Reaction.{reaction as node_reaction, node_after, memory_after, question}
+use Rattle.node_core.specs.Asking.{IsAsked, IsAnswerTo}
+use Rattle.unit_trait.specs.declared.question.Question.{Question}
 use Rattle.node_core.specs.declared.heard.Heard.{Heard}
 use Rattle.node_core.specs.declared.heard.Begun.{Begun}
 use Rattle.bus_model.specs.Messages.{Message}
@@ -38,7 +41,7 @@ use Rattle.bus_ledger.specs.declared.traffic.CarriedFrame.{CarriedFrame}
 use Rattle.std.specs.Option.{option_map}
 use Rattle.garage.specs.Answers.{with_begun, Hears}
 use Rattle.garage.specs.declared.steps.HeardOne.TheVariants as heard
-use Rattle.journal.specs.Fits.{Fits}
+use Rattle.journal.specs.Fits.{IsAnswered, Fits}
 use Rattle.journal.specs.Journal.{GarageValue, state_after, state_of, AllFit, joins, tallied, tally_of}
 use Rattle.journal.specs.declared.event.Event.{Event}
 use Rattle.journal.specs.declared.event.Event.TheVariants.{Join, Hear, Begin, Turned, Carry, Read, Ordered, Leave}
@@ -79,7 +82,7 @@ few_if false n t u f g = record { events = (let h = f.events in omega arith); tu
 
 few_event : (k before n : ℕ) (e : Event) (t : Tally) → IsFewTally n t → IsFewTally (suc n) (tallied k before e t)
 few_event k before n (Join name address) t f = few_if ((before + 1) == k) n t _ f (record { events = (let h = f.events in omega arith); turned = (let h = f.turned in omega arith); left = (let h = f.left in omega arith) })
-few_event k before n (Hear j memory agreed) t f = few_if (j == k) n t _ f (record { events = (let h = f.events in omega arith); turned = (let h = f.turned in omega arith); left = (let h = f.left in omega arith) })
+few_event k before n (Hear j memory answered) t f = few_if (j == k) n t _ f (record { events = (let h = f.events in omega arith); turned = (let h = f.turned in omega arith); left = (let h = f.left in omega arith) })
 few_event k before n (Begin j memory) t f = few_if (j == k) n t _ f (record { events = (let h = f.events in omega arith); turned = (let h = f.turned in omega arith); left = (let h = f.left in omega arith) })
 few_event k before n (Turned j) t f = few_if (j == k) n t _ f (record { events = (let h = f.events in omega arith); turned = (let h = f.turned in omega arith); left = (let h = f.left in omega arith) })
 few_event k before n (Carry j) t f = few_if false n t t f (record { events = (let h = f.events in omega arith); turned = (let h = f.turned in omega arith); left = (let h = f.left in omega arith) })
@@ -185,7 +188,7 @@ units_same xs k x p h read e =
     map-set unit_of xs k p ∙ (ap (λ (u : UnitState). set (map unit_of xs) k u) e
     ∙ (sym (map-set unit_of xs k x) ∙ ap (map unit_of) (ap (λ (q : Place). set xs k q) (get_or_read xs k x h read no_place) ∙ set-get_or xs k no_place)))
 
-pub joins_hear : (k : ℕ) (m : MemoryValue) (g : Bool) (es : List Event) → joins (Hear k m g ∷ es) ≡ joins es
+pub joins_hear : (k : ℕ) (m : MemoryValue) (g : UnitAnswer) (es : List Event) → joins (Hear k m g ∷ es) ≡ joins es
 unfolding joins
 joins_hear k m g es = refl
 
@@ -332,17 +335,17 @@ pub same_place : (xs : List Place) (k : ℕ) (x p : Place) → k < length xs →
 same_place xs k x p h read e = ap (λ (q : Place). set xs k q) (e ∙ get_or_read xs k x h read no_place) ∙ set-get_or xs k no_place
 
 -- what hearing a frame comes to
-pub hear_is : (k : ℕ) (memory : MemoryValue) (agreed : Bool) (f : FrameValue) (s : State) → next_for s k ≡ Some f
-    → after (Hear k memory agreed) s ≡ after_hearing k memory (heard_of agreed (node_reaction (unit_at s k).node memory agreed f)) (node_after (unit_at s k).node memory agreed f) s
+pub hear_is : (k : ℕ) (memory : MemoryValue) (answered : UnitAnswer) (f : FrameValue) (s : State) → next_for s k ≡ Some f
+    → after (Hear k memory answered) s ≡ after_hearing k memory (heard_of answered (node_reaction (unit_at s k).node memory answered f)) (node_after (unit_at s k).node memory answered f) s
 unfolding after_hear_of
-hear_is k memory agreed f s e = rw e refl
+hear_is k memory answered f s e = rw e refl
 
 pub hear_did : (k : ℕ) (memory : MemoryValue) (f : FrameValue) (s : State) (node : NodeValue) (h : Heard) (node' : NodeValue) → next_for s k ≡ Some f → (unit_at s k).node ≡ node
-    → h ≡ heard_of h.agreed (node_reaction node memory h.agreed f) → node' ≡ node_after node memory h.agreed f → after (Hear k memory h.agreed) s ≡ after_hearing k memory h node' s
+    → h ≡ heard_of h.answer (node_reaction node memory h.answer f) → node' ≡ node_after node memory h.answer f → after (Hear k memory h.answer) s ≡ after_hearing k memory h node' s
 hear_did k memory f s node h node' e n heard_is node_is =
-    hear_is k memory h.agreed f s e
-    ∙ (ap (λ (m : NodeValue). after_hearing k memory (heard_of h.agreed (node_reaction m memory h.agreed f)) (node_after m memory h.agreed f) s) n
-    ∙ (ap (λ (g : Heard). after_hearing k memory g (node_after node memory h.agreed f) s) (sym heard_is) ∙ ap (λ (m : NodeValue). after_hearing k memory h m s) (sym node_is)))
+    hear_is k memory h.answer f s e
+    ∙ (ap (λ (m : NodeValue). after_hearing k memory (heard_of h.answer (node_reaction m memory h.answer f)) (node_after m memory h.answer f) s) n
+    ∙ (ap (λ (g : Heard). after_hearing k memory g (node_after node memory h.answer f) s) (sym heard_is) ∙ ap (λ (m : NodeValue). after_hearing k memory h m s) (sym node_is)))
 
 pub begun_length : (ms : List Message) (seat name : ℕ) (memory : MemoryValue) (b : Option Begun) → length (begun_after ms seat name memory b) ≡ with_begun (length ms) b
 begun_length ms seat name memory None = refl
@@ -392,16 +395,23 @@ tallies_push xs es p name address old n is none j l =
           there ∙ (old j l' ∙ sym (more ∙ rw t refl))
     ]
 
+-- what a unit answered to the frame that it hears next
+pub is_answered : (n m : NodeValue) (o : Option FrameValue) (f : FrameValue) (answered : UnitAnswer) → n ≡ m → o ≡ Some f → IsAnswerTo (question m f) answered → IsAnswered n o answered
+is_answered n m o f answered en eo h =
+    subst (λ (x : Option FrameValue). IsAnswered n x answered) (sym eo) (subst (λ (x : NodeValue). IsAnswerTo (question x f) answered) (sym en) h)
+
 -- what a frame heard comes to, at what callers see
-pub hears_of : (a b : Inside) (v : GarageValue) (seat : ℕ) (node : NodeValue) (f : FrameValue) (agreed : Bool) (memory : MemoryValue) (given : MemoryValue) (after' : MemoryValue) → view_of a ≡ v → settings_of b ≡ settings_of a
-    → b.journal.items ≡ a.journal.items ++ Hear seat memory agreed ∷ [] → memory ≡ given → next_for (state a) seat ≡ Some f → Fits (state a) (Hear seat given agreed) → (unit_at (state a) seat).node ≡ node
-    → after' ≡ memory_after node given agreed f → Hears v seat given (heard.Frame f) (view_of b) after'
-hears_of a b v seat node f agreed memory given after' is settings journal mem next fits unit reacts =
+pub hears_of : {X : Type 0} (a b : Inside) (v : GarageValue) (seat : ℕ) (node : NodeValue) (f : FrameValue) (answered : UnitAnswer) (memory : MemoryValue) (given : MemoryValue) (after' : MemoryValue) (answers : Question → Bool → X → Type 0) (unit' unit'' : X) → view_of a ≡ v → settings_of b ≡ settings_of a
+    → b.journal.items ≡ a.journal.items ++ Hear seat memory answered ∷ [] → memory ≡ given → next_for (state a) seat ≡ Some f → Fits (state a) (Hear seat given answered) → (unit_at (state a) seat).node ≡ node
+    → after' ≡ memory_after node given answered f → IsAsked answers (question node f) answered unit' unit'' → Hears v seat given answers unit' (heard.Frame f) (view_of b) after' unit''
+hears_of a b v seat node f answered memory given after' answers unit' unit'' is settings journal mem next fits unit reacts asks =
     let seen : next_for (state_of v) seat ≡ Some f = ap (λ (w : GarageValue). next_for (state_of w) seat) (sym is) ∙ next in
-    let adds : Adds v (Hear seat given agreed) (view_of b) = added a b v (Hear seat given agreed) is settings (journal ∙ ap (λ (m : MemoryValue). a.journal.items ++ Hear seat m agreed ∷ []) mem) fits in
-    let kept : after' ≡ memory_after (unit_at (state_of v) seat).node given agreed f =
-    reacts ∙ (ap (λ (n : NodeValue). memory_after n given agreed f) (sym unit) ∙ ap (λ (w : GarageValue). memory_after (unit_at (state_of w) seat).node given agreed f) is) in
-    (seen, (agreed, adds, kept))
+    let adds : Adds v (Hear seat given answered) (view_of b) = added a b v (Hear seat given answered) is settings (journal ∙ ap (λ (m : MemoryValue). a.journal.items ++ Hear seat m answered ∷ []) mem) fits in
+    let kept : after' ≡ memory_after (unit_at (state_of v) seat).node given answered f =
+    reacts ∙ (ap (λ (n : NodeValue). memory_after n given answered f) (sym unit) ∙ ap (λ (w : GarageValue). memory_after (unit_at (state_of w) seat).node given answered f) is) in
+    let asked : IsAsked answers (question (unit_at (state_of v) seat).node f) answered unit' unit'' =
+    subst (λ (n : NodeValue). IsAsked answers (question n f) answered unit' unit'') (sym unit ∙ ap (λ (w : GarageValue). (unit_at (state_of w) seat).node) is) asks in
+    (seen, (answered, adds, kept, asked))
 
 pub state_next : (a b : Inside) (e : Event) → settings_of b ≡ settings_of a → b.journal.items ≡ a.journal.items ++ e ∷ [] → state b ≡ after e (state a)
 state_next a b e settings journal =

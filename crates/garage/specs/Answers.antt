@@ -5,9 +5,12 @@ use Rattle.can_frame.specs.declared.reading.Reading.TheVariants as reading
 use Rattle.fault_memory.specs.Memory.{MemoryValue}
 use Rattle.dm_messages.specs.declared.kind.Kind.TheVariants.{Dm1}
 use Rattle.bus_ledger.specs.Reception.{next_reading}
+use Rattle.node_core.specs.declared.heard.Answer.{Answer as UnitAnswer}
 use Rattle.node_core.specs.NodeValue.{is_open}
 use Rattle.node_core.specs.declared.heard.Begun.{Begun}
-use Rattle.node_core.specs.Reaction.{memory_after}
+use Rattle.unit_trait.specs.declared.question.Question.{Question}
+use Rattle.node_core.specs.Asking.{IsAsked}
+use Rattle.node_core.specs.Reaction.{memory_after, question}
 use Rattle.journal.specs.State.{unit_at}
 use Rattle.journal.specs.Steps.{next_for}
 use Rattle.journal.specs.Journal.{GarageValue, Adds, state_of}
@@ -17,12 +20,15 @@ use Rattle.garage.specs.declared.steps.HeardOne.TheVariants as heard
 use Rattle.garage.specs.declared.steps.Begin.{Begin}
 use Rattle.garage.specs.declared.steps.Begin.TheVariants as begin
 
--- the next frame was heard, by what the unit chose; or the whole wire was heard before
-abbrev pub Hears : GarageValue → ℕ → MemoryValue → HeardOne → GarageValue → MemoryValue → Type 0
-Hears old k memory (heard.Frame f) new memory' =
+-- The next frame was heard, and the journal tells what the unit answered to what the frame put to it. The unit was asked
+-- exactly that, in one call (`answers` tells what such a call may answer and leave of it), and is else as it was. Or the whole
+-- wire was heard before.
+abbrev pub Hears : {X : Type 0} → GarageValue → ℕ → MemoryValue → (Question → Bool → X → Type 0) → X → HeardOne → GarageValue → MemoryValue → X → Type 0
+Hears old k memory answers unit (heard.Frame f) new memory' unit' =
     (next_for (state_of old) k ≡ Some f)
-    × ((agreed : Bool) × Adds old (event.Hear k memory agreed) new × (memory' ≡ memory_after (unit_at (state_of old) k).node memory agreed f))
-Hears old k memory heard.Nothing new memory' = (next_for (state_of old) k ≡ None) × (new ≡ old) × (memory' ≡ memory)
+    × ((answered : UnitAnswer) × Adds old (event.Hear k memory answered) new × (memory' ≡ memory_after (unit_at (state_of old) k).node memory answered f)
+    × IsAsked answers (question (unit_at (state_of old) k).node f) answered unit unit')
+Hears old k memory answers unit heard.Nothing new memory' unit' = (next_for (state_of old) k ≡ None) × (new ≡ old) × (memory' ≡ memory) × (unit' ≡ unit)
 
 -- a DM1 of the memory began; or a session of a DM1 is open
 abbrev pub Begins : GarageValue → ℕ → MemoryValue → Begin → GarageValue → Type 0

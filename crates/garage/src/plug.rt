@@ -64,7 +64,7 @@ impl Parked {
     pub fn name(&self) -> Name
         ensures { result ≡ name_of self.now.unit }
     {
-        self.unit.name()
+        name_in(&self.unit)
     }
 
     /// The unit's fault memory.
@@ -74,17 +74,19 @@ impl Parked {
         self.unit.memory()
     }
 
-    /// Lets the unit do its own work. It keeps its NAME.
+    /// Lets the unit do its own work, by one call of its `think`. It keeps its NAME.
     pub fn think(&mut self)
         requires { Unit {0} }
         ensures name { name_of self.new.unit ≡ name_of self.old.unit }
         ensures seat { self.new.seat ≡ self.old.seat }
         ensures events { self.new.events ≡ self.old.events }
+        ensures works { (u : _) × (self.new.unit ≡ record self.old.unit { value = u }) × Works self.old.unit u }
     {
         self.unit.think();
     }
 
-    /// Changes the unit's fault memory, or refuses as the memory does; then it is as it was.
+    /// Tells the unit of a change of its fault memory, by one call of its `apply`. Refused as the memory refuses it, which is then
+    /// as it was.
     pub fn apply(&mut self, change: FaultChange) -> Result<(), FaultError>
         requires { Unit {0} }
         ensures name { name_of self.new.unit ≡ name_of self.old.unit }
@@ -94,9 +96,17 @@ impl Parked {
         ensures refused { (e : AnyFault) → changed (memory_of self.old.unit) change ≡ Err e → result ≡ Err e }
         ensures why { IfErr result (λ e. ((e ≡ FaultError.OutOfMemory) × Grows (changed (memory_of self.old.unit) change) (memory_of self.old.unit)) ⊎ (changed (memory_of self.old.unit) change ≡ Err e)) }
         ensures err { OnErr result (memory_of self.new.unit ≡ memory_of self.old.unit) }
+        ensures takes { (u : _) × (self.new.unit ≡ record self.old.unit { value = u }) × Takes self.old.unit change u }
     {
         self.unit.apply(change)
     }
+}
+
+/// The NAME of a boxed unit.
+fn name_in(unit: &Box<dyn Unit>) -> Name
+    ensures { result ≡ name_of unit.now }
+{
+    unit.name()
 }
 
 impl Garage {
@@ -122,7 +132,7 @@ impl Garage {
         if want > 253 {
             return Err((unit, GarageError::NotAnAddress));
         }
-        let name = unit.name();
+        let name = name_in(&unit);
         match self.join(alloc, name, want) {
             Ok(seat) => Ok(Parked {
                 unit,
@@ -163,7 +173,7 @@ impl Garage {
         ensures err { IfErr result (λ e. (e.0 ≡ parked) × (e.1 ≡ GarageError.Stranger)) }
         ensures* rests { sem 𝓛 (RestsIfErr the_row self.entry (λ p. p.garage.ghost_name) result (λ g. g ≡ self.old)) }
     {
-        let name = parked.unit.name();
+        let name = parked.name();
         if !self.is_seated(parked.seat, name, parked.events) {
             return Err((parked, GarageError::Stranger));
         }
@@ -203,20 +213,21 @@ impl<'a> Plug<'a> {
         self.garage.events_of(self.seat)
     }
 
-    /// Lets the unit hear its next frame, if there is one that it has not heard. Where it heard one, its count of events is one
-    /// more.
+    /// Lets the unit hear its next frame, if there is one that it has not heard; its count of events is then one more. The unit is
+    /// asked exactly what the frame puts to it (to clear, or to hold a commanded address), in one call, and is else as it was.
     ///
-    /// Refused where there is one: `BookFull`, then `OutOfMemory`; then nothing changed.
+    /// Refused where there is one: `BookFull`, then `OutOfMemory`; then nothing changed, and the unit was not asked.
     pub fn hear(&mut self, alloc: Global) -> Result<HeardOne, GarageError>
         requires { Unit {0} }
         ensures same { self.new.garage.ghost_name ≡ self.old.garage.ghost_name }
         ensures kept { (self.new.seat ≡ self.old.seat) × (self.new.name ≡ self.old.name) × (name_of self.new.unit ≡ name_of self.old.unit) }
-        ensures ok { IfOk result (λ h. Hears self.old.garage.now self.old.seat (memory_of self.old.unit) h self.new.garage.now (memory_of self.new.unit)) }
+        ensures ok { IfOk result (λ h. (u : _) × (self.new.unit ≡ record self.old.unit { value = u }) × Hears self.old.garage.now self.old.seat (memory_of self.old.unit) (Answers self.old.unit) self.old.unit.value h self.new.garage.now (memory_of self.new.unit) u) }
         ensures counted { IfOk result (λ h. self.new.events ≡ counted_hearing self.old.events h) }
         ensures nothing { (result ≡ Ok HeardOne.Nothing) ↔ (next_for (state_of self.old.garage.now) self.old.seat ≡ None) }
         ensures full { IsErrOf result GarageError.BookFull ↔ (IsSome (next_for (state_of self.old.garage.now) self.old.seat) × IsFull self.old.garage.now) }
         ensures only { IfErr result (λ e. (e ≡ GarageError.BookFull) ⊎ (e ≡ GarageError.OutOfMemory)) }
-        ensures err { OnErr result ((self.new.garage.now ≡ self.old.garage.now) × (self.new.events ≡ self.old.events) × (memory_of self.new.unit ≡ memory_of self.old.unit)) }
+        ensures err { OnErr result ((self.new.garage.now ≡ self.old.garage.now) × (self.new.events ≡ self.old.events)) }
+        ensures unasked { OnErr result (self.new.unit ≡ self.old.unit) }
     {
         let heard = self.garage.hear(alloc, self.seat, &mut *self.unit)?;
         self.events = self.garage.events_of(self.seat);

@@ -93,9 +93,10 @@ impl Garage {
         Ok(seat)
     }
 
-    /// The unit on the seat hears its next frame.
+    /// The unit on the seat hears its next frame. It is asked exactly what the frame puts to it, and is else as it was.
     ///
-    /// Refused where there is a frame and the journal has no room, then where there is no memory; then nothing changed.
+    /// Refused where there is a frame and the journal has no room, then where there is no memory; then nothing changed, and the
+    /// unit was not asked.
     pub(crate) fn hear(
         &mut self,
         alloc: Global,
@@ -104,11 +105,12 @@ impl Garage {
     ) -> Result<HeardOne, GarageError>
         requires { IsUnit (state_of self.old).traffic seat }
         ensures name { name_of unit.new ≡ name_of unit.old }
-        ensures ok { IfOk result (λ h. Hears self.old seat (memory_of unit.old) h self.new (memory_of unit.new)) }
+        ensures ok { IfOk result (λ h. (u : _) × (unit.new ≡ (unit.old.0, u)) × Hears self.old seat (memory_of unit.old) (Answers unit.old) unit.old.1 h self.new (memory_of unit.new) u) }
         ensures nothing { (result ≡ Ok HeardOne.Nothing) ↔ (next_for (state_of self.old) seat ≡ None) }
         ensures full { IsErrOf result GarageError.BookFull ↔ (IsSome (next_for (state_of self.old) seat) × IsFull self.old) }
         ensures only { IfErr result (λ e. (e ≡ GarageError.BookFull) ⊎ (e ≡ GarageError.OutOfMemory)) }
-        ensures err { OnErr result ((self.new ≡ self.old) × (memory_of unit.new ≡ memory_of unit.old)) }
+        ensures err { OnErr result (self.new ≡ self.old) }
+        ensures unasked { OnErr result (unit.new ≡ unit.old) }
     {
         let Some(frame) = self.bus.next_for(seat) else {
             return Ok(HeardOne::Nothing);
@@ -135,7 +137,7 @@ impl Garage {
         self.journal.push_reserved(Event::Hear {
             seat,
             memory,
-            agreed: heard.agreed,
+            answer: heard.answer,
         });
         Ok(HeardOne::Frame(frame))
     }

@@ -11,6 +11,7 @@ use Rattle.bus_model.specs.Messages.{Message}
 use Rattle.bus_model.specs.Traffic.{Item}
 use Rattle.bus_model.specs.Machine as machine
 use Rattle.bus_model.specs.Machine.{Answer, Seat, Step, World, with_heard}
+use Rattle.node_core.specs.declared.heard.Answer.{Answer as UnitAnswer}
 use Rattle.node_core.specs.Deed.{Deed, begun_of, withdraw_of}
 use Rattle.node_core.specs.Laws.{IsLawfulDeed, reaction_is_lawful}
 use Rattle.node_core.specs.Reaction.{reaction}
@@ -63,12 +64,12 @@ traffic_after s i d l =
     ap (put_all (suc i) (puts_of (get_or s.units i (new_unit 0 0)) (length s.begun) d)) (withdrawn_in_place (suc i) (withdraw_of d) s.traffic v l)
     ∙ put_in_place (suc i) (puts_of (get_or s.units i (new_unit 0 0)) (length s.begun) d) s.traffic (withdraws (withdraw_of d) v) l
 
-heard_state : (s : State) (i : ℕ) (memory : MemoryValue) (agreed : Bool) (f : FrameValue) → suc i < length s.traffic.seats
-    → after_hear_of (Some f) (suc i) memory agreed s ≡ state_after s i memory (group_of f) (reaction (get_or s.units i (new_unit 0 0)).node memory agreed f)
+heard_state : (s : State) (i : ℕ) (memory : MemoryValue) (answered : UnitAnswer) (f : FrameValue) → suc i < length s.traffic.seats
+    → after_hear_of (Some f) (suc i) memory answered s ≡ state_after s i memory (group_of f) (reaction (get_or s.units i (new_unit 0 0)).node memory answered f)
 unfolding after_hear_of
-heard_state s i memory agreed f l =
+heard_state s i memory answered f l =
     let one : suc i - 1 ≡ i = omega arith in
-    rw one (ap (λ (t : Traffic). record (state_after s i memory (group_of f) (reaction (get_or s.units i (new_unit 0 0)).node memory agreed f)) { traffic = t }) (traffic_after s i (reaction (get_or s.units i (new_unit 0 0)).node memory agreed f) l))
+    rw one (ap (λ (t : Traffic). record (state_after s i memory (group_of f) (reaction (get_or s.units i (new_unit 0 0)).node memory answered f)) { traffic = t }) (traffic_after s i (reaction (get_or s.units i (new_unit 0 0)).node memory answered f) l))
 
 -- the deed after the frame of that item
 hear_deed : (r : Settings) (s : State) (seats : List Seat) (i : ℕ) (memory : MemoryValue) (e : Item) (d : Deed) → Stands r s seats → suc i < length s.traffic.seats → (seat_at s.traffic (suc i)).live ≡ true → IsLawfulMemory memory
@@ -111,9 +112,9 @@ hear_deed r s seats i memory e d st l live memory_is at lawful =
     )
 
 -- a unit's next frame
-pub hear_at : (r : Settings) (s : State) (seats : List Seat) (i : ℕ) (memory : MemoryValue) (agreed : Bool) → Stands r s seats → Fits s (Hear (suc i) memory agreed)
-    → (seats' : List Seat) × (answer : Answer) × Step (world_of r s seats) (machine.Hear i answer) (world_of r (after (Hear (suc i) memory agreed) s) seats') × Stands r (after (Hear (suc i) memory agreed) s) seats'
-hear_at r s seats i memory agreed st fits =
+pub hear_at : (r : Settings) (s : State) (seats : List Seat) (i : ℕ) (memory : MemoryValue) (answered : UnitAnswer) → Stands r s seats → Fits s (Hear (suc i) memory answered)
+    → (seats' : List Seat) × (answer : Answer) × Step (world_of r s seats) (machine.Hear i answer) (world_of r (after (Hear (suc i) memory answered) s) seats') × Stands r (after (Hear (suc i) memory answered) s) seats'
+hear_at r s seats i memory answered st fits =
     let count = st.count in
     let l : suc i < length s.traffic.seats = fits.0.1 in
     let u : UnitState = get_or s.units i (new_unit 0 0) in
@@ -122,17 +123,17 @@ hear_at r s seats i memory agreed st fits =
     let c : CarriedFrame = found.0 in
     let at : slice_get (items_of s) (seat_at s.traffic (suc i)).heard ≡ Some (item_of s c) =
     slice_get-map (item_of s) s.traffic.wire (seat_at s.traffic (suc i)).heard ∙ ap (option_map (item_of s)) found.1 in
-    let lawful = reaction_is_lawful u.node memory agreed (group_of c.frame) (hold_back u.node.claimer.held seat.holdable) in
-    let is : after (Hear (suc i) memory agreed) s ≡ state_after s i memory (group_of c.frame) (reaction u.node memory agreed c.frame) =
-    ap (λ (o : Option FrameValue). after_hear_of o (suc i) memory agreed s) (ap (option_map (λ (x : CarriedFrame). x.frame)) found.1) ∙ heard_state s i memory agreed c.frame l in
+    let lawful = reaction_is_lawful u.node memory answered (group_of c.frame) (hold_back u.node.claimer.held seat.holdable) in
+    let is : after (Hear (suc i) memory answered) s ≡ state_after s i memory (group_of c.frame) (reaction u.node memory answered c.frame) =
+    ap (λ (o : Option FrameValue). after_hear_of o (suc i) memory answered s) (ap (option_map (λ (x : CarriedFrame). x.frame)) found.1) ∙ heard_state s i memory answered c.frame l in
     subst (λ (t : State). (seats' : List Seat) × (answer : Answer) × Step (world_of r s seats) (machine.Hear i answer) (world_of r t seats') × Stands r t seats') (sym is)
-    (hear_deed r s seats i memory (item_of s c) (reaction u.node memory agreed c.frame) st l fits.0.2 fits.2 at lawful)
+    (hear_deed r s seats i memory (item_of s c) (reaction u.node memory answered c.frame) st l fits.0.2 fits.2 at lawful)
 
 -- a unit that hears takes a step of the machine
-pub hear_runs : (r : Settings) (s : State) (seats : List Seat) (k : ℕ) (memory : MemoryValue) (agreed : Bool) → Stands r s seats → Fits s (Hear k memory agreed)
-    → (seats' : List Seat) × (answer : Answer) × Step (world_of r s seats) (machine.Hear (k - 1) answer) (world_of r (after (Hear k memory agreed) s) seats') × Stands r (after (Hear k memory agreed) s) seats'
-hear_runs r s seats zero memory agreed st fits = absurd (let l = fits.0.0 in omega arith)
-hear_runs r s seats (suc i) memory agreed st fits =
+pub hear_runs : (r : Settings) (s : State) (seats : List Seat) (k : ℕ) (memory : MemoryValue) (answered : UnitAnswer) → Stands r s seats → Fits s (Hear k memory answered)
+    → (seats' : List Seat) × (answer : Answer) × Step (world_of r s seats) (machine.Hear (k - 1) answer) (world_of r (after (Hear k memory answered) s) seats') × Stands r (after (Hear k memory answered) s) seats'
+hear_runs r s seats zero memory answered st fits = absurd (let l = fits.0.0 in omega arith)
+hear_runs r s seats (suc i) memory answered st fits =
     let one : i ≡ suc i - 1 = omega arith in
-    subst (λ (n : ℕ). (seats' : List Seat) × (answer : Answer) × Step (world_of r s seats) (machine.Hear n answer) (world_of r (after (Hear (suc i) memory agreed) s) seats') × Stands r (after (Hear (suc i) memory agreed) s) seats') one
-    (hear_at r s seats i memory agreed st fits)
+    subst (λ (n : ℕ). (seats' : List Seat) × (answer : Answer) × Step (world_of r s seats) (machine.Hear n answer) (world_of r (after (Hear (suc i) memory answered) s) seats') × Stands r (after (Hear (suc i) memory answered) s) seats') one
+    (hear_at r s seats i memory answered st fits)

@@ -99,7 +99,7 @@ heard_more : (g : GarageValue) (e : Event) (n : ℕ) (k : Kind)
     → IsPrefix (reverse (entries_heard (station_of g.settings) n k (readings_of g.journal))) (reverse (entries_heard (station_of g.settings) n k (readings_of (e ∷ g.journal))))
 unfolding readings_of
 heard_more g (Join name address) n k = still (entries_heard (station_of g.settings) n k (readings_of g.journal))
-heard_more g (Hear j memory agreed) n k = still (entries_heard (station_of g.settings) n k (readings_of g.journal))
+heard_more g (Hear j memory answered) n k = still (entries_heard (station_of g.settings) n k (readings_of g.journal))
 heard_more g (Begin j memory) n k = still (entries_heard (station_of g.settings) n k (readings_of g.journal))
 heard_more g (Turned j) n k = still (entries_heard (station_of g.settings) n k (readings_of g.journal))
 heard_more g (Carry j) n k = still (entries_heard (station_of g.settings) n k (readings_of g.journal))

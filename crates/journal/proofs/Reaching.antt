@@ -32,8 +32,8 @@ moves : (r : Settings) (s : State) (seats : List Seat) (e : Event) → IsFit (st
 moves r s seats (Join name address) fit st at f =
     let m = join_runs r s seats name address st f.0 f.1 f.2 in
     record { seats' = m.0; event = machine.Join name address; step = m.1; stands = m.2 }
-moves r s seats (Hear k memory agreed) fit st at f =
-    let m = hear_runs r s seats k memory agreed st f in
+moves r s seats (Hear k memory answered) fit st at f =
+    let m = hear_runs r s seats k memory answered st f in
     record { seats' = m.0; event = machine.Hear (k - 1) m.1; step = m.2; stands = m.3 }
 moves r s seats (Begin k memory) fit st at f =
     let m = begin_runs r s seats k memory st f in

@@ -18,7 +18,7 @@ pub path_readings : (r : Settings) (journal : List Event) → AllFit r journal �
 unfolding state_after AllFit readings_of
 path_readings r [] f = refl
 path_readings r (Join name address ∷ older) f = (join_same name address (state_after r older)).readings' ∙ path_readings r older f.1
-path_readings r (Hear k memory agreed ∷ older) f = (hear_same (next_for (state_after r older) k) k memory agreed (state_after r older)).readings' ∙ path_readings r older f.1
+path_readings r (Hear k memory answered ∷ older) f = (hear_same (next_for (state_after r older) k) k memory answered (state_after r older)).readings' ∙ path_readings r older f.1
 path_readings r (Begin k memory ∷ older) f = (begin_same (unit_at (state_after r older) k).node.claimer.held k memory (state_after r older)).readings' ∙ path_readings r older f.1
 path_readings r (Turned k ∷ older) f = path_readings r older f.1
 path_readings r (Carry k ∷ older) f = (carry_same _ k (state_after r older)).readings' ∙ path_readings r older f.1

@@ -15,6 +15,7 @@ use Rattle.bus_model.specs.Traffic.{Item}
 use Rattle.bus_model.specs.Expected.{Own, readings}
 use Rattle.bus_model.specs.Machine.{IsFit}
 use Rattle.dm_messages.specs.declared.kind.Kind.TheVariants.{Dm1}
+use Rattle.node_core.specs.declared.heard.Answer.{Answer as UnitAnswer}
 use Rattle.node_core.specs.Beginning.{begins}
 use Rattle.node_core.specs.declared.heard.Started.{Started}
 use Rattle.node_core.specs.declared.heard.Started.TheVariants as started
@@ -55,10 +56,10 @@ pub join_same : (name address : ℕ) (s : State) → SameStation s (after_join n
 unfolding after_join
 join_same name address s = record { station = refl; readings' = refl }
 
-pub hear_same : (o : Option FrameValue) (k : ℕ) (memory : MemoryValue) (agreed : Bool) (s : State) → SameStation s (after_hear_of o k memory agreed s)
+pub hear_same : (o : Option FrameValue) (k : ℕ) (memory : MemoryValue) (answered : UnitAnswer) (s : State) → SameStation s (after_hear_of o k memory answered s)
 unfolding after_hear_of
-hear_same None k memory agreed s = record { station = refl; readings' = refl }
-hear_same (Some f) k memory agreed s = record { station = refl; readings' = refl }
+hear_same None k memory answered s = record { station = refl; readings' = refl }
+hear_same (Some f) k memory answered s = record { station = refl; readings' = refl }
 
 starting_same : (k : ℕ) (memory : MemoryValue) (b : Started) (s : State) → SameStation s (after_starting k memory b s)
 starting_same k memory started.Held s = record { station = refl; readings' = refl }
@@ -119,7 +120,7 @@ read_at r s x next at =
 -- the tables stand for what was read after each event
 pub station_stands : (r : Settings) (e : Event) (s : State) → AtStation r s → Fits s e → AtStation r (after e s)
 station_stands r (Join name address) s at fits = same_at r s _ (join_same name address s) at
-station_stands r (Hear k memory agreed) s at fits = same_at r s _ (hear_same (next_for s k) k memory agreed s) at
+station_stands r (Hear k memory answered) s at fits = same_at r s _ (hear_same (next_for s k) k memory answered s) at
 station_stands r (Begin k memory) s at fits = same_at r s _ (begin_same (unit_at s k).node.claimer.held k memory s) at
 station_stands r (Turned k) s at fits = at
 station_stands r (Carry k) s at fits = same_at r s _ (carry_same _ k s) at

@@ -54,7 +54,7 @@ one_more t = record t { events = t.events + 1 }
 -- a seat's own events are its join, what it hears and begins, its turns and its leave; the n-th unit to join has seat n
 abbrev pub tallied : ℕ → ℕ → Event → Tally → Tally
 tallied k before (Join name address) t = if (before + 1) == k then one_more (record t { joined = t.joined + 1 }) else t
-tallied k before (Hear j memory agreed) t = if j == k then one_more t else t
+tallied k before (Hear j memory answered) t = if j == k then one_more t else t
 tallied k before (Begin j memory) t = if j == k then one_more t else t
 tallied k before (Turned j) t = if j == k then one_more (record t { turned = t.turned + 1 }) else t
 tallied k before (Carry j) t = t

@@ -17,6 +17,7 @@ use Rattle.bus_ledger.specs.declared.traffic.Which.TheVariants as which
 use Rattle.bus_model.specs.Messages.{Message}
 use Rattle.bus_model.specs.Traffic.{Item, Tag as PartOf}
 use Rattle.bus_model.specs.Expected.{Reception, Own, Received, Missed}
+use Rattle.node_core.specs.declared.heard.Answer.{Answer as UnitAnswer}
 use Rattle.node_core.specs.NodeValue.{NodeValue}
 use Rattle.node_core.specs.Deed.{heard_of}
 use Rattle.node_core.specs.Reaction.{reaction, node_after}
@@ -101,10 +102,10 @@ after_hearing k memory h node s =
 abbrev pub next_for : State → ℕ → Option FrameValue
 next_for s k = option_map (λ c. c.frame) (slice_get s.traffic.wire (seat_at s.traffic k).heard)
 
-unfoldable pub after_hear_of : Option FrameValue → ℕ → MemoryValue → Bool → State → State
-after_hear_of None k memory agreed s = s
-after_hear_of (Some f) k memory agreed s =
-    after_hearing k memory (heard_of agreed (reaction (unit_at s k).node memory agreed f)) (node_after (unit_at s k).node memory agreed f) s
+unfoldable pub after_hear_of : Option FrameValue → ℕ → MemoryValue → UnitAnswer → State → State
+after_hear_of None k memory answered s = s
+after_hear_of (Some f) k memory answered s =
+    after_hearing k memory (heard_of answered (reaction (unit_at s k).node memory answered f)) (node_after (unit_at s k).node memory answered f) s
 
 -- a message begun of one's own accord
 abbrev pub after_starting : ℕ → MemoryValue → Started → State → State
@@ -183,7 +184,7 @@ after_order_of (Ok r) s = record s { traffic = reacted r s.traffic }
 
 abbrev pub after : Event → State → State
 after (Join name address) s = after_join name address s
-after (Hear k memory agreed) s = after_hear_of (next_for s k) k memory agreed s
+after (Hear k memory answered) s = after_hear_of (next_for s k) k memory answered s
 after (Begin k memory) s = after_begin_of (unit_at s k).node.claimer.held k memory s
 after (Turned k) s = s
 after (Carry k) s = after_carry_of (slice_get (seat_at s.traffic k).queue 0) k s

@@ -2,6 +2,7 @@ use crate::order::Order;
 use can_frame::Reading;
 use fault_memory::FaultMemory;
 use name_field::Name;
+use node_core::Answer;
 
 /// One event of the system. What a unit chose is recorded with it.
 #[derive(Drop)]
@@ -11,12 +12,11 @@ pub enum Event {
         name: Name,
         address: u8,
     },
-    /// A unit heard its next frame. Its memory was this, and this is what it answered where a clear or a commanded
-    /// address was put to it.
+    /// A unit heard its next frame. Its memory was this, and this is what it answered to what the frame put to it.
     Hear {
         seat: u32,
         memory: FaultMemory,
-        agreed: bool,
+        answer: Answer,
     },
     /// A unit began a DM1 of this memory.
     Begin {

@@ -1,6 +1,6 @@
 -- What a unit may do on hearing a frame, and what that comes to: what it withdraws, what it queues, what it begins, and
 -- what it keeps from then on.
-use Rattle.std.specs.Prelude.{ℕ, Bool, true, ◌+◌, ◌-◌, ◌==◌, List, [], ◌∷◌, map, Option, Some, None, if◌then◌else◌}
+use Rattle.std.specs.Prelude.{ℕ, ◌+◌, ◌-◌, ◌==◌, List, [], ◌∷◌, map, Option, Some, None, if◌then◌else◌}
 use Rattle.std.specs.List.{range_with_len}
 use Rattle.can_frame.specs.FrameValue.{FrameValue}
 use Rattle.transport.specs.Messages.{part_of_message, last_part}
@@ -14,6 +14,8 @@ use Rattle.node_core.specs.declared.session.OpenSession.{OpenSession}
 use Rattle.node_core.specs.declared.out.Out.{Out}
 use Rattle.node_core.specs.declared.out.Part.{Part}
 use Rattle.node_core.specs.declared.out.Part.TheVariants as part
+use Rattle.node_core.specs.declared.heard.Answer.{Answer}
+use Rattle.node_core.specs.declared.heard.Answer.TheVariants.{NotAsked}
 use Rattle.node_core.specs.declared.heard.Begun.{Begun}
 use Rattle.node_core.specs.declared.heard.Heard.{Heard}
 use Rattle.node_core.specs.declared.heard.Withdraw.{Withdraw}
@@ -80,8 +82,8 @@ begun_of (Begins kind memory source destination) = Some (record { kind = kind; s
 begun_of _ = None
 
 -- what is withdrawn, queued and begun, with what the unit answered
-abbrev pub heard_of : Bool → Deed → Heard
-heard_of agrees deed = record { withdraw = withdraw_of deed; put = put_of deed; begun = begun_of deed; agreed = agrees }
+abbrev pub heard_of : Answer → Deed → Heard
+heard_of answer deed = record { withdraw = withdraw_of deed; put = put_of deed; begun = begun_of deed; answer = answer }
 
 -- the answer by which a message of this payload begins
 abbrev pub beginning : List ℕ → Begun → Heard
@@ -90,7 +92,7 @@ beginning payload begun =
       withdraw = withdraw.Keep;
       put = parts_begun payload (pgn_of_kind begun.kind) begun.source begun.dest;
       begun = Some begun;
-      agreed = true;
+      answer = NotAsked;
     }
 
 -- a session whose first frame alone is queued

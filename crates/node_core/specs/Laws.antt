@@ -20,6 +20,8 @@ use Rattle.fault_memory.specs.Memory.{MemoryValue}
 use Rattle.dm_messages.specs.declared.kind.Kind.{Kind}
 use Rattle.node_core.specs.NodeValue.{NodeValue, is_open, is_destination}
 use Rattle.node_core.specs.Deed.{Deed, Nothing, Replies, Begins, Sends, EndsSession, Claims, payload_of}
+use Rattle.node_core.specs.Asking.{is_agreed}
+use Rattle.node_core.specs.declared.heard.Answer.{Answer}
 use Rattle.node_core.specs.Commanding.{completed, half_from, is_broadcast, for_name}
 use Rattle.node_core.specs.Requested.{wanted_by, is_concerned, counts_from, acknowledgment}
 use Rattle.node_core.specs.Reaction.{on_step, asked_for_message, asked_at_address, asked_of_all, asked_for_more, on_request, is_with, on_cts, is_open_with, is_all_queued_with, on_end_ack, on_abort, on_control, on_command, reaction_to}
@@ -221,12 +223,12 @@ message_is_lawful node memory pgn to kind address source held holdable apart =
       },
     ))))
 
-at_address_is_lawful : (node : NodeValue) (memory : MemoryValue) (agrees : Bool) (pgn to address source : ℕ) (w : Wanted) → node.claimer.held ≡ Some address → source ≤ 253 → source ≢ address
-    → IsLawfulDeed node memory (Request pgn to source) (asked_at_address node memory agrees pgn address source w)
-at_address_is_lawful node memory agrees pgn to address source (wanted.Message kind) held holdable apart = message_is_lawful node memory pgn to kind address source held holdable apart
-at_address_is_lawful node memory agrees pgn to address source (wanted.Clear which) held holdable apart =
-    replies_control node memory (if agrees then 0 else 1) pgn to address source held (control_small agrees)
-at_address_is_lawful node memory agrees pgn to address source wanted.Unsupported held holdable apart =
+at_address_is_lawful : (node : NodeValue) (memory : MemoryValue) (answer : Answer) (pgn to address source : ℕ) (w : Wanted) → node.claimer.held ≡ Some address → source ≤ 253 → source ≢ address
+    → IsLawfulDeed node memory (Request pgn to source) (asked_at_address node memory answer pgn address source w)
+at_address_is_lawful node memory answer pgn to address source (wanted.Message kind) held holdable apart = message_is_lawful node memory pgn to kind address source held holdable apart
+at_address_is_lawful node memory answer pgn to address source (wanted.Clear which) held holdable apart =
+    replies_control node memory (if is_agreed answer then 0 else 1) pgn to address source held (control_small (is_agreed answer))
+at_address_is_lawful node memory answer pgn to address source wanted.Unsupported held holdable apart =
     replies_control node memory 1 pgn to address source held (omega arith)
 
 of_all_is_lawful : (node : NodeValue) (memory : MemoryValue) (pgn to address source : ℕ) (w : Wanted) → node.claimer.held ≡ Some address
@@ -238,34 +240,34 @@ of_all_is_lawful node memory pgn to address source (wanted.Message kind) held =
 of_all_is_lawful node memory pgn to address source (wanted.Clear which) held = record { uncontested = refl; uncut = refl }
 of_all_is_lawful node memory pgn to address source wanted.Unsupported held = record { uncontested = refl; uncut = refl }
 
-more_is_lawful : (node : NodeValue) (memory : MemoryValue) (agrees : Bool) (pgn to source : ℕ) (held : Option ℕ) → node.claimer.held ≡ held
-    → IsLawfulDeed node memory (Request pgn to source) (asked_for_more node memory agrees pgn to source held)
-more_is_lawful node memory agrees pgn to source None h = record { uncontested = refl; uncut = refl }
-more_is_lawful node memory agrees pgn to source (Some address) h =
+more_is_lawful : (node : NodeValue) (memory : MemoryValue) (answer : Answer) (pgn to source : ℕ) (held : Option ℕ) → node.claimer.held ≡ held
+    → IsLawfulDeed node memory (Request pgn to source) (asked_for_more node memory answer pgn to source held)
+more_is_lawful node memory answer pgn to source None h = record { uncontested = refl; uncut = refl }
+more_is_lawful node memory answer pgn to source (Some address) h =
     let L = IsLawfulDeed node memory (Request pgn to source) in
     let all : Deed = asked_of_all node memory address (wanted_by pgn) in
-    let one : Deed = asked_at_address node memory agrees pgn address source (wanted_by pgn) in
+    let one : Deed = asked_at_address node memory answer pgn address source (wanted_by pgn) in
     if_case L (counts_from address source) (if to == 255 then all else one) Nothing
     (λ counts.
     let both = and_parts (nat_le source 253) (not (source == address)) counts in
     let apart : source ≢ address = λ e. let same = eq-eqb source address e in let other = is_not (source == address) both.1 in cc in
     if_case L (to == 255) all one
     (λ _. of_all_is_lawful node memory pgn to address source (wanted_by pgn) h)
-    (λ _. at_address_is_lawful node memory agrees pgn to address source (wanted_by pgn) h (leb-true source 253 both.0) apart))
+    (λ _. at_address_is_lawful node memory answer pgn to address source (wanted_by pgn) h (leb-true source 253 both.0) apart))
     (λ _. record { uncontested = refl; uncut = refl })
 
-request_is_lawful : (node : NodeValue) (memory : MemoryValue) (agrees : Bool) (pgn to source : ℕ)
-    → IsLawfulDeed node memory (Request pgn to source) (on_request node memory agrees pgn to source)
-request_is_lawful node memory agrees pgn to source =
+request_is_lawful : (node : NodeValue) (memory : MemoryValue) (answer : Answer) (pgn to source : ℕ)
+    → IsLawfulDeed node memory (Request pgn to source) (on_request node memory answer pgn to source)
+request_is_lawful node memory answer pgn to source =
     let L = IsLawfulDeed node memory (Request pgn to source) in
     let claim : Deed = Replies (claim_frame_value node.claimer.name node.claimer.held) in
-    let more : Deed = asked_for_more node memory agrees pgn to source node.claimer.held in
+    let more : Deed = asked_for_more node memory answer pgn to source node.claimer.held in
     if_case L (not (is_concerned node.claimer.held to)) Nothing (if pgn == 60928 then claim else more)
     (λ _. record { uncontested = refl; uncut = refl })
     (λ _.
     if_case L (pgn == 60928) claim more
     (λ _. (record { uncontested = refl; uncut = refl }, inl refl))
-    (λ _. more_is_lawful node memory agrees pgn to source node.claimer.held refl))
+    (λ _. more_is_lawful node memory answer pgn to source node.claimer.held refl))
 
 -- ---- sessions
 
@@ -338,24 +340,24 @@ command_heard_fits : (b : Bool) (name : ℕ) (o : Option Commanded) → IfSome (
 command_heard_fits true name o = for_name_fits name o
 command_heard_fits false name o = tt
 
-command_is_lawful : (node : NodeValue) (memory : MemoryValue) (agrees : Bool) (source destination : ℕ) (bytes : List ℕ) (o : Option Commanded) → IfSome o (λ c. c.address ≤ 253)
-    → IsLawfulDeed node memory (DataTransfer source destination bytes) (on_command node agrees o)
-command_is_lawful node memory agrees source destination bytes None h = record { uncontested = refl; uncut = refl }
-command_is_lawful node memory agrees source destination bytes (Some c) h =
-    if_case (IsLawfulDeed node memory (DataTransfer source destination bytes)) agrees (Claims node.claimer.name (Some c.address)) Nothing
+command_is_lawful : (node : NodeValue) (memory : MemoryValue) (answer : Answer) (source destination : ℕ) (bytes : List ℕ) (o : Option Commanded) → IfSome o (λ c. c.address ≤ 253)
+    → IsLawfulDeed node memory (DataTransfer source destination bytes) (on_command node answer o)
+command_is_lawful node memory answer source destination bytes None h = record { uncontested = refl; uncut = refl }
+command_is_lawful node memory answer source destination bytes (Some c) h =
+    if_case (IsLawfulDeed node memory (DataTransfer source destination bytes)) (is_agreed answer) (Claims node.claimer.name (Some c.address)) Nothing
     (λ _. (refl, h))
     (λ _. record { uncontested = refl; uncut = refl })
 
 -- ---- all of it
 
 -- whatever a frame says and the unit chooses, its deed is a lawful one
-pub reaction_is_lawful : (node : NodeValue) (memory : MemoryValue) (agrees : Bool) (g : Group) → CanHold node.claimer.held → IsLawfulDeed node memory g (reaction_to node memory agrees g)
-reaction_is_lawful node memory agrees (AddressClaimed source name) held = claim_is_lawful node memory source name held
-reaction_is_lawful node memory agrees (CannotClaim name) held = record { uncontested = refl; uncut = refl }
-reaction_is_lawful node memory agrees (Request pgn destination source) held = request_is_lawful node memory agrees pgn destination source
-reaction_is_lawful node memory agrees (Acknowledgment control requester pgn destination source) held = record { uncontested = refl; uncut = refl }
-reaction_is_lawful node memory agrees (Diagnostic kind source bytes) held = record { uncontested = refl; uncut = refl }
-reaction_is_lawful node memory agrees (ConnectionManagement source destination control) held = control_is_lawful node memory source destination control
-reaction_is_lawful node memory agrees (DataTransfer source destination bytes) held =
-    command_is_lawful node memory agrees source destination bytes _ (command_heard_fits (is_broadcast destination source) node.claimer.name (completed (half_from node.half_commands source) bytes))
-reaction_is_lawful node memory agrees Other held = record { uncontested = refl; uncut = refl }
+pub reaction_is_lawful : (node : NodeValue) (memory : MemoryValue) (answer : Answer) (g : Group) → CanHold node.claimer.held → IsLawfulDeed node memory g (reaction_to node memory answer g)
+reaction_is_lawful node memory answer (AddressClaimed source name) held = claim_is_lawful node memory source name held
+reaction_is_lawful node memory answer (CannotClaim name) held = record { uncontested = refl; uncut = refl }
+reaction_is_lawful node memory answer (Request pgn destination source) held = request_is_lawful node memory answer pgn destination source
+reaction_is_lawful node memory answer (Acknowledgment control requester pgn destination source) held = record { uncontested = refl; uncut = refl }
+reaction_is_lawful node memory answer (Diagnostic kind source bytes) held = record { uncontested = refl; uncut = refl }
+reaction_is_lawful node memory answer (ConnectionManagement source destination control) held = control_is_lawful node memory source destination control
+reaction_is_lawful node memory answer (DataTransfer source destination bytes) held =
+    command_is_lawful node memory answer source destination bytes _ (command_heard_fits (is_broadcast destination source) node.claimer.name (completed (half_from node.half_commands source) bytes))
+reaction_is_lawful node memory answer Other held = record { uncontested = refl; uncut = refl }

@@ -2,6 +2,7 @@ pub mod NodeValue
 pub mod Deed
 pub mod Commanding
 pub mod Requested
+pub mod Asking
 pub mod Reaction
 pub mod Laws
 pub mod Beginning

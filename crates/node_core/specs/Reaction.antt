@@ -1,5 +1,5 @@
 -- What a unit owes to a frame that it hears, by what the frame says; a frame that no case names owes nothing.
--- `agrees` is the unit's own choice: whether it clears or obeys, where that is put to it.
+-- `answer` is the unit's own: whether it clears or holds the address, where that is put to it.
 use Rattle.std.specs.Prelude.{◌≡◌, ℕ, Bool, ◌&&◌, ◌==◌, not, false, nat_le, is_some, List, length, slice_index_or, slice_set, Option, Some, None, if◌then◌else◌}
 use Rattle.can_frame.specs.FrameValue.{FrameValue}
 use Rattle.transport.specs.declared.control.Control.{Control}
@@ -15,13 +15,17 @@ use Rattle.requests.specs.declared.commanded.Commanded.{Commanded}
 use Rattle.parameter_group.specs.Group.{Group, AddressClaimed, Request, ConnectionManagement, DataTransfer, group_of}
 use Rattle.fault_memory.specs.Memory.{MemoryValue}
 use Rattle.dm_messages.specs.declared.kind.Kind.{Kind}
+use Rattle.unit_trait.specs.declared.question.Question.{Question}
+use Rattle.unit_trait.specs.declared.question.Question.TheVariants.{Hold}
 use Rattle.node_core.specs.NodeValue.{NodeValue, is_open, is_destination}
 use Rattle.node_core.specs.Deed.{Deed, Nothing, Replies, Begins, Sends, EndsSession, Claims, payload_of, heard_of, after}
 use Rattle.node_core.specs.Commanding.{started, continued, completed, half_from, is_broadcast, for_name}
-use Rattle.node_core.specs.Requested.{wanted_by, is_concerned, counts_from, is_clear, cleared_by, acknowledgment}
+use Rattle.node_core.specs.Requested.{wanted_by, is_concerned, counts_from, put_by, acknowledgment}
+use Rattle.node_core.specs.Asking.{is_agreed, memory_answered, IsAnswerTo}
 use Rattle.node_core.specs.declared.commanding.HalfCommand.{HalfCommand}
 use Rattle.node_core.specs.declared.commanding.HalfCommand.TheVariants as half
 use Rattle.node_core.specs.declared.session.OpenSession.{OpenSession}
+use Rattle.node_core.specs.declared.heard.Answer.{Answer}
 use Rattle.node_core.specs.declared.heard.Heard.{Heard}
 use Rattle.node_core.specs.declared.requested.Wanted.{Wanted}
 use Rattle.node_core.specs.declared.requested.Wanted.TheVariants as wanted
@@ -52,10 +56,10 @@ asked_for_message session kind memory pgn address source =
     else Begins kind memory address source
 
 -- asked at the unit's own address
-abbrev pub asked_at_address : NodeValue → MemoryValue → Bool → ℕ → ℕ → ℕ → Wanted → Deed
-asked_at_address node memory agrees pgn address source (wanted.Message kind) = asked_for_message node.session kind memory pgn address source
-asked_at_address node memory agrees pgn address source (wanted.Clear which) = Replies (acknowledgment (if agrees then 0 else 1) source pgn address)
-asked_at_address node memory agrees pgn address source wanted.Unsupported = Replies (acknowledgment 1 source pgn address)
+abbrev pub asked_at_address : NodeValue → MemoryValue → Answer → ℕ → ℕ → ℕ → Wanted → Deed
+asked_at_address node memory answer pgn address source (wanted.Message kind) = asked_for_message node.session kind memory pgn address source
+asked_at_address node memory answer pgn address source (wanted.Clear which) = Replies (acknowledgment (if is_agreed answer then 0 else 1) source pgn address)
+asked_at_address node memory answer pgn address source wanted.Unsupported = Replies (acknowledgment 1 source pgn address)
 
 -- asked of all: a message, but not while a session of that kind is open; a clear is not answered
 abbrev pub asked_of_all : NodeValue → MemoryValue → ℕ → Wanted → Deed
@@ -63,36 +67,31 @@ asked_of_all node memory address (wanted.Message kind) = if is_open node.session
 asked_of_all node memory address _ = Nothing
 
 -- asked for more than the claim: only by who may hold another address
-abbrev pub asked_for_more : NodeValue → MemoryValue → Bool → ℕ → ℕ → ℕ → Option ℕ → Deed
-asked_for_more node memory agrees pgn destination source None = Nothing
-asked_for_more node memory agrees pgn destination source (Some address) =
+abbrev pub asked_for_more : NodeValue → MemoryValue → Answer → ℕ → ℕ → ℕ → Option ℕ → Deed
+asked_for_more node memory answer pgn destination source None = Nothing
+asked_for_more node memory answer pgn destination source (Some address) =
     if counts_from address source
-    then (if destination == 255 then asked_of_all node memory address (wanted_by pgn) else asked_at_address node memory agrees pgn address source (wanted_by pgn))
+    then (if destination == 255 then asked_of_all node memory address (wanted_by pgn) else asked_at_address node memory answer pgn address source (wanted_by pgn))
     else Nothing
 
 -- a request for the claim is answered with it, or with cannot claim
-abbrev pub on_request : NodeValue → MemoryValue → Bool → ℕ → ℕ → ℕ → Deed
-on_request node memory agrees pgn destination source =
+abbrev pub on_request : NodeValue → MemoryValue → Answer → ℕ → ℕ → ℕ → Deed
+on_request node memory answer pgn destination source =
     if not (is_concerned node.claimer.held destination) then Nothing
     else if pgn == 60928 then Replies (claim_frame_value node.claimer.name node.claimer.held)
-    else asked_for_more node memory agrees pgn destination source node.claimer.held
+    else asked_for_more node memory answer pgn destination source node.claimer.held
 
--- the memory after what was asked of it
-abbrev pub memory_asked : Wanted → Bool → MemoryValue → MemoryValue
-memory_asked (wanted.Clear which) agrees memory = if agrees then cleared_by which memory else memory
-memory_asked _ agrees memory = memory
+-- what a request for more than the claim puts to the unit
+abbrev pub put_with : ℕ → ℕ → Option ℕ → Option Question
+put_with pgn source None = None
+put_with pgn source (Some address) = if counts_from address source then put_by (wanted_by pgn) else None
 
--- a clear is put to the unit where it is asked at its address or of all, by who may hold another
-abbrev pub memory_asked_from : MemoryValue → Bool → ℕ → ℕ → Option ℕ → MemoryValue
-memory_asked_from memory agrees pgn source None = memory
-memory_asked_from memory agrees pgn source (Some address) =
-    if counts_from address source then memory_asked (wanted_by pgn) agrees memory else memory
-
-abbrev pub memory_after_request : NodeValue → MemoryValue → Bool → ℕ → ℕ → ℕ → MemoryValue
-memory_after_request node memory agrees pgn destination source =
-    if not (is_concerned node.claimer.held destination) then memory
-    else if pgn == 60928 then memory
-    else memory_asked_from memory agrees pgn source node.claimer.held
+-- what a request puts to the unit: a clear, asked at its address or of all, by who may hold another
+abbrev pub put_by_request : NodeValue → ℕ → ℕ → ℕ → Option Question
+put_by_request node pgn destination source =
+    if not (is_concerned node.claimer.held destination) then None
+    else if pgn == 60928 then None
+    else put_with pgn source node.claimer.held
 
 -- ---- sessions
 
@@ -148,27 +147,32 @@ abbrev pub command_heard : NodeValue → ℕ → ℕ → List ℕ → Option Com
 command_heard node source destination bytes =
     if is_broadcast destination source then for_name node.claimer.name (completed (half_from node.half_commands source) bytes) else None
 
--- it is obeyed, if the unit agrees
-abbrev pub on_command : NodeValue → Bool → Option Commanded → Deed
-on_command node agrees None = Nothing
-on_command node agrees (Some command) = if agrees then Claims node.claimer.name (Some command.address) else Nothing
+-- it is put to the unit
+abbrev pub put_by_command : Option Commanded → Option Question
+put_by_command None = None
+put_by_command (Some command) = Some (Hold command.address)
 
-abbrev pub on_packet : NodeValue → Bool → ℕ → ℕ → List ℕ → Deed
-on_packet node agrees source destination bytes = on_command node agrees (command_heard node source destination bytes)
+-- it is obeyed, if the unit answer
+abbrev pub on_command : NodeValue → Answer → Option Commanded → Deed
+on_command node answer None = Nothing
+on_command node answer (Some command) = if is_agreed answer then Claims node.claimer.name (Some command.address) else Nothing
+
+abbrev pub on_packet : NodeValue → Answer → ℕ → ℕ → List ℕ → Deed
+on_packet node answer source destination bytes = on_command node answer (command_heard node source destination bytes)
 
 -- ---- all of it
 
 -- the unit's deed, by what was said
-abbrev pub reaction_to : NodeValue → MemoryValue → Bool → Group → Deed
-reaction_to node memory agrees (AddressClaimed source name) = on_claim node source name
-reaction_to node memory agrees (Request pgn destination source) = on_request node memory agrees pgn destination source
-reaction_to node memory agrees (ConnectionManagement source destination control) = on_control node source destination control
-reaction_to node memory agrees (DataTransfer source destination bytes) = on_packet node agrees source destination bytes
-reaction_to node memory agrees _ = Nothing
+abbrev pub reaction_to : NodeValue → MemoryValue → Answer → Group → Deed
+reaction_to node memory answer (AddressClaimed source name) = on_claim node source name
+reaction_to node memory answer (Request pgn destination source) = on_request node memory answer pgn destination source
+reaction_to node memory answer (ConnectionManagement source destination control) = on_control node source destination control
+reaction_to node memory answer (DataTransfer source destination bytes) = on_packet node answer source destination bytes
+reaction_to node memory answer _ = Nothing
 
 -- the deed of a unit of this value, with this memory, that hears this frame
-abbrev pub reaction : NodeValue → MemoryValue → Bool → FrameValue → Deed
-reaction node memory agrees f = reaction_to node memory agrees (group_of f)
+abbrev pub reaction : NodeValue → MemoryValue → Answer → FrameValue → Deed
+reaction node memory answer f = reaction_to node memory answer (group_of f)
 
 -- an address was last claimed under another NAME
 abbrev pub is_of_another : Option ℕ → ℕ → Bool
@@ -202,30 +206,26 @@ noted_from node (DataTransfer source destination bytes) = packet_joined node sou
 noted_from node _ = node
 
 -- what the unit keeps afterwards
-abbrev pub node_after : NodeValue → MemoryValue → Bool → FrameValue → NodeValue
-node_after node memory agrees f = after (noted_from node (group_of f)) (reaction node memory agrees f)
+abbrev pub node_after : NodeValue → MemoryValue → Answer → FrameValue → NodeValue
+node_after node memory answer f = after (noted_from node (group_of f)) (reaction node memory answer f)
+
+-- what the frame puts to the unit, if anything: to clear, or to hold a commanded address
+abbrev pub put_to : NodeValue → Group → Option Question
+put_to node (Request pgn destination source) = put_by_request node pgn destination source
+put_to node (DataTransfer source destination bytes) = put_by_command (command_heard node source destination bytes)
+put_to node _ = None
+
+-- what this frame puts to a unit of this value
+abbrev pub question : NodeValue → FrameValue → Option Question
+question node f = put_to node (group_of f)
 
 -- the unit's memory afterwards: only a clear changes it
-abbrev pub memory_after_group : NodeValue → MemoryValue → Bool → Group → MemoryValue
-memory_after_group node memory agrees (Request pgn destination source) = memory_after_request node memory agrees pgn destination source
-memory_after_group node memory agrees _ = memory
+abbrev pub memory_after : NodeValue → MemoryValue → Answer → FrameValue → MemoryValue
+memory_after node memory answer f = memory_answered (question node f) answer memory
 
-abbrev pub memory_after : NodeValue → MemoryValue → Bool → FrameValue → MemoryValue
-memory_after node memory agrees f = memory_after_group node memory agrees (group_of f)
-
--- whether a request that counts puts a clear to the holder of an address
-abbrev pub is_clear_put : ℕ → ℕ → Option ℕ → Bool
-is_clear_put pgn source None = false
-is_clear_put pgn source (Some address) = counts_from address source && is_clear (wanted_by pgn)
-
--- whether something is put to the unit: to clear, or to obey a commanded address
-abbrev pub is_put : NodeValue → Group → Bool
-is_put node (Request pgn destination source) = is_concerned node.claimer.held destination && is_clear_put pgn source node.claimer.held
-is_put node (DataTransfer source destination bytes) = is_some (command_heard node source destination bytes)
-is_put node _ = false
-
--- a frame heard, with what came of it: exactly what is owed, by what the unit chose
+-- a frame heard, with what came of it: exactly what is owed, by what the unit answered to what the frame puts to it
 pub record Reacts (f : FrameValue) (node : NodeValue) (memory : MemoryValue) (heard : Heard) (node' : NodeValue) (memory' : MemoryValue) : Type 0 where
-  pub heard_is : heard ≡ heard_of heard.agreed (reaction node memory heard.agreed f)
-  pub node_is : node' ≡ node_after node memory heard.agreed f
-  pub memory_is : memory' ≡ memory_after node memory heard.agreed f
+  pub heard_is : heard ≡ heard_of heard.answer (reaction node memory heard.answer f)
+  pub node_is : node' ≡ node_after node memory heard.answer f
+  pub memory_is : memory' ≡ memory_after node memory heard.answer f
+  pub answer_is : IsAnswerTo (question node f) heard.answer

@@ -1,13 +1,12 @@
 -- What a request asks of a unit (SAE J1939-21, J1939-73), and whom it concerns.
-use Rattle.std.specs.Prelude.{ℕ, Bool, true, false, ◌&&◌, ◌||◌, ◌==◌, not, nat_le, Option, if◌then◌else◌}
+use Rattle.std.specs.Prelude.{ℕ, Bool, ◌&&◌, ◌||◌, ◌==◌, not, nat_le, Option, Some, None, if◌then◌else◌}
 use Rattle.can_frame.specs.FrameValue.{FrameValue}
 use Rattle.address_claim.specs.Claiming.{is_held}
 use Rattle.requests.specs.Layouts.{ack_frame_value}
 use Rattle.dm_messages.specs.declared.kind.Kind.TheVariants.{Dm1, Dm2}
-use Rattle.fault_memory.specs.Memory.{MemoryValue}
-use Rattle.fault_memory.specs.Changes.{cleared_active, cleared_previous}
-use Rattle.node_core.specs.declared.requested.Clear.{Clear}
-use Rattle.node_core.specs.declared.requested.Clear.TheVariants.{Active, Previous}
+use Rattle.unit_trait.specs.declared.question.Clear.TheVariants.{Active, Previous}
+use Rattle.unit_trait.specs.declared.question.Question.{Question}
+use Rattle.unit_trait.specs.declared.question.Question.TheVariants.{Clear}
 use Rattle.node_core.specs.declared.requested.Wanted.{Wanted}
 use Rattle.node_core.specs.declared.requested.Wanted.TheVariants as wanted
 
@@ -28,17 +27,12 @@ is_concerned held destination = destination == 255 || is_held held destination
 abbrev pub counts_from : ℕ → ℕ → Bool
 counts_from address source = nat_le source 253 && not (source == address)
 
--- the memory after the clear
-abbrev pub cleared_by : Clear → MemoryValue → MemoryValue
-cleared_by Active m = cleared_active m
-cleared_by Previous m = cleared_previous m
-
 -- the acknowledgment to all of a request from `requester`: control 0 is "positive", 1 "negative", 3 "cannot respond now"
 abbrev pub acknowledgment : ℕ → ℕ → ℕ → ℕ → FrameValue
 acknowledgment control requester pgn address =
     ack_frame_value (record { control = control; requester = requester; pgn = pgn; dest = 255; source = address })
 
--- it asks to clear codes
-abbrev pub is_clear : Wanted → Bool
-is_clear (wanted.Clear which) = true
-is_clear _ = false
+-- what it puts to the unit: a clear
+abbrev pub put_by : Wanted → Option Question
+put_by (wanted.Clear which) = Some (Clear which)
+put_by _ = None

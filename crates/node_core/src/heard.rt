@@ -27,6 +27,17 @@ pub struct Begun {
     pub dest: u8,
 }
 
+/// What a unit answered to what a frame put to it: to clear codes, or to hold a commanded address.
+#[derive(Clone, Copy, Debug, PartialEq, Eq)]
+pub enum Answer {
+    /// Nothing was put to it.
+    NotAsked,
+    /// It cleared, or obeys.
+    Agreed,
+    /// It did not clear, or does not obey.
+    Declined,
+}
+
 /// What a unit does on hearing a frame: first it withdraws, then it queues.
 #[derive(Debug, Drop)]
 pub struct Heard {
@@ -36,8 +47,8 @@ pub struct Heard {
     pub put: Outs,
     /// The message that begins with this, if one does.
     pub begun: Option<Begun>,
-    /// Where a clear or a commanded address was put to the unit: whether it cleared or obeyed. Else true.
-    pub agreed: bool,
+    /// What the unit answered to what was put to it.
+    pub answer: Answer,
 }
 
 impl Heard {
@@ -45,25 +56,25 @@ impl Heard {
 
     /// Nothing is done. Takes no memory.
     pub(crate) fn nothing(alloc: Global) -> Heard
-        ensures { result ≡ heard_of true Nothing }
+        ensures { result ≡ heard_of Answer.NotAsked Nothing }
     {
         Heard {
             withdraw: Withdraw::Keep,
             put: Outs::new(alloc),
             begun: None,
-            agreed: true,
+            answer: Answer::NotAsked,
         }
     }
 
     /// One frame is queued.
     pub(crate) fn replies(alloc: Global, frame: Frame) -> Result<Heard, AllocError>
-        ensures { IfOk result (λ h. h ≡ heard_of true (Replies frame)) }
+        ensures { IfOk result (λ h. h ≡ heard_of Answer.NotAsked (Replies frame)) }
     {
         Ok(Heard {
             withdraw: Withdraw::Keep,
             put: Outs::plain(alloc, frame)?,
             begun: None,
-            agreed: true,
+            answer: Answer::NotAsked,
         })
     }
 }

@@ -12,6 +12,6 @@ mod requested;
 mod session;
 
 pub use error::NodeError;
-pub use heard::{Begun, Heard, Started, Withdraw};
+pub use heard::{Answer, Begun, Heard, Started, Withdraw};
 pub use node::Node;
 pub use out::{Out, Outs, Part};

@@ -3,7 +3,7 @@ ghost use Rattle.address_claim.specs.Frames.{claim_frame_value};
 
 use crate::commanding::HalfCommand;
 use crate::error::NodeError;
-use crate::heard::{Begun, Heard, Started, Withdraw};
+use crate::heard::{Answer, Begun, Heard, Started, Withdraw};
 use crate::out::Outs;
 use crate::parts::parts_begun;
 use crate::session::OpenSession;
@@ -41,8 +41,8 @@ impl Model for Node {
 impl Node {
     ghost use Rattle.address_claim.specs.Claiming.{is_held};
     ghost use Rattle.node_core.specs.Beginning.{IsFew, begins};
-    ghost use Rattle.node_core.specs.Reaction.{Reacts, is_put};
-    ghost use Rattle.parameter_group.specs.Group.{group_of};
+    ghost use Rattle.node_core.specs.Asking.{IsAsked};
+    ghost use Rattle.node_core.specs.Reaction.{Reacts, question};
     ghost use Rattle.node_core.specs.NodeValue.{new_node, is_destination, is_open};
     ghost use Rattle.node_core.specs.Deed.{heard_of, after, EndsSession};
 
@@ -113,8 +113,8 @@ impl Node {
     /// Hears a frame, and puts to the unit what it asks.
     ///
     /// By what the unit answers where a clear or a commanded address is put to it, the answer, the node and the unit's memory
-    /// afterwards are exactly what is owed. Where memory is refused, node and unit's memory are as they were, and nothing was
-    /// put to the unit.
+    /// afterwards are exactly what is owed. The unit is asked exactly what the frame puts to it, in one call, and is else as it
+    /// was. Where memory is refused, node and unit are as they were, and nothing was put to the unit.
     pub fn hear(
         &mut self,
         alloc: Global,
@@ -123,12 +123,11 @@ impl Node {
     ) -> Result<Heard, NodeError>
         ensures name { name_of unit.new ≡ name_of unit.old }
         ensures heard { IfOk result (λ h. Reacts frame.now self.old (memory_of unit.old) h self.new (memory_of unit.new)) }
+        ensures asked { IfOk result (λ h. (u : _) × (unit.new ≡ (unit.old.0, u)) × IsAsked (Answers unit.old) (question self.old frame.now) h.answer unit.old.1 u) }
         ensures few { IfOk result (λ h. length h.put ≤ 256) }
         ensures refused { IfErr result (λ e. e ≡ NodeError.OutOfMemory) }
         ensures kept { OnErr result (self.new ≡ self.old) }
-        ensures memory_kept { OnErr result (memory_of unit.new ≡ memory_of unit.old) }
         ensures unasked { OnErr result (unit.new ≡ unit.old) }
-        ensures left_alone { is_put self.old (group_of frame.now) ≡ false → unit.new ≡ unit.old }
     {
         match ParameterGroup::read(frame) {
             ParameterGroup::AddressClaimed { source, name } => Ok(self.hear_claim(
@@ -181,7 +180,7 @@ impl Node {
 
     /// Ends the open session, and withdraws its frames.
     fn end_session(&mut self, alloc: Global) -> Heard
-        ensures heard { result ≡ heard_of true EndsSession }
+        ensures heard { result ≡ heard_of Answer.NotAsked EndsSession }
         ensures node { self.new ≡ after self.old EndsSession }
     {
         self.session = None;
@@ -189,7 +188,7 @@ impl Node {
             withdraw: Withdraw::Session,
             put: Outs::new(alloc),
             begun: None,
-            agreed: true,
+            answer: Answer::NotAsked,
         }
     }
 }

@@ -1,19 +1,12 @@
-ghost use Rattle.std.specs.Prelude.{◌≡◌, if◌then◌else◌};
-ghost use Rattle.node_core.specs.Requested.{wanted_by, counts_from, cleared_by, acknowledgment};
+ghost use Rattle.std.specs.Prelude.{◌≡◌, ◌≢◌, Some};
+ghost use Rattle.node_core.specs.Asking.{memory_answered, IsAsked};
+ghost use Rattle.node_core.specs.Requested.{wanted_by, counts_from, acknowledgment};
 
+use crate::heard::Answer;
 use can_frame::{Frame, Pgn};
 use dm_messages::Kind;
 use requests::Ack;
-use unit_trait::Unit;
-
-/// Which codes a request asks a unit to clear.
-#[derive(Clone, Copy, Debug, PartialEq, Eq)]
-pub enum Clear {
-    /// The active ones (DM11).
-    Active,
-    /// The previously active ones (DM3).
-    Previous,
-}
+use unit_trait::{Clear, Question, Unit};
 
 /// What a request asks a unit for, besides its claim.
 #[derive(Clone, Copy, Debug, PartialEq, Eq)]
@@ -49,14 +42,22 @@ pub fn counts_from(address: u8, source: u8) -> bool
     source <= 253 && source != address
 }
 
-/// Puts a clear to the unit; whether it cleared.
-pub fn put_clear(which: Clear, unit: &mut dyn Unit) -> bool
+/// Puts a question to the unit, by the one call that is for it.
+pub fn put(question: Question, unit: &mut dyn Unit) -> Answer
     ensures name { name_of unit.new ≡ name_of unit.old }
-    ensures memory { memory_of unit.new ≡ (if result then cleared_by which (memory_of unit.old) else memory_of unit.old) }
+    ensures memory { memory_of unit.new ≡ memory_answered (Some question) result (memory_of unit.old) }
+    ensures answered { result ≢ Answer.NotAsked }
+    ensures asked { (u : _) × (unit.new ≡ (unit.old.0, u)) × IsAsked (Answers unit.old) (Some question) result unit.old.1 u }
 {
-    match which {
-        Clear::Active => unit.clear_active().is_ok(),
-        Clear::Previous => unit.clear_previous().is_ok(),
+    let agrees = match question {
+        Question::Clear(Clear::Active) => unit.clear_active().is_ok(),
+        Question::Clear(Clear::Previous) => unit.clear_previous().is_ok(),
+        Question::Hold(address) => unit.commanded(address),
+    };
+    if agrees {
+        Answer::Agreed
+    } else {
+        Answer::Declined
     }
 }
 

@@ -1,14 +1,15 @@
-ghost use Rattle.std.specs.Prelude.{◌≡◌, ◌≤◌, IfOk, IfErr, OnOk, OnErr, length, true, false, if◌then◌else◌};
+ghost use Rattle.std.specs.Prelude.{◌≡◌, ◌≤◌, IfOk, IfErr, OnOk, OnErr, Some, length, if◌then◌else◌};
 ghost use Rattle.node_core.specs.Deed.{Replies, beginning, heard_of};
-ghost use Rattle.node_core.specs.Requested.{cleared_by, is_clear};
+ghost use Rattle.node_core.specs.Asking.{is_agreed, memory_answered, IsAnswerTo, IsAsked};
+ghost use Rattle.node_core.specs.Requested.{put_by};
 ghost use Rattle.node_core.specs.Requested as requested;
 
 use crate::error::NodeError;
-use crate::heard::{Begun, Heard, Withdraw};
+use crate::heard::{Answer, Begun, Heard, Withdraw};
 use crate::node::Node;
 use crate::out::{Out, Outs};
 use crate::parts::{group_of_kind, parts_begun};
-use crate::requested::{Clear, Wanted, acknowledgment, counts_from, put_clear};
+use crate::requested::{Wanted, acknowledgment, counts_from, put};
 use crate::session::OpenSession;
 use can_frame::Pgn;
 use dm_messages::{Kind, payload};
@@ -16,7 +17,7 @@ use fault_memory::FaultMemory;
 use requests::Request;
 use std::alloc::Global;
 use transport::Sending;
-use unit_trait::Unit;
+use unit_trait::{Clear, Question, Unit};
 
 /// Acknowledged: done.
 const POSITIVE: u8 = 0;
@@ -28,9 +29,8 @@ const BUSY: u8 = 3;
 impl Node {
     ghost use Rattle.node_core.specs.Deed.{after};
     ghost use Rattle.node_core.specs.Requested.{is_concerned};
-    ghost use Rattle.node_core.specs.Reaction.{is_put, on_request, asked_of_all, asked_at_address, asked_for_message, memory_asked, memory_after_request};
+    ghost use Rattle.node_core.specs.Reaction.{on_request, put_by_request, asked_of_all, asked_at_address, asked_for_message};
     ghost use Rattle.node_core.specs.declared.requested.Wanted.TheVariants as wanted;
-    ghost use Rattle.parameter_group.specs.Group as group;
 
     /// Hears a request (SAE J1939-21).
     pub(super) fn hear_request(
@@ -40,15 +40,15 @@ impl Node {
         unit: &mut dyn Unit,
     ) -> Result<Heard, NodeError>
         ensures name { name_of unit.new ≡ name_of unit.old }
-        ensures heard { IfOk result (λ h. h ≡ heard_of h.agreed (on_request self.old (memory_of unit.old) h.agreed request.pgn request.dest request.source)) }
-        ensures node { IfOk result (λ h. self.new ≡ after self.old (on_request self.old (memory_of unit.old) h.agreed request.pgn request.dest request.source)) }
-        ensures memory { IfOk result (λ h. memory_of unit.new ≡ memory_after_request self.old (memory_of unit.old) h.agreed request.pgn request.dest request.source) }
+        ensures heard { IfOk result (λ h. h ≡ heard_of h.answer (on_request self.old (memory_of unit.old) h.answer request.pgn request.dest request.source)) }
+        ensures node { IfOk result (λ h. self.new ≡ after self.old (on_request self.old (memory_of unit.old) h.answer request.pgn request.dest request.source)) }
+        ensures memory { IfOk result (λ h. memory_of unit.new ≡ memory_answered (put_by_request self.old request.pgn request.dest request.source) h.answer (memory_of unit.old)) }
         ensures few { IfOk result (λ h. length h.put ≤ 256) }
         ensures refused { IfErr result (λ e. e ≡ NodeError.OutOfMemory) }
         ensures kept { OnErr result (self.new ≡ self.old) }
-        ensures memory_kept { OnErr result (memory_of unit.new ≡ memory_of unit.old) }
         ensures unasked { OnErr result (unit.new ≡ unit.old) }
-        ensures left_alone { is_put self.old (group.Request request.pgn request.dest request.source) ≡ false → unit.new ≡ unit.old }
+        ensures answer { IfOk result (λ h. IsAnswerTo (put_by_request self.old request.pgn request.dest request.source) h.answer) }
+        ensures asked { IfOk result (λ h. (u : _) × (unit.new ≡ (unit.old.0, u)) × IsAsked (Answers unit.old) (put_by_request self.old request.pgn request.dest request.source) h.answer unit.old.1 u) }
     {
         if !self.is_concerned(request.dest) {
             return Ok(Heard::nothing(alloc));
@@ -86,14 +86,14 @@ impl Node {
         unit: &mut dyn Unit,
     ) -> Result<Heard, NodeError>
         ensures name { name_of unit.new ≡ name_of unit.old }
-        ensures heard { IfOk result (λ h. h ≡ heard_of h.agreed (asked_of_all self.now (memory_of unit.old) address wanted)) }
+        ensures heard { IfOk result (λ h. h ≡ heard_of h.answer (asked_of_all self.now (memory_of unit.old) address wanted)) }
         ensures same { self.now ≡ after self.now (asked_of_all self.now (memory_of unit.old) address wanted) }
-        ensures memory { IfOk result (λ h. memory_of unit.new ≡ memory_asked wanted h.agreed (memory_of unit.old)) }
+        ensures memory { IfOk result (λ h. memory_of unit.new ≡ memory_answered (put_by wanted) h.answer (memory_of unit.old)) }
         ensures few { IfOk result (λ h. length h.put ≤ 256) }
         ensures refused { IfErr result (λ e. e ≡ NodeError.OutOfMemory) }
-        ensures memory_kept { OnErr result (memory_of unit.new ≡ memory_of unit.old) }
         ensures unasked { OnErr result (unit.new ≡ unit.old) }
-        ensures left_alone { is_clear wanted ≡ false → unit.new ≡ unit.old }
+        ensures answer { IfOk result (λ h. IsAnswerTo (put_by wanted) h.answer) }
+        ensures asked { IfOk result (λ h. (u : _) × (unit.new ≡ (unit.old.0, u)) × IsAsked (Answers unit.old) (put_by wanted) h.answer unit.old.1 u) }
     {
         match wanted {
             Wanted::Message(kind) => self.message_to_all(alloc, kind, address, unit.memory()),
@@ -101,7 +101,7 @@ impl Node {
                 withdraw: Withdraw::Keep,
                 put: Outs::new(alloc),
                 begun: None,
-                agreed: put_clear(which, unit),
+                answer: put(Question::Clear(which), unit),
             }),
             Wanted::Unsupported => Ok(Heard::nothing(alloc)),
         }
@@ -116,7 +116,7 @@ impl Node {
         address: u8,
         memory: &FaultMemory,
     ) -> Result<Heard, NodeError>
-        ensures heard { IfOk result (λ h. h ≡ heard_of true (asked_of_all self.now memory.now address (wanted.Message kind))) }
+        ensures heard { IfOk result (λ h. h ≡ heard_of Answer.NotAsked (asked_of_all self.now memory.now address (wanted.Message kind))) }
         ensures same { self.now ≡ after self.now (asked_of_all self.now memory.now address (wanted.Message kind)) }
         ensures few { IfOk result (λ h. length h.put ≤ 256) }
         ensures refused { IfErr result (λ e. e ≡ NodeError.OutOfMemory) }
@@ -144,15 +144,15 @@ impl Node {
     ) -> Result<Heard, NodeError>
         requires { request.source ≤ 253 }
         ensures name { name_of unit.new ≡ name_of unit.old }
-        ensures heard { IfOk result (λ h. h ≡ heard_of h.agreed (asked_at_address self.old (memory_of unit.old) h.agreed request.pgn address request.source wanted)) }
-        ensures node { IfOk result (λ h. self.new ≡ after self.old (asked_at_address self.old (memory_of unit.old) h.agreed request.pgn address request.source wanted)) }
-        ensures memory { IfOk result (λ h. memory_of unit.new ≡ memory_asked wanted h.agreed (memory_of unit.old)) }
+        ensures heard { IfOk result (λ h. h ≡ heard_of h.answer (asked_at_address self.old (memory_of unit.old) h.answer request.pgn address request.source wanted)) }
+        ensures node { IfOk result (λ h. self.new ≡ after self.old (asked_at_address self.old (memory_of unit.old) h.answer request.pgn address request.source wanted)) }
+        ensures memory { IfOk result (λ h. memory_of unit.new ≡ memory_answered (put_by wanted) h.answer (memory_of unit.old)) }
         ensures few { IfOk result (λ h. length h.put ≤ 256) }
         ensures refused { IfErr result (λ e. e ≡ NodeError.OutOfMemory) }
         ensures kept { OnErr result (self.new ≡ self.old) }
-        ensures memory_kept { OnErr result (memory_of unit.new ≡ memory_of unit.old) }
         ensures unasked { OnErr result (unit.new ≡ unit.old) }
-        ensures left_alone { is_clear wanted ≡ false → unit.new ≡ unit.old }
+        ensures answer { IfOk result (λ h. IsAnswerTo (put_by wanted) h.answer) }
+        ensures asked { IfOk result (λ h. (u : _) × (unit.new ≡ (unit.old.0, u)) × IsAsked (Answers unit.old) (put_by wanted) h.answer unit.old.1 u) }
     {
         match wanted {
             Wanted::Message(kind) => self.asked_for_message(
@@ -182,7 +182,7 @@ impl Node {
         memory: &FaultMemory,
     ) -> Result<Heard, NodeError>
         requires { request.source ≤ 253 }
-        ensures heard { IfOk result (λ h. h ≡ heard_of true (asked_for_message self.old.session kind memory.now request.pgn address request.source)) }
+        ensures heard { IfOk result (λ h. h ≡ heard_of Answer.NotAsked (asked_for_message self.old.session kind memory.now request.pgn address request.source)) }
         ensures node { OnOk result (self.new ≡ after self.old (asked_for_message self.old.session kind memory.now request.pgn address request.source)) }
         ensures few { IfOk result (λ h. length h.put ≤ 256) }
         ensures refused { IfErr result (λ e. e ≡ NodeError.OutOfMemory) }
@@ -224,15 +224,20 @@ fn asked_to_clear(
     unit: &mut dyn Unit,
 ) -> Result<Heard, NodeError>
     ensures name { name_of unit.new ≡ name_of unit.old }
-    ensures heard { IfOk result (λ h. h ≡ heard_of h.agreed (Replies (requested.acknowledgment (if h.agreed then 0 else 1) request.source request.pgn address))) }
-    ensures memory { IfOk result (λ h. memory_of unit.new ≡ (if h.agreed then cleared_by which (memory_of unit.old) else memory_of unit.old)) }
+    ensures heard { IfOk result (λ h. h ≡ heard_of h.answer (Replies (requested.acknowledgment (if is_agreed h.answer then 0 else 1) request.source request.pgn address))) }
+    ensures memory { IfOk result (λ h. memory_of unit.new ≡ memory_answered (Some (Question.Clear which)) h.answer (memory_of unit.old)) }
     ensures refused { IfErr result (λ e. e ≡ NodeError.OutOfMemory) }
-    ensures memory_kept { OnErr result (memory_of unit.new ≡ memory_of unit.old) }
     ensures unasked { OnErr result (unit.new ≡ unit.old) }
+    ensures answer { IfOk result (λ h. IsAnswerTo (Some (Question.Clear which)) h.answer) }
+    ensures asked { IfOk result (λ h. (u : _) × (unit.new ≡ (unit.old.0, u)) × IsAsked (Answers unit.old) (Some (Question.Clear which)) h.answer unit.old.1 u) }
 {
     let mut room = Vec::with_capacity(alloc, 1)?;
-    let agreed = put_clear(which, unit);
-    let control = if agreed { POSITIVE } else { NEGATIVE };
+    let answer = put(Question::Clear(which), unit);
+    let control = if answer == Answer::Agreed {
+        POSITIVE
+    } else {
+        NEGATIVE
+    };
     room.push_reserved(Out {
         frame: acknowledgment(control, request.source, request.pgn, address),
         part: None,
@@ -241,13 +246,13 @@ fn asked_to_clear(
         withdraw: Withdraw::Keep,
         put: Outs::from_vec(room),
         begun: None,
-        agreed,
+        answer,
     })
 }
 
 /// The unit cannot respond now.
 fn busy(alloc: Global, request: Request, address: u8) -> Result<Heard, NodeError>
-    ensures heard { IfOk result (λ h. h ≡ heard_of true (Replies (requested.acknowledgment 3 request.source request.pgn address))) }
+    ensures heard { IfOk result (λ h. h ≡ heard_of Answer.NotAsked (Replies (requested.acknowledgment 3 request.source request.pgn address))) }
     ensures refused { IfErr result (λ e. e ≡ NodeError.OutOfMemory) }
 {
     Ok(Heard::replies(
@@ -268,6 +273,6 @@ fn message_begun(alloc: Global, payload: &[u8], begun: Begun) -> Result<Heard, N
         withdraw: Withdraw::Keep,
         put: parts_begun(alloc, payload, begun)?,
         begun: Some(begun),
-        agreed: true,
+        answer: Answer::NotAsked,
     })
 }

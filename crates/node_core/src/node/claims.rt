@@ -1,7 +1,7 @@
-ghost use Rattle.std.specs.Prelude.{◌≡◌, ◌≤◌, ◌<◌, IfOk, OnOk, OnErr, true, [], length, vec_len, vec_capacity, slice_index_or, None};
+ghost use Rattle.std.specs.Prelude.{◌≡◌, ◌≤◌, ◌<◌, IfOk, OnOk, OnErr, [], length, vec_len, vec_capacity, slice_index_or, None};
 
 use crate::commanding::HalfCommand;
-use crate::heard::{Heard, Withdraw};
+use crate::heard::{Answer, Heard, Withdraw};
 use crate::node::Node;
 use crate::out::{Out, Outs};
 use address_claim::ClaimStep;
@@ -21,7 +21,7 @@ impl Node {
         name: Name,
     ) -> Result<Heard, AllocError>
         requires { source ≤ 253 }
-        ensures heard { IfOk result (λ h. h ≡ heard_of true (on_claim self.old source name)) }
+        ensures heard { IfOk result (λ h. h ≡ heard_of Answer.NotAsked (on_claim self.old source name)) }
         ensures node { OnOk result (self.new ≡ after (noted_from self.old (AddressClaimed source name)) (on_claim self.old source name)) }
         ensures few { IfOk result (λ h. length h.put ≤ 256) }
         ensures kept { OnErr result (self.new ≡ self.old) }
@@ -32,7 +32,7 @@ impl Node {
         }
         let room = Vec::with_capacity(alloc, 1)?;
         self.note_claim(source, name);
-        Ok(self.claim_again(room))
+        Ok(self.claim_again(room, Answer::NotAsked))
     }
 
     /// Takes note of a claim; a half command from an address that was last claimed under another NAME is dropped.
@@ -61,7 +61,7 @@ impl Node {
 
     /// Ends the open session if this is its destination.
     fn end_session_with(&mut self, alloc: Global, source: u8) -> Heard
-        ensures heard { result ≡ heard_of true (on_uncontested self.old.session source) }
+        ensures heard { result ≡ heard_of Answer.NotAsked (on_uncontested self.old.session source) }
         ensures node { self.new ≡ after self.old (on_uncontested self.old.session source) }
     {
         if !self.is_destination(source) {
@@ -71,10 +71,10 @@ impl Node {
     }
 
     /// Withdraws all, ends the session, and claims the address held, or says that none is. There is room for one frame.
-    pub(super) fn claim_again(&mut self, mut room: Vec<Out>) -> Heard
+    pub(super) fn claim_again(&mut self, mut room: Vec<Out>, answer: Answer) -> Heard
         requires empty { room.items ≡ [] }
         requires fits { vec_len room < vec_capacity room }
-        ensures heard { result ≡ heard_of true (Claims self.old.claimer.name self.old.claimer.held) }
+        ensures heard { result ≡ heard_of answer (Claims self.old.claimer.name self.old.claimer.held) }
         ensures node { self.new ≡ after self.old (Claims self.old.claimer.name self.old.claimer.held) }
     {
         self.session = None;
@@ -86,7 +86,7 @@ impl Node {
             withdraw: Withdraw::All,
             put: Outs::from_vec(room),
             begun: None,
-            agreed: true,
+            answer,
         }
     }
 }

@@ -1,18 +1,20 @@
-ghost use Rattle.std.specs.Prelude.{◌≡◌, ◌≤◌, ◌<◌, IfOk, IfErr, OnErr, IfSome, Some, is_some, true, false, [], length, vec_len, vec_capacity};
+ghost use Rattle.std.specs.Prelude.{◌≡◌, ◌≤◌, ◌<◌, IfOk, IfErr, OnErr, IfSome, Some, [], length, vec_len, vec_capacity};
 
 use crate::commanding::{HalfCommand, for_name, is_broadcast};
 use crate::error::NodeError;
-use crate::heard::{Heard, Withdraw};
+use crate::heard::{Answer, Heard, Withdraw};
 use crate::node::Node;
 use crate::out::{Out, Outs};
+use crate::requested::put;
 use can_frame::Pgn;
 use requests::Commanded;
 use std::alloc::Global;
-use unit_trait::Unit;
+use unit_trait::{Question, Unit};
 
 impl Node {
     ghost use Rattle.node_core.specs.Deed.{heard_of, after, Claims};
-    ghost use Rattle.node_core.specs.Reaction.{announced, command_heard, packet_joined, on_packet};
+    ghost use Rattle.node_core.specs.Asking.{IsAnswerTo, IsAsked};
+    ghost use Rattle.node_core.specs.Reaction.{announced, command_heard, put_by_command, packet_joined, on_packet};
 
     /// Takes note of a broadcast announcement: it drops what is half joined from its source, and may start a commanded
     /// address.
@@ -35,14 +37,15 @@ impl Node {
         unit: &mut dyn Unit,
     ) -> Result<Heard, NodeError>
         ensures name { name_of unit.new ≡ name_of unit.old }
-        ensures heard { IfOk result (λ h. h ≡ heard_of h.agreed (on_packet self.old h.agreed source destination bytes.now)) }
-        ensures node { IfOk result (λ h. self.new ≡ after (packet_joined self.old source destination bytes.now) (on_packet self.old h.agreed source destination bytes.now)) }
+        ensures heard { IfOk result (λ h. h ≡ heard_of h.answer (on_packet self.old h.answer source destination bytes.now)) }
+        ensures node { IfOk result (λ h. self.new ≡ after (packet_joined self.old source destination bytes.now) (on_packet self.old h.answer source destination bytes.now)) }
         ensures memory { memory_of unit.new ≡ memory_of unit.old }
         ensures few { IfOk result (λ h. length h.put ≤ 256) }
         ensures refused { IfErr result (λ e. e ≡ NodeError.OutOfMemory) }
         ensures kept { OnErr result (self.new ≡ self.old) }
         ensures unasked { OnErr result (unit.new ≡ unit.old) }
-        ensures left_alone { is_some (command_heard self.old source destination bytes.now) ≡ false → unit.new ≡ unit.old }
+        ensures answer { IfOk result (λ h. IsAnswerTo (put_by_command (command_heard self.old source destination bytes.now)) h.answer) }
+        ensures asked { IfOk result (λ h. (u : _) × (unit.new ≡ (unit.old.0, u)) × IsAsked (Answers unit.old) (put_by_command (command_heard self.old source destination bytes.now)) h.answer unit.old.1 u) }
     {
         let Some(command) = self.command_heard(source, destination, bytes) else {
             self.join_packet(source, destination, bytes);
@@ -50,15 +53,15 @@ impl Node {
         };
         let room = Vec::with_capacity(alloc, 1)?;
         self.join_packet(source, destination, bytes);
-        if !unit.commanded(command.address) {
-            return Ok(Heard {
+        match put(Question::Hold(command.address), unit) {
+            Answer::Agreed => Ok(self.obey(command.address, room)),
+            answer => Ok(Heard {
                 withdraw: Withdraw::Keep,
                 put: Outs::new(alloc),
                 begun: None,
-                agreed: false,
-            });
+                answer,
+            }),
         }
-        Ok(self.obey(command.address, room))
     }
 
     /// The command for this NAME that a packet makes whole.
@@ -89,10 +92,10 @@ impl Node {
         requires holdable { address ≤ 253 }
         requires empty { room.items ≡ [] }
         requires fits { vec_len room < vec_capacity room }
-        ensures heard { result ≡ heard_of true (Claims self.old.claimer.name (Some address)) }
+        ensures heard { result ≡ heard_of Answer.Agreed (Claims self.old.claimer.name (Some address)) }
         ensures node { self.new ≡ after self.old (Claims self.old.claimer.name (Some address)) }
     {
         let _ = self.claimer.command(address);
-        self.claim_again(room)
+        self.claim_again(room, Answer::Agreed)
     }
 }

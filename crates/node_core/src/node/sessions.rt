@@ -1,9 +1,9 @@
-ghost use Rattle.std.specs.Prelude.{◌≡◌, ◌≤◌, ◌&&◌, nat_le, IfOk, OnOk, OnErr, if◌then◌else◌, length, option_map, true};
+ghost use Rattle.std.specs.Prelude.{◌≡◌, ◌≤◌, ◌&&◌, nat_le, IfOk, OnOk, OnErr, if◌then◌else◌, length, option_map};
 ghost use Rattle.transport.specs.Messages as message;
 ghost use Rattle.transport.specs.Sending.{packets_granted};
 ghost use Rattle.transport.specs.declared.control.Control.TheVariants as control;
 
-use crate::heard::{Heard, Withdraw};
+use crate::heard::{Answer, Heard, Withdraw};
 use crate::node::Node;
 use crate::parts::parts_of_session;
 use can_frame::Pgn;
@@ -27,7 +27,7 @@ impl Node {
         destination: u8,
         control: Control,
     ) -> Result<Heard, AllocError>
-        ensures heard { IfOk result (λ h. h ≡ heard_of true (on_control self.old source destination control)) }
+        ensures heard { IfOk result (λ h. h ≡ heard_of Answer.NotAsked (on_control self.old source destination control)) }
         ensures node { OnOk result (self.new ≡ after (noted_from self.old (ConnectionManagement source destination control)) (on_control self.old source destination control)) }
         ensures few { IfOk result (λ h. length h.put ≤ 256) }
         ensures kept { OnErr result (self.new ≡ self.old) }
@@ -54,7 +54,7 @@ impl Node {
         destination: u8,
         pgn: Pgn,
     ) -> Result<Heard, AllocError>
-        ensures heard { IfOk result (λ h. h ≡ heard_of true (if is_held self.now.claimer.held destination && nat_le source 253 then Replies (message.control_frame (control.Abort 2 pgn) destination source) else Nothing)) }
+        ensures heard { IfOk result (λ h. h ≡ heard_of Answer.NotAsked (if is_held self.now.claimer.held destination && nat_le source 253 then Replies (message.control_frame (control.Abort 2 pgn) destination source) else Nothing)) }
         ensures few { IfOk result (λ h. length h.put ≤ 256) }
     {
         if !self.is_held(destination) || source > 253 {
@@ -77,7 +77,7 @@ impl Node {
         next: u8,
         pgn: Pgn,
     ) -> Result<Heard, AllocError>
-        ensures heard { IfOk result (λ h. h ≡ heard_of true (if is_held self.old.claimer.held destination then on_cts self.old.session destination source granted next pgn else Nothing)) }
+        ensures heard { IfOk result (λ h. h ≡ heard_of Answer.NotAsked (if is_held self.old.claimer.held destination then on_cts self.old.session destination source granted next pgn else Nothing)) }
         ensures node { OnOk result (self.new ≡ after self.old (if is_held self.old.claimer.held destination then on_cts self.old.session destination source granted next pgn else Nothing)) }
         ensures few { IfOk result (λ h. length h.put ≤ 256) }
         ensures kept { OnErr result (self.new ≡ self.old) }
@@ -98,7 +98,7 @@ impl Node {
             withdraw: Withdraw::Keep,
             put,
             begun: None,
-            agreed: true,
+            answer: Answer::NotAsked,
         })
     }
 
@@ -118,7 +118,7 @@ impl Node {
     /// An end of message acknowledgment ends the session once every packet was queued.
     fn hear_end_ack(&mut self, alloc: Global, source: u8, destination: u8, pgn: Pgn) -> Heard
         ensures few { length result.put ≤ 256 }
-        ensures heard { result ≡ heard_of true (if is_held self.old.claimer.held destination then on_end_ack self.old.session source pgn else Nothing) }
+        ensures heard { result ≡ heard_of Answer.NotAsked (if is_held self.old.claimer.held destination then on_end_ack self.old.session source pgn else Nothing) }
         ensures node { self.new ≡ after self.old (if is_held self.old.claimer.held destination then on_end_ack self.old.session source pgn else Nothing) }
     {
         if !self.is_held(destination) || !self.is_all_queued_with(source, pgn) {
@@ -130,7 +130,7 @@ impl Node {
     /// An abort ends the session.
     fn hear_abort(&mut self, alloc: Global, source: u8, destination: u8, pgn: Pgn) -> Heard
         ensures few { length result.put ≤ 256 }
-        ensures heard { result ≡ heard_of true (if is_held self.old.claimer.held destination then on_abort self.old.session source pgn else Nothing) }
+        ensures heard { result ≡ heard_of Answer.NotAsked (if is_held self.old.claimer.held destination then on_abort self.old.session source pgn else Nothing) }
         ensures node { self.new ≡ after self.old (if is_held self.old.claimer.held destination then on_abort self.old.session source pgn else Nothing) }
     {
         if !self.is_held(destination) || !self.is_open_with(source, pgn) {

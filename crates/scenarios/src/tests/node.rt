@@ -4,7 +4,7 @@ use crate::tests::frame_text::{assert_written, frame};
 use crate::tests::told::Told;
 use dm_messages::Kind;
 use name_field::Name;
-use node_core::{Heard, Node, NodeError, Out, Part, Started, Withdraw};
+use node_core::{Answer, Heard, Node, NodeError, Out, Part, Started, Withdraw};
 use std::alloc::Global;
 use std::process::Abort;
 use std::test::Fail;
@@ -23,12 +23,12 @@ struct Scene {
 
 /// A step of a scene.
 enum Step {
-    /// The unit hears a frame, withdraws and puts frames, and agrees to what is put to it.
+    /// The unit hears a frame, withdraws and puts frames, and answers what is put to it.
     Hears {
         frame: &'static str,
         withdraws: Withdraw,
         puts: &'static [Put],
-        agrees: bool,
+        answer: Answer,
     },
     /// It holds this address, and this session is open.
     Is {
@@ -82,7 +82,7 @@ const SESSION_BY_REQUEST: Scene = Scene {
             frame: "18EA00F9 CA FE 00",
             withdraws: Withdraw::Keep,
             puts: &[("1CECF900 10 16 00 04 FF CA FE 00", Some(Part::Begun(0)))],
-            agrees: true,
+            answer: Answer::NotAsked,
         },
         Step::Is {
             held: Some(0),
@@ -92,13 +92,13 @@ const SESSION_BY_REQUEST: Scene = Scene {
             frame: "18EA00F9 CA FE 00",
             withdraws: Withdraw::Keep,
             puts: &[("18E8FF00 03 FF FF FF F9 CA FE 00", None)],
-            agrees: true,
+            answer: Answer::NotAsked,
         },
         Step::Hears {
             frame: "18EAFFF9 CA FE 00",
             withdraws: Withdraw::Keep,
             puts: &[],
-            agrees: true,
+            answer: Answer::NotAsked,
         },
         Step::Begins(Begins::Held),
         Step::Clears,
@@ -110,25 +110,25 @@ const SESSION_BY_REQUEST: Scene = Scene {
                 ("1CEBF900 02 00 01 01 66 00 01 01", Some(Part::Session(2))),
                 ("1CEBF900 03 67 00 01 01 68 00 01", Some(Part::Session(3))),
             ],
-            agrees: true,
+            answer: Answer::NotAsked,
         },
         Step::Hears {
             frame: "1CEC00F9 13 16 00 04 FF CA FE 00",
             withdraws: Withdraw::Keep,
             puts: &[],
-            agrees: true,
+            answer: Answer::NotAsked,
         },
         Step::Hears {
             frame: "1CEC00F9 11 09 04 FF FF CA FE 00",
             withdraws: Withdraw::Keep,
             puts: &[("1CEBF900 04 01 FF FF FF FF FF FF", Some(Part::Session(4)))],
-            agrees: true,
+            answer: Answer::NotAsked,
         },
         Step::Hears {
             frame: "1CEC00F9 13 16 00 04 FF CA FE 00",
             withdraws: Withdraw::Session,
             puts: &[],
-            agrees: true,
+            answer: Answer::NotAsked,
         },
         Step::Is {
             held: Some(0),
@@ -146,7 +146,7 @@ const CLEARS: Scene = Scene {
         frame: "18EA00F9 D3 FE 00",
         withdraws: Withdraw::Keep,
         puts: &[("18E8FF00 00 FF FF FF F9 D3 FE 00", None)],
-        agrees: true,
+        answer: Answer::Agreed,
     }],
     codes_left: 0,
 };
@@ -159,7 +159,7 @@ const DOES_NOT_CLEAR: Scene = Scene {
         frame: "18EA00F9 D3 FE 00",
         withdraws: Withdraw::Keep,
         puts: &[("18E8FF00 01 FF FF FF F9 D3 FE 00", None)],
-        agrees: false,
+        answer: Answer::Declined,
     }],
     codes_left: 2,
 };
@@ -173,19 +173,19 @@ const OBEYS: Scene = Scene {
             frame: "1CECFFF9 20 09 00 02 FF D8 FE 00",
             withdraws: Withdraw::Keep,
             puts: &[],
-            agrees: true,
+            answer: Answer::NotAsked,
         },
         Step::Hears {
             frame: "1CEBFFF9 01 A0 00 00 00 00 00 00",
             withdraws: Withdraw::Keep,
             puts: &[],
-            agrees: true,
+            answer: Answer::NotAsked,
         },
         Step::Hears {
             frame: "1CEBFFF9 02 00 07 FF FF FF FF FF",
             withdraws: Withdraw::All,
             puts: &[("18EEFF07 A0 00 00 00 00 00 00 00", None)],
-            agrees: true,
+            answer: Answer::Agreed,
         },
         Step::Is {
             held: Some(7),
@@ -204,19 +204,19 @@ const DOES_NOT_OBEY: Scene = Scene {
             frame: "1CECFFF9 20 09 00 02 FF D8 FE 00",
             withdraws: Withdraw::Keep,
             puts: &[],
-            agrees: true,
+            answer: Answer::NotAsked,
         },
         Step::Hears {
             frame: "1CEBFFF9 01 A0 00 00 00 00 00 00",
             withdraws: Withdraw::Keep,
             puts: &[],
-            agrees: true,
+            answer: Answer::NotAsked,
         },
         Step::Hears {
             frame: "1CEBFFF9 02 00 07 FF FF FF FF FF",
             withdraws: Withdraw::Keep,
             puts: &[],
-            agrees: false,
+            answer: Answer::Declined,
         },
         Step::Is {
             held: Some(0),
@@ -236,13 +236,13 @@ const LOSES_ADDRESS: Scene = Scene {
             frame: "18EEFF00 C0 00 00 00 00 00 00 00",
             withdraws: Withdraw::All,
             puts: &[("18EEFF00 A0 00 00 00 00 00 00 00", None)],
-            agrees: true,
+            answer: Answer::NotAsked,
         },
         Step::Hears {
             frame: "18EEFF00 10 00 00 00 00 00 00 00",
             withdraws: Withdraw::All,
             puts: &[("18EEFFFE A0 00 00 00 00 00 00 00", None)],
-            agrees: true,
+            answer: Answer::NotAsked,
         },
         Step::Is {
             held: None,
@@ -290,11 +290,11 @@ fn plays(
                 frame,
                 withdraws,
                 puts,
-                agrees,
+                answer,
             } => {
                 let heard = hears(alloc, node, unit, frame)?;
                 assert_eq!(rt; heard.withdraw, *withdraws, "{}", scene.title);
-                assert_eq!(rt; heard.agreed, *agrees, "{}", scene.title);
+                assert_eq!(rt; heard.answer, *answer, "{}", scene.title);
                 assert_puts(rt, alloc, heard.put.as_slice(), puts)?;
             }
             Step::Is { held, session } => {

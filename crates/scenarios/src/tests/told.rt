@@ -33,6 +33,12 @@ impl Unit for Told {
 
     ghost wants = { λ u. u.willing };
 
+    ghost Works = { λ u v. v ≡ u };
+
+    ghost Takes = { λ u _ v. v.willing ≡ u.willing };
+
+    ghost Answers = { λ u _ agrees v. (agrees ≡ u.willing) × (v.willing ≡ u.willing) };
+
     fn name(&self) -> Name {
         self.name
     }

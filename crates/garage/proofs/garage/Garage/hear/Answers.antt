@@ -1,4 +1,4 @@
-use Rattle.std.proofs.Common.{ℕ, ◌≡◌, arith, refl, ap, ◌∙◌, sym, subst, List, ◌++◌, ◌∷◌, [], ◌-◌, ◌<◌, length, map, set, Bool, slice_get, Some}
+use Rattle.std.proofs.Common.{ℕ, ◌≡◌, arith, refl, ap, ◌∙◌, sym, subst, List, ◌++◌, ◌∷◌, [], ◌-◌, ◌<◌, length, map, set, Bool, slice_get, Some, None}
 use Rattle.std.proofs.lemmas.List.{length-set, length-map, map-set}
 use Rattle.std.specs.Option.{option_map}
 use Rattle.fault_memory.specs.Memory.{MemoryValue, IsLawfulMemory}
@@ -8,10 +8,11 @@ use Rattle.bus_ledger.specs.Joining.{live_units}
 use Rattle.bus_ledger.specs.declared.traffic.CarriedFrame.{CarriedFrame}
 use Rattle.node_core.specs.NodeValue.{NodeValue}
 use Rattle.node_core.specs.Reaction.{reaction, node_after}
+use Rattle.unit_trait.specs.declared.question.Question.{Question}
 use Rattle.node_core.specs.Deed.{heard_of}
 use Rattle.journal.specs.State.{State, UnitState, unit_at}
 use Rattle.journal.specs.Steps.{put_all, tagged, is_session, session_message_after, withdrawn_by, next_for}
-use Rattle.journal.specs.Journal.{one_more}
+use Rattle.journal.specs.Journal.{GarageValue, state_of, one_more}
 use Rattle.journal.specs.declared.event.Event.{Event}
 use Rattle.journal.specs.declared.event.Event.TheVariants.{Hear}
 use Rattle.std.specs.Vec.{with_item}
@@ -20,7 +21,8 @@ use Rattle.garage.specs.Answers.{with_begun}
 use Rattle.garage.specs.declared.garage.Place.{Place}
 use Rattle.garage.proofs.Traffics.{some_live, puts, keeps_heard, keeps_withdrawn_by, keeps_then}
 use Rattle.garage.proofs.InHand.{station_lives}
-use Rattle.garage.proofs.Standing.{state, place_few, place_within, unit_now, bus_unit, unit_is, hear_did, begun_length, begun_few, next_within, joins_hear, place_tally, stands_more, tallies_one, fresh_one, hears_of, still, same_place}
+use Rattle.garage.proofs.Standing.{state, place_few, place_within, unit_now, bus_unit, unit_is, hear_did, begun_length, begun_few, next_within, is_answered, joins_hear, place_tally, stands_more, tallies_one, fresh_one, hears_of, still, same_place}
+use Rattle.garage.proofs.Lent.{on_err}
 use Rattle.garage.proofs.garage.Garage.hear.Goals as goal
 
 pub invariant_of-self-in_err-heard : goal.invariant_of-self-in_err-heard
@@ -90,8 +92,8 @@ invariant_of-self-2 g c =
     let lawful = c.in_ok-memory.ensures.lawful in
     let reacts = c.in_ok-heard.ensures.heard in
     let is = hear_did seat memory f s x.node heard node' next (ap (λ (v : UnitState). v.node) same)
-    (reacts.heard_is ∙ ap (λ (m : MemoryValue). heard_of heard.agreed (reaction x.node m heard.agreed f)) (sym mem_is))
-    (reacts.node_is ∙ ap (λ (m : MemoryValue). node_after x.node m heard.agreed f) (sym mem_is)) in
+    (reacts.heard_is ∙ ap (λ (m : MemoryValue). heard_of heard.answer (reaction x.node m heard.answer f)) (sym mem_is))
+    (reacts.node_is ∙ ap (λ (m : MemoryValue). node_after x.node m heard.answer f) (sym mem_is)) in
     let said = c.begins_session-session.ensures in
     let number = stands.begun in
     let last_is = c.last_session-place.ensures ∙ (ap (λ (m : ℕ). session_message_after m a.begun heard.begun) (sym (ap (λ (v : UnitState). v.session_message) same))
@@ -112,10 +114,10 @@ invariant_of-self-2 g c =
     let m = c.push_reserved.ensures.capacity in
     let counted = c.begun_count-begun.ensures in
     let one = begun_few a.begun heard.begun in
-    stands_more a _ (Hear seat memory heard.agreed) stands (record {
+    stands_more a _ (Hear seat memory heard.answer) stands (record {
       settings = refl;
-      journal = c.push_reserved.ensures.items ∙ ap (λ (l : List Event). l ++ Hear seat memory heard.agreed ∷ []) c.make_room.ensures.items;
-      fits = (u, subst (λ (b : Traffic). (seat_at b seat).heard < length b.wire) stands.traffic there, lawful);
+      journal = c.push_reserved.ensures.items ∙ ap (λ (l : List Event). l ++ Hear seat memory heard.answer ∷ []) c.make_room.ensures.items;
+      fits = (u, subst (λ (b : Traffic). (seat_at b seat).heard < length b.wire) stands.traffic there, lawful, is_answered (unit_at s seat).node x.node (next_for s seat) f heard.answer (ap (λ (v : UnitState). v.node) same) next reacts.answer_is);
       traffic = now ∙ (ap (λ (n : ℕ). put_all seat (map (tagged n c.begins_session-session.result last) heard.put) (withdrawn_by seat heard.withdraw (heard_more seat 1 t))) number
           ∙ (ap (λ (b : Bool). put_all seat (map (tagged (length s.begun) b last) heard.put) (withdrawn_by seat heard.withdraw (heard_more seat 1 t))) said
           ∙ (ap (λ (l : ℕ). put_all seat (map (tagged (length s.begun) (is_session heard.begun) l) heard.put) (withdrawn_by seat heard.withdraw (heard_more seat 1 t))) last_is
@@ -125,9 +127,9 @@ invariant_of-self-2 g c =
       units = map-set unit_of a.places.items k p ∙ (ap (λ (l : ℕ). set (map unit_of a.places.items) k (record { node = node'; session_message = l })) last_is
           ∙ (ap (λ (us : List UnitState). set us k (record { node = node'; session_message = session_message_after (unit_at s seat).session_message (length s.begun) heard.begun })) stands.units ∙ sym (ap (λ (v : State). v.units) is)));
       begun = counted ∙ (ap (λ (n : ℕ). with_begun n heard.begun) number ∙ (sym (begun_length s.begun seat (seat_at s.traffic seat).name memory heard.begun) ∙ sym (ap (λ (v : State). length v.begun) is)));
-      joined = joins_hear seat memory heard.agreed _ ∙ (stands.joined ∙ sym (length-set a.places.items k p));
-      tallies = tallies_one a.places.items _ (Hear seat memory heard.agreed) k seat p one_more stands.tallies (λ j t'. refl) (omega arith) h (ap one_more (place_tally a k x h c.index_mut-place.ensures.value));
-      fresh = λ j l. fresh_one _ (Hear seat memory heard.agreed) seat (length a.places.items) one_more stands.fresh (λ i t'. refl) (omega arith) j (omega (arith, length-set a.places.items k));
+      joined = joins_hear seat memory heard.answer _ ∙ (stands.joined ∙ sym (length-set a.places.items k p));
+      tallies = tallies_one a.places.items _ (Hear seat memory heard.answer) k seat p one_more stands.tallies (λ j t'. refl) (omega arith) h (ap one_more (place_tally a k x h c.index_mut-place.ensures.value));
+      fresh = λ j l. fresh_one _ (Hear seat memory heard.answer) seat (length a.places.items) one_more stands.fresh (λ i t'. refl) (omega arith) j (omega (arith, length-set a.places.items k));
       seats = (let y = stands.seats in omega (arith, length-set a.places.items k p));
       live = stands.live ∙ sym lives;
       within = (let w = stands.within in omega arith);
@@ -140,6 +142,7 @@ invariant_of-self-2 g c =
 
 pub returns-clause-ok : goal.returns-clause-ok
 returns-clause-ok g c =
+    let asked = c.in_ok-heard.ensures.asked in
     let a = c.self.inside in
     let stands = c.self.invariant in
     let seat = c.args.seat in
@@ -156,20 +159,34 @@ returns-clause-ok g c =
     let mem_is = c.in_ok-memory.ensures.same ∙ c.memory.ensures in
     let lawful = subst IsLawfulMemory mem_is c.in_ok-memory.ensures.lawful in
     let reacts = c.in_ok-heard.ensures.heard in
-    hears_of a (record {
-      name = a.name;
-      address = a.address;
-      window = a.window;
-      grant = a.grant;
-      limit = a.limit;
-      bus = c.do_heard.new.bus;
-      station = a.station;
-      places = with_item a.places (seat - 1) (record { node = c.hear.new.self; session_message = c.last_session-place.result; tally = one_more x.tally });
-      begun = c.begun_count-begun.result;
-      live = a.live;
-      journal = c.push_reserved.new.self;
-    })
-    c.args.self.now seat x.node f heard.agreed memory _ _ c.self.view_is refl
-    (c.push_reserved.ensures.items ∙ ap (λ (l : List Event). l ++ Hear seat memory heard.agreed ∷ []) c.make_room.ensures.items)
-    mem_is next (u, subst (λ (b : Traffic). (seat_at b seat).heard < length b.wire) stands.traffic there, lawful)
-    (ap (λ (v : UnitState). v.node) same) reacts.memory_is
+    let answers : Question → Bool → _ → Type 0 = (goal.Unit-dyn g c.args.unit.now).Answers c.args.unit.now.1 in (
+      asked.0,
+      asked.1,
+      hears_of a (record {
+        name = a.name;
+        address = a.address;
+        window = a.window;
+        grant = a.grant;
+        limit = a.limit;
+        bus = c.do_heard.new.bus;
+        station = a.station;
+        places = with_item a.places (seat - 1) (record { node = c.hear.new.self; session_message = c.last_session-place.result; tally = one_more x.tally });
+        begun = c.begun_count-begun.result;
+        live = a.live;
+        journal = c.push_reserved.new.self;
+      })
+          c.args.self.now seat x.node f heard.answer memory _ _ answers c.args.unit.now.1 asked.0 c.self.view_is refl
+          (c.push_reserved.ensures.items ∙ ap (λ (l : List Event). l ++ Hear seat memory heard.answer ∷ []) c.make_room.ensures.items)
+          mem_is next (u, subst (λ (b : Traffic). (seat_at b seat).heard < length b.wire) stands.traffic there, lawful, is_answered (unit_at (state a) seat).node x.node (next_for (state a) seat) f heard.answer (ap (λ (v : UnitState). v.node) same) next reacts.answer_is)
+          (ap (λ (v : UnitState). v.node) same) reacts.memory_is asked.2,
+    )
+
+pub returns-in_default-clause-ok : goal.returns-in_default-clause-ok
+returns-in_default-clause-ok g c =
+    let none : next_for (state_of c.args.self.now) c.args.seat ≡ None =
+    ap (λ (w : GarageValue). next_for (state_of w) c.args.seat) (sym c.self.view_is)
+    ∙ (ap (λ (b : Traffic). option_map (λ (c' : CarriedFrame). c'.frame) (slice_get b.wire (seat_at b c.args.seat).heard)) (sym c.self.invariant.traffic) ∙ (sym c.next_for.ensures.frame ∙ c.in_default.is)) in
+    (c.args.unit.now.1, refl, (none, refl, refl, refl))
+
+pub returns-in_err-heard-clause-unasked : goal.returns-in_err-heard-clause-unasked
+returns-in_err-heard-clause-unasked g c = on_err c.from_residual-in_err-heard.result c.in_err-heard.ensures.unasked

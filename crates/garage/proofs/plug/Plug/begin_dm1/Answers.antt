@@ -1,4 +1,5 @@
-use Rattle.std.proofs.Common.{◌∙◌}
+use Rattle.std.proofs.Common.{◌∙◌, subst}
+use Rattle.garage.specs.Answers.{Begins}
 use Rattle.garage.proofs.SeatKept.{beginning_counted, is_unit, still_seated, unit_begins}
 use Rattle.garage.proofs.plug.Plug.begin_dm1.Goals as goal
 
@@ -19,3 +20,7 @@ pub returns-clause-counted : goal.returns-clause-counted
 returns-clause-counted g c =
     c.events_of-self.ensures.count
     ∙ beginning_counted c.args.self.now.garage.now c.args.self.now.seat _ c.in_ok-begin.begin c.begin.new.self c.args.self.now.events c.in_ok-begin.ensures.ok c.args.self.now.seated.counted
+
+pub returns-clause-ok : goal.returns-clause-ok
+returns-clause-ok g c =
+    subst (λ s. Begins c.args.self.now.garage.now c.args.self.now.seat ((goal.Unit-dyn g s).memory_of s.1) c.in_ok-begin.begin c.begin.new.self) c.deref_box-1.ensures.1 c.in_ok-begin.ensures.ok

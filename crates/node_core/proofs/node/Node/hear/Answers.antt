@@ -1,12 +1,16 @@
-use Rattle.std.proofs.Common.{◌≡◌}
-use Rattle.parameter_group.specs.Group.{group_of}
-use Rattle.node_core.proofs.Unasked.{request_not_put, packet_not_put}
+use Rattle.std.proofs.Common.{rules, ◌≡◌, refl}
 use Rattle.node_core.proofs.node.Node.hear.Goals as goal
 
-pub returns-in-Request-clause-left_alone : goal.returns-in-Request-clause-left_alone
-returns-in-Request-clause-left_alone g c = λ h.
-    c.hear_request.ensures.left_alone (request_not_put c.args.self.now (group_of c.args.frame.now) c.in-Request.request.pgn c.in-Request.request.dest c.in-Request.request.source c.in-Request.ensures.value h)
+pub returns-in_ok-hear_claim-in-AddressClaimed-clause-asked :
+    goal.returns-in_ok-hear_claim-in-AddressClaimed-clause-asked
+returns-in_ok-hear_claim-in-AddressClaimed-clause-asked g c = (c.args.unit.now.1, refl, search rules)
 
-pub returns-in-DataTransfer-clause-left_alone : goal.returns-in-DataTransfer-clause-left_alone
-returns-in-DataTransfer-clause-left_alone g c = λ h.
-    c.hear_packet.ensures.left_alone (packet_not_put c.args.self.now (group_of c.args.frame.now) c.in-DataTransfer.source c.in-DataTransfer.dest c.in-DataTransfer.bytes.now c.in-DataTransfer.ensures.value h)
+pub returns-in-Request-clause-asked : goal.returns-in-Request-clause-asked
+returns-in-Request-clause-asked g c = rw (← c.in-Request.ensures.value) c.hear_request.ensures.asked
+
+pub returns-in_ok-hear_control-in-ConnectionManagement-clause-asked :
+    goal.returns-in_ok-hear_control-in-ConnectionManagement-clause-asked
+returns-in_ok-hear_control-in-ConnectionManagement-clause-asked g c = (c.args.unit.now.1, refl, search rules)
+
+pub returns-in-CannotClaim-clause-asked : goal.returns-in-CannotClaim-clause-asked
+returns-in-CannotClaim-clause-asked g c = (c.args.unit.now.1, refl, search rules)

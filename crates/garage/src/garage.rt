@@ -54,10 +54,12 @@ impl Model for Garage {
 }
 
 impl Garage {
-    ghost use Rattle.std.specs.Prelude.{◌≡◌, ℕ, ◌<◌, ◌≤◌, ◌⊎◌, ◌^◌, ◌↔◌, length, reverse, slice_get, true, Err, IfOk, IfErr, IsErrOf, OnErr, Ok, Some};
+    ghost use Rattle.std.specs.Prelude.{◌≡◌, ℕ, ◌+◌, ◌<◌, ◌≤◌, ◌⊎◌, ◌^◌, ◌↔◌, length, reverse, slice_get, false, true, Err, IfOk, IfSome, IfErr, IsErrOf, OnErr, Ok, Some};
     ghost use Rattle.std.specs.Option.{option_map};
     ghost use Rattle.bus_ledger.specs.Carrying.{CanCarry, IsIdle, IsWaiting};
-    ghost use Rattle.bus_ledger.specs.Ledger.{counts_of};
+    ghost use Rattle.bus_ledger.specs.BusValue.{seat_at};
+    ghost use Rattle.bus_ledger.specs.Ledger.{counts_of, is_from};
+    ghost use Rattle.std.specs.List.{count_by};
     ghost use Rattle.bus_ledger.specs.Joining.{live_units};
     ghost use Rattle.bus_ledger.specs.Reception.{next_reading};
     ghost use Rattle.station_table.specs.KeptValue.{entries_under};
@@ -152,8 +154,15 @@ impl Garage {
     }
 
     /// What became of the frames that a seat queued; nothing where the seat was never given.
+    ///
+    /// The frame ledger: each frame queued was carried, was withdrawn or waits. Those carried are the seat's frames on the
+    /// wire, those that wait stand in its queue, and none waits once the seat is gone.
     pub fn counts(&self, seat: u32) -> Option<Counts>
-        ensures { result ≡ option_map counts_of (slice_get (state_of self.now).traffic.seats seat) }
+        ensures counts { result ≡ option_map counts_of (slice_get (state_of self.now).traffic.seats seat) }
+        ensures balanced { IfSome result (λ c. c.queued ≡ c.carried + c.withdrawn + c.waiting) }
+        ensures carried { IfSome result (λ c. c.carried ≡ count_by (is_from seat) (state_of self.now).traffic.wire) }
+        ensures waiting { IfSome result (λ c. c.waiting ≡ length (seat_at (state_of self.now).traffic seat).queue) }
+        ensures gone { (seat_at (state_of self.now).traffic seat).live ≡ false → IfSome result (λ c. c.waiting ≡ 0) }
     {
         self.bus.counts(seat)
     }

@@ -1,5 +1,6 @@
 mod addresses;
 mod asked;
+mod early_end;
 mod faults;
 mod refusals;
 mod seats;

@@ -41,10 +41,10 @@ uncarried_full a v r events y x refusal is stands settings journal refused room 
     let same = view_same a v r events is settings journal in
     let carries' : (x ≡ Err refusal) ↔ CanCarry (state_of v).traffic = subst (λ (g : GarageValue). (x ≡ Err refusal) ↔ CanCarry (state_of g).traffic) same carries in
     let full : x ≡ Err BookFull → CanCarry (state_of v).traffic × IsFull v = (λ h.
-        let e : BookFull ≡ refusal = subst (λ (z : Result Carried GarageError). IfErr z (λ e. e ≡ refusal)) h only in
-        (carries'.0 (h ∙ ap Err e), full_of a v is stands (room.0 (refused ∙ ap Err (sym e))))) in
+    let e : BookFull ≡ refusal = subst (λ (z : Result Carried GarageError). IfErr z (λ e. e ≡ refusal)) h only in
+    (carries'.0 (h ∙ ap Err e), full_of a v is stands (room.0 (refused ∙ ap Err (sym e))))) in
     let back : CanCarry (state_of v).traffic × IsFull v → x ≡ Err BookFull = (λ both.
-        let h : y ≡ Err BookFull = room.1 (full_back a v is stands both.1) in
-        let e : refusal ≡ BookFull = cc in
-        carries'.1 both.0 ∙ ap Err e) in
+    let h : y ≡ Err BookFull = room.1 (full_back a v is stands both.1) in
+    let e : refusal ≡ BookFull = cc in
+    carries'.1 both.0 ∙ ap Err e) in
     (full, back)

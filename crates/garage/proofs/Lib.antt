@@ -1,6 +1,8 @@
 pub mod Standing
 pub mod Traffics
 pub mod Headline
+mod Lists
+mod CarryLemmas
 mod InHand
 mod SeatKept
 mod OrderLemmas

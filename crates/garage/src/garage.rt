@@ -54,10 +54,12 @@ impl Model for Garage {
 }
 
 impl Garage {
-    ghost use Rattle.std.specs.Prelude.{◌≡◌, ℕ, ◌<◌, ◌≤◌, ◌⊎◌, ◌^◌, ◌↔◌, length, reverse, slice_get, true, IfOk, IfErr, IsErrOf, OnErr, Ok, Some};
+    ghost use Rattle.std.specs.Prelude.{◌≡◌, ℕ, ◌+◌, ◌<◌, ◌≤◌, ◌⊎◌, ◌^◌, ◌↔◌, length, reverse, slice_get, false, true, Err, IfOk, IfSome, IfErr, IsErrOf, OnErr, Ok, Some};
     ghost use Rattle.std.specs.Option.{option_map};
     ghost use Rattle.bus_ledger.specs.Carrying.{CanCarry, IsIdle, IsWaiting};
-    ghost use Rattle.bus_ledger.specs.Ledger.{counts_of};
+    ghost use Rattle.bus_ledger.specs.BusValue.{seat_at};
+    ghost use Rattle.bus_ledger.specs.Ledger.{counts_of, is_from};
+    ghost use Rattle.std.specs.List.{count_by};
     ghost use Rattle.bus_ledger.specs.Joining.{live_units};
     ghost use Rattle.bus_ledger.specs.Reception.{next_reading};
     ghost use Rattle.station_table.specs.KeptValue.{entries_under};
@@ -68,7 +70,7 @@ impl Garage {
     ghost use Rattle.bus_model.specs.Messages.{Message, IsAmong};
     ghost use Rattle.bus_model.specs.Whole.{received_whole};
     ghost use Rattle.journal.specs.Journal.{state_of, tally_of, readings_of, shown_of, Adds};
-    ghost use Rattle.journal.specs.Promises.{IsFromOwner, IsLawful, wire_of};
+    ghost use Rattle.journal.specs.Promises.{IsFromOwner, IsLawful, KeepsLists, wire_of};
     ghost use Rattle.journal.specs.Worlds.{station_of};
     ghost use Rattle.journal.specs.declared.event.Event.TheVariants.{Carry, Read};
     ghost use Rattle.garage.specs.Carrying.{Carries};
@@ -77,23 +79,40 @@ impl Garage {
     /// Carries one frame; nothing changes where the answer is `Idle` or `Waiting`.
     ///
     /// Refused, where a frame could be carried, where the journal has no room, then where there is no memory; then nothing changed.
+    #[tactic(auto, using(crate::proofs::Lists::lists_same, crate::proofs::Lists::lists_added))]
     pub fn carry(&mut self) -> Result<Carried, GarageError>
         ensures ok { IfOk result (λ c. Carries self.old c self.new) }
         ensures idle { (result ≡ Ok Carried.Idle) ↔ IsIdle (state_of self.old).traffic }
         ensures waiting { (result ≡ Ok Carried.Waiting) ↔ IsWaiting (state_of self.old).traffic }
         ensures full { IsErrOf result GarageError.BookFull ↔ (CanCarry (state_of self.old).traffic × IsFull self.old) }
         ensures err { IfErr result (λ e. (self.new ≡ self.old) × ((e ≡ GarageError.BookFull) ⊎ (e ≡ GarageError.OutOfMemory))) }
+        ensures lists { KeepsLists self.old self.new }
     {
-        let next = self.bus.carry_peek();
-        let Carried::Frame { seat: _, frame: _ } = next else {
-            return Ok(next);
-        };
-        make_room(&mut self.journal, self.live + 1, self.limit)?;
-        let carried = self.bus.carry()?;
-        if let Carried::Frame { seat, frame: _ } = carried {
-            self.journal.push_reserved(Event::Carry { seat });
+        match make_room(&mut self.journal, self.live + 1, self.limit) {
+            Ok(()) => {}
+            Err(refusal) => return self.uncarried(refusal),
         }
+        let carried = self.bus.carry()?;
+        let Carried::Frame { seat, frame: _ } = carried else {
+            return Ok(carried);
+        };
+        self.journal.push_reserved(Event::Carry { seat });
         Ok(carried)
+    }
+
+    /// What a carry answers for which there is no room: the refusal where a frame could be carried.
+    fn uncarried(&self, refusal: GarageError) -> Result<Carried, GarageError>
+        ensures ok { IfOk result (λ c. Carries self.now c self.now) }
+        ensures idle { (result ≡ Ok Carried.Idle) ↔ IsIdle (state_of self.now).traffic }
+        ensures waiting { (result ≡ Ok Carried.Waiting) ↔ IsWaiting (state_of self.now).traffic }
+        ensures err { (result ≡ Err refusal) ↔ CanCarry (state_of self.now).traffic }
+        ensures only { IfErr result (λ e. e ≡ refusal) }
+    {
+        match self.bus.carry_peek() {
+            Carried::Frame { seat: _, frame: _ } => Err(refusal),
+            Carried::Idle => Ok(Carried::Idle),
+            Carried::Waiting => Ok(Carried::Waiting),
+        }
     }
 
     /// The entries of a kind under a NAME, the oldest first; none where the NAME was never seen.
@@ -135,8 +154,15 @@ impl Garage {
     }
 
     /// What became of the frames that a seat queued; nothing where the seat was never given.
+    ///
+    /// The frame ledger: each frame queued was carried, was withdrawn or waits. Those carried are the seat's frames on the
+    /// wire, those that wait stand in its queue, and none waits once the seat is gone.
     pub fn counts(&self, seat: u32) -> Option<Counts>
-        ensures { result ≡ option_map counts_of (slice_get (state_of self.now).traffic.seats seat) }
+        ensures counts { result ≡ option_map counts_of (slice_get (state_of self.now).traffic.seats seat) }
+        ensures balanced { IfSome result (λ c. c.queued ≡ c.carried + c.withdrawn + c.waiting) }
+        ensures carried { IfSome result (λ c. c.carried ≡ count_by (is_from seat) (state_of self.now).traffic.wire) }
+        ensures waiting { IfSome result (λ c. c.waiting ≡ length (seat_at (state_of self.now).traffic seat).queue) }
+        ensures gone { (seat_at (state_of self.now).traffic seat).live ≡ false → IfSome result (λ c. c.waiting ≡ 0) }
     {
         self.bus.counts(seat)
     }

@@ -17,6 +17,7 @@ const MOST_ORDERED: usize = 3;
 
 impl Garage {
     ghost use Rattle.journal.specs.Journal.{state_of, Adds, known_address, own_address};
+    ghost use Rattle.journal.specs.Promises.{KeepsLists};
     ghost use Rattle.journal.specs.declared.event.Event.TheVariants.{Ordered};
     ghost use Rattle.garage.specs.Obeying.{Obeys};
     ghost use Rattle.garage.specs.Room.{IsFull};
@@ -33,6 +34,7 @@ impl Garage {
         ensures full { IsErrOf result GarageError.BookFull ↔ (IsSome (own_address self.old) × IsSome (known_address self.old name) × IsFull self.old) }
         ensures only { IfErr result (λ e. (e ≡ GarageError.NotHeld) ⊎ (e ≡ GarageError.NoAddress) ⊎ (e ≡ GarageError.BookFull) ⊎ (e ≡ GarageError.OutOfMemory)) }
         ensures err { OnErr result (self.new ≡ self.old) }
+        ensures lists { KeepsLists self.old self.new }
     {
         let order = to_ask(name, &ask);
         let answer = self.station.ask(alloc, name, ask);
@@ -49,6 +51,7 @@ impl Garage {
         ensures full { IsErrOf result GarageError.BookFull ↔ (IsSome (own_address self.old) × IsFull self.old) }
         ensures only { IfErr result (λ e. (e ≡ GarageError.NotHeld) ⊎ (e ≡ GarageError.BookFull) ⊎ (e ≡ GarageError.OutOfMemory)) }
         ensures err { OnErr result (self.new ≡ self.old) }
+        ensures lists { KeepsLists self.old self.new }
     {
         let order = to_ask_all(&ask);
         let answer = self.station.ask_all(alloc, ask);
@@ -67,6 +70,7 @@ impl Garage {
         ensures full { IsErrOf result GarageError.BookFull ↔ ((address ≤ 253) × IsSome (own_address self.old) × IsFull self.old) }
         ensures only { IfErr result (λ e. (e ≡ GarageError.NotAnAddress) ⊎ (e ≡ GarageError.NotHeld) ⊎ (e ≡ GarageError.BookFull) ⊎ (e ≡ GarageError.OutOfMemory)) }
         ensures err { OnErr result (self.new ≡ self.old) }
+        ensures lists { KeepsLists self.old self.new }
     {
         let order = Order::Command { name, address };
         let answer = self.station.command(alloc, name, address);
@@ -74,6 +78,7 @@ impl Garage {
     }
 
     /// Queues what the station sends, or refuses as the station does.
+    #[tactic(auto, using(crate::proofs::Lists::lists_same, crate::proofs::Lists::lists_added))]
     fn obey(
         &mut self,
         order: Order,
@@ -85,6 +90,7 @@ impl Garage {
         ensures full { IsErrOf result GarageError.BookFull ↔ (IsOkUnless answer StationError.OutOfMemory × IsFull self.old) }
         ensures only { IfErr result (λ e. (e ≡ GarageError.BookFull) ⊎ (e ≡ GarageError.OutOfMemory) ⊎ ((s : AnyRefusal) × (answer ≡ Err s) × (e ≡ of_station s))) }
         ensures err { OnErr result (self.new ≡ self.old) }
+        ensures lists { KeepsLists self.old self.new }
     {
         let reaction = match answer {
             Ok(reaction) => reaction,

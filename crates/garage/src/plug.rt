@@ -6,7 +6,7 @@ ghost use Rattle.bus_ledger.specs.declared.error.BusError.TheVariants as bus;
 ghost use Rattle.fault_memory.specs.Changes.{changed, Grows};
 ghost use Rattle.fault_memory.specs.declared.error.FaultError.{FaultError as AnyFault};
 ghost use Rattle.journal.specs.Journal.{state_of, tally_of, Adds, IsSeated};
-ghost use Rattle.journal.specs.Promises.{IsLawful};
+ghost use Rattle.journal.specs.Promises.{IsLawful, KeepsLists};
 ghost use Rattle.journal.specs.declared.event.Event.TheVariants.{Join, Turned, Leave};
 ghost use Rattle.journal.specs.Steps.{next_for};
 ghost use Rattle.garage.specs.Answers.{Hears, Begins, counted_hearing, counted_beginning};
@@ -128,6 +128,7 @@ impl Garage {
         ensures full { (result ≡ Err (unit, GarageError.BookFull)) ↔ ((want ≤ 253) × (join_refusal (name_of unit) (state_of self.old).traffic ≡ None) × IsFullForJoin self.old) }
         ensures only { IfErr result (λ e. (e.1 ≡ GarageError.NotAnAddress) ⊎ IsJoinRefusal e.1) }
         ensures err { IfErr result (λ e. (e.0 ≡ unit) × (self.new ≡ self.old)) }
+        ensures lists { KeepsLists self.old self.new }
     {
         if want > 253 {
             return Err((unit, GarageError::NotAnAddress));
@@ -217,6 +218,7 @@ impl<'a> Plug<'a> {
     /// asked exactly what the frame puts to it (to clear, or to hold a commanded address), in one call, and is else as it was.
     ///
     /// Refused where there is one: `BookFull`, then `OutOfMemory`; then nothing changed, and the unit was not asked.
+    #[tactic(auto, using(crate::proofs::Lists::lists_same, crate::proofs::Lists::lists_heard))]
     pub fn hear(&mut self, alloc: Global) -> Result<HeardOne, GarageError>
         requires { Unit {0} }
         ensures same { self.new.garage.ghost_name ≡ self.old.garage.ghost_name }
@@ -228,6 +230,7 @@ impl<'a> Plug<'a> {
         ensures only { IfErr result (λ e. (e ≡ GarageError.BookFull) ⊎ (e ≡ GarageError.OutOfMemory)) }
         ensures err { OnErr result ((self.new.garage.now ≡ self.old.garage.now) × (self.new.events ≡ self.old.events)) }
         ensures unasked { OnErr result (self.new.unit ≡ self.old.unit) }
+        ensures lists { KeepsLists self.old.garage.now self.new.garage.now }
     {
         let heard = self.garage.hear(alloc, self.seat, &mut *self.unit)?;
         self.events = self.garage.events_of(self.seat);
@@ -238,6 +241,7 @@ impl<'a> Plug<'a> {
     ///
     /// Refused: `Unclaimed` where the unit holds no address; then, where no DM1 session is open, `BookFull` and `OutOfMemory`.
     /// Then nothing changed.
+    #[tactic(auto, using(crate::proofs::Lists::lists_same, crate::proofs::Lists::lists_begun))]
     pub fn begin_dm1(&mut self, alloc: Global) -> Result<Begin, GarageError>
         requires { Unit {0} }
         ensures same { self.new.garage.ghost_name ≡ self.old.garage.ghost_name }
@@ -249,6 +253,7 @@ impl<'a> Plug<'a> {
         ensures full { IsErrOf result GarageError.BookFull ↔ (IsSome (held_at self.old.garage.now self.old.seat) × (has_open_dm1 self.old.garage.now self.old.seat ≡ false) × IsFull self.old.garage.now) }
         ensures only { IfErr result (λ e. (e ≡ GarageError.Unclaimed) ⊎ (e ≡ GarageError.BookFull) ⊎ (e ≡ GarageError.OutOfMemory)) }
         ensures err { OnErr result ((self.new.garage.now ≡ self.old.garage.now) × (self.new.events ≡ self.old.events)) }
+        ensures lists { KeepsLists self.old.garage.now self.new.garage.now }
     {
         let begin = self.garage.begin(alloc, self.seat, &*self.unit)?;
         self.events = self.garage.events_of(self.seat);
@@ -258,6 +263,7 @@ impl<'a> Plug<'a> {
     /// Tells the journal that a turn of the unit is over. The unit's count of events is one more.
     ///
     /// Refused: `BookFull`, then `OutOfMemory`; then nothing changed.
+    #[tactic(auto, using(crate::proofs::Lists::lists_same, crate::proofs::Lists::lists_of_event))]
     pub fn turn(&mut self) -> Result<(), GarageError>
         requires { Unit {0} }
         ensures same { self.new.garage.ghost_name ≡ self.old.garage.ghost_name }
@@ -267,6 +273,7 @@ impl<'a> Plug<'a> {
         ensures full { IsErrOf result GarageError.BookFull ↔ IsFull self.old.garage.now }
         ensures only { IfErr result (λ e. (e ≡ GarageError.BookFull) ⊎ (e ≡ GarageError.OutOfMemory)) }
         ensures err { OnErr result ((self.new.garage.now ≡ self.old.garage.now) × (self.new.events ≡ self.old.events)) }
+        ensures lists { KeepsLists self.old.garage.now self.new.garage.now }
     {
         self.garage.turned(self.seat)?;
         self.events = self.garage.events_of(self.seat);
@@ -295,7 +302,8 @@ impl<'a> Plug<'a> {
 impl<B: Drop> Drop for Plug<'_, B> {
     /// The unit leaves. Takes no memory and no lock.
     fn drop(self)
-        ensures { Adds self.entry.garage.now (Leave self.entry.seat) self.exit.0.now }
+        ensures adds { Adds self.entry.garage.now (Leave self.entry.seat) self.exit.0.now }
+        ensures lists { KeepsLists self.entry.garage.now self.exit.0.now }
     {
         let seat = self.seat;
         self.garage.leave(seat);

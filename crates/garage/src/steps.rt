@@ -45,6 +45,7 @@ impl Garage {
     ghost use Rattle.bus_ledger.specs.BusValue.{IsUnit};
     ghost use Rattle.bus_ledger.specs.Reception.{next_reading};
     ghost use Rattle.journal.specs.Journal.{state_of, Adds, IsSeated};
+    ghost use Rattle.journal.specs.Promises.{KeepsLists};
     ghost use Rattle.journal.specs.Steps.{next_for};
     ghost use Rattle.journal.specs.declared.event.Event.TheVariants.{Join, Hear, Begin, Turned, Read, Leave};
     ghost use Rattle.bus_ledger.specs.Joining.{join_refusal};
@@ -58,6 +59,7 @@ impl Garage {
     ///
     /// Refused, in this order, where a live seat has the NAME, where 64 units are live, where the journal has no room, and
     /// where there is no memory; then nothing changed.
+    #[tactic(auto, using(crate::proofs::Lists::lists_same, crate::proofs::Lists::lists_added))]
     pub(crate) fn join(&mut self, alloc: Global, name: Name, want: u8) -> Result<u32, GarageError>
         requires { want ≤ 253 }
         ensures ok { IfOk result (λ k. (k ≡ length (state_of self.old).traffic.seats) × Adds self.old (Join name want) self.new × IsSeated self.new k name 1) }
@@ -66,6 +68,7 @@ impl Garage {
         ensures full { IsErrOf result GarageError.BookFull ↔ ((join_refusal name (state_of self.old).traffic ≡ None) × IsFullForJoin self.old) }
         ensures only { IfErr result IsJoinRefusal }
         ensures err { OnErr result (self.new ≡ self.old) }
+        ensures lists { KeepsLists self.old self.new }
     {
         let _number = name.number();
         self.bus.may_join(name)?;
@@ -210,9 +213,11 @@ impl Garage {
     }
 
     /// The unit on the seat goes: its queued frames are withdrawn. Takes no memory.
+    #[tactic(auto, using(crate::proofs::Lists::lists_same, crate::proofs::Lists::lists_added))]
     pub(crate) fn leave(&mut self, seat: u32)
         requires { IsUnit (state_of self.old).traffic seat }
-        ensures { Adds self.old (Leave seat) self.new }
+        ensures adds { Adds self.old (Leave seat) self.new }
+        ensures lists { KeepsLists self.old self.new }
     {
         let _ = self.bus.leave(seat);
         let place = &mut self.places[seat as usize - 1];
@@ -225,12 +230,14 @@ impl Garage {
     /// The station takes its next reading; there is no event where it is empty.
     ///
     /// Refused, where there is a reading, where the journal has no room, then where there is no memory; then nothing changed.
+    #[tactic(auto, using(crate::proofs::Lists::lists_same, crate::proofs::Lists::lists_added))]
     pub fn read(&mut self, alloc: Global) -> Result<Reading, GarageError>
         ensures ok { IfOk result (λ r. Reads self.old r self.new) }
         ensures empty { (result ≡ Ok Reading.Empty) ↔ (next_reading (state_of self.old).traffic ≡ Reading.Empty) }
         ensures full { IsErrOf result GarageError.BookFull ↔ ((next_reading (state_of self.old).traffic ≢ Reading.Empty) × IsFull self.old) }
         ensures only { IfErr result (λ e. (e ≡ GarageError.BookFull) ⊎ (e ≡ GarageError.OutOfMemory)) }
         ensures err { OnErr result (self.new ≡ self.old) }
+        ensures lists { KeepsLists self.old self.new }
     {
         let reading = self.bus.tap_peek();
         if is_empty(&reading) {

@@ -1,4 +1,5 @@
 mod bus;
+mod early_end;
 mod frame_text;
 mod node;
 mod seats;

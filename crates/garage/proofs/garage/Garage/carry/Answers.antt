@@ -11,21 +11,23 @@ use Rattle.journal.specs.declared.event.Event.{Event}
 use Rattle.journal.specs.declared.event.Event.TheVariants.{Carry}
 use Rattle.garage.proofs.Traffics.{offer_says}
 use Rattle.garage.proofs.Standing.{state, joins_carry, stands_more, tallies_still, fresh_still, carry_is, sent_queued, sent_units}
+use Rattle.garage.proofs.CarryLemmas.{uncarried_full}
+use Rattle.garage.proofs.Lists.{lists_pushed}
 use Rattle.garage.proofs.garage.Garage.carry.Goals as goal
 
-pub invariant_of-self-in-Frame-carried : goal.invariant_of-self-in-Frame-carried
-invariant_of-self-in-Frame-carried c =
+pub invariant_of-self-2 : goal.invariant_of-self-2
+invariant_of-self-2 c =
     let a = c.self.inside in
     let stands = c.self.invariant in
-    let k = c.in-Frame-carried.seat in
+    let k = c.in-Frame.seat in
     let before = a.bus.traffic in
-    let did : Carries before (Frame k c.in-Frame-carried.frame) c.carry.new.self.traffic =
-    subst (λ (r : Carried). Carries before r c.carry.new.self.traffic) c.in-Frame-carried.is c.in_ok-carried.ensures.ok in
+    let did : Carries before (Frame k c.in-Frame.frame) c.carry.new.self.traffic =
+    subst (λ (r : Carried). Carries before r c.carry.new.self.traffic) c.in-Frame.is c.in_ok-carried.ensures.ok in
     let q = did.0 in
     let next : IsNext (state a).traffic k q = subst (λ (t : Traffic). IsNext t k q) stands.traffic did.1 in
     let now = did.3 in
     let is = carry_is k q (state a) (offer_says (state a).traffic k q next.offers).1 in
-    let ok = c.in_ok-make_room.ensures.ok in
+    let ok = c.in-Ok.ensures.ok in
     let fits = ok.0 in
     let room = ok.1 in
     let wires = ap (λ (t : Traffic). length t.wire) now ∙ length_push before.wire (carried_frame k q) in
@@ -53,3 +55,17 @@ invariant_of-self-in-Frame-carried c =
       messages = (let w = stands.messages in omega arith);
       places = (let w = stands.places in omega arith);
     })
+
+pub returns-clause-lists : goal.returns-clause-lists
+returns-clause-lists c =
+    let a = c.self.inside in
+    let k = c.in-Frame.seat in
+    let did : Carries a.bus.traffic (Frame k c.in-Frame.frame) c.carry.new.self.traffic =
+    subst (λ (r : Carried). Carries a.bus.traffic r c.carry.new.self.traffic) c.in-Frame.is c.in_ok-carried.ensures.ok in
+    let next : IsNext (state a).traffic k did.0 = subst (λ (t : Traffic). IsNext t k did.0) c.self.invariant.traffic did.1 in
+    lists_pushed a c.args.self.now _ _ (Carry k) c.self.view_is c.self.invariant refl (c.push_reserved.ensures.items ∙ ap (λ (l : List Event). l ++ Carry k ∷ []) c.make_room.ensures.items) (did.0, next)
+
+pub returns-in-Err-clause-full : goal.returns-in-Err-clause-full
+returns-in-Err-clause-full c =
+    uncarried_full c.self.inside c.args.self.now _ _ c.make_room.result c.uncarried.result c.in-Err.refusal c.self.view_is c.self.invariant refl c.make_room.ensures.items c.in-Err.is c.make_room.ensures.full
+    c.uncarried.ensures.err c.uncarried.ensures.only

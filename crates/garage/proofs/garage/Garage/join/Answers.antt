@@ -18,6 +18,7 @@ use Rattle.bus_ledger.specs.Joining.{join_refusal}
 use Rattle.garage.proofs.Traffics.{PutsOn, puts, keeps_refl, joined_units, joined_queued}
 use Rattle.garage.proofs.InHand.{station_lives}
 use Rattle.garage.proofs.Standing.{state, join_is, joins_join, stands_more, tallies_push, fresh_join, added, seated_join}
+use Rattle.garage.proofs.Lists.{lists_added}
 use Rattle.garage.proofs.garage.Garage.join.Goals as goal
 
 pub invariant_of-self-2 : goal.invariant_of-self-2
@@ -86,3 +87,6 @@ returns-clause-ok c =
       added a b c.args.self.now (Join c.args.name c.args.want) c.self.view_is refl journal (ap (λ (u : Traffic). join_refusal c.args.name u) (sym stands.traffic) ∙ did.1, small, c.requires),
       seated_join a b c.args.name c.args.want c.in_ok-seat.seat stands refl journal at,
     )
+
+pub returns-clause-lists : goal.returns-clause-lists
+returns-clause-lists c = let did = returns-clause-ok c in lists_added c.self.inside c.args.self.now _ (Join c.args.name c.args.want) c.self.view_is c.self.invariant did.1

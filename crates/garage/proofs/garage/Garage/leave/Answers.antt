@@ -10,6 +10,7 @@ use Rattle.journal.specs.declared.tally.Tally.{Tally}
 use Rattle.garage.proofs.Traffics.{some_live, live_left}
 use Rattle.garage.proofs.InHand.{station_lives}
 use Rattle.garage.proofs.Standing.{place_few, place_within, unit_now, units_same, joins_leave, place_tally, stands_more, tallies_one, fresh_one, bus_unit, leave_is, left_queued}
+use Rattle.garage.proofs.Lists.{lists_pushed}
 use Rattle.garage.proofs.garage.Garage.leave.Goals as goal
 
 pub overflow_add-place : goal.overflow_add-place
@@ -80,3 +81,8 @@ invariant_of-self c =
       messages = (let w = stands.messages in omega arith);
       places = (let w = stands.places in omega (arith, length-set a.places.items k));
     })
+
+pub returns-clause-lists : goal.returns-clause-lists
+returns-clause-lists c =
+    let a = c.self.inside in
+    lists_pushed a c.args.self.now _ _ (Leave c.args.seat) c.self.view_is c.self.invariant refl c.push_reserved.ensures.items (unit_now a c.args.self.now c.args.seat c.self.view_is c.requires)

@@ -13,6 +13,7 @@ use Rattle.garage.proofs.Standing.{state, stands_more, tallies_still, fresh_stil
 use Rattle.garage.proofs.OrderLemmas.{joins_ordered, ordered_is, reacts}
 use Rattle.garage.proofs.Traffics.{station_live}
 use Rattle.garage.proofs.InHand.{station_lives}
+use Rattle.garage.proofs.Lists.{lists_pushed}
 use Rattle.garage.proofs.garage.Garage.obey.Goals as goal
 
 pub reserve-requires : goal.reserve-requires
@@ -63,3 +64,13 @@ invariant_of-self-2 c =
       messages = (let w = stands.messages in omega arith);
       places = (let w = stands.places in omega arith);
     })
+
+pub returns-clause-lists : goal.returns-clause-lists
+returns-clause-lists c =
+    let a = c.self.inside in
+    let r = c.in-Ok.reaction in
+    let now : Obeys (state_of c.args.self.now).station c.args.order r =
+    subst (λ (x : Result Reaction StationError). IfOk x (Obeys (state_of c.args.self.now).station c.args.order)) c.in-Ok.is c.requires in
+    let obeys : Obeys (state a).station c.args.order r =
+    subst (λ (g : GarageValue). Obeys (state_of g).station c.args.order r) (sym c.self.view_is) now in
+    lists_pushed a c.args.self.now _ _ (Ordered c.args.order) c.self.view_is c.self.invariant refl (c.push_reserved.ensures.items ∙ ap (λ (l : List Event). l ++ Ordered c.args.order ∷ []) c.make_room-2.ensures.items) (r, obeys.queues)

@@ -14,6 +14,7 @@ use Rattle.journal.specs.declared.event.Event.TheVariants.{Read}
 use Rattle.garage.proofs.Traffics.{live_read, station_live, keeps_read, puts_reacted}
 use Rattle.garage.proofs.InHand.{station_lives}
 use Rattle.garage.proofs.Standing.{state, read_is, joins_read, stands_more, tallies_still, fresh_still}
+use Rattle.garage.proofs.Lists.{lists_pushed}
 use Rattle.garage.proofs.garage.Garage.read.Goals as goal
 
 pub reserve-requires : goal.reserve-requires
@@ -69,3 +70,10 @@ invariant_of-self-2 c =
       messages = (let w = stands.messages in omega arith);
       places = (let w = stands.places in omega arith);
     })
+
+pub returns-clause-lists : goal.returns-clause-lists
+returns-clause-lists c =
+    let a = c.self.inside in
+    let r = c.tap_peek-reading.result in
+    lists_pushed a c.args.self.now _ _ (Read r) c.self.view_is c.self.invariant refl (c.push_reserved.ensures.items ∙ ap (λ (l : List Event). l ++ Read r ∷ []) c.make_room.ensures.items)
+    (c.tap_peek-reading.ensures.reading ∙ ap next_reading c.self.invariant.traffic, c.if-is_empty.ensures)

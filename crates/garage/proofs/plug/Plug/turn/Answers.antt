@@ -1,5 +1,7 @@
 use Rattle.std.proofs.Common.{◌∙◌}
 use Rattle.garage.proofs.SeatKept.{turn_counted, is_unit, still_seated, unit_turned}
+use Rattle.garage.proofs.Lists.{lists_of_event}
+use Rattle.journal.specs.declared.event.Event.TheVariants.{Turned}
 use Rattle.garage.proofs.plug.Plug.turn.Goals as goal
 
 pub events_of-self-requires : goal.events_of-self-requires
@@ -17,3 +19,6 @@ pub returns-clause-counted : goal.returns-clause-counted
 returns-clause-counted g c =
     c.events_of-self.ensures.count
     ∙ turn_counted c.args.self.now.garage.now c.args.self.now.seat c.turned.new.self c.args.self.now.events c.in_ok-turned.ensures.ok c.args.self.now.seated.counted
+
+pub returns-clause-lists : goal.returns-clause-lists
+returns-clause-lists g c = lists_of_event c.args.self.now.garage.now c.turned.new.self (Turned c.args.self.now.seat) c.events_of-self.ensures.lawful c.in_ok-turned.ensures.ok

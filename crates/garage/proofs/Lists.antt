@@ -1,0 +1,53 @@
+-- Each call keeps what was to be shown.
+use Rattle.std.proofs.Common.{ℕ, ◌≡◌, List, [], ◌∷◌, ◌++◌, reverse, ap, ◌∙◌, subst}
+use Rattle.fault_memory.specs.Memory.{MemoryValue}
+use Rattle.journal.specs.Fits.{Fits}
+use Rattle.journal.specs.State.{Settings}
+use Rattle.journal.specs.Journal.{AllFit, GarageValue, Adds, state_of, with_event}
+use Rattle.journal.specs.Promises.{IsLawful, KeepsLists}
+use Rattle.journal.specs.declared.event.Event.{Event}
+use Rattle.journal.specs.declared.event.Event.TheVariants as event
+use Rattle.journal.proofs.Lifted.{keeps_adds, keeps_same}
+use Rattle.garage.specs.Answers.{Hears, Begins}
+use Rattle.garage.specs.Inside.{settings_of, view_of, Stands}
+use Rattle.garage.specs.declared.garage.Garage.TheInside.{Inside}
+use Rattle.garage.proofs.Standing.{newest}
+use Rattle.garage.specs.declared.steps.HeardOne.{HeardOne}
+use Rattle.garage.specs.declared.steps.HeardOne.TheVariants as heard
+use Rattle.garage.specs.declared.steps.Begin.{Begin as Began}
+use Rattle.garage.specs.declared.steps.Begin.TheVariants as began
+
+-- nothing changed
+pub lists_same : (old new : GarageValue) → new ≡ old → KeepsLists old new
+lists_same old new e = keeps_same old new e
+
+lawful : (a : Inside) (old : GarageValue) → view_of a ≡ old → Stands a → IsLawful old
+lawful a old is stands = subst IsLawful is stands.fits
+
+-- one event more
+pub lists_added : (a : Inside) (old new : GarageValue) (e : Event) → view_of a ≡ old → Stands a → Adds old e new → KeepsLists old new
+lists_added a old new e is stands adds = keeps_adds old new e (lawful a old is stands) adds
+
+pub lists_pushed : (a : Inside) (old : GarageValue) (r : Settings) (events : List Event) (e : Event) → view_of a ≡ old → Stands a → r ≡ settings_of a → events ≡ a.journal.items ++ e ∷ []
+    → Fits (state_of (view_of a)) e → KeepsLists old (record { settings = r; journal = reverse events })
+lists_pushed a old r events e is stands settings journal fits =
+    let v : GarageValue = record { settings = r; journal = reverse events } in
+    let history : reverse events ≡ e ∷ reverse a.journal.items = ap reverse journal ∙ newest a.journal.items e in
+    let next : v ≡ with_event e (view_of a) = cc in
+    lists_added a old v e is stands (record { adds = next ∙ ap (with_event e) is; fits = subst (λ (g : GarageValue). Fits (state_of g) e) is fits })
+
+-- what came before a lawful journal's last event is lawful
+before : (old new : GarageValue) (e : Event) → IsLawful new → Adds old e new → IsLawful old
+unfolding AllFit
+before old new e now adds = (let here : IsLawful (with_event e old) = subst IsLawful adds.adds now in here.1)
+
+pub lists_of_event : (old new : GarageValue) (e : Event) → IsLawful new → Adds old e new → KeepsLists old new
+lists_of_event old new e now adds = keeps_adds old new e (before old new e now adds) adds
+
+pub lists_heard : (old new : GarageValue) (k : ℕ) (memory memory' : MemoryValue) (h : HeardOne) → IsLawful new → Hears old k memory h new memory' → KeepsLists old new
+lists_heard old new k memory memory' (heard.Frame f) now h = lists_of_event old new (event.Hear k memory h.1.0) now h.1.1
+lists_heard old new k memory memory' heard.Nothing now h = keeps_same old new h.1
+
+pub lists_begun : (old new : GarageValue) (k : ℕ) (memory : MemoryValue) (b : Began) → IsLawful new → Begins old k memory b new → KeepsLists old new
+lists_begun old new k memory began.Begun now h = lists_of_event old new (event.Begin k memory) now h
+lists_begun old new k memory began.Held now h = keeps_same old new h.1

@@ -57,7 +57,10 @@ fn stranger(rt: HostRuntime) -> Result<(), Fail> {
     let station = Name::from_number(1);
     let mut own = Garage::new(alloc, station, 249, 64, 16, 100)?;
     let mut other = Garage::new(alloc, station, 249, 64, 16, 100)?;
-    let unit: Box<dyn Unit> = Box::new(alloc, Simulated::new(alloc, Name::from_number(0xA0), UnitKind::Plain))?;
+    let unit: Box<dyn Unit> = Box::new(
+        alloc,
+        Simulated::new(alloc, Name::from_number(0xA0), UnitKind::Plain),
+    )?;
     let parked = mounted(alloc, &mut own, unit)?;
     let refusal = refused_and_taken(&mut own, &mut other, parked);
     assert_eq!(rt; refusal, Some(GarageError::Stranger));
@@ -97,7 +100,10 @@ fn scope_left_early(rt: HostRuntime) -> Result<(), Fail> {
     let alloc = rt.alloc();
     // the journal has room for the join, the begin and the leave, and for no turn
     let mut garage = Garage::new(alloc, Name::from_number(1), 249, 64, 16, 3)?;
-    let unit: Box<dyn Unit> = Box::new(alloc, Simulated::new(alloc, Name::from_number(0xA0), UnitKind::Plain))?;
+    let unit: Box<dyn Unit> = Box::new(
+        alloc,
+        Simulated::new(alloc, Name::from_number(0xA0), UnitKind::Plain),
+    )?;
     let parked = mounted(alloc, &mut garage, unit)?;
     match last_turn(alloc, &mut garage, parked) {
         Ok(turned) => assert_eq!(rt; turned, Err(GarageError::BookFull)),

@@ -19,7 +19,7 @@ IsPrefix before after = (more : List Shown) × (after ≡ before ++ more)
 pub record KeepsLists (old new : GarageValue) : Type 0 where
   pub grows : (n : ℕ) (k : Kind) → IsPrefix (shown_of old n k) (shown_of new n k)
 
--- the frames carried, newest first, each with its seat's NAME and the message that it is a part of
+-- the frames carried, newest first, each with its seat's number and NAME and the message that it is a part of
 abbrev pub wire_of : State → List Item
 wire_of s = reverse (items_of s)
 

@@ -184,7 +184,7 @@ class Writer:
                                     "1\t", "1_0")
         elif way == 3:
             word = words[at]
-            words[at] = self.one_of("XY", word + "0", word[:-1], word.lower(), word.upper(), "\u00e9" + word)
+            words[at] = self.one_of("XY", word + "0", word[:-1], word.lower(), word.upper(), "\u00e9" + word, "\t" + word)
         elif way == 4:
             words[at] = words[at] + self.one_of("\t", "\r", ",", "\u00a0", "s")
         elif way == 5:

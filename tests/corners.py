@@ -184,7 +184,7 @@ class Writer:
                                     "1\t", "1_0")
         elif way == 3:
             word = words[at]
-            words[at] = self.one_of("XY", word + "0", word[:-1], word.lower(), word.upper(), "\u00e9" + word)
+            words[at] = self.one_of("XY", word + "0", word[:-1], word.lower(), word.upper(), "\u00e9" + word, "\t" + word)
         elif way == 4:
             words[at] = words[at] + self.one_of("\t", "\r", ",", "\u00a0", "s")
         elif way == 5:
@@ -247,11 +247,15 @@ class Writer:
 
     def go_on(self):
         """Lets some frames be carried, heard and read, all of them or here and there."""
+        before = len(self.garage.wire)
         if self.chance(55):
             self.say("round", self.random.choice([0, 1, 1, 2, 2, 3, 4, 5, 7, 9]))
-            return
-        for _ in range(self.random.randrange(1, 5)):
-            self.random.choice([self.carry, self.carry, self.read, self.hear, self.hear])()
+        else:
+            for _ in range(self.random.randrange(1, 5)):
+                self.random.choice([self.carry, self.carry, self.read, self.hear, self.hear])()
+        if self.chance(25):
+            for at in range(before, len(self.garage.wire))[:9]:
+                self.say("frame", at)
 
     def session(self):
         """A unit with a long message is asked at its address, and disturbed before each packet of it."""
@@ -486,8 +490,8 @@ class Writer:
         for seat in range(min(6, len(self.garage.seats))):
             self.say("counts", seat)
         self.say("stats")
-        for _ in range(min(30, len(self.garage.wire))):
-            self.say("frame", self.random.randrange(len(self.garage.wire)))
+        for at in sorted(self.random.sample(range(len(self.garage.wire)), min(60, len(self.garage.wire)))):
+            self.say("frame", at)
 
     # Whole scripts.
 

@@ -1,6 +1,7 @@
 -- Each call keeps what was to be shown.
-use Rattle.std.proofs.Common.{ℕ, ◌≡◌, List, [], ◌∷◌, ◌++◌, reverse, ap, ◌∙◌, subst}
+use Rattle.std.proofs.Common.{ℕ, ◌≡◌, Bool, List, [], ◌∷◌, ◌++◌, reverse, ap, ◌∙◌, subst}
 use Rattle.fault_memory.specs.Memory.{MemoryValue}
+use Rattle.unit_trait.specs.declared.question.Question.{Question}
 use Rattle.journal.specs.Fits.{Fits}
 use Rattle.journal.specs.State.{Settings}
 use Rattle.journal.specs.Journal.{AllFit, GarageValue, Adds, state_of, with_event}
@@ -44,9 +45,10 @@ before old new e now adds = (let here : IsLawful (with_event e old) = subst IsLa
 pub lists_of_event : (old new : GarageValue) (e : Event) → IsLawful new → Adds old e new → KeepsLists old new
 lists_of_event old new e now adds = keeps_adds old new e (before old new e now adds) adds
 
-pub lists_heard : (old new : GarageValue) (k : ℕ) (memory memory' : MemoryValue) (h : HeardOne) → IsLawful new → Hears old k memory h new memory' → KeepsLists old new
-lists_heard old new k memory memory' (heard.Frame f) now h = lists_of_event old new (event.Hear k memory h.1.0) now h.1.1
-lists_heard old new k memory memory' heard.Nothing now h = keeps_same old new h.1
+pub lists_heard : {X : Type 0} → (old new : GarageValue) (k : ℕ) (memory memory' : MemoryValue) (answers : Question → Bool → X → Type 0) (unit unit' : X) (h : HeardOne)
+    → IsLawful new → Hears old k memory answers unit h new memory' unit' → KeepsLists old new
+lists_heard old new k memory memory' answers unit unit' (heard.Frame f) now h = lists_of_event old new (event.Hear k memory h.1.0) now h.1.1
+lists_heard old new k memory memory' answers unit unit' heard.Nothing now h = keeps_same old new h.1
 
 pub lists_begun : (old new : GarageValue) (k : ℕ) (memory : MemoryValue) (b : Began) → IsLawful new → Begins old k memory b new → KeepsLists old new
 lists_begun old new k memory began.Begun now h = lists_of_event old new (event.Begin k memory) now h

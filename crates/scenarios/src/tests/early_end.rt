@@ -1,5 +1,6 @@
 //! A scope that a refusal leaves early, with the better part of a broadcast still queued.
 
+use crate::tests::seats::left;
 use crate::tests::told::Told;
 use bus_ledger::Counts;
 use garage::{Garage, GarageError, Parked};
@@ -58,7 +59,12 @@ fn read_and_carry(alloc: Global, garage: &mut Garage) -> Result<(), GarageError>
 }
 
 /// The unit begins a DM1; then so many rounds: it hears, the station reads, one frame is carried. Then it is to have a turn.
-fn played(alloc: Global, garage: &mut Garage, parked: Parked, rounds: u32) -> Result<Parked, Ended> {
+fn played(
+    alloc: Global,
+    garage: &mut Garage,
+    parked: Parked,
+    rounds: u32,
+) -> Result<Parked, Ended> {
     let mut parked = begun(alloc, garage, parked)?;
     for _ in 0..rounds {
         parked = heard(alloc, garage, parked)?;
@@ -67,28 +73,16 @@ fn played(alloc: Global, garage: &mut Garage, parked: Parked, rounds: u32) -> Re
     turned(garage, parked)
 }
 
-/// Has a unit leave.
-fn leave(garage: &mut Garage, parked: Parked) {
-    let parked = match garage.attach(parked) {
-        Ok(plug) => {
-            drop(plug);
-            return;
-        }
-        Err((parked, _)) => parked,
-    };
-    drop(garage.disown(parked));
-}
-
 /// The refusal that ended what was played.
 fn refused(garage: &mut Garage, ended: Result<Parked, Ended>) -> Option<GarageError> {
     match ended {
         Err(Ended::Refused(error)) => Some(error),
         Err(Ended::Stranger(parked)) => {
-            leave(garage, parked);
+            let _ = left(garage, parked);
             None
         }
         Ok(parked) => {
-            leave(garage, parked);
+            let _ = left(garage, parked);
             None
         }
     }

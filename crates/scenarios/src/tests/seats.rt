@@ -54,7 +54,7 @@ fn disowned(garage: &mut Garage, parked: Parked) -> Result<(Name, GarageError), 
 }
 
 /// Has a unit take its seat and leave. Tells why not.
-fn left(garage: &mut Garage, parked: Parked) -> Result<(), GarageError> {
+pub fn left(garage: &mut Garage, parked: Parked) -> Result<(), GarageError> {
     let (parked, error) = match garage.attach(parked) {
         Ok(plug) => {
             drop(plug);

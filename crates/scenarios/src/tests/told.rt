@@ -1,3 +1,5 @@
+ghost use Rattle.std.specs.Prelude.{◌≡◌};
+
 use fault_memory::{FaultChange, FaultError, FaultMemory};
 use name_field::Name;
 use std::alloc::Global;
@@ -15,7 +17,7 @@ impl Told {
     /// A unit with the active codes 100/1, 101/1 and so on, so many of them.
     pub fn new(alloc: Global, name: u64, willing: bool, codes: u32) -> Result<Told, FaultError> {
         let mut memory = FaultMemory::new(alloc);
-        for spn in 100..100 + codes.min(400) {
+        for spn in 100..100 + codes.min(445) {
             memory.apply(FaultChange::Set { spn, fmi: 1 })?;
         }
         Ok(Told {

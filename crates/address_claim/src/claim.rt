@@ -2,12 +2,8 @@ ghost use Rattle.std.specs.Prelude.{◌≡◌, ℕ, ◌≤◌, ◌<◌, ◌^◌,
 ghost use Rattle.address_claim.specs.Frames.{IsClaimFrame, claim_of, claim_source, claim_frame_value};
 
 use crate::error::ClaimError;
-use can_frame::{Frame, Id, Pgn};
+use can_frame::{Frame, GLOBAL_ADDRESS, Id, NULL_ADDRESS, Pgn};
 use name_field::Name;
-
-const TO_ALL: u8 = 255;
-
-const NULL_ADDRESS: u8 = 254;
 
 const PRIORITY: u8 = 6;
 
@@ -29,7 +25,7 @@ pub fn claim_frame(name: Name, address: Option<u8>) -> Frame
 {
     let source = address.unwrap_or(NULL_ADDRESS);
     Frame::of(
-        Id::pdu1(PRIORITY, Pgn::ADDRESS_CLAIMED, TO_ALL, source),
+        Id::pdu1(PRIORITY, Pgn::ADDRESS_CLAIMED, GLOBAL_ADDRESS, source),
         &name.to_bytes(),
     )
 }
@@ -46,7 +42,8 @@ pub fn read_claim(frame: &Frame) -> Result<Claim, ClaimError>
 {
     let id = frame.id();
     let source = id.source();
-    if id.pgn() != Pgn::ADDRESS_CLAIMED || id.dest() != Some(TO_ALL) || source == 255 {
+    let is_claim = id.pgn() == Pgn::ADDRESS_CLAIMED && id.dest() == Some(GLOBAL_ADDRESS);
+    if !is_claim || source == GLOBAL_ADDRESS {
         return Err(ClaimError::NotThis);
     }
     match <[u8; 8]>::try_from(frame.bytes()) {

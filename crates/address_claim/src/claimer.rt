@@ -2,6 +2,7 @@ ghost use Rattle.std.specs.Prelude.{◌≡◌, ℕ, ◌≤◌, ◌<◌, ◌↔�
 ghost use Rattle.address_claim.specs.Claiming.{ClaimerValue, new_claimer, claim_step, after_claim, after_command, is_free, free_address, noted_after, next_address, IsOwnChoice, IsLawfulStep};
 
 use crate::error::ClaimError;
+use can_frame::{GREATEST_ADDRESS, NULL_ADDRESS};
 use name_field::Name;
 use std::marker::Model;
 
@@ -98,7 +99,7 @@ impl Claimer {
         ensures after { self.new ≡ after_claim source name self.old }
     {
         let step = self.answer(source, name);
-        if source < 254 {
+        if source < NULL_ADDRESS {
             self.noted[source as usize] = Some(name);
         }
         match step {
@@ -116,7 +117,7 @@ impl Claimer {
         ensures err { OnErr result (self.new ≡ self.old) }
         ensures not_an_address { IsErrOf result ClaimError.NotAnAddress ↔ (254 ≤ address) }
     {
-        if address > 253 {
+        if address > GREATEST_ADDRESS {
             return Err(ClaimError::NotAnAddress);
         }
         self.held = Some(address);

@@ -1,6 +1,7 @@
 //! Identifiers and frames of a bus with 29-bit identifiers (SAE J1939-21).
 #![tactic(auto)]
 
+mod address;
 mod display;
 mod frame;
 mod frames;
@@ -8,6 +9,7 @@ mod id;
 mod pgn;
 mod reading;
 
+pub use address::{GLOBAL_ADDRESS, GREATEST_ADDRESS, NULL_ADDRESS};
 pub use frame::{Frame, FrameError};
 pub use frames::Frames;
 pub use id::{Id, IdTooLarge};

@@ -1,5 +1,8 @@
-ghost use Rattle.std.specs.Prelude.{◌≡◌};
+ghost use Rattle.std.specs.Prelude.{◌≡◌, ◌<◌, ◌≤◌, ◌^◌};
+ghost use Rattle.can_frame.specs.Fields.{pdu_format_of_pgn};
 ghost use Rattle.dm_messages.specs.View.{pgn_of_kind};
+
+use can_frame::Pgn;
 
 /// The kind of a diagnostic message (SAE J1939-73).
 #[derive(Clone, Copy, Debug, PartialEq, Eq)]
@@ -11,13 +14,15 @@ pub enum Kind {
 }
 
 impl Kind {
-    /// The parameter group number: 65226 for DM1, 65227 for DM2.
-    pub fn pgn(self) -> u32
-        ensures { result ≡ pgn_of_kind self }
+    /// The parameter group, 65226 for DM1 and 65227 for DM2: one that goes to all.
+    pub fn pgn(self) -> Pgn
+        ensures value { result ≡ pgn_of_kind self }
+        ensures fits { result < 2 ^ 18 }
+        ensures to_all { 240 ≤ pdu_format_of_pgn result }
     {
         match self {
-            Kind::Dm1 => 65226,
-            Kind::Dm2 => 65227,
+            Kind::Dm1 => Pgn::DM1,
+            Kind::Dm2 => Pgn::DM2,
         }
     }
 }

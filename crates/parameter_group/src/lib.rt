@@ -8,7 +8,7 @@ ghost use Rattle.parameter_group.specs.Said.{IsLawful, said};
 ghost use Rattle.parameter_group.specs.Written.{ReadsBack};
 
 use address_claim::{Claim, read_claim};
-use can_frame::{Frame, Pgn};
+use can_frame::{Frame, GLOBAL_ADDRESS, NULL_ADDRESS, Pgn};
 use dm_messages::Kind;
 use name_field::Name;
 use requests::{Ack, Request};
@@ -64,7 +64,7 @@ impl<'a> ParameterGroup<'a> {
         let id = frame.id();
         let source = id.source();
         let bytes = frame.bytes();
-        let dest = id.dest().unwrap_or(255);
+        let dest = id.dest().unwrap_or(GLOBAL_ADDRESS);
         match id.pgn() {
             Pgn::ADDRESS_CLAIMED => claimed(frame),
             Pgn::REQUEST => requested(frame),
@@ -105,7 +105,12 @@ fn claimed(frame: &Frame) -> ParameterGroup<'static>
     ensures lawful { IsLawful result }
 {
     match read_claim(frame) {
-        Ok(Claim { source: 254, name }) => ParameterGroup::CannotClaim { name },
+        Ok(
+            Claim {
+                source: NULL_ADDRESS,
+                name,
+            },
+        ) => ParameterGroup::CannotClaim { name },
         Ok(Claim { source, name }) => ParameterGroup::AddressClaimed { source, name },
         Err(_) => ParameterGroup::Other,
     }

@@ -24,6 +24,15 @@ pub struct Ack {
 }
 
 impl Ack {
+    /// The control of an acknowledgment that what was asked for is done.
+    pub const POSITIVE: u8 = 0;
+    /// The control of one that it is not done, or not known.
+    pub const NEGATIVE: u8 = 1;
+    /// The control of one that the requester may not ask for it.
+    pub const ACCESS_DENIED: u8 = 2;
+    /// The control of one that it cannot be done now.
+    pub const CANNOT_RESPOND: u8 = 3;
+
     /// The acknowledgment in a frame of eight bytes; bytes 2 to 4 and the priority are not looked at.
     ///
     /// `NotThis` exactly for a frame of another group, or not of eight bytes.

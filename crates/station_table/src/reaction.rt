@@ -37,11 +37,11 @@ impl Ask {
         ensures { result ≡ group_asked self }
     {
         match self {
-            Ask::Dm1 => Pgn::new(65226).unwrap(),
-            Ask::Dm2 => Pgn::new(65227).unwrap(),
-            Ask::Dm3 => Pgn::new(65228).unwrap(),
-            Ask::Dm11 => Pgn::new(65235).unwrap(),
-            Ask::Claim => Pgn::new(60928).unwrap(),
+            Ask::Dm1 => Pgn::DM1,
+            Ask::Dm2 => Pgn::DM2,
+            Ask::Dm3 => Pgn::DM3,
+            Ask::Dm11 => Pgn::DM11,
+            Ask::Claim => Pgn::ADDRESS_CLAIMED,
             Ask::Other(pgn) => pgn,
         }
     }

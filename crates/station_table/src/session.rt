@@ -2,7 +2,6 @@ ghost use Rattle.std.specs.Prelude.{◌≡◌, ◌<◌, Some};
 ghost use Rattle.station_table.specs.Halves.{packet_answer};
 
 use crate::half::Half;
-use crate::slots::{NO_RESOURCES, group_of_kind};
 use std::marker::Model;
 use transport::{Control, Took, packets};
 
@@ -68,10 +67,10 @@ impl Session {
     {
         let size = self.half.size();
         let packets = packets(size);
-        let pgn = group_of_kind(self.half.kind());
+        let pgn = self.half.kind().pgn();
         match self.half.answer(packet) {
             Took::Broken => Some(Control::Abort {
-                reason: NO_RESOURCES,
+                reason: Control::RESOURCES_NEEDED,
                 pgn,
             }),
             Took::Whole => Some(Control::EndAck { size, packets, pgn }),

@@ -1,7 +1,6 @@
 ghost use Rattle.std.specs.Prelude.{◌≡◌, ◌<◌, Some, None, slice_set, IfOk};
 ghost use Rattle.bus_model.specs.Heard.{kept_under, with_packet, without_kind};
 ghost use Rattle.bus_model.specs.Heard as heard;
-ghost use Rattle.dm_messages.specs.View.{pgn_of_kind};
 ghost use Rattle.std.specs.Option.{option_map};
 ghost use Rattle.station_table.specs.Halves.{entry_of};
 ghost use Rattle.station_table.specs.Reactions.{reply_to};
@@ -17,9 +16,6 @@ use name_field::Name;
 use std::alloc::{AllocError, Global};
 use std::array;
 use transport::{Control, Took};
-
-/// The reason of the aborts that the station sends: resources are needed elsewhere.
-pub const NO_RESOURCES: u8 = 2;
 
 /// The kind of diagnostic message that a parameter group stands for.
 pub fn kind_of(pgn: Pgn) -> Option<Kind>
@@ -114,16 +110,6 @@ fn abort_in(slot: &mut Option<Session>, kind: Option<Kind>)
     };
     if same {
         *slot = None;
-    }
-}
-
-/// The parameter group of a kind of diagnostic message.
-pub fn group_of_kind(kind: Kind) -> Pgn
-    ensures { result ≡ pgn_of_kind kind }
-{
-    match kind {
-        Kind::Dm1 => Pgn::DM1,
-        Kind::Dm2 => Pgn::DM2,
     }
 }
 

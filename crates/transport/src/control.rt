@@ -72,6 +72,9 @@ impl Control {
     ghost use Rattle.std.specs.Result.{result_ok};
     ghost use Rattle.transport.specs.declared.control.Control.{Control as AnyControl};
 
+    /// The reason of an abort for want of resources, which another task needs.
+    pub const RESOURCES_NEEDED: u8 = 2;
+
     /// The message that these bytes carry; fillers are not looked at.
     ///
     /// Refused BadControl where there are not eight bytes or the first is none of 16, 17, 19, 32 and 255; then BadSize

@@ -5,7 +5,7 @@ ghost use Rattle.transport.specs.Messages as message;
 
 use crate::control::Control;
 use crate::pieces::{packets, part};
-use can_frame::{Frame, Id, Pgn};
+use can_frame::{Frame, GLOBAL_ADDRESS, Id, Pgn};
 
 /// The frame of a connection management message: priority 7, group 60416.
 pub fn control_frame(control: Control, source: u8, dest: u8) -> Frame
@@ -63,7 +63,7 @@ fn announcement(size: u16, pgn: Pgn, dest: u8) -> Control
     ensures { result ≡ message.announcement size pgn dest }
 {
     let packets = packets(size);
-    if dest == 255 {
+    if dest == GLOBAL_ADDRESS {
         Control::Bam { size, packets, pgn }
     } else {
         Control::Rts {

@@ -4,7 +4,6 @@ use bus_ledger::{Bus, BusError, Carried, Counts, Which};
 use can_frame::{Frame, Reading};
 use name_field::Name;
 use std::process::Abort;
-use std::test::Fail;
 
 const STATION: u64 = 1;
 
@@ -15,17 +14,17 @@ fn frame(rt: &impl Abort, id: u32) -> Frame {
 }
 
 #[test]
-fn lowest_identifier_is_carried(rt: HostRuntime) -> Result<(), Fail> {
-    let mut bus = Bus::new(rt.alloc(), Name::from_number(STATION), 1)?;
-    let seat = bus.join(Name::from_number(UNIT))?;
+fn lowest_identifier_is_carried(rt: HostRuntime) {
+    let mut bus = Bus::new(rt.alloc(), Name::from_number(STATION), 1).expect(&rt, "a bus");
+    let seat = bus.join(Name::from_number(UNIT)).expect(&rt, "a seat");
     assert_eq!(rt; seat, 1);
     let claim = frame(&rt, 0x18EE_FF00);
     let request = frame(&rt, 0x18EA_FFF9);
-    bus.queue(1, claim, None)?;
-    bus.reserve(0, 1)?;
-    bus.queue(0, request, None)?;
+    bus.queue(1, claim, None).expect(&rt, "room");
+    bus.reserve(0, 1).expect(&rt, "room");
+    bus.queue(0, request, None).expect(&rt, "room");
     assert_eq!(rt;
-        bus.carry()?,
+        bus.carry().expect(&rt, "room"),
         Carried::Frame {
             seat: 0,
             frame: request
@@ -34,13 +33,12 @@ fn lowest_identifier_is_carried(rt: HostRuntime) -> Result<(), Fail> {
     assert_eq!(rt; bus.carry_peek(), Carried::Waiting);
     assert_eq!(rt; bus.next_for(1), Some(request));
     assert_eq!(rt; bus.tap_peek(), Reading::Empty);
-    Ok(())
 }
 
 #[test]
-fn names_and_counts(rt: HostRuntime) -> Result<(), Fail> {
-    let mut bus = Bus::new(rt.alloc(), Name::from_number(STATION), 1)?;
-    let _seat = bus.join(Name::from_number(UNIT))?;
+fn names_and_counts(rt: HostRuntime) {
+    let mut bus = Bus::new(rt.alloc(), Name::from_number(STATION), 1).expect(&rt, "a bus");
+    let _seat = bus.join(Name::from_number(UNIT)).expect(&rt, "a seat");
     assert_eq!(rt;
         bus.may_join(Name::from_number(UNIT)),
         Err(BusError::NameInUse)
@@ -49,7 +47,8 @@ fn names_and_counts(rt: HostRuntime) -> Result<(), Fail> {
         bus.may_join(Name::from_number(STATION)),
         Err(BusError::NameInUse)
     );
-    bus.queue(1, frame(&rt, 0x18EE_FF00), None)?;
+    bus.queue(1, frame(&rt, 0x18EE_FF00), None)
+        .expect(&rt, "room");
     assert_eq!(rt; bus.withdraw(1, Which::Session), 0);
     assert_eq!(rt; bus.leave(1), 1);
     assert_eq!(rt;
@@ -62,25 +61,23 @@ fn names_and_counts(rt: HostRuntime) -> Result<(), Fail> {
         })
     );
     assert_eq!(rt; bus.counts(2), None);
-    assert_eq!(rt; bus.carry()?, Carried::Idle);
-    assert_eq!(rt; bus.join(Name::from_number(UNIT))?, 2);
-    Ok(())
+    assert_eq!(rt; bus.carry().expect(&rt, "room"), Carried::Idle);
+    assert_eq!(rt; bus.join(Name::from_number(UNIT)).expect(&rt, "a seat"), 2);
 }
 
 #[test]
-fn window_of_one(rt: HostRuntime) -> Result<(), Fail> {
-    let mut bus = Bus::new(rt.alloc(), Name::from_number(STATION), 1)?;
-    let _seat = bus.join(Name::from_number(UNIT))?;
+fn window_of_one(rt: HostRuntime) {
+    let mut bus = Bus::new(rt.alloc(), Name::from_number(STATION), 1).expect(&rt, "a bus");
+    let _seat = bus.join(Name::from_number(UNIT)).expect(&rt, "a seat");
     let first = frame(&rt, 0x18EE_FF00);
     let second = frame(&rt, 0x18FE_CA00);
-    bus.queue(1, first, None)?;
-    bus.queue(1, second, None)?;
-    let _first = bus.carry()?;
-    let _second = bus.carry()?;
+    bus.queue(1, first, None).expect(&rt, "room");
+    bus.queue(1, second, None).expect(&rt, "room");
+    let _first = bus.carry().expect(&rt, "room");
+    let _second = bus.carry().expect(&rt, "room");
     assert_eq!(rt; bus.wire_len(), 2);
     assert_eq!(rt; bus.wire_frame(1), Some(second));
     assert_eq!(rt; bus.tap_next(), Reading::Gap(1));
     assert_eq!(rt; bus.tap_next(), Reading::Frame(second));
     assert_eq!(rt; bus.tap_next(), Reading::Empty);
-    Ok(())
 }

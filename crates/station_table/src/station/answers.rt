@@ -6,15 +6,9 @@ use crate::reaction::Reaction;
 use crate::row::AckSeen;
 use crate::slots::owner_at;
 use crate::station::Station;
-use can_frame::Pgn;
+use can_frame::{GLOBAL_ADDRESS, NULL_ADDRESS, Pgn};
 use requests::{Ack, Request};
 use std::alloc::{AllocError, Global};
-
-/// The control of a negative acknowledgment.
-const NEGATIVE: u8 = 1;
-
-/// All addresses, as a destination.
-const GLOBAL_ADDRESS: u8 = 255;
 
 impl Station {
     ghost use Rattle.station_table.specs.Steps.{after_group};
@@ -33,9 +27,9 @@ impl Station {
             if to_it || request.dest == GLOBAL_ADDRESS {
                 return Reaction::answering(alloc, self.start());
             }
-        } else if to_it && request.source < 254 {
+        } else if to_it && request.source < NULL_ADDRESS {
             let refusal = Ack {
-                control: NEGATIVE,
+                control: Ack::NEGATIVE,
                 requester: request.source,
                 pgn: request.pgn,
                 dest: GLOBAL_ADDRESS,

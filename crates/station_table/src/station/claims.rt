@@ -9,16 +9,10 @@ use crate::reaction::Reaction;
 use crate::slots::{keep_broadcasts, keep_sessions, no_broadcasts, no_owners, no_sessions};
 use crate::station::Station;
 use address_claim::{ClaimStep, claim_frame};
-use can_frame::{Frames, Pgn};
+use can_frame::{Frames, GLOBAL_ADDRESS, NULL_ADDRESS, Pgn};
 use name_field::Name;
 use requests::Request;
 use std::alloc::{AllocError, Global};
-
-/// The source of a station without an address.
-const NULL_ADDRESS: u8 = 254;
-
-/// All addresses, as a destination.
-const GLOBAL_ADDRESS: u8 = 255;
 
 impl Station {
     ghost use Rattle.station_table.specs.Steps.{with_claim, after_group, after_gap};

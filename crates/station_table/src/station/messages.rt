@@ -9,11 +9,11 @@ use crate::error::StationError;
 use crate::half::{Ended, Half};
 use crate::reaction::Reaction;
 use crate::slots::{
-    NO_RESOURCES, abort_session, at_once, broadcast_end, kind_of, owner_at, packet_to_broadcast,
+    abort_session, at_once, broadcast_end, kind_of, owner_at, packet_to_broadcast,
     packet_to_session, put_broadcast, session_end, session_reply, start_session,
 };
 use crate::station::Station;
-use can_frame::Pgn;
+use can_frame::{NULL_ADDRESS, Pgn};
 use dm_messages::{Kind, ReadError, Shown, read};
 use name_field::Name;
 use std::alloc::{AllocError, Global};
@@ -146,11 +146,11 @@ impl Station {
                 pgn: announced.pgn,
             },
             None => Control::Abort {
-                reason: NO_RESOURCES,
+                reason: Control::RESOURCES_NEEDED,
                 pgn: announced.pgn,
             },
         };
-        let reaction = if source < 254 {
+        let reaction = if source < NULL_ADDRESS {
             Reaction::answering(alloc, control_frame(answer, dest, source))?
         } else {
             Reaction::silent(alloc)

@@ -8,14 +8,11 @@ use crate::error::StationError;
 use crate::reaction::{Ask, Reaction};
 use crate::row::Row;
 use crate::station::Station;
-use can_frame::{Frames, Pgn};
+use can_frame::{Frames, GLOBAL_ADDRESS, GREATEST_ADDRESS, Pgn};
 use name_field::Name;
 use requests::{Commanded, Request};
 use std::alloc::{AllocError, Global};
 use transport::message_part;
-
-/// All addresses, as a destination.
-const GLOBAL_ADDRESS: u8 = 255;
 
 impl Station {
     ghost use Rattle.station_table.specs.Orders.{AreAsked, IsAsked, IsCommanded, ask_answer, ask_all_answer, command_answer};
@@ -70,7 +67,7 @@ impl Station {
         ensures why { IfErr result (λ e. (e ≡ StationError.OutOfMemory) ⊎ (command_answer self.now name address ≡ Err e)) }
         ensures heard { (r : Settings) (grant : ℕ) (h : List AnyReading) → StandsFor r grant self.now h → IsCommanded r h address (command_answer self.now name address) }
     {
-        if address > 253 {
+        if address > GREATEST_ADDRESS {
             return Err(StationError::NotAnAddress);
         }
         let Some(own) = self.held() else {

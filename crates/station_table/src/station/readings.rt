@@ -9,13 +9,10 @@ use crate::error::StationError;
 use crate::reaction::Reaction;
 use crate::station::Station;
 use crate::station::messages::Announced;
-use can_frame::{Frame, Reading};
+use can_frame::{Frame, GLOBAL_ADDRESS, Reading};
 use parameter_group::ParameterGroup;
 use std::alloc::Global;
 use transport::Control;
-
-/// All addresses, as a destination.
-const GLOBAL_ADDRESS: u8 = 255;
 
 impl Station {
     ghost use Rattle.station_table.specs.StandsFor.{StandsFor};

@@ -1,7 +1,7 @@
 //! Vehicles as TOML texts.
 
-use vehicle::{UnitKind, VehicleFault, read_vehicle};
 use std::test::Fail;
+use vehicle::{UnitKind, VehicleFault, read_vehicle};
 
 const STATION: &str = "[station]
 name = \"0000000000000001\"
@@ -60,17 +60,33 @@ fn reads_station_and_units(rt: HostRuntime) -> Result<(), Fail> {
 
 /// What is put into a good text at a place, and makes it one that is refused.
 const REFUSED: [(&str, &str, &str); 12] = [
-    ("a key of the station that is not known", "grant = 16", "grant = 16\ncolour = 1"),
+    (
+        "a key of the station that is not known",
+        "grant = 16",
+        "grant = 16\ncolour = 1",
+    ),
     ("a table that is not known", "[station]", "[bus]\n[station]"),
     ("no window", "window = 64\n", ""),
     ("a window of none", "window = 64", "window = 0"),
     ("a grant past a byte", "grant = 16", "grant = 256"),
-    ("a limit past the journal's", "limit = 100000", "limit = 16777217"),
-    ("an address that cannot be held", "address = 249", "address = 254"),
+    (
+        "a limit past the journal's",
+        "limit = 100000",
+        "limit = 16777217",
+    ),
+    (
+        "an address that cannot be held",
+        "address = 249",
+        "address = 254",
+    ),
     ("a number below none", "address = 249", "address = -1"),
     ("a text for a number", "address = 249", "address = \"249\""),
     ("a number for a text", "\"0000000000000001\"", "1"),
-    ("a NAME of fifteen digits", "\"0000000000000001\"", "\"000000000000001\""),
+    (
+        "a NAME of fifteen digits",
+        "\"0000000000000001\"",
+        "\"000000000000001\"",
+    ),
     ("no TOML", "[station]", "[station"),
 ];
 

@@ -124,7 +124,7 @@ fn occurrence_count(rt: HostRuntime) -> Result<(), Fail> {
         written.as_slice(),
         [0x04, 0xFF, 0x07, 0x00, 0x01, 0x02, 0xFF, 0xFF].as_slice()
     );
-    assert_eq!(rt; Kind::Dm1.pgn(), 65226);
-    assert_eq!(rt; Kind::Dm2.pgn(), 65227);
+    assert_eq!(rt; Kind::Dm1.pgn().number(), 65226);
+    assert_eq!(rt; Kind::Dm2.pgn().number(), 65227);
     Ok(())
 }

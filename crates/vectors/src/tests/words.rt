@@ -16,21 +16,76 @@ fn words_of(alloc: Global, line: &str) -> Result<Vec<String>, AllocError> {
 /// Each line of words, and what it gives.
 const LINES: [(&str, Result<Job, LineFault>); 26] = [
     ("j1939bench script", Ok(Job::Script)),
-    ("j1939bench threads --turns 50 --reads 50", Ok(Job::Threads { turns: 50, reads: 50, report: false })),
-    ("j1939bench threads --reads 7 --report --turns 20", Ok(Job::Threads { turns: 20, reads: 7, report: true })),
-    ("j1939bench threads --turns=1 --reads=1", Ok(Job::Threads { turns: 1, reads: 1, report: false })),
-    ("j1939bench threads --turns 100000 --reads 100000", Ok(Job::Threads { turns: 100_000, reads: 100_000, report: false })),
-    ("j1939bench threads --turns 100001 --reads 1", Err(LineFault::Refused)),
-    ("j1939bench threads --turns 1 --reads 100001", Err(LineFault::Refused)),
-    ("j1939bench threads --turns 0 --reads 1", Err(LineFault::Refused)),
-    ("j1939bench threads --turns 1 --reads 0", Err(LineFault::Refused)),
-    ("j1939bench threads --turns -1 --reads 1", Err(LineFault::Refused)),
-    ("j1939bench threads --turns 4294967297 --reads 1", Err(LineFault::Refused)),
-    ("j1939bench threads --turns five --reads 1", Err(LineFault::Refused)),
+    (
+        "j1939bench threads --turns 50 --reads 50",
+        Ok(Job::Threads {
+            turns: 50,
+            reads: 50,
+            report: false,
+        }),
+    ),
+    (
+        "j1939bench threads --reads 7 --report --turns 20",
+        Ok(Job::Threads {
+            turns: 20,
+            reads: 7,
+            report: true,
+        }),
+    ),
+    (
+        "j1939bench threads --turns=1 --reads=1",
+        Ok(Job::Threads {
+            turns: 1,
+            reads: 1,
+            report: false,
+        }),
+    ),
+    (
+        "j1939bench threads --turns 100000 --reads 100000",
+        Ok(Job::Threads {
+            turns: 100_000,
+            reads: 100_000,
+            report: false,
+        }),
+    ),
+    (
+        "j1939bench threads --turns 100001 --reads 1",
+        Err(LineFault::Refused),
+    ),
+    (
+        "j1939bench threads --turns 1 --reads 100001",
+        Err(LineFault::Refused),
+    ),
+    (
+        "j1939bench threads --turns 0 --reads 1",
+        Err(LineFault::Refused),
+    ),
+    (
+        "j1939bench threads --turns 1 --reads 0",
+        Err(LineFault::Refused),
+    ),
+    (
+        "j1939bench threads --turns -1 --reads 1",
+        Err(LineFault::Refused),
+    ),
+    (
+        "j1939bench threads --turns 4294967297 --reads 1",
+        Err(LineFault::Refused),
+    ),
+    (
+        "j1939bench threads --turns five --reads 1",
+        Err(LineFault::Refused),
+    ),
     ("j1939bench threads --turns 5", Err(LineFault::Refused)),
     ("j1939bench threads --reads 5", Err(LineFault::Refused)),
-    ("j1939bench threads --turns 5 --turns 5 --reads 1", Err(LineFault::Refused)),
-    ("j1939bench threads --turns 5 --reads 1 more", Err(LineFault::Refused)),
+    (
+        "j1939bench threads --turns 5 --turns 5 --reads 1",
+        Err(LineFault::Refused),
+    ),
+    (
+        "j1939bench threads --turns 5 --reads 1 more",
+        Err(LineFault::Refused),
+    ),
     ("j1939bench", Err(LineFault::Refused)),
     ("j1939bench scripts", Err(LineFault::Refused)),
     ("j1939bench script more", Err(LineFault::Refused)),
@@ -58,7 +113,10 @@ const PAGES: [(&str, &str); 7] = [
     ("j1939bench --help", "script "),
     ("j1939bench --help", "threads "),
     ("j1939bench --help", "[[unit]]"),
-    ("j1939bench script --help", "garage NAME ADDRESS WINDOW GRANT LIMIT"),
+    (
+        "j1939bench script --help",
+        "garage NAME ADDRESS WINDOW GRANT LIMIT",
+    ),
     ("j1939bench threads --help", "--turns <N>"),
     ("j1939bench threads --help", "kind = \"flicker\""),
     ("j1939bench --version", "j1939bench 1.0"),

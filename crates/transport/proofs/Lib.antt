@@ -1,3 +1,4 @@
 pub mod Filling
 pub mod Order
 pub mod Steps
+pub mod Runs

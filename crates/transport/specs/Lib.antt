@@ -5,4 +5,5 @@ pub mod Messages
 pub mod Pieces
 pub mod Places
 pub mod Refusals
+pub mod Runs
 pub mod Sending

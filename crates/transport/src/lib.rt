@@ -6,6 +6,7 @@ mod control;
 mod message;
 mod payload;
 mod pieces;
+mod run;
 mod sending;
 mod took;
 
@@ -14,5 +15,6 @@ pub use control::{Control, ControlError};
 pub use message::{control_frame, last, message_part, packet_frame};
 pub use payload::Payload;
 pub use pieces::{packets, part};
+pub use run::Run;
 pub use sending::Sending;
 pub use took::Took;

@@ -2,6 +2,7 @@ ghost use Rattle.std.specs.Prelude.{◌≡◌, ◌≤◌, ◌<◌, ◌^◌, leng
 ghost use Rattle.can_frame.specs.Fields.{pdu_format_of_pgn};
 ghost use Rattle.transport.specs.Messages.{part_of_message, last_part};
 ghost use Rattle.transport.specs.Messages as message;
+ghost use Rattle.transport.specs.Pieces.{packet_count};
 
 use crate::control::Control;
 use crate::pieces::{packets, part};
@@ -48,13 +49,24 @@ pub fn message_part(payload: &[u8], pgn: Pgn, source: u8, dest: u8, j: u8) -> Fr
     requires within { j ≤ last_part payload.now }
     ensures { result ≡ part_of_message payload.now pgn source dest j }
 {
-    if j > 0 {
-        return packet_frame(part(payload, j), source, dest);
-    }
     if payload.len() == 8 {
         return Frame::of(Id::pdu2(6, pgn, source), payload);
     }
-    control_frame(announcement(payload.len() as u16, pgn, dest), source, dest)
+    long_message_part(payload, pgn, source, dest, j)
+}
+
+/// One part of a message of 9 to 1,785 bytes: the announcement, or the packet of that number.
+pub(crate) fn long_message_part(payload: &[u8], pgn: Pgn, source: u8, dest: u8, j: u8) -> Frame
+    requires least { 9 ≤ length payload.now }
+    requires most { length payload.now ≤ 1785 }
+    requires within { j ≤ packet_count (length payload.now) }
+    ensures { result ≡ part_of_message payload.now pgn source dest j }
+{
+    if j > 0 {
+        packet_frame(part(payload, j), source, dest)
+    } else {
+        control_frame(announcement(payload.len() as u16, pgn, dest), source, dest)
+    }
 }
 
 fn announcement(size: u16, pgn: Pgn, dest: u8) -> Control

@@ -7,7 +7,7 @@ use std::alloc::Global;
 use std::process::Abort;
 use std::test::Fail;
 use transport::{
-    Assembly, Control, ControlError, Payload, Sending, Took, control_frame, last, message_part,
+    Assembly, Control, ControlError, Payload, Run, Sending, Took, control_frame, last, message_part,
     packet_frame, packets, part,
 };
 
@@ -183,5 +183,37 @@ fn payload_is_kept(rt: HostRuntime) -> Result<(), Fail> {
     payload.extend_from_slice(&[2, 3])?;
     assert_eq!(rt; payload.len(), 3);
     assert_eq!(rt; payload.copy()?.as_slice(), [1, 2, 3].as_slice());
+    Ok(())
+}
+
+#[test]
+fn run_of_two_codes(rt: HostRuntime) -> Result<(), Fail> {
+    let payload = Payload::from_slice(rt.alloc(), &TWO_CODES)?;
+    let mut run = Run::new(payload, Pgn::DM1, 0, 255, 0, 2);
+    assert_eq!(rt; run.left(), 3);
+    assert_eq!(rt; run.part(), Some(0));
+    let bam = message_part(&TWO_CODES, Pgn::DM1, 0, 255, 0);
+    assert_eq!(rt; run.peek(), Some(bam));
+    assert_eq!(rt; run.next_frame(), Some(bam));
+    let first = packet_frame([0x01, 0x00, 0xFF, 0x64, 0x00, 0x01, 0x01, 0xC8], 0, 255);
+    assert_eq!(rt; run.part(), Some(1));
+    assert_eq!(rt; run.next_frame(), Some(first));
+    let second = packet_frame([0x02, 0x00, 0x02, 0x01, 0xFF, 0xFF, 0xFF, 0xFF], 0, 255);
+    assert_eq!(rt; run.next_frame(), Some(second));
+    assert_eq!(rt; run.left(), 0);
+    assert_eq!(rt; run.part(), None);
+    assert_eq!(rt; run.peek(), None);
+    assert_eq!(rt; run.next_frame(), None);
+    Ok(())
+}
+
+#[test]
+fn run_of_granted_packets(rt: HostRuntime) -> Result<(), Fail> {
+    let payload = Payload::from_slice(rt.alloc(), &[7; 1785])?;
+    let mut run = Run::new(payload, Pgn::DM2, 3, 249, 255, 255);
+    assert_eq!(rt; run.left(), 1);
+    let last = packet_frame([255, 7, 7, 7, 7, 7, 7, 7], 3, 249);
+    assert_eq!(rt; run.next_frame(), Some(last));
+    assert_eq!(rt; run.next_frame(), None);
     Ok(())
 }

@@ -99,7 +99,8 @@ impl Bus {
 
     /// What `join` would answer for this NAME, want of memory aside.
     pub fn may_join(&self, name: Name) -> Result<(), BusError>
-        ensures { result_err result ≡ join_refusal name self.now.traffic }
+        ensures refusal { result_err result ≡ join_refusal name self.now.traffic }
+        ensures sound { IsSound self.now.traffic }
     {
         if is_name_among(self.seats.as_slice(), self.live.as_slice(), name) {
             return Err(BusError::NameInUse);
@@ -124,7 +125,8 @@ impl Bus {
     /// The next frame that the seat has not heard, if there is one. It came from another seat.
     pub fn next_for(&self, seat: u32) -> Option<Frame>
         requires { IsUnit self.now.traffic seat }
-        ensures { result ≡ option_map (λ c. c.frame) (slice_get self.now.traffic.wire (seat_at self.now.traffic seat).heard) }
+        ensures frame { result ≡ option_map (λ c. c.frame) (slice_get self.now.traffic.wire (seat_at self.now.traffic seat).heard) }
+        ensures sound { IsSound self.now.traffic }
     {
         let heard = self.seats[seat as usize].heard();
         let next = self.wire.get(heard as usize)?;
@@ -148,6 +150,7 @@ impl Bus {
     pub fn reserve(&mut self, seat: u32, count: usize) -> Result<(), BusError>
         requires { IsLive self.old.traffic seat }
         ensures traffic { self.new.traffic ≡ self.old.traffic }
+        ensures sound { IsSound self.old.traffic }
         ensures ok { OnOk result (count ≤ spare_at self.new seat) }
         ensures err { IfErr result (λ e. (e ≡ BusError.OutOfMemory) × (spare_at self.old seat < count)) }
         ensures spares { KeepsSpares self.old self.new }
@@ -187,6 +190,7 @@ impl Bus {
     pub fn leave(&mut self, seat: u32) -> u32
         requires { IsUnit self.old.traffic seat }
         ensures traffic { self.new.traffic ≡ left seat self.old.traffic }
+        ensures sound { IsSound self.old.traffic }
         ensures count { result ≡ length (seat_at self.old.traffic seat).queue }
         ensures spares { (k : ℕ) → k ≢ seat → spare_at self.old k ≤ spare_at self.new k }
     {
@@ -263,6 +267,7 @@ impl Bus {
     pub fn tap_peek(&self) -> Reading
         ensures reading { result ≡ next_reading self.now.traffic }
         ensures others { All (λ c. c.seat ≢ 0) (unread self.now.traffic) }
+        ensures sound { IsSound self.now.traffic }
     {
         self.tap.peek()
     }

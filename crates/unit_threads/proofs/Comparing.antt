@@ -11,7 +11,7 @@ use Rattle.garage.specs.declared.error.GarageError.TheVariants.{Stranger}
 use Rattle.unit_threads.specs.declared.ended.Ended.{Ended}
 use Rattle.unit_threads.specs.declared.ended.EndReason.{EndReason}
 use Rattle.unit_threads.specs.declared.ended.EndReason.TheVariants as reason
-use Rattle.unit_threads.specs.Ends.{Agrees, AgreesAt, AreApart, IsToldOf, IsUnseated}
+use Rattle.unit_threads.specs.Ends.{Agrees, AgreesAt, AreApart, IsUnseated}
 
 -- with a seat
 pub agrees_seated : (turns : ℕ) (journal : List Event) (k : ℕ) (t : Tally) (refusal : Option EndReason)

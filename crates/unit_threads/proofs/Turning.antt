@@ -1,5 +1,5 @@
 -- A turn and a reading, event by event.
-use Rattle.std.proofs.Common.{◌≡◌, ◌⊎◌, inl, inr, ℕ, zero, suc, ◌+◌, ◌<◌, ◌&&◌, Bool, true, false, not, List, [], ◌∷◌, Option, Some, None, Result, Ok, Err, OnErr, IsNone, IsSome, All, is_some, length, get_or, set, arith, refl, sym, ap, subst, ◌∙◌}
+use Rattle.std.proofs.Common.{◌≡◌, ◌⊎◌, inl, inr, ℕ, zero, suc, ◌+◌, ◌<◌, ◌&&◌, Bool, true, false, not, List, [], ◌∷◌, Option, Some, None, Result, Ok, Err, OnErr, IsNone, IsSome, is_some, length, get_or, set, arith, refl, sym, ap, subst, ◌∙◌}
 use Rattle.std.specs.Prelude.{if◌then◌else◌, slice_get}
 use Rattle.std.proofs.lemmas.List.{length-set}
 use Rattle.std.proofs.lemmas.List.Elements.{All-cons, All-nil}
@@ -24,7 +24,7 @@ use Rattle.garage.specs.Causes.{held_at, has_open_dm1}
 use Rattle.garage.specs.declared.steps.HeardOne.{HeardOne}
 use Rattle.garage.specs.declared.steps.HeardOne.TheVariants as heard
 use Rattle.garage.proofs.Traffics.{set_live}
-use Rattle.unit_threads.specs.Turns.{CannotCarry, CarriesAll, CarriesSome, GrowsBy, HasHeardAll, HasReadAll, IsCarry, IsHearOf, IsOneRead, IsOneTurn, IsPartOfRead, IsPartOfTurn, IsRead, IsTurnInSeat, KeepsSeats, LeavesAfterSome, LeftTurn, begun_by, with_events}
+use Rattle.unit_threads.specs.Turns.{CannotCarry, CarriesAll, CarriesSome, GrowsBy, HasHeardAll, HasReadAll, IsCarry, IsHearOf, IsOneRead, IsOneTurn, IsPartOfRead, IsPartOfTurn, IsRead, IsTurnInSeat, KeepsSeats, LeavesAfterSome, LeftTurn, begun_by}
 
 abbrev pub grows_none : (P : Event → Type 0) (g : GarageValue) → GrowsBy P g g
 grows_none P g = record { events = []; kind = All-nil P; added = refl }

@@ -96,8 +96,9 @@ fn start_all<'s, 'e, R: Threads + Wait + Sync, G: Gate>(
     };
     let number = units.len() as u32;
     let started = scope.spawn(move || drive(rt, alloc, shared, gate, unit, want, number, turns));
-    let (mut ended, station) =
-        start_all(scope, rt, alloc, shared, gate, units, turns, reads, ended);
+    let (mut ended, station) = start_all(
+        scope, rt, alloc, shared, gate, units, turns, reads, ended,
+    );
     let end = match started {
         Ok(thread) => thread.join(rt),
         Err(_) => Ended {

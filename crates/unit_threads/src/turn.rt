@@ -20,11 +20,7 @@ const MOST_CARRIED: u32 = 8;
 ///   unit is let go.
 /// - `BookFull`, `OutOfMemory`: a step was refused. What was done before stays, and the unit left the bus.
 #[tactic(auto, using(crate::proofs::Turning::left_after, crate::proofs::Turning::one_turn_of))]
-pub fn one_turn(
-    alloc: Global,
-    garage: &mut Garage,
-    parked: Parked,
-) -> Result<Parked, GarageError>
+pub fn one_turn(alloc: Global, garage: &mut Garage, parked: Parked) -> Result<Parked, GarageError>
     ensures ok { IfOk result (λ p. IsOneTurn parked.seat ((⟦<dyn Unit as Unit>⟧ p.unit.vtable).wants p.unit.value) ((⟦<dyn Unit as Unit>⟧ p.unit.vtable).memory_of p.unit.value) garage.old garage.new) }
     ensures parked { IfOk result (λ p. (p.seat ≡ parked.seat) × IsSeated garage.new p.seat ((⟦<dyn Unit as Unit>⟧ p.unit.vtable).name_of p.unit.value) p.events) }
     ensures named { IfOk result (λ p. ((⟦<dyn Unit as Unit>⟧ p.unit.vtable).name_of p.unit.value) ≡ ((⟦<dyn Unit as Unit>⟧ parked.unit.vtable).name_of parked.unit.value)) }

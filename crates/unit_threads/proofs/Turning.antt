@@ -12,6 +12,7 @@ use Rattle.bus_ledger.specs.Changes.{sending}
 use Rattle.bus_ledger.specs.declared.traffic.QueuedFrame.{QueuedFrame}
 use Rattle.bus_ledger.specs.declared.traffic.Carried.{Carried}
 use Rattle.bus_ledger.specs.declared.traffic.Carried.TheVariants as carried
+use Rattle.unit_trait.specs.declared.question.Question.{Question}
 use Rattle.journal.specs.State.{State}
 use Rattle.journal.specs.Steps.{after_carry_of}
 use Rattle.journal.specs.Journal.{Adds, GarageValue, IsSeated, state_after, state_of, tally_of, with_event}
@@ -36,9 +37,10 @@ abbrev grows_same : (P : Event → Type 0) (a b c : GarageValue) → GrowsBy P a
 grows_same P a b c g h = record { events = g.events; kind = g.kind; added = h ∙ g.added }
 
 -- one more frame heard, if there was one
-pub hears_more : (k j : ℕ) (a b c : GarageValue) (memory memory' : MemoryValue) (h : HeardOne) → j ≡ k → GrowsBy (IsHearOf k) a b → Hears b j memory h c memory' → GrowsBy (IsHearOf k) a c
-hears_more k j a b c memory memory' (heard.Frame f) e g h = grows_more (IsHearOf k) a b c (Hear j memory h.1.0) g e h.1.1.adds
-hears_more k j a b c memory memory' heard.Nothing e g h = grows_same (IsHearOf k) a b c g h.1
+pub hears_more : (X : Type 0) (k j : ℕ) (a b c : GarageValue) (memory memory' : MemoryValue) (answers : Question → Bool → X → Type 0) (unit unit' : X) (h : HeardOne)
+    → j ≡ k → GrowsBy (IsHearOf k) a b → Hears b j memory answers unit h c memory' unit' → GrowsBy (IsHearOf k) a c
+hears_more X k j a b c memory memory' answers unit unit' (heard.Frame f) e g h = grows_more (IsHearOf k) a b c (Hear j memory h.1.0) g e h.1.1.adds
+hears_more X k j a b c memory memory' answers unit unit' heard.Nothing e g h = grows_same (IsHearOf k) a b c g h.1
 
 -- one more reading taken, if there was one
 pub reads_more : (a b c : GarageValue) (r : Reading) → GrowsBy IsRead a b → Reads b r c → GrowsBy IsRead a c

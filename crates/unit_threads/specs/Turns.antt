@@ -22,7 +22,7 @@ pub record GrowsBy (P : Event → Type 0) (old new : GarageValue) : Type 0 where
 
 -- the unit on the seat heard a frame
 abbrev pub IsHearOf : ℕ → Event → Type 0
-IsHearOf k (Hear j memory agreed) = j ≡ k
+IsHearOf k (Hear j memory answered) = j ≡ k
 IsHearOf k _ = ⊥
 
 abbrev pub IsCarry : Event → Type 0

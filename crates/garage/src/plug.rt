@@ -214,6 +214,13 @@ impl<'a> Plug<'a> {
         self.garage.events_of(self.seat)
     }
 
+    /// Whether the unit wants to begin a DM1.
+    pub fn wants_dm1(&self) -> bool
+        ensures { result ≡ wants self.now.unit }
+    {
+        self.unit.wants_dm1()
+    }
+
     /// Lets the unit hear its next frame, if there is one that it has not heard; its count of events is then one more. The unit is
     /// asked exactly what the frame puts to it (to clear, or to hold a commanded address), in one call, and is else as it was.
     ///

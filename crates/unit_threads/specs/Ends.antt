@@ -1,0 +1,79 @@
+-- What is told of the end of a unit's thread.
+use Rattle.std.specs.Prelude.{ℕ, ◌≡◌, ◌≢◌, ◌⊎◌, ◌<◌, ◌≤◌, List, Option, Some, None, length, slice_index_or}
+use Rattle.journal.specs.Journal.{joins, tally_of}
+use Rattle.journal.specs.declared.event.Event.{Event}
+use Rattle.journal.specs.declared.tally.Tally.{Tally}
+use Rattle.garage.specs.Opening.{no_events}
+use Rattle.garage.specs.Refusals.{IsJoinRefusal, number_of}
+use Rattle.garage.specs.declared.error.GarageError.{GarageError}
+use Rattle.garage.specs.declared.error.GarageError.TheVariants.{NotAnAddress, BookFull, OutOfMemory, Stranger}
+use Rattle.unit_threads.specs.declared.ended.Ended.{Ended}
+use Rattle.unit_threads.specs.declared.ended.EndReason.{EndReason}
+use Rattle.unit_threads.specs.declared.ended.EndReason.TheVariants as reason
+
+-- the number that a reason is written with
+abbrev pub number_of_end : EndReason → ℕ
+number_of_end (reason.Garage e) = number_of e
+number_of_end reason.NoThread = 27
+
+-- the journal had no room, or there was no memory
+abbrev pub IsWant : GarageError → Type 0
+IsWant e = (e ≡ BookFull) ⊎ (e ≡ OutOfMemory)
+
+-- what a mount is refused with
+abbrev pub IsMountRefusal : GarageError → Type 0
+IsMountRefusal e = (e ≡ NotAnAddress) ⊎ IsJoinRefusal e
+
+-- what the garage tells of a seat: its counts in the journal, none where no unit got that number
+pub record IsToldOf (k : ℕ) (journal : List Event) (t : Tally) : Type 0 where
+  pub given : 0 < k → k ≤ joins journal → t ≡ tally_of k journal
+  pub never : ((k ≡ 0) ⊎ (joins journal < k)) → t ≡ no_events
+
+-- a seat that ended without a refusal: it joined, had all its turns and left, and these are its events
+abbrev pub IsWhole : ℕ → Tally → ℕ → Type 0
+IsWhole turns t events = (t.joined ≡ 1) × (t.turned ≡ turns) × (t.left ≡ 1) × (events ≡ t.events)
+
+-- one that was refused, but not by the comparison: it joined, had no more than its turns and left
+abbrev pub IsCutShort : ℕ → Tally → ℕ → Type 0
+IsCutShort turns t events = (t.joined ≡ 1) × (t.turned ≤ turns) × (t.left ≡ 1) × (events ≡ t.events)
+
+-- what is told of a seat agrees with its counts, by the refusal
+abbrev pub AgreesAt : ℕ → Tally → ℕ → Option EndReason → Type 0
+AgreesAt turns t events None = IsWhole turns t events
+AgreesAt turns t events (Some (reason.Garage Stranger)) = events ≡ t.events
+AgreesAt turns t events (Some _) = IsCutShort turns t events
+
+-- a unit that never joined was refused by the mount, or its thread was not started
+abbrev pub IsUnseated : Option EndReason → Type 0
+IsUnseated None = ⊥
+IsUnseated (Some reason.NoThread) = Unit {0}
+IsUnseated (Some (reason.Garage e)) = IsMountRefusal e
+
+abbrev pub AgreesWith : ℕ → List Event → Option ℕ → ℕ → Option EndReason → Type 0
+AgreesWith turns journal (Some k) events refusal = (t : Tally) × IsToldOf k journal t × AgreesAt turns t events refusal
+AgreesWith turns journal None events refusal = (events ≡ 0) × IsUnseated refusal
+
+-- what is told of an end is what the journal says
+pub record Agrees (turns : ℕ) (journal : List Event) (e : Ended) : Type 0 where
+  pub agrees : AgreesWith turns journal e.seat e.events e.refusal
+
+-- an end with the seat that the comparison refused
+abbrev pub IsStrangerAt : ℕ → Ended → Type 0
+IsStrangerAt k e = (e.seat ≡ Some k) × (e.refusal ≡ Some (reason.Garage Stranger))
+
+abbrev pub nothing : Ended
+nothing = record { seat = None; events = 0; refusal = None }
+
+abbrev pub end_at : List Ended → ℕ → Ended
+end_at es i = slice_index_or es i nothing
+
+-- an end with a seat that the comparison did not refuse
+abbrev pub IsCounted : Ended → Type 0
+IsCounted e = (e.seat ≢ None) × (e.refusal ≢ Some (reason.Garage Stranger))
+
+-- among the first n, one that is counted names another seat than those before it
+abbrev pub AreApartTo : ℕ → List Ended → Type 0
+AreApartTo n es = (i j : ℕ) → i < n → j < i → IsCounted (end_at es i) → (end_at es j).seat ≢ (end_at es i).seat
+
+abbrev pub AreApart : List Ended → Type 0
+AreApart es = AreApartTo (length es) es

@@ -1,0 +1,129 @@
+-- What a turn and a reading add to the journal of a garage.
+use Rattle.std.specs.Prelude.{ℕ, ◌≡◌, ◌⊎◌, ◌<◌, ◌≤◌, ◌&&◌, Bool, not, List, ◌++◌, None, All, is_some, length, if◌then◌else◌}
+use Rattle.can_frame.specs.declared.reading.Reading.TheVariants.{Empty}
+use Rattle.fault_memory.specs.Memory.{MemoryValue}
+use Rattle.bus_ledger.specs.Carrying.{IsIdle, IsWaiting}
+use Rattle.bus_ledger.specs.Reception.{next_reading}
+use Rattle.journal.specs.Steps.{next_for}
+use Rattle.journal.specs.Journal.{GarageValue, IsSeated, state_of, with_event}
+use Rattle.journal.specs.declared.event.Event.{Event}
+use Rattle.journal.specs.declared.event.Event.TheVariants.{Hear, Begin, Turned, Carry, Read, Leave}
+use Rattle.garage.specs.Causes.{held_at, has_open_dm1}
+
+-- these events more, the newest first
+abbrev pub with_events : List Event → GarageValue → GarageValue
+with_events es g = record g { journal = es ++ g.journal }
+
+-- events of one kind alone were added
+pub record GrowsBy (P : Event → Type 0) (old new : GarageValue) : Type 0 where
+  pub events : List Event
+  pub kind : All P events
+  pub added : new ≡ with_events events old
+
+-- the unit on the seat heard a frame
+abbrev pub IsHearOf : ℕ → Event → Type 0
+IsHearOf k (Hear j memory answered) = j ≡ k
+IsHearOf k _ = ⊥
+
+abbrev pub IsCarry : Event → Type 0
+IsCarry (Carry k) = Unit {0}
+IsCarry _ = ⊥
+
+abbrev pub IsRead : Event → Type 0
+IsRead (Read r) = Unit {0}
+IsRead _ = ⊥
+
+-- the seat has heard the whole wire
+abbrev pub HasHeardAll : ℕ → GarageValue → Type 0
+HasHeardAll k g = next_for (state_of g) k ≡ None
+
+-- the station has nothing left to read
+abbrev pub HasReadAll : GarageValue → Type 0
+HasReadAll g = next_reading (state_of g).traffic ≡ Empty
+
+-- a DM1 of the memory begins where the unit wants one, its seat holds an address and has no session of a DM1 open
+abbrev pub begun_by : ℕ → Bool → MemoryValue → GarageValue → GarageValue
+begun_by k wants memory g = if wants && (is_some (held_at g k) && not (has_open_dm1 g k)) then with_event (Begin k memory) g else g
+
+-- in its seat the unit heard the whole wire, then began a DM1 where it could, then ended its turn
+pub record IsTurnInSeat (k : ℕ) (wants : Bool) (memory : MemoryValue) (old new : GarageValue) : Type 0 where
+  pub heard : GarageValue
+  pub hears : GrowsBy (IsHearOf k) old heard
+  pub all : HasHeardAll k heard
+  pub turned : new ≡ with_event (Turned k) (begun_by k wants memory heard)
+
+-- no queue has a frame, or no seat with one has heard the whole wire
+abbrev pub CannotCarry : GarageValue → Type 0
+CannotCarry g = IsIdle (state_of g).traffic ⊎ IsWaiting (state_of g).traffic
+
+-- frames were carried: eight, or fewer where no more could be
+pub record CarriesAll (old new : GarageValue) : Type 0 where
+  pub carries : GrowsBy IsCarry old new
+  pub most : length carries.events ≤ 8
+  pub all : (length carries.events ≡ 8) ⊎ CannotCarry new
+
+-- fewer than eight were carried
+pub record CarriesSome (old new : GarageValue) : Type 0 where
+  pub carries : GrowsBy IsCarry old new
+  pub fewer : length carries.events < 8
+
+-- a turn in the seat, then carrying
+pub record IsOneTurn (k : ℕ) (wants : Bool) (memory : MemoryValue) (old new : GarageValue) : Type 0 where
+  pub turned : GarageValue
+  pub turn : IsTurnInSeat k wants memory old turned
+  pub carries : CarriesAll turned new
+
+-- the whole wire was heard and what began, if anything did; but the turn was not ended
+pub record IsBegunTurn (k : ℕ) (old new : GarageValue) : Type 0 where
+  pub heard : GarageValue
+  pub wants : Bool
+  pub memory : MemoryValue
+  pub hears : GrowsBy (IsHearOf k) old heard
+  pub all : HasHeardAll k heard
+  pub begun : new ≡ begun_by k wants memory heard
+
+-- the turn was ended, but fewer than eight frames carried
+pub record IsTurnCarrying (k : ℕ) (old new : GarageValue) : Type 0 where
+  pub turned : GarageValue
+  pub wants : Bool
+  pub memory : MemoryValue
+  pub turn : IsTurnInSeat k wants memory old turned
+  pub carries : CarriesSome turned new
+
+-- a turn as far as it came
+abbrev pub IsPartOfTurn : ℕ → GarageValue → GarageValue → Type 0
+IsPartOfTurn k old new = GrowsBy (IsHearOf k) old new ⊎ (IsBegunTurn k old new ⊎ IsTurnCarrying k old new)
+
+-- a turn as far as it came, and then the unit left
+pub record LeftTurn (k : ℕ) (old new : GarageValue) : Type 0 where
+  pub last : GarageValue
+  pub part : IsPartOfTurn k old last
+  pub left : new ≡ with_event (Leave k) last
+
+-- fewer than eight frames carried, and then the unit left
+pub record LeavesAfterSome (k : ℕ) (old new : GarageValue) : Type 0 where
+  pub last : GarageValue
+  pub carries : CarriesSome old last
+  pub left : new ≡ with_event (Leave k) last
+
+-- the station read until nothing was unread, then carrying
+pub record IsOneRead (old new : GarageValue) : Type 0 where
+  pub read : GarageValue
+  pub reads : GrowsBy IsRead old read
+  pub all : HasReadAll read
+  pub carries : CarriesAll read new
+
+-- all was read, but fewer than eight frames carried
+pub record IsReadCarrying (old new : GarageValue) : Type 0 where
+  pub read : GarageValue
+  pub reads : GrowsBy IsRead old read
+  pub all : HasReadAll read
+  pub carries : CarriesSome read new
+
+-- a reading as far as it came
+abbrev pub IsPartOfRead : GarageValue → GarageValue → Type 0
+IsPartOfRead old new = GrowsBy IsRead old new ⊎ IsReadCarrying old new
+
+-- who was seated still is
+pub record KeepsSeats (old new : GarageValue) : Type 0 where
+  pub still : (k name events : ℕ) → IsSeated old k name events → IsSeated new k name events

@@ -1,0 +1,117 @@
+ghost use Rattle.std.specs.Prelude.{◌≡◌, ◌≢◌, false, true, Some, length, vec_len};
+ghost use Rattle.std.specs.List.{All};
+ghost use Rattle.unit_threads.specs.Ends.{Agrees, AgreesAt, AreApart, IsMountRefusal, IsStrangerAt, IsUnseated};
+
+use crate::ended::{EndReason, Ended};
+use garage::{Garage, GarageError};
+use journal::Tally;
+
+/// The ends, each compared with the journal. One that does not agree with it, or that names the seat of an earlier one, is
+/// refused as a stranger's.
+#[tactic(auto, using(crate::proofs::Comparing::all_agree, crate::proofs::Comparing::all_apart))]
+pub(crate) fn compared_ends(garage: &Garage, turns: u32, mut ended: Vec<Ended>) -> Vec<Ended>
+    ensures len { vec_len result ≡ vec_len ended }
+    ensures agree { All (Agrees turns garage.now.journal) result.items }
+    ensures apart { AreApart result.items }
+{
+    check_all(garage, turns, ended.as_mut_slice());
+    ended
+}
+
+/// Compares each end in its place.
+fn check_all(garage: &Garage, turns: u32, ended: &mut [Ended])
+    ensures len { length ended.new ≡ length ended.old }
+    ensures agree { All (Agrees turns garage.now.journal) ended.new }
+    ensures apart { AreApart ended.new }
+{
+    for i in 0..ended.len() {
+        let mut end = checked(garage, turns, ended[i]);
+        if let Some(seat) = end.seat {
+            if is_named(&ended[..i], seat) {
+                end = stranger(garage, turns, seat);
+            }
+        }
+        ended[i] = end;
+    }
+}
+
+/// What is told of an end, once its seat is compared with the journal.
+#[tactic(auto, using(crate::proofs::Comparing::agrees_seated, crate::proofs::Comparing::agrees_unseated))]
+fn checked(garage: &Garage, turns: u32, end: Ended) -> Ended
+    ensures { Agrees turns garage.now.journal result }
+{
+    let Some(seat) = end.seat else {
+        return Ended {
+            seat: None,
+            events: 0,
+            refusal: Some(unseated(end.refusal)),
+        };
+    };
+    let tally = garage.tally(seat);
+    Ended {
+        seat: Some(seat),
+        events: tally.events,
+        refusal: compared(turns, tally, end),
+    }
+}
+
+/// The end of a seat that does not agree with the journal.
+#[tactic(auto, using(crate::proofs::Comparing::agrees_stranger))]
+fn stranger(garage: &Garage, turns: u32, seat: u32) -> Ended
+    ensures agree { Agrees turns garage.now.journal result }
+    ensures told { IsStrangerAt seat result }
+{
+    Ended {
+        seat: Some(seat),
+        events: garage.tally(seat).events,
+        refusal: Some(EndReason::Garage(GarageError::Stranger)),
+    }
+}
+
+/// Why a unit never joined.
+fn unseated(refusal: Option<EndReason>) -> EndReason
+    ensures { IsUnseated (Some result) }
+{
+    match refusal {
+        Some(EndReason::Garage(error)) if is_mount_refusal(error) => EndReason::Garage(error),
+        _ => EndReason::NoThread,
+    }
+}
+
+/// Whether a mount can be refused with this.
+fn is_mount_refusal(error: GarageError) -> bool
+    ensures { result ≡ true → IsMountRefusal error }
+{
+    matches!(
+        error,
+        GarageError::NotAnAddress
+            | GarageError::NameInUse
+            | GarageError::TooManySeats
+            | GarageError::BookFull
+            | GarageError::OutOfMemory
+    )
+}
+
+/// The refusal of an end with a seat, where that agrees with the seat's counts; else it is a stranger's.
+fn compared(turns: u32, tally: Tally, end: Ended) -> Option<EndReason>
+    ensures { AgreesAt turns tally tally.events result }
+{
+    let left = tally.joined == 1 && tally.left == 1;
+    match end.refusal {
+        None if left && tally.turned == turns && tally.events == end.events => None,
+        Some(reason) if left && tally.turned <= turns => Some(reason),
+        _ => Some(EndReason::Garage(GarageError::Stranger)),
+    }
+}
+
+/// Whether one of these ends names the seat.
+fn is_named(ended: &[Ended], seat: u32) -> bool
+    ensures { result ≡ false → All (λ e. e.seat ≢ Some seat) ended.now }
+{
+    for end in ended {
+        if end.seat == Some(seat) {
+            return true;
+        }
+    }
+    false
+}

@@ -1,0 +1,184 @@
+ghost use Rattle.std.specs.Prelude.{◌≡◌, ◌+◌, ◌^◌, ◌<◌, ◌≤◌, IfErr, IfOk, IfSome, vec_capacity, vec_len};
+ghost use Rattle.std.specs.List.{All};
+ghost use Rattle.unit_threads.specs.Ends.{Agrees, AreApart, IsWant};
+
+use crate::compare::compared_ends;
+use crate::ended::{EndReason, Ended};
+use crate::turn::{leave, one_read, one_turn};
+use garage::{Garage, GarageError};
+use std::alloc::{AllocError, Global};
+use std::sync::{Mutex, Wait};
+use std::thread;
+use std::thread::{Scope, Threads};
+use unit_trait::Unit;
+
+/// What a unit waits for before each turn.
+pub trait Gate: Sync {
+    /// Called in the thread of a unit before each of its turns, without the lock; both numbers count from 0.
+    fn before_turn<R: Wait>(&self, rt: &R, unit: u32, turn: u32);
+}
+
+/// How a run ended.
+#[derive(Drop)]
+pub struct Ran {
+    /// How each unit's thread ended, in the order of the units.
+    pub ended: Vec<Ended>,
+    /// Why the station's readings ended early: `BookFull` or `OutOfMemory`; none where they did not.
+    pub station: Option<GarageError>,
+}
+
+/// Runs each unit, given with the address that it wants, in a thread of its own: it joins, has so many turns (`one_turn`) and
+/// leaves. Meanwhile the caller's thread has the station read so often (`one_read`).
+///
+/// The garage comes back as the threads left it, each seat's counts agree with what is told of it, and no seat is told of
+/// twice. A unit whose thread cannot be started is let go (`NoThread`); a lock of this toolchain is never poisoned, since a
+/// panic ends the process. It returns only if each unit's `think` and the gate do.
+///
+/// # Errors
+/// - memory for the ends of the threads was refused: no unit was mounted, the units are let go, the garage is as it was.
+pub fn run<R: Threads + Wait + Sync, G: Gate>(
+    rt: &R,
+    alloc: Global,
+    garage: Garage,
+    units: Vec<(Box<dyn Unit>, u8)>,
+    turns: u32,
+    reads: u32,
+    gate: &G,
+) -> (Garage, Result<Ran, AllocError>)
+    requires { vec_len units < 2 ^ 32 }
+    ensures none { IfErr result.1 (λ _. result.0 ≡ garage) }
+    ensures all { IfOk result.1 (λ r. vec_len r.ended ≡ vec_len units) }
+    ensures agree { IfOk result.1 (λ r. All (Agrees turns result.0.journal) r.ended.items) }
+    ensures apart { IfOk result.1 (λ r. AreApart r.ended.items) }
+    ensures station { IfOk result.1 (λ r. IfSome r.station IsWant) }
+{
+    let ended: Vec<Ended> = match Vec::with_capacity(alloc, units.len()) {
+        Ok(ended) => ended,
+        Err(error) => return (garage, Err(error)),
+    };
+    let shared = Mutex::new(garage);
+    let lock = &shared;
+    let (ended, station) = thread::scope(
+        thread::scope_env(),
+        rt,
+        move |scope| -> (Vec<Ended>, Option<GarageError>)
+            requires few { vec_len units < 2 ^ 32 }
+            requires room { vec_len ended + vec_len units ≤ vec_capacity ended }
+            ensures { (vec_len result.0 ≡ vec_len ended + vec_len units) × IfSome result.1 IsWant }
+        { start_all(scope, rt, alloc, lock, gate, units, turns, reads, ended) },
+    );
+    let garage = shared.into_inner();
+    let ended = compared_ends(&garage, turns, ended);
+    (garage, Ok(Ran { ended, station }))
+}
+
+/// Starts the thread of each unit, the last one first, and does the caller's part once all have one. Their ends come in the
+/// order of the units.
+fn start_all<'s, 'e, R: Threads + Wait + Sync, G: Gate>(
+    scope: &'s Scope<'s, &'e ()>,
+    rt: &'e R,
+    alloc: Global,
+    shared: &'e Mutex<Garage>,
+    gate: &'e G,
+    mut units: Vec<(Box<dyn Unit>, u8)>,
+    turns: u32,
+    reads: u32,
+    ended: Vec<Ended>,
+) -> (Vec<Ended>, Option<GarageError>)
+    requires few { vec_len units < 2 ^ 32 }
+    requires room { vec_len ended + vec_len units ≤ vec_capacity ended }
+    ensures len { vec_len result.0 ≡ vec_len ended + vec_len units }
+    ensures capacity { vec_capacity result.0 ≡ vec_capacity ended }
+    ensures station { IfSome result.1 IsWant }
+{
+    let Some((unit, want)) = units.pop() else {
+        return (ended, read_often(rt, alloc, shared, reads));
+    };
+    let number = units.len() as u32;
+    let started = scope.spawn(move || drive(rt, alloc, shared, gate, unit, want, number, turns));
+    let (mut ended, station) = start_all(
+        scope, rt, alloc, shared, gate, units, turns, reads, ended,
+    );
+    let end = match started {
+        Ok(thread) => thread.join(rt),
+        Err(_) => Ended {
+            seat: None,
+            events: 0,
+            refusal: Some(EndReason::NoThread),
+        },
+    };
+    ended.push_reserved(end);
+    (ended, station)
+}
+
+/// All that a unit does: it joins, has its turns and leaves.
+fn drive<R: Wait, G: Gate>(
+    rt: &R,
+    alloc: Global,
+    shared: &Mutex<Garage>,
+    gate: &G,
+    unit: Box<dyn Unit>,
+    want: u8,
+    number: u32,
+    turns: u32,
+) -> Ended {
+    let mounted = shared.lock(rt).mount(alloc, unit, want);
+    let mut parked = match mounted {
+        Ok(parked) => parked,
+        Err((unit, error)) => {
+            drop(unit);
+            return Ended {
+                seat: None,
+                events: 0,
+                refusal: Some(EndReason::Garage(error)),
+            };
+        }
+    };
+    let seat = parked.seat();
+    for turn in 0..turns {
+        gate.before_turn(rt, number, turn);
+        parked.think();
+        let turned = one_turn(alloc, &mut *shared.lock(rt), parked);
+        parked = match turned {
+            Ok(parked) => parked,
+            Err(error) => return refused_at(seat, error),
+        };
+    }
+    let events = parked.events().saturating_add(1);
+    let left = leave(&mut *shared.lock(rt), parked);
+    match left {
+        Ok(()) => Ended {
+            seat: Some(seat),
+            events,
+            refusal: None,
+        },
+        Err(error) => refused_at(seat, error),
+    }
+}
+
+/// The end of a unit on this seat that a call of the garage refused; its events are counted later.
+fn refused_at(seat: u32, error: GarageError) -> Ended {
+    Ended {
+        seat: Some(seat),
+        events: 0,
+        refusal: Some(EndReason::Garage(error)),
+    }
+}
+
+/// The station's readings. The first refusal ends them.
+fn read_often<R: Wait>(
+    rt: &R,
+    alloc: Global,
+    shared: &Mutex<Garage>,
+    reads: u32,
+) -> Option<GarageError>
+    ensures { IfSome result IsWant }
+{
+    for _ in 0..reads {
+        let read = one_read(alloc, &mut *shared.lock(rt));
+        if let Err(error) = read {
+            return Some(error);
+        }
+    }
+    None
+}

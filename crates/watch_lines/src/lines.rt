@@ -46,7 +46,9 @@ pub fn watch_lines<R: BufRead, W: Write, E: Write>(
     let mut bad = 0u64;
     let mut fault = None;
     for number in 1..u64::MAX {
-        match watch_line(alloc, reader, writer, errors, watch, form, &mut line, number) {
+        match watch_line(
+            alloc, reader, writer, errors, watch, form, &mut line, number,
+        ) {
             Ok(Some(is_bad)) => {
                 if is_bad {
                     bad = bad.saturating_add(1);

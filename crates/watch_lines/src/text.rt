@@ -98,23 +98,17 @@ fn write_counts<W: Write>(writer: &mut W, counts: Counts) -> io::Result<()> {
     write!(
         writer,
         "lines {} frames {} bad {}; ",
-        counts.lines,
-        counts.frames,
-        counts.bad
+        counts.lines, counts.frames, counts.bad
     )?;
     write!(
         writer,
         "not J1939: 11-bit {}, remote {}, CAN FD {}, error {}; ",
-        counts.short,
-        counts.remote,
-        counts.fd,
-        counts.error
+        counts.short, counts.remote, counts.fd, counts.error
     )?;
     write!(
         writer,
         "other bus {}; not attributed {}",
-        counts.other_bus,
-        counts.not_attributed
+        counts.other_bus, counts.not_attributed
     )?;
     if counts.withheld > 0 {
         write!(writer, "; withheld {}", counts.withheld)?;

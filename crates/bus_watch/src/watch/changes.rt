@@ -1,0 +1,337 @@
+ghost use Rattle.std.specs.Prelude.{◌≡◌, ℕ, ◌∷◌, List, OnOk};
+ghost use Rattle.bus_model.specs.Heard.{Settings as StationSettings};
+ghost use Rattle.can_frame.specs.declared.reading.Reading.{Reading as AnyReading};
+ghost use Rattle.can_frame.specs.declared.reading.Reading.TheVariants.{Frame as FrameRead, Gap as GapRead};
+ghost use Rattle.station_table.specs.StandsFor.{StandsFor};
+
+use crate::change::Change;
+use crate::run::add_entry;
+use crate::watch::Watch;
+use can_frame::{Frame, Pgn, Reading};
+use dm_messages::Kind;
+use name_field::Name;
+use parameter_group::ParameterGroup;
+use station_table::AckSeen;
+use std::alloc::{AllocError, Global};
+use transport::Control;
+
+/// How many entries and unreadable messages there were.
+#[derive(Clone, Copy)]
+struct Listed {
+    dm1: usize,
+    dm2: usize,
+    unread: u64,
+}
+
+impl Watch {
+    /// Has the station take a reading, and tells what it changed.
+    pub(super) fn take(
+        &mut self,
+        alloc: Global,
+        reading: Reading,
+    ) -> Result<Vec<Change>, AllocError>
+        ensures { OnOk result ((r : StationSettings) (h : List AnyReading) → StandsFor r 255 self.old h → StandsFor r 255 self.new (reading ∷ h)) }
+    {
+        match reading {
+            Reading::Frame(frame) => self.take_frame(alloc, frame),
+            Reading::Gap(count) => self.take_gap(alloc, count),
+            Reading::Empty => {
+                self.read(alloc, Reading::Empty)?;
+                Ok(Vec::new(alloc))
+            }
+        }
+    }
+
+    /// Has the station take a reading. What it would send is only counted.
+    fn read(&mut self, alloc: Global, reading: Reading) -> Result<(), AllocError>
+        ensures { OnOk result ((r : StationSettings) (h : List AnyReading) → StandsFor r 255 self.old h → StandsFor r 255 self.new (reading ∷ h)) }
+    {
+        match self.station.take(alloc, reading) {
+            Ok(reaction) => {
+                self.count_not_sent(reaction.put.len());
+                Ok(())
+            }
+            Err(_) => Err(AllocError),
+        }
+    }
+
+    fn count_not_sent(&mut self, frames: usize)
+        ensures { self.new ≡ self.old }
+    {
+        self.counts.not_sent = self.counts.not_sent.saturating_add(frames as u64);
+    }
+
+    /// Frames were missed.
+    fn take_gap(&mut self, alloc: Global, count: u32) -> Result<Vec<Change>, AllocError>
+        ensures { OnOk result ((r : StationSettings) (h : List AnyReading) → StandsFor r 255 self.old h → StandsFor r 255 self.new (GapRead count ∷ h)) }
+    {
+        self.owners.forget();
+        self.read(alloc, Reading::Gap(count))?;
+        one_change(alloc, Change::Missed { count })
+    }
+
+    /// A frame.
+    fn take_frame(&mut self, alloc: Global, frame: Frame) -> Result<Vec<Change>, AllocError>
+        ensures { OnOk result ((r : StationSettings) (h : List AnyReading) → StandsFor r 255 self.old h → StandsFor r 255 self.new (FrameRead frame ∷ h)) }
+    {
+        match ParameterGroup::read(&frame) {
+            ParameterGroup::AddressClaimed { source, name } => {
+                self.take_claim(alloc, frame, source, name)
+            }
+            ParameterGroup::CannotClaim { name } => self.take_cannot_claim(alloc, frame, name),
+            ParameterGroup::Acknowledgment(ack) => self.take_acknowledgment(alloc, frame, ack.source),
+            ParameterGroup::Diagnostic { source, .. } => {
+                self.take_message(alloc, frame, source, true)
+            }
+            ParameterGroup::ConnectionManagement {
+                source, control, ..
+            } => self.take_message(alloc, frame, source, is_announced(control)),
+            ParameterGroup::DataTransfer { source, .. } => {
+                self.take_message(alloc, frame, source, false)
+            }
+            _ => {
+                self.read(alloc, Reading::Frame(frame))?;
+                Ok(Vec::new(alloc))
+            }
+        }
+    }
+
+    /// A claim of an address: who held it may have none now.
+    fn take_claim(
+        &mut self,
+        alloc: Global,
+        frame: Frame,
+        source: u8,
+        name: Name,
+    ) -> Result<Vec<Change>, AllocError>
+        ensures { OnOk result ((r : StationSettings) (h : List AnyReading) → StandsFor r 255 self.old h → StandsFor r 255 self.new (FrameRead frame ∷ h)) }
+    {
+        let before = self.address_of(name);
+        match self.owners.claim(source, name, self.now) {
+            Some(other) => self.take_contest(alloc, frame, name, before, other),
+            None => {
+                self.read(alloc, Reading::Frame(frame))?;
+                won(alloc, name, before, self.address_of(name))
+            }
+        }
+    }
+
+    /// A claim of an address that another NAME held.
+    fn take_contest(
+        &mut self,
+        alloc: Global,
+        frame: Frame,
+        name: Name,
+        before: Option<u8>,
+        other: Name,
+    ) -> Result<Vec<Change>, AllocError>
+        ensures { OnOk result ((r : StationSettings) (h : List AnyReading) → StandsFor r 255 self.old h → StandsFor r 255 self.new (FrameRead frame ∷ h)) }
+    {
+        let other_before = self.address_of(other);
+        self.read(alloc, Reading::Frame(frame))?;
+        let mut changes = won(alloc, name, before, self.address_of(name))?;
+        if other_before.is_some() && self.address_of(other).is_none() {
+            changes.insert(0, Change::NoAddress { name: other })?;
+        }
+        Ok(changes)
+    }
+
+    /// A cannot claim.
+    fn take_cannot_claim(
+        &mut self,
+        alloc: Global,
+        frame: Frame,
+        name: Name,
+    ) -> Result<Vec<Change>, AllocError>
+        ensures { OnOk result ((r : StationSettings) (h : List AnyReading) → StandsFor r 255 self.old h → StandsFor r 255 self.new (FrameRead frame ∷ h)) }
+    {
+        let is_new = self.station.row(name).is_none();
+        let before = self.address_of(name);
+        self.read(alloc, Reading::Frame(frame))?;
+        if is_new || before.is_some() {
+            return one_change(alloc, Change::NoAddress { name });
+        }
+        Ok(Vec::new(alloc))
+    }
+
+    /// An acknowledgment from this address.
+    fn take_acknowledgment(
+        &mut self,
+        alloc: Global,
+        frame: Frame,
+        source: u8,
+    ) -> Result<Vec<Change>, AllocError>
+        ensures { OnOk result ((r : StationSettings) (h : List AnyReading) → StandsFor r 255 self.old h → StandsFor r 255 self.new (FrameRead frame ∷ h)) }
+    {
+        let Some(name) = self.owners.owner(source) else {
+            self.read(alloc, Reading::Frame(frame))?;
+            return Ok(Vec::new(alloc));
+        };
+        let before = self.ack_of(name);
+        self.read(alloc, Reading::Frame(frame))?;
+        acknowledged(alloc, name, before, self.ack_of(name))
+    }
+
+    /// A message or a part of one from this address: entries may have come under its owner.
+    fn take_message(
+        &mut self,
+        alloc: Global,
+        frame: Frame,
+        source: u8,
+        begins: bool,
+    ) -> Result<Vec<Change>, AllocError>
+        ensures { OnOk result ((r : StationSettings) (h : List AnyReading) → StandsFor r 255 self.old h → StandsFor r 255 self.new (FrameRead frame ∷ h)) }
+    {
+        let Some(name) = self.owners.owner(source) else {
+            self.read(alloc, Reading::Frame(frame))?;
+            return self.unowned_changes(alloc, source, begins);
+        };
+        let before = self.listed(name);
+        self.read(alloc, Reading::Frame(frame))?;
+        self.message_changes(alloc, name, source, before)
+    }
+
+    /// What a message of a NAME changed.
+    fn message_changes(
+        &mut self,
+        alloc: Global,
+        name: Name,
+        source: u8,
+        before: Listed,
+    ) -> Result<Vec<Change>, AllocError>
+        ensures { self.new ≡ self.old }
+    {
+        let mut changes = Vec::new(alloc);
+        if self.is_listed(alloc, name, Kind::Dm1, before.dm1, source)? {
+            changes.push(Change::Entry {
+                name,
+                kind: Kind::Dm1,
+            })?;
+        }
+        if self.is_listed(alloc, name, Kind::Dm2, before.dm2, source)? {
+            changes.push(Change::Entry {
+                name,
+                kind: Kind::Dm2,
+            })?;
+        }
+        if self.station.unread() != before.unread {
+            changes.push(Change::Unread)?;
+        }
+        Ok(changes)
+    }
+
+    /// A message, or a part of one, from an address without an owner: its beginning is told once.
+    fn unowned_changes(
+        &mut self,
+        alloc: Global,
+        source: u8,
+        begins: bool,
+    ) -> Result<Vec<Change>, AllocError>
+        ensures { self.new ≡ self.old }
+    {
+        if !begins {
+            return Ok(Vec::new(alloc));
+        }
+        self.counts.not_attributed = self.counts.not_attributed.saturating_add(1);
+        if self.owners.is_news(source) {
+            return one_change(alloc, Change::Unowned { source });
+        }
+        Ok(Vec::new(alloc))
+    }
+
+    /// Puts the newest entry of a NAME to its runs, where the list has more than before. Tells whether it begins a run.
+    fn is_listed(
+        &mut self,
+        alloc: Global,
+        name: Name,
+        kind: Kind,
+        before: usize,
+        source: u8,
+    ) -> Result<bool, AllocError>
+        ensures { self.new ≡ self.old }
+    {
+        let contested = self.owners.is_contested(source, self.now);
+        let shown = self.station.shown(name, kind);
+        if shown.len() <= before {
+            return Ok(false);
+        }
+        match shown.last() {
+            Some(newest) => add_entry(
+                alloc, &mut self.units, name, kind, newest, self.now, contested,
+            ),
+            None => Ok(false),
+        }
+    }
+
+    fn listed(&self, name: Name) -> Listed {
+        Listed {
+            dm1: self.station.shown(name, Kind::Dm1).len(),
+            dm2: self.station.shown(name, Kind::Dm2).len(),
+            unread: self.station.unread(),
+        }
+    }
+
+    fn address_of(&self, name: Name) -> Option<u8> {
+        match self.station.row(name) {
+            Some(row) => row.address,
+            None => None,
+        }
+    }
+
+    fn ack_of(&self, name: Name) -> Option<AckSeen> {
+        match self.station.row(name) {
+            Some(row) => row.ack,
+            None => None,
+        }
+    }
+}
+
+/// Whether a diagnostic message is announced to all.
+fn is_announced(control: Control) -> bool {
+    match control {
+        Control::Bam { pgn, .. } => pgn == Pgn::DM1 || pgn == Pgn::DM2,
+        _ => false,
+    }
+}
+
+fn one_change(alloc: Global, change: Change) -> Result<Vec<Change>, AllocError> {
+    let mut changes = Vec::new(alloc);
+    changes.push(change)?;
+    Ok(changes)
+}
+
+/// A NAME holds another address than before, or the same.
+fn won(
+    alloc: Global,
+    name: Name,
+    before: Option<u8>,
+    after: Option<u8>,
+) -> Result<Vec<Change>, AllocError> {
+    match after {
+        Some(address) if before != after => one_change(alloc, Change::At { name, address }),
+        _ => Ok(Vec::new(alloc)),
+    }
+}
+
+/// The last acknowledgment of a NAME is another one than before, or the same.
+fn acknowledged(
+    alloc: Global,
+    name: Name,
+    before: Option<AckSeen>,
+    after: Option<AckSeen>,
+) -> Result<Vec<Change>, AllocError> {
+    if before == after {
+        return Ok(Vec::new(alloc));
+    }
+    match after {
+        Some(ack) => one_change(
+            alloc,
+            Change::Ack {
+                name,
+                control: ack.control,
+                pgn: ack.pgn,
+            },
+        ),
+        None => Ok(Vec::new(alloc)),
+    }
+}

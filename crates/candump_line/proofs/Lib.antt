@@ -1,0 +1,2 @@
+pub mod TimeLemmas
+pub mod LineLemmas

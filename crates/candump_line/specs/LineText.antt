@@ -1,0 +1,41 @@
+-- The text of a line of a log, as `candump -L` writes it.
+use Rattle.std.specs.Prelude.{◌≡◌, ◌⊎◌, ℕ, zero, suc, ◌+◌, ◌*◌, ◌/◌, ◌%◌, ◌^◌, ◌<◌, ◌≤◌, List, [], ◌∷◌, ◌++◌, length, All}
+use Rattle.std.specs.Fmt.{decimal}
+use Rattle.std.specs.List.{flat_map}
+use Rattle.can_frame.specs.FrameValue.{FrameValue}
+use Rattle.can_frame.specs.FrameText.{id_text}
+use Rattle.hex_text.specs.Hex.{hex_digits}
+
+-- the last `count` decimal digits of a number, and then `rest`
+abbrev pub decimal_digits : ℕ → ℕ → List ℕ → List ℕ
+decimal_digits zero n rest = rest
+decimal_digits (suc count) n rest = decimal_digits count (n / 10) ((48 + n % 10) ∷ rest)
+
+-- microseconds as seconds, a point and six digits
+unfoldable pub time_text : ℕ → List ℕ
+time_text micros = decimal (micros / 10 ^ 6) ++ 46 ∷ decimal_digits 6 (micros % 10 ^ 6) []
+
+-- the two upper-case digits of a byte
+unfoldable pub byte_digits : ℕ → List ℕ
+byte_digits byte = hex_digits 2 byte []
+
+-- (TIME) BUS ID#BYTES
+unfoldable pub line_text : ℕ → List ℕ → FrameValue → List ℕ
+line_text time bus f =
+    40 ∷ (time_text time ++ 41 ∷ 32 ∷ (bus ++ 32 ∷ (id_text f.id ++ 35 ∷ flat_map byte_digits f.bytes)))
+
+-- the name of a bus: one to fifteen characters of ASCII that are seen
+pub record IsBusName (bus : List ℕ) : Type 0 where
+  pub some : 0 < length bus
+  pub short : length bus ≤ 15
+  pub seen : All (λ c. (32 < c) × (c < 127)) bus
+
+-- a data frame with a 29-bit identifier
+pub record IsDataFrame (f : FrameValue) : Type 0 where
+  pub id : f.id < 2 ^ 29
+  pub len : length f.bytes ≤ 8
+  pub bytes : All (λ b. b < 256) f.bytes
+
+-- nothing, LF, or CR LF
+abbrev pub IsLineEnd : List ℕ → Type 0
+IsLineEnd end = (end ≡ []) ⊎ (end ≡ 10 ∷ []) ⊎ (end ≡ 13 ∷ 10 ∷ [])

@@ -1,0 +1,63 @@
+use can_frame::Pgn;
+use std::fmt;
+
+/// The name of a parameter group, or `-` where it has none here.
+pub(crate) fn group_name(pgn: Pgn) -> &'static str {
+    match pgn {
+        Pgn::ACKNOWLEDGMENT => "ack",
+        Pgn::REQUEST => "request",
+        Pgn::DATA_TRANSFER => "TP.DT",
+        Pgn::CONNECTION_MANAGEMENT => "TP.CM",
+        Pgn::ADDRESS_CLAIMED => "claim",
+        Pgn::DM1 => "DM1",
+        Pgn::DM2 => "DM2",
+        Pgn::DM3 => "DM3",
+        Pgn::DM11 => "DM11",
+        Pgn::COMMANDED_ADDRESS => "commanded address",
+        _ => "-",
+    }
+}
+
+/// The number of a parameter group, and its name in parentheses where it has one.
+#[derive(Clone, Copy)]
+pub(crate) struct GroupWords(pub Pgn);
+
+impl fmt::Display for GroupWords {
+    fn fmt<W: fmt::Write>(&self, f: &mut fmt::Formatter<W>) -> fmt::Result {
+        let number = self.0.number();
+        let name = group_name(self.0);
+        if name == "-" {
+            write!(f, "{number}")
+        } else {
+            write!(f, "{number} ({name})")
+        }
+    }
+}
+
+/// An address, or `all`.
+#[derive(Clone, Copy)]
+pub(crate) struct AddressWords(pub u8);
+
+impl fmt::Display for AddressWords {
+    fn fmt<W: fmt::Write>(&self, f: &mut fmt::Formatter<W>) -> fmt::Result {
+        let address = self.0;
+        if address == 255 {
+            write!(f, "all")
+        } else {
+            write!(f, "{address:02X}")
+        }
+    }
+}
+
+/// Bytes in two digits each, with a space before each.
+#[derive(Clone, Copy)]
+pub(crate) struct ByteWords<'a>(pub &'a [u8]);
+
+impl fmt::Display for ByteWords<'_> {
+    fn fmt<W: fmt::Write>(&self, f: &mut fmt::Formatter<W>) -> fmt::Result {
+        for byte in self.0 {
+            write!(f, " {byte:02X}")?;
+        }
+        Ok(())
+    }
+}

@@ -1,0 +1,50 @@
+use crate::group::AddressWords;
+use crate::message::write_message;
+use can_frame::Frame;
+use candump_line::{Foreign, Line};
+use std::alloc::Global;
+use std::io;
+use std::io::Write;
+
+/// Writes what a line says, in a line: `(TIME) BUS pPRIORITY SOURCE>DESTINATION GROUP WORDS`.
+///
+/// The time and the bus are left out where the line has none. A line that is no data frame of SAE J1939 is told as such,
+/// and a note as `-`.
+pub fn write_line_words<W: Write>(
+    writer: &mut W,
+    alloc: Global,
+    line: &Line<'_>,
+) -> io::Result<()> {
+    match line {
+        Line::Frame { time, bus, frame } => {
+            if let Some(time) = time {
+                write!(writer, "({time}) ")?;
+            }
+            if let Some(bus) = bus {
+                write!(writer, "{bus} ")?;
+            }
+            write_frame(writer, alloc, frame)?;
+            writeln!(writer)
+        }
+        Line::Dropped { count, .. } => writeln!(writer, "dropped {count} frames"),
+        Line::Overflow { .. } => writeln!(writer, "dropped a frame or more"),
+        Line::Foreign { what, .. } => match what {
+            Foreign::Short => writeln!(writer, "not J1939: 11-bit identifier"),
+            Foreign::Remote => writeln!(writer, "not J1939: remote frame"),
+            Foreign::Fd => writeln!(writer, "not J1939: CAN FD frame"),
+            Foreign::Error => writeln!(writer, "not J1939: error frame"),
+        },
+        Line::Note => writeln!(writer, "-"),
+        Line::Bad(reason) => writeln!(writer, "bad: {reason}"),
+    }
+}
+
+fn write_frame<W: Write>(writer: &mut W, alloc: Global, frame: &Frame) -> io::Result<()> {
+    let id = frame.id();
+    let priority = id.priority();
+    let source = id.source();
+    let dest = AddressWords(id.dest().unwrap_or(255));
+    let number = id.pgn().number();
+    write!(writer, "p{priority} {source:02X}>{dest} {number} ")?;
+    write_message(writer, alloc, frame)
+}

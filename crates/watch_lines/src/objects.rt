@@ -1,0 +1,230 @@
+use bus_watch::{Change, Counts, Run, Watch};
+use candump_line::Time;
+use dm_messages::Kind;
+use json::Writer;
+use name_field::Name;
+use std::alloc::{AllocError, Global};
+use trouble_code::Dtc;
+
+/// The count of a code that is not available (SAE J1939-73).
+const NO_COUNT: u8 = 127;
+
+/// A change as a JSON object: the number of its line, its time, what happened, and to whom.
+pub(crate) fn change_object(
+    alloc: Global,
+    watch: &Watch,
+    number: u64,
+    change: Change,
+) -> Result<Vec<u8>, AllocError> {
+    let mut json = Writer::new(Vec::new(alloc));
+    json.begin_object()?;
+    json.key("line")?;
+    json.u64(number)?;
+    put_time(&mut json, alloc, "time", watch.now())?;
+    json.key("event")?;
+    put_event(&mut json, alloc, watch, change)?;
+    json.end_object()?;
+    Ok(json.into_inner())
+}
+
+fn put_event(
+    json: &mut Writer,
+    alloc: Global,
+    watch: &Watch,
+    change: Change,
+) -> Result<(), AllocError> {
+    match change {
+        Change::At { name, address } => {
+            json.string("unit")?;
+            put_name(json, alloc, name)?;
+            put_number(json, "address", u64::from(address))
+        }
+        Change::NoAddress { name } => {
+            json.string("unit")?;
+            put_name(json, alloc, name)?;
+            json.key("address")?;
+            json.null()
+        }
+        Change::Entry { name, kind } => put_entry(json, alloc, watch, name, kind),
+        Change::Missed { count } => {
+            json.string("missed")?;
+            put_number(json, "count", u64::from(count))
+        }
+        Change::Unowned { source } => {
+            json.string("unowned")?;
+            put_number(json, "address", u64::from(source))
+        }
+        Change::Ack { name, control, pgn } => {
+            json.string("ack")?;
+            put_name(json, alloc, name)?;
+            put_number(json, "control", u64::from(control))?;
+            put_number(json, "pgn", u64::from(pgn.number()))
+        }
+        Change::Unread => {
+            json.string("unread")?;
+            put_number(json, "count", watch.unread())
+        }
+    }
+}
+
+fn kind_word(kind: Kind) -> &'static str {
+    match kind {
+        Kind::Dm1 => "dm1",
+        Kind::Dm2 => "dm2",
+    }
+}
+
+/// The newest entry of a NAME, with its number in the list, from 1.
+fn put_entry(
+    json: &mut Writer,
+    alloc: Global,
+    watch: &Watch,
+    name: Name,
+    kind: Kind,
+) -> Result<(), AllocError> {
+    json.string(kind_word(kind))?;
+    put_name(json, alloc, name)?;
+    put_address(json, watch, name)?;
+    if let Some(run) = watch.runs(name, kind).last() {
+        put_shown(json, alloc, run)?;
+    }
+    let entries = watch.shown(name, kind).len();
+    put_number(json, "entry", entries as u64)
+}
+
+/// The lamps, the codes, and whether the entry is contested.
+fn put_shown(json: &mut Writer, alloc: Global, run: &Run) -> Result<(), AllocError> {
+    let [lamps, flashes] = run.shown.lamps.to_bytes();
+    let text = format!(in alloc; "{lamps:02X}{flashes:02X}")?;
+    json.key("lamps")?;
+    json.string(text.as_str())?;
+    json.key("codes")?;
+    json.begin_array()?;
+    for code in run.shown.codes.as_slice() {
+        put_code(json, *code)?;
+    }
+    json.end_array()?;
+    json.key("contested")?;
+    json.boolean(run.contested)
+}
+
+fn put_code(json: &mut Writer, code: Dtc) -> Result<(), AllocError> {
+    json.begin_object()?;
+    put_number(json, "spn", u64::from(code.spn()))?;
+    put_number(json, "fmi", u64::from(code.fmi()))?;
+    json.key("count")?;
+    if code.count() == NO_COUNT {
+        json.null()?;
+    } else {
+        json.u64(u64::from(code.count()))?;
+    }
+    json.end_object()
+}
+
+/// The report: a row for each NAME with its runs of entries, the counts of the station, and those of the lines.
+pub(crate) fn report_object(alloc: Global, watch: &Watch) -> Result<Vec<u8>, AllocError> {
+    let mut json = Writer::new(Vec::new(alloc));
+    json.begin_object()?;
+    json.key("event")?;
+    json.string("report")?;
+    json.key("rows")?;
+    json.begin_array()?;
+    for place in 0..watch.names() {
+        if let Some(name) = watch.name_at(place) {
+            put_row(&mut json, alloc, watch, name)?;
+        }
+    }
+    json.end_array()?;
+    put_number(&mut json, "missed", watch.missed())?;
+    put_number(&mut json, "unread", watch.unread())?;
+    put_counts(&mut json, watch.counts())?;
+    json.end_object()?;
+    Ok(json.into_inner())
+}
+
+fn put_row(json: &mut Writer, alloc: Global, watch: &Watch, name: Name) -> Result<(), AllocError> {
+    json.begin_object()?;
+    put_name(json, alloc, name)?;
+    put_address(json, watch, name)?;
+    put_runs(json, alloc, watch, name, Kind::Dm1)?;
+    put_runs(json, alloc, watch, name, Kind::Dm2)?;
+    json.end_object()
+}
+
+/// The runs of a kind, each with its number of entries and the times of the first and the last.
+fn put_runs(
+    json: &mut Writer,
+    alloc: Global,
+    watch: &Watch,
+    name: Name,
+    kind: Kind,
+) -> Result<(), AllocError> {
+    json.key(kind_word(kind))?;
+    json.begin_array()?;
+    for run in watch.runs(name, kind) {
+        json.begin_object()?;
+        put_number(json, "times", run.times)?;
+        put_time(json, alloc, "first", run.first)?;
+        put_time(json, alloc, "last", run.last)?;
+        put_shown(json, alloc, run)?;
+        json.end_object()?;
+    }
+    json.end_array()
+}
+
+fn put_counts(json: &mut Writer, counts: Counts) -> Result<(), AllocError> {
+    json.key("lines")?;
+    json.begin_object()?;
+    put_number(json, "all", counts.lines)?;
+    put_number(json, "frame", counts.frames)?;
+    put_number(json, "bad", counts.bad)?;
+    put_number(json, "short", counts.short)?;
+    put_number(json, "remote", counts.remote)?;
+    put_number(json, "fd", counts.fd)?;
+    put_number(json, "error", counts.error)?;
+    put_number(json, "other_bus", counts.other_bus)?;
+    put_number(json, "drop", counts.drops)?;
+    put_number(json, "note", counts.notes)?;
+    put_number(json, "withheld", counts.withheld)?;
+    json.end_object()?;
+    put_number(json, "not_attributed", counts.not_attributed)?;
+    put_number(json, "not_sent", counts.not_sent)
+}
+
+fn put_number(json: &mut Writer, key: &str, number: u64) -> Result<(), AllocError> {
+    json.key(key)?;
+    json.u64(number)
+}
+
+fn put_name(json: &mut Writer, alloc: Global, name: Name) -> Result<(), AllocError> {
+    let text = format!(in alloc; "{name}")?;
+    json.key("name")?;
+    json.string(text.as_str())
+}
+
+fn put_address(json: &mut Writer, watch: &Watch, name: Name) -> Result<(), AllocError> {
+    json.key("address")?;
+    match watch.row(name) {
+        Some(row) => match row.address {
+            Some(address) => json.u64(u64::from(address)),
+            None => json.null(),
+        },
+        None => json.null(),
+    }
+}
+
+fn put_time(
+    json: &mut Writer,
+    alloc: Global,
+    key: &str,
+    time: Option<Time>,
+) -> Result<(), AllocError> {
+    json.key(key)?;
+    match time {
+        Some(time) => {
+            let text = format!(in alloc; "{time}")?;
+            json.string(text.as_str())
+        }
+        None => json.null(),
+    }
+}

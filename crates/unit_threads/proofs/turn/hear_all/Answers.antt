@@ -11,5 +11,6 @@ loop-preserved g c =
       seat = hear.kept.0 ∙ inv.seat;
       name = hear.kept.1 ∙ inv.name;
       unit = hear.kept.2 ∙ inv.unit;
-      heard = hears_more _ _ _ _ _ _ _ _ inv.seat inv.heard hear.ok;
+      heard = hears_more _ _ _ _ _ _ _ ((g.dyn-1.0.entry c.hear.new.self.unit.vtable).1.memory_of c.hear.new.self.unit.value)
+          ((g.dyn-1.0.entry c.loop.plug.unit.vtable).1.Answers c.loop.plug.unit.value) c.loop.plug.unit.value hear.ok.0 _ inv.seat inv.heard hear.ok.2;
     }

@@ -15,4 +15,3 @@ pub use change::Change;
 pub use counts::Counts;
 pub use run::Run;
 pub use watch::{Settings, Watch};
-

@@ -37,7 +37,9 @@ pub fn page(alloc: Global, words: &[String]) -> Result<Option<String>, AllocErro
     };
     match error.kind() {
         ErrorKind::OutOfMemory => Err(AllocError),
-        ErrorKind::DisplayHelp | ErrorKind::DisplayVersion => Ok(Some(format!(in alloc; "{error}")?)),
+        ErrorKind::DisplayHelp | ErrorKind::DisplayVersion => Ok(Some(format!(in alloc;
+            "{error}"
+        )?)),
         _ => Ok(None),
     }
 }

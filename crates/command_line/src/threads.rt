@@ -38,11 +38,27 @@ pub(crate) fn command<'a>(alloc: Global) -> Result<Command<'a>, AllocError>
     ensures shape { IfOk result (λ c. shape_of c ≡ threads_shape) }
     ensures local { IfOk result (λ c. (fields_of c).has_globals ≡ false) }
 {
-    let turns = count_arg(alloc, "turns", "N", "How many turns each unit has, 1 to 100000");
-    let reads = count_arg(alloc, "reads", "M", "How often the station reads, 1 to 100000");
-    let report = flag_arg(alloc, "report", "Writes the station's report after the units' lines");
+    let turns = count_arg(
+        alloc,
+        "turns",
+        "N",
+        "How many turns each unit has, 1 to 100000",
+    );
+    let reads = count_arg(
+        alloc,
+        "reads",
+        "M",
+        "How often the station reads, 1 to 100000",
+    );
+    let report = flag_arg(
+        alloc,
+        "report",
+        "Writes the station's report after the units' lines",
+    );
     Command::new(alloc, "threads")
-        .about("Reads a vehicle from standard input and runs each of its units in a thread of its own")
+        .about(
+            "Reads a vehicle from standard input and runs each of its units in a thread of its own",
+        )
         .after_help(VEHICLE)
         .arg(turns)?
         .arg(reads)?

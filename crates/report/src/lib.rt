@@ -18,7 +18,6 @@ ghost use Rattle.report.specs.Text.{report_text};
 mod line;
 
 pub use garage::{Newest, RowLine, Snapshot};
-
 use line::{write_row, write_total};
 use std::io;
 use std::io::Write;

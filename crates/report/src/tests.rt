@@ -16,7 +16,13 @@ fn writes_each_column(rt: HostRuntime) -> Result<(), Fail> {
     let lines = [
         (0xC0, None, 0, 0, None),
         (0xB0, Some(10), 1, 0, Some((0x00, 0xFF, 0))),
-        (u64::MAX, Some(253), 1_234_567, 65_535, Some((0xFF, 0x0A, 445))),
+        (
+            u64::MAX,
+            Some(253),
+            1_234_567,
+            65_535,
+            Some((0xFF, 0x0A, 445)),
+        ),
     ];
     let mut rows = Vec::new(alloc);
     for (name, address, dm1, dm2, newest) in lines {

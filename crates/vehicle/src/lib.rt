@@ -26,10 +26,9 @@ mod fault;
 mod read;
 
 pub use fault::VehicleFault;
+use name_field::Name;
 pub use read::read_vehicle;
 pub use script_line::UnitKind;
-
-use name_field::Name;
 
 /// The station of a vehicle, and the settings of its bus.
 #[derive(Clone, Copy, Debug, PartialEq, Eq)]

@@ -79,12 +79,16 @@ impl Watch {
                 self.take_claim(alloc, frame, source, name)
             }
             ParameterGroup::CannotClaim { name } => self.take_cannot_claim(alloc, frame, name),
-            ParameterGroup::Acknowledgment(ack) => self.take_acknowledgment(alloc, frame, ack.source),
+            ParameterGroup::Acknowledgment(ack) => self.take_acknowledgment(
+                alloc, frame, ack.source,
+            ),
             ParameterGroup::Diagnostic { source, .. } => {
                 self.take_message(alloc, frame, source, true)
             }
             ParameterGroup::ConnectionManagement {
-                source, control, ..
+                source,
+                control,
+                ..
             } => self.take_message(alloc, frame, source, is_announced(control)),
             ParameterGroup::DataTransfer { source, .. } => {
                 self.take_message(alloc, frame, source, false)
@@ -257,7 +261,13 @@ impl Watch {
         }
         match shown.last() {
             Some(newest) => add_entry(
-                alloc, &mut self.units, name, kind, newest, self.now, contested,
+                alloc,
+                &mut self.units,
+                name,
+                kind,
+                newest,
+                self.now,
+                contested,
             ),
             None => Ok(false),
         }

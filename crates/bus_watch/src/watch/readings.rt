@@ -172,8 +172,7 @@ impl Watch {
                 ..
             } => self.broadcasts.is_late(source, time, most),
             ParameterGroup::DataTransfer { source, dest, .. }
-                if self.station.held() == Some(dest) =>
-            {
+                if self.station.held() == Some(dest) => {
                 self.sessions.is_late(source, time, most)
             }
             _ => false,

@@ -7,8 +7,8 @@ use std::alloc::Global;
 use std::process::Abort;
 use std::test::Fail;
 use transport::{
-    Assembly, Control, ControlError, Payload, Run, Sending, Took, control_frame, last, message_part,
-    packet_frame, packets, part,
+    Assembly, Control, ControlError, Payload, Run, Sending, Took, control_frame, last,
+    message_part, packet_frame, packets, part,
 };
 
 const TWO_CODES: [u8; 10] = [0x00, 0xFF, 0x64, 0x00, 0x01, 0x01, 0xC8, 0x00, 0x02, 0x01];

@@ -1,6 +1,6 @@
 -- A DM1 that a unit begins.
-use Rattle.std.proofs.Common.{ℕ, ◌≡◌, ◌≢◌, Option, Some, None, false, refl, sym, ap, subst, ◌∙◌, ◌∷◌, [], ◌++◌, List}
-use Rattle.std.specs.Option.{is_none, IfSome}
+use Rattle.std.proofs.Common.{ℕ, ◌≡◌, ◌≢◌, Option, Some, None, refl, sym, ap, subst, ◌∙◌, ◌∷◌, [], ◌++◌, List}
+use Rattle.std.specs.Option.{IfSome, IsSome}
 use Rattle.fault_memory.specs.Memory.{MemoryValue}
 use Rattle.dm_messages.specs.declared.kind.Kind.TheVariants.{Dm1}
 use Rattle.node_core.specs.NodeValue.{NodeValue}
@@ -25,7 +25,7 @@ pub record BeginsAt (k : ℕ) (memory : MemoryValue) (b : Begun) (put : List Out
   pub after' : after_begin_of held k memory s ≡ after_starting k memory (started.Begun b put) s
   pub fits : (a : ℕ) × (held ≡ Some a) × (begins (unit_at s k).node.session Dm1 memory a ≢ started.Held)
 
-begins_at : (k : ℕ) (memory : MemoryValue) (b : Begun) (put : List Out) (s : State) (held : Option ℕ) (session : Option OpenSession) → is_none held ≡ false
+begins_at : (k : ℕ) (memory : MemoryValue) (b : Begun) (put : List Out) (s : State) (held : Option ℕ) (session : Option OpenSession) → IsSome held
     → (unit_at s k).node.session ≡ session → IfSome held (λ source. started.Begun b put ≡ begins session Dm1 memory source) → BeginsAt k memory b put s held
 unfolding after_begin_of
 begins_at k memory b put s None session some same h = absurd cc
@@ -36,11 +36,11 @@ begins_at k memory b put s (Some a) session some same h =
       fits = (a, refl, λ e. let clash : started.Begun b put ≡ started.Held = sym is ∙ e in absurd cc);
     }
 
-pub begin_did : (k : ℕ) (memory : MemoryValue) (b : Begun) (put : List Out) (s : State) (node : NodeValue) → (unit_at s k).node ≡ node → is_none node.claimer.held ≡ false
+pub begin_did : (k : ℕ) (memory : MemoryValue) (b : Begun) (put : List Out) (s : State) (node : NodeValue) → (unit_at s k).node ≡ node → IsSome (unit_at s k).node.claimer.held
     → IfSome node.claimer.held (λ source. started.Begun b put ≡ begins node.session Dm1 memory source) → BeginsAt k memory b put s (unit_at s k).node.claimer.held
 begin_did k memory b put s node same some h =
     let held : (unit_at s k).node.claimer.held ≡ node.claimer.held = ap (λ (n : NodeValue). n.claimer.held) same in
-    begins_at k memory b put s (unit_at s k).node.claimer.held node.session (ap is_none held ∙ some) (ap (λ (n : NodeValue). n.session) same)
+    begins_at k memory b put s (unit_at s k).node.claimer.held node.session some (ap (λ (n : NodeValue). n.session) same)
     (subst (λ (o : Option ℕ). IfSome o (λ source. started.Begun b put ≡ begins node.session Dm1 memory source)) (sym held) h)
 
 -- what the node started, of this memory

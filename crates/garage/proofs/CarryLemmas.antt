@@ -1,5 +1,5 @@
 -- A carry for which the journal has no room.
-use Rattle.std.proofs.Common.{ℕ, ◌≡◌, ◌+◌, ◌<◌, List, length, reverse, Result, Err, IfErr, IsErrOf, sym, ap, ◌∙◌, subst, arith}
+use Rattle.std.proofs.Common.{◌≡◌, ◌+◌, ◌<◌, List, length, reverse, Result, Err, IfErr, IsErrOf, sym, ap, ◌∙◌, subst, arith}
 use Rattle.std.specs.Prelude.{◌↔◌}
 use Rattle.std.proofs.lemmas.List.{length-reverse}
 use Rattle.bus_ledger.specs.Carrying.{CanCarry}

@@ -3,7 +3,7 @@ use Rattle.std.proofs.Common.{ℕ, suc, zero, ◌≡◌, ◌≢◌, ◌⊎◌, i
 use Rattle.can_frame.specs.FrameValue.{FrameValue}
 use Rattle.requests.specs.Layouts.{commanded_bytes}
 use Rattle.transport.specs.Messages.{parts_from, frames_of_message, last_part}
-use Rattle.station_table.specs.KeptValue.{KeptValue, kept_under}
+use Rattle.station_table.specs.KeptValue.{kept_under}
 use Rattle.station_table.specs.Orders.{address_in, ask_answer, ask_all_answer, ask_from, command_answer, command_from}
 use Rattle.station_table.specs.Reactions.{asking, commanding}
 use Rattle.station_table.specs.StandsFor.{row_of}
@@ -13,7 +13,7 @@ use Rattle.station_table.specs.declared.reaction.Ask.{Ask}
 use Rattle.station_table.specs.declared.reaction.Reaction.{Reaction}
 use Rattle.journal.specs.Steps.{order_answer}
 use Rattle.journal.specs.declared.order.Order.TheVariants as order
-use Rattle.bus_ledger.specs.BusValue.{Traffic, IsLive, seat_at}
+use Rattle.bus_ledger.specs.BusValue.{Traffic, seat_at}
 use Rattle.bus_ledger.specs.Changes.{withdrawn}
 use Rattle.bus_ledger.specs.Joining.{live_units}
 use Rattle.bus_ledger.specs.declared.traffic.QueuedFrame.{QueuedFrame}
@@ -21,18 +21,16 @@ use Rattle.bus_ledger.specs.declared.traffic.Which.TheVariants as which
 use Rattle.std.proofs.lemmas.List.{length-map}
 use Rattle.journal.specs.State.{State}
 use Rattle.journal.specs.Steps.{after, after_order_of, reacted, untagged}
-use Rattle.journal.specs.Journal.{GarageValue, joins, state_of}
+use Rattle.journal.specs.Journal.{joins}
 use Rattle.journal.specs.declared.event.Event.{Event}
 use Rattle.journal.specs.declared.event.Event.TheVariants.{Ordered}
 use Rattle.journal.specs.declared.order.Order.{Order}
-use Rattle.garage.specs.Inside.{view_of, Stands}
 use Rattle.garage.specs.Obeying.{Obeys}
-use Rattle.garage.specs.declared.garage.Garage.TheInside.{Inside}
 use Rattle.garage.specs.Refusals.{of_station}
 use Rattle.garage.specs.declared.error.GarageError.{GarageError}
 use Rattle.garage.specs.declared.error.GarageError.TheVariants.{BookFull}
 use Rattle.station_table.specs.declared.error.StationError.TheVariants as station
-use Rattle.garage.proofs.Traffics.{given, keeps_withdrawn_if, put_bound, put_seats, put_units, put_wire}
+use Rattle.garage.proofs.Traffics.{keeps_withdrawn_if, put_bound, put_seats, put_units, put_wire}
 
 one_frame : (f : FrameValue) (r : Reaction) → record { withdraw = false; put = f ∷ [] } ≡ r → length r.put ≤ 3
 one_frame f r e = let n : length r.put ≡ 1 = ap (λ (x : Reaction). length x.put) (sym e) in omega arith

@@ -7,7 +7,7 @@ ghost use Rattle.garage.specs.Answers.{with_begun};
 use crate::error::GarageError;
 use crate::garage::{Garage, Place};
 use crate::queueing::{do_heard, queue_frames, queue_outs, react};
-use crate::room::make_room;
+use crate::room::{make_ready, make_room};
 use can_frame::{Frame, Reading};
 use dm_messages::Kind;
 use journal::{Event, Tally};
@@ -15,9 +15,6 @@ use name_field::Name;
 use node_core::{Begun, Node, NodeError, Started};
 use std::alloc::Global;
 use unit_trait::Unit;
-
-/// The most frames that a unit puts at once: the announcement and 255 packets.
-const MOST_OUTS: usize = 256;
 
 /// The most frames that the station puts at a reading: its claim and a request.
 const MOST_ANSWERS: usize = 2;
@@ -118,9 +115,14 @@ impl Garage {
         let Some(frame) = self.bus.next_for(seat) else {
             return Ok(HeardOne::Nothing);
         };
-        make_room(&mut self.journal, self.live + 1, self.limit)?;
-        let memory = unit.memory().copy()?;
-        self.bus.reserve(seat, MOST_OUTS)?;
+        let memory = make_ready(
+            &mut self.journal,
+            &mut self.bus,
+            self.live + 1,
+            self.limit,
+            seat,
+            &*unit,
+        )?;
         let place = &mut self.places[seat as usize - 1];
         let heard = place.node.hear(alloc, &frame, &mut *unit)?;
         let session = begins_session(heard.begun);
@@ -170,13 +172,39 @@ impl Garage {
         if place.node.session() == Some(Kind::Dm1) {
             return Ok(Begin::Held);
         }
-        make_room(&mut self.journal, self.live + 1, self.limit)?;
-        let memory = unit.memory().copy()?;
-        self.bus.reserve(seat, MOST_OUTS)?;
+        self.begin_message(alloc, seat, unit)?;
+        Ok(Begin::Begun)
+    }
+
+    /// The unit on the seat, which holds an address and has no session of a DM1 open, begins a DM1 of its memory.
+    ///
+    /// Refused where the journal has no room, then where there is no memory; then nothing changed.
+    fn begin_message(
+        &mut self,
+        alloc: Global,
+        seat: u32,
+        unit: &dyn Unit,
+    ) -> Result<(), GarageError>
+        requires unit { IsUnit (state_of self.old).traffic seat }
+        requires held { IsSome (held_at self.old seat) }
+        requires free { has_open_dm1 self.old seat ≡ false }
+        ensures ok { OnOk result (Begins self.old seat (memory_of unit.now) Begin.Begun self.new) }
+        ensures full { IsErrOf result GarageError.BookFull ↔ IsFull self.old }
+        ensures only { IfErr result (λ e. (e ≡ GarageError.BookFull) ⊎ (e ≡ GarageError.OutOfMemory)) }
+        ensures err { OnErr result (self.new ≡ self.old) }
+    {
+        let memory = make_ready(
+            &mut self.journal,
+            &mut self.bus,
+            self.live + 1,
+            self.limit,
+            seat,
+            unit,
+        )?;
         let place = &self.places[seat as usize - 1];
         let started = place.node.begin(alloc, Kind::Dm1, unit)?;
         let Started::Begun { begun: _, put } = started else {
-            return Ok(Begin::Held);
+            unreachable!();
         };
         let place = &mut self.places[seat as usize - 1];
         place.tally.events += 1;
@@ -191,7 +219,7 @@ impl Garage {
         );
         self.begun += 1;
         self.journal.push_reserved(Event::Begin { seat, memory });
-        Ok(Begin::Begun)
+        Ok(())
     }
 
     /// A turn of the unit on the seat is over.

@@ -33,9 +33,9 @@ invariant_of-self-in_err-heard g c =
     let u = unit_now a c.args.self.now c.args.seat c.self.view_is c.requires in
     let h = place_within a c.args.seat stands u in
     let node = c.in_err-heard.ensures.kept in
-    still a _ stands refl c.reserve.ensures.traffic refl
+    still a _ stands refl c.make_ready.ensures.traffic refl
     (same_place a.places.items (c.args.seat - 1) x _ h c.index_mut-place.ensures.value (ap (λ (n : NodeValue). record { node = n; session_message = x.session_message; tally = x.tally }) node))
-    refl refl c.make_room.ensures.items (let r = stands.room in let l = c.make_room.ensures.len in let m = c.make_room.ensures.grows in omega arith)
+    refl refl c.make_ready.ensures.items (let r = stands.room in let l = c.make_ready.ensures.len in let m = c.make_ready.ensures.grows in omega arith)
 
 pub overflow_add-place : goal.overflow_add-place
 overflow_add-place g c =
@@ -49,7 +49,7 @@ pub do_heard-requires-clause-next : goal.do_heard-requires-clause-next
 do_heard-requires-clause-next g c =
     let a = c.self.inside in
     let there = next_within a.bus.traffic.wire (seat_at a.bus.traffic c.args.seat).heard c.in-Some.frame (sym c.in-Some.ensures.frame) in
-    subst (λ (t : Traffic). (seat_at t c.args.seat).heard < length t.wire) (sym c.reserve.ensures.traffic) there
+    subst (λ (t : Traffic). (seat_at t c.args.seat).heard < length t.wire) (sym c.make_ready.ensures.traffic) there
 
 pub do_heard-requires-clause-few : goal.do_heard-requires-clause-few
 do_heard-requires-clause-few g c =
@@ -58,9 +58,9 @@ do_heard-requires-clause-few g c =
     let ub = bus_unit a c.args.seat stands (unit_now a c.args.self.now c.args.seat c.self.view_is c.requires) in
     let one = some_live a.bus.traffic c.args.seat (station_lives a stands) ub in
     let q = stands.queued c.args.seat in
-    let same = ap (λ (t : Traffic). (seat_at t c.args.seat).queued) c.reserve.ensures.traffic in
+    let same = ap (λ (t : Traffic). (seat_at t c.args.seat).queued) c.make_ready.ensures.traffic in
     let few = c.in_ok-heard.ensures.few in
-    let ok = c.in_ok-make_room.ensures.ok in
+    let ok = c.in_ok-memory.ensures.room in
     let fits = ok.0 in
     let limit = stands.few in
     let live = stands.live in
@@ -88,8 +88,8 @@ invariant_of-self-2 g c =
     let same = unit_is a seat x stands h c.index_mut-place.ensures.value in
     let there = next_within t.wire (seat_at t seat).heard f (sym c.in-Some.ensures.frame) in
     let next : next_for s seat ≡ Some f = ap (λ (b : Traffic). option_map (λ (c' : CarriedFrame). c'.frame) (slice_get b.wire (seat_at b seat).heard)) (sym stands.traffic) ∙ sym c.in-Some.ensures.frame in
-    let mem_is = c.in_ok-memory.ensures.same ∙ c.memory.ensures in
-    let lawful = c.in_ok-memory.ensures.lawful in
+    let mem_is = c.in_ok-memory.ensures.memory.0 in
+    let lawful = c.in_ok-memory.ensures.memory.1 in
     let reacts = c.in_ok-heard.ensures.heard in
     let is = hear_did seat memory f s x.node heard node' next (ap (λ (v : UnitState). v.node) same)
     (reacts.heard_is ∙ ap (λ (m : MemoryValue). heard_of heard.answer (reaction x.node m heard.answer f)) (sym mem_is))
@@ -98,7 +98,7 @@ invariant_of-self-2 g c =
     let number = stands.begun in
     let last_is = c.last_session-place.ensures ∙ (ap (λ (m : ℕ). session_message_after m a.begun heard.begun) (sym (ap (λ (v : UnitState). v.session_message) same))
     ∙ ap (λ (n : ℕ). session_message_after (unit_at s seat).session_message n heard.begun) number) in
-    let now = c.do_heard.ensures ∙ ap (λ (b : Traffic). put_all seat (map (tagged a.begun c.begins_session-session.result last) heard.put) (withdrawn_by seat heard.withdraw (heard_more seat 1 b))) c.reserve.ensures.traffic in
+    let now = c.do_heard.ensures ∙ ap (λ (b : Traffic). put_all seat (map (tagged a.begun c.begins_session-session.result last) heard.put) (withdrawn_by seat heard.withdraw (heard_more seat 1 b))) c.make_ready.ensures.traffic in
     let put = puts seat (map (tagged a.begun c.begins_session-session.result last) heard.put) t (withdrawn_by seat heard.withdraw (heard_more seat 1 t))
     (keeps_then t (heard_more seat 1 t) _ (keeps_heard t seat 1) (keeps_withdrawn_by seat heard.withdraw (heard_more seat 1 t))) in
     let long = length-map heard.put (tagged a.begun c.begins_session-session.result last) in
@@ -107,7 +107,7 @@ invariant_of-self-2 g c =
     let wires = ap (λ (b : Traffic). length b.wire) now ∙ ap length put.wire in
     let many = ap (λ (b : Traffic). length b.seats) now in
     let many' = put.seats in
-    let ok = c.in_ok-make_room.ensures.ok in
+    let ok = c.in_ok-memory.ensures.room in
     let fits = ok.0 in
     let room = ok.1 in
     let n = c.push_reserved.ensures.len in
@@ -116,7 +116,7 @@ invariant_of-self-2 g c =
     let one = begun_few a.begun heard.begun in
     stands_more a _ (Hear seat memory heard.answer) stands (record {
       settings = refl;
-      journal = c.push_reserved.ensures.items ∙ ap (λ (l : List Event). l ++ Hear seat memory heard.answer ∷ []) c.make_room.ensures.items;
+      journal = c.push_reserved.ensures.items ∙ ap (λ (l : List Event). l ++ Hear seat memory heard.answer ∷ []) c.make_ready.ensures.items;
       fits = (u, subst (λ (b : Traffic). (seat_at b seat).heard < length b.wire) stands.traffic there, lawful, is_answered (unit_at s seat).node x.node (next_for s seat) f heard.answer (ap (λ (v : UnitState). v.node) same) next reacts.answer_is);
       traffic = now ∙ (ap (λ (n : ℕ). put_all seat (map (tagged n c.begins_session-session.result last) heard.put) (withdrawn_by seat heard.withdraw (heard_more seat 1 t))) number
           ∙ (ap (λ (b : Bool). put_all seat (map (tagged (length s.begun) b last) heard.put) (withdrawn_by seat heard.withdraw (heard_more seat 1 t))) said
@@ -156,8 +156,8 @@ returns-clause-ok g c =
     let same = unit_is a seat x stands h c.index_mut-place.ensures.value in
     let there = next_within t.wire (seat_at t seat).heard f (sym c.in-Some.ensures.frame) in
     let next : next_for (state a) seat ≡ Some f = ap (λ (b : Traffic). option_map (λ (c' : CarriedFrame). c'.frame) (slice_get b.wire (seat_at b seat).heard)) (sym stands.traffic) ∙ sym c.in-Some.ensures.frame in
-    let mem_is = c.in_ok-memory.ensures.same ∙ c.memory.ensures in
-    let lawful = subst IsLawfulMemory mem_is c.in_ok-memory.ensures.lawful in
+    let mem_is = c.in_ok-memory.ensures.memory.0 in
+    let lawful = subst IsLawfulMemory mem_is c.in_ok-memory.ensures.memory.1 in
     let reacts = c.in_ok-heard.ensures.heard in
     let answers : Question → Bool → _ → Type 0 = (goal.Unit-dyn g c.args.unit.now).Answers c.args.unit.now.1 in (
       asked.0,
@@ -176,7 +176,7 @@ returns-clause-ok g c =
         journal = c.push_reserved.new.self;
       })
           c.args.self.now seat x.node f heard.answer memory _ _ answers c.args.unit.now.1 asked.0 c.self.view_is refl
-          (c.push_reserved.ensures.items ∙ ap (λ (l : List Event). l ++ Hear seat memory heard.answer ∷ []) c.make_room.ensures.items)
+          (c.push_reserved.ensures.items ∙ ap (λ (l : List Event). l ++ Hear seat memory heard.answer ∷ []) c.make_ready.ensures.items)
           mem_is next (u, subst (λ (b : Traffic). (seat_at b seat).heard < length b.wire) stands.traffic there, lawful, is_answered (unit_at (state a) seat).node x.node (next_for (state a) seat) f heard.answer (ap (λ (v : UnitState). v.node) same) next reacts.answer_is)
           (ap (λ (v : UnitState). v.node) same) reacts.memory_is asked.2,
     )

@@ -1,4 +1,4 @@
-use Rattle.std.proofs.Common.{rules, ◌≡◌, ◌+◌, ℕ, take}
+use Rattle.std.proofs.Common.{rules}
 use Rattle.bus_model.specs.Heard.{names_heard}
 use Rattle.journal.specs.Journal.{readings_of}
 use Rattle.garage.proofs.Lines.{line_more, name_is_there}

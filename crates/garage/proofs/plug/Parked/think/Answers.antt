@@ -1,4 +1,4 @@
-use Rattle.std.proofs.Common.{◌≡◌, ap, ◌∙◌}
+use Rattle.std.proofs.Common.{ap, ◌∙◌}
 use Rattle.garage.proofs.Lent.{lent}
 use Rattle.garage.proofs.plug.Parked.think.Goals as goal
 

@@ -1,6 +1,7 @@
-use Rattle.std.proofs.Common.{ℕ, suc, false, not, ◌≡◌, arith, refl, ap, ◌∙◌, sym, subst, List, ◌++◌, ◌∷◌, [], ◌+◌, ◌-◌, ◌≤◌, length, map}
+use Rattle.std.proofs.Common.{ℕ, suc, false, ◌≡◌, arith, refl, ap, ◌∙◌, sym, subst, List, ◌++◌, ◌∷◌, [], ◌+◌, ◌-◌, ◌≤◌, length, map}
 use Rattle.std.proofs.lemmas.List.{length-set, length-map}
-use Rattle.std.specs.Option.{is_none}
+use Rattle.std.specs.Option.{IsSome}
+use Rattle.garage.specs.Causes.{held_at}
 use Rattle.std.specs.Vec.{with_item}
 use Rattle.fault_memory.specs.Memory.{IsLawfulMemory}
 use Rattle.bus_ledger.specs.BusValue.{Traffic, seat_at}
@@ -9,7 +10,7 @@ use Rattle.node_core.specs.Beginning.{IsFew}
 use Rattle.node_core.specs.declared.out.Out.{Out}
 use Rattle.journal.specs.State.{State, UnitState, unit_at}
 use Rattle.journal.specs.Steps.{put_all, tagged}
-use Rattle.journal.specs.Journal.{one_more}
+use Rattle.journal.specs.Journal.{GarageValue, one_more}
 use Rattle.journal.specs.declared.event.Event.{Event}
 use Rattle.journal.specs.declared.event.Event.TheVariants.{Begin}
 use Rattle.garage.specs.declared.garage.Place.{Place}
@@ -17,12 +18,12 @@ use Rattle.garage.proofs.BeginLemmas.{begin_did, begins_of, begun_as, joins_begi
 use Rattle.garage.proofs.Traffics.{some_live, puts, keeps_refl}
 use Rattle.garage.proofs.InHand.{station_lives}
 use Rattle.garage.proofs.Standing.{state, place_few, place_within, unit_now, bus_unit, unit_is, units_same, place_tally, stands_more, tallies_one, fresh_one}
-use Rattle.garage.proofs.garage.Garage.begin.Goals as goal
+use Rattle.garage.proofs.garage.Garage.begin_message.Goals as goal
 
 pub overflow_add-place : goal.overflow_add-place
 overflow_add-place g c =
     let a = c.self.inside in
-    let u = unit_now a c.args.self.now c.args.seat c.self.view_is c.requires in
+    let u = unit_now a c.args.self.now c.args.seat c.self.view_is c.requires.unit in
     let h = place_within a c.args.seat c.self.invariant u in
     let f = place_few a (c.args.seat - 1) c.index_mut-place.result.now c.self.invariant h c.index_mut-place.ensures.value in
     let w = c.self.invariant.within in let l = c.self.invariant.few in let t = f.events in omega arith
@@ -31,13 +32,13 @@ pub queue_outs-requires-clause-few : goal.queue_outs-requires-clause-few
 queue_outs-requires-clause-few g c =
     let a = c.self.inside in
     let stands = c.self.invariant in
-    let ub = bus_unit a c.args.seat stands (unit_now a c.args.self.now c.args.seat c.self.view_is c.requires) in
+    let ub = bus_unit a c.args.seat stands (unit_now a c.args.self.now c.args.seat c.self.view_is c.requires.unit) in
     let one = some_live a.bus.traffic c.args.seat (station_lives a stands) ub in
     let q = stands.queued c.args.seat in
-    let same = ap (λ (t : Traffic). (seat_at t c.args.seat).queued) c.reserve.ensures.traffic in
+    let same = ap (λ (t : Traffic). (seat_at t c.args.seat).queued) c.make_ready.ensures.traffic in
     let few : length c.in-Begun.put ≤ 256 = subst IsFew c.in-Begun.is c.in_ok-started.ensures.few in
     let long = ap length c.as_slice.ensures in
-    let ok = c.in_ok-make_room.ensures.ok in
+    let ok = c.in_ok-memory.ensures.room in
     let fits = ok.0 in
     let limit = stands.few in
     let live = stands.live in
@@ -51,20 +52,17 @@ invariant_of-self-2 g c =
     let k = seat - 1 in
     let t = a.bus.traffic in
     let s = state a in
-    let first = c.index-place.result.now in
-    let again = c.index-place-2.result.now in
+    let again = c.index-place.result.now in
     let x = c.index_mut-place.result.now in
-    let u = unit_now a c.args.self.now seat c.self.view_is c.requires in
+    let u = unit_now a c.args.self.now seat c.self.view_is c.requires.unit in
     let low = u.0 in
     let h = place_within a seat stands u in
     let memory = c.in_ok-memory.memory in
     let same = unit_is a seat x stands h c.index_mut-place.ensures.value in
-    let same_again = unit_is a seat again stands h c.index-place-2.ensures in
-    let same_first = unit_is a seat first stands h c.index-place.ensures in
-    let some : is_none again.node.claimer.held ≡ false =
-    ap is_none (ap (λ (v : UnitState). v.node.claimer.held) (sym same_again ∙ same_first) ∙ sym c.held.ensures.value) ∙ ap not (c.is_none.ensures ∙ ap not c.if-is_none.false) in
-    let mem_is = c.in_ok-memory.ensures.same ∙ c.memory.ensures in
-    let lawful : IsLawfulMemory memory = c.in_ok-memory.ensures.lawful in
+    let same_again = unit_is a seat again stands h c.index-place.ensures in
+    let some : IsSome (unit_at s seat).node.claimer.held = subst (λ (v : GarageValue). IsSome (held_at v seat)) (sym c.self.view_is) c.requires.held in
+    let mem_is = c.in_ok-memory.ensures.memory.0 in
+    let lawful : IsLawfulMemory memory = c.in_ok-memory.ensures.memory.1 in
     let put = c.in-Begun.put in
     let b = c.in-Begun.begun in
     let begins' = begins_of again.node.claimer.held again.node.session b put c.in_ok-started.started memory _ c.in-Begun.is mem_is c.in_ok-started.ensures.started in
@@ -73,22 +71,22 @@ invariant_of-self-2 g c =
     let number = stands.begun in
     let p : Place = record x { tally = one_more x.tally } in
     let last : x.session_message ≡ (unit_at s seat).session_message = sym (ap (λ (v : UnitState). v.session_message) same) in
-    let now = c.queue_outs.ensures ∙ (ap (λ (l : List Out). put_all seat (map (tagged a.begun false x.session_message) l) c.reserve.new.self.traffic) c.as_slice.ensures
-    ∙ ap (put_all seat (map (tagged a.begun false x.session_message) put)) c.reserve.ensures.traffic) in
+    let now = c.queue_outs.ensures ∙ (ap (λ (l : List Out). put_all seat (map (tagged a.begun false x.session_message) l) c.make_ready.new.bus.traffic) c.as_slice.ensures
+    ∙ ap (put_all seat (map (tagged a.begun false x.session_message) put)) c.make_ready.ensures.traffic) in
     let more = puts seat (map (tagged a.begun false x.session_message) put) t t (keeps_refl t) in
     let long = length-map put (tagged a.begun false x.session_message) in
     let few : length put ≤ 256 = subst IsFew c.in-Begun.is c.in_ok-started.ensures.few in
     let lives = ap live_units now ∙ more.units in
     let wires = ap (λ (v : Traffic). length v.wire) now ∙ ap length more.wire in
     let many = ap (λ (v : Traffic). length v.seats) now ∙ more.seats in
-    let ok = c.in_ok-make_room.ensures.ok in
+    let ok = c.in_ok-memory.ensures.room in
     let fits = ok.0 in
     let room = ok.1 in
     let n = c.push_reserved.ensures.len in
     let m = c.push_reserved.ensures.capacity in
     stands_more a _ (Begin seat memory) stands (record {
       settings = refl;
-      journal = c.push_reserved.ensures.items ∙ ap (λ (l : List Event). l ++ Begin seat memory ∷ []) c.make_room.ensures.items;
+      journal = c.push_reserved.ensures.items ∙ ap (λ (l : List Event). l ++ Begin seat memory ∷ []) c.make_ready.ensures.items;
       fits = (u, did.fits, lawful);
       traffic = now ∙ (ap (λ (i : ℕ). put_all seat (map (tagged i false x.session_message) put) t) number
           ∙ (ap (λ (l : ℕ). put_all seat (map (tagged (length s.begun) false l) put) t) last
@@ -115,18 +113,15 @@ returns-clause-ok g c =
     let stands = c.self.invariant in
     let seat = c.args.seat in
     let s = state a in
-    let first = c.index-place.result.now in
-    let again = c.index-place-2.result.now in
+    let again = c.index-place.result.now in
     let x = c.index_mut-place.result.now in
-    let u = unit_now a c.args.self.now seat c.self.view_is c.requires in
+    let u = unit_now a c.args.self.now seat c.self.view_is c.requires.unit in
     let h = place_within a seat stands u in
     let memory = c.in_ok-memory.memory in
-    let same_again = unit_is a seat again stands h c.index-place-2.ensures in
-    let same_first = unit_is a seat first stands h c.index-place.ensures in
-    let some : is_none again.node.claimer.held ≡ false =
-    ap is_none (ap (λ (v : UnitState). v.node.claimer.held) (sym same_again ∙ same_first) ∙ sym c.held.ensures.value) ∙ ap not (c.is_none.ensures ∙ ap not c.if-is_none.false) in
-    let mem_is = c.in_ok-memory.ensures.same ∙ c.memory.ensures in
-    let lawful : IsLawfulMemory memory = c.in_ok-memory.ensures.lawful in
+    let same_again = unit_is a seat again stands h c.index-place.ensures in
+    let some : IsSome (unit_at s seat).node.claimer.held = subst (λ (v : GarageValue). IsSome (held_at v seat)) (sym c.self.view_is) c.requires.held in
+    let mem_is = c.in_ok-memory.ensures.memory.0 in
+    let lawful : IsLawfulMemory memory = c.in_ok-memory.ensures.memory.1 in
     let put = c.in-Begun.put in
     let b = c.in-Begun.begun in
     let begins' = begins_of again.node.claimer.held again.node.session b put c.in_ok-started.started memory _ c.in-Begun.is mem_is c.in_ok-started.ensures.started in
@@ -145,5 +140,5 @@ returns-clause-ok g c =
       journal = c.push_reserved.new.self;
     })
     c.args.self.now seat memory _ c.self.view_is refl
-    (c.push_reserved.ensures.items ∙ ap (λ (l : List Event). l ++ Begin seat memory ∷ []) c.make_room.ensures.items)
+    (c.push_reserved.ensures.items ∙ ap (λ (l : List Event). l ++ Begin seat memory ∷ []) c.make_ready.ensures.items)
     mem_is (u, did.fits, lawful)

@@ -1,0 +1,99 @@
+"""The commands of a script one step at a time, each with queries before and after it.
+
+A repeating command (`round 9`) that is refused keeps what its earlier steps did. So that "nothing changed" can be said of a
+refused command, it is taken apart into commands that do one thing: `hear 1`, `read 1`, `carry 1`.
+"""
+
+import collections
+
+REFUSED = "refused 0 OutOfMemory"
+
+
+def commands_of(script):
+    """The lines of a script that have an answer."""
+    return [line for line in script.splitlines() if line and not line.startswith("#")]
+
+
+def answers_of(lines, output):
+    """The answer of each line: one line, but for a report, which goes on to its line of frames missed."""
+    said, answers = collections.deque(output.splitlines()), []
+    for line in lines:
+        if not said:
+            break
+        answer = [said.popleft()]
+        while line == "report" and answer[-1] != REFUSED and not answer[-1].startswith("missed ") and said:
+            answer.append(said.popleft())
+        answers.append("\n".join(answer))
+    return answers + list(said)
+
+
+class Apart:
+    """Takes commands apart. It counts what is on the wire, and what each seat has heard of it, so that each unit hears and the
+    station reads as often as there can be something, and at most once too often."""
+
+    def __init__(self):
+        self.steps = []
+        self.heard = {}
+        self.carried = 0
+        self.read = 0
+
+    def add(self, command, answer):
+        """The steps of a command which had this answer with ample memory."""
+        words = command.split()
+        count = int(words[1]) if words[0] in ("carry", "read", "round") and len(words) > 1 else 1
+        if words[0] == "join" and answer.startswith("seat "):
+            self.heard[answer.split()[1]] = 0
+        if words[0] == "leave":
+            self.heard.pop(words[1], None)
+        if words[0] in ("set", "heal") and len(words) == 5:
+            self.steps += [f"{words[0]} {words[1]} {int(words[2]) + number} {words[3]}" for number in range(int(words[4]))]
+        elif words[0] == "hear":
+            self.hear(words[1], int(words[2]) if len(words) == 3 else 1)
+        elif words[0] == "read":
+            self.read_all(count)
+        elif words[0] in ("carry", "round"):
+            said = answer.split()
+            for number in range(int(said[1]) + (len(said) > 2)):
+                if words[0] == "round":
+                    self.listen()
+                self.steps.append("carry 1")
+                self.carried += number < int(said[1])
+            if words[0] == "round":
+                self.listen()
+        else:
+            self.steps.append(command)
+
+    def hear(self, seat, most):
+        times = min(most, self.carried - self.heard.get(seat, 0))
+        self.steps += [f"hear {seat} 1"] * times
+        if seat in self.heard:
+            self.heard[seat] += times
+
+    def read_all(self, most):
+        times = min(most, self.carried - self.read)
+        self.steps += ["read 1"] * times
+        self.read += times
+
+    def listen(self):
+        for seat in self.heard:
+            self.hear(seat, self.carried)
+        self.read_all(self.carried)
+
+
+def in_steps(commands, answers):
+    """The commands, one step each."""
+    apart = Apart()
+    for command, answer in zip(commands, answers):
+        apart.add(command, answer)
+    return apart.steps
+
+
+def queries_for(commands, answers, more):
+    """What is asked after each command: all seats and NAMEs of the script, and frames all along the wire."""
+    names = sorted({command.split()[1] for command in commands if command.split()[0] in ("garage", "join")})
+    seats = 1 + sum(answer.startswith("seat ") for answer in answers)
+    carried = sum(int(answer.split()[1]) for answer in answers if answer.startswith("carried "))
+    queries = [f"counts {seat}" for seat in range(seats + 1)] + ["stats"]
+    for name in names:
+        queries += [f"shown {name} dm1", f"shown {name} dm2", f"row {name}"]
+    return queries + [f"frame {index}" for index in sorted({0, 1, carried // 2, carried - 1, carried})] + more

@@ -5,8 +5,11 @@ refused command, it is taken apart into commands that do one thing: `hear 1`, `r
 """
 
 import collections
+import re
 
 REFUSED = "refused 0 OutOfMemory"
+# A line of a report but its last.
+ROW = re.compile("[0-9A-F]{16} ")
 
 
 def commands_of(script):
@@ -21,7 +24,7 @@ def answers_of(lines, output):
         if not said:
             break
         answer = [said.popleft()]
-        while line == "report" and answer[-1] != REFUSED and not answer[-1].startswith("missed ") and said:
+        while line == "report" and ROW.match(answer[-1]) and said:
             answer.append(said.popleft())
         answers.append("\n".join(answer))
     return answers + list(said)

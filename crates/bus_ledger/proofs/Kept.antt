@@ -2,18 +2,19 @@
 use Rattle.std.proofs.Common.{ℕ, ◌≡◌, ◌+◌, ◌<◌, ◌^◌, List, [], ◌∷◌, ◌++◌, map, length, get_or, set, not, ◌==◌, refl, sym, ap, ◌∙◌, subst, arith}
 use Rattle.std.specs.List.{filter}
 use Rattle.std.proofs.lemmas.List.{map-set, map_push, length-set, length-map, length_push, get_or_read, get_or_append_left}
+use Rattle.can_frame.specs.FrameValue.{FrameValue}
 use Rattle.bus_ledger.specs.BusValue.{SeatValue, SeatBook, Traffic, BusValue, no_book, seat_at}
-use Rattle.bus_ledger.specs.Changes.{newcomer, joined, sending, leaving, left, carried_frame, carried_from}
+use Rattle.bus_ledger.specs.Changes.{newcomer, joined, sending, leaving, left, carried_frame, carried_from, injected, stray_frame}
 use Rattle.bus_ledger.specs.Carrying.{IsNext}
 use Rattle.bus_ledger.specs.Ledger.{IsSound}
 use Rattle.bus_ledger.specs.Inside.{seat_of, traffic_of, view_of, live_numbers, IsKept}
 use Rattle.bus_ledger.specs.declared.bus.Bus.TheInside.{Inside}
 use Rattle.bus_ledger.specs.declared.traffic.QueuedFrame.{QueuedFrame}
-use Rattle.bus_ledger.specs.Window.{WindowValue, window_of, taken_in}
-use Rattle.bus_ledger.proofs.Windows.{window_set, window_same, window_carried, taken_size}
+use Rattle.bus_ledger.specs.Window.{WindowValue, window_of, pushed, taken_in}
+use Rattle.bus_ledger.proofs.Windows.{window_set, window_same, window_carried, window_injected, taken_size}
 use Rattle.bus_ledger.proofs.Live.{live_set, live_push, live_left}
 use Rattle.bus_ledger.proofs.Seats.{within, seat_is, sound_set, station_given, balanced_leaving}
-use Rattle.bus_ledger.proofs.Sounds.{sound_carried, sound_joined, live_within, offer_says, first_rest}
+use Rattle.bus_ledger.proofs.Sounds.{sound_carried, sound_injected, sound_joined, live_within, offer_says, first_rest}
 
 -- the seat of an offer was given
 pub next_within : (t : Traffic) (k : ℕ) (q : QueuedFrame) → IsNext t k q → k < length t.seats
@@ -123,4 +124,29 @@ leave_kept a b v k x y is kept above h read e wire seats live window =
       live = live ∙ (ap (filter (λ n. not (n == k))) kept.live ∙ (sym (live_left 0 a.seats.items k k y (omega arith) in' (ap (λ (z : SeatValue). z.live) e)) ∙ ap (live_numbers 0) (sym seats)));
       few_seats = let n = ap length seats ∙ length-set a.seats.items k y in let f = kept.few_seats in omega arith;
       few_frames = let m = ap length wire in let f = kept.few_frames in omega arith;
+    }
+
+-- the value after a frame from outside
+pub inject_traffic : (a b : Inside) (v : BusValue) (f : FrameValue) → view_of a ≡ v → b.wire.items ≡ a.wire.items ++ stray_frame f ∷ [] → b.seats.items ≡ a.seats.items → b.tap ≡ pushed f a.tap
+    → traffic_of b ≡ injected f v.traffic
+inject_traffic a b v f is wire seats tap =
+    let size : b.tap.size ≡ a.tap.size = ap (λ (w : WindowValue). w.size) tap in
+    let t : traffic_of b ≡ injected f (traffic_of a) = cc in
+    t ∙ ap (λ (w : BusValue). injected f w.traffic) is
+
+pub inject_kept : (a b : Inside) (v : BusValue) (f : FrameValue) → view_of a ≡ v → IsKept a → b.wire.items ≡ a.wire.items ++ stray_frame f ∷ [] → b.seats.items ≡ a.seats.items
+    → b.live.items ≡ a.live.items → b.tap ≡ pushed f a.tap → length v.traffic.wire + 1 < 2 ^ 32 → IsKept b
+inject_kept a b v f is kept wire seats live tap few =
+    let t = inject_traffic a b v f is wire seats tap in
+    let sound : IsSound v.traffic = subst (λ (w : BusValue). IsSound w.traffic) is kept.sound in
+    let given = station_given v.traffic sound in
+    let longer = length_push a.wire.items (stray_frame f) in
+    let same_wire : length a.wire.items ≡ length v.traffic.wire = ap (λ (w : BusValue). length w.traffic.wire) is in
+    let wire_now : length b.wire.items ≡ length (a.wire.items ++ stray_frame f ∷ []) = ap length wire in
+    record {
+      sound = subst IsSound (sym t) (sound_injected v.traffic f sound);
+      tap = tap ∙ (ap (pushed f) (kept.tap ∙ ap (λ (w : BusValue). window_of w.traffic) is) ∙ (window_injected v.traffic f (sound.seats 0 given).heard ∙ ap window_of (sym t)));
+      live = live ∙ (kept.live ∙ ap (live_numbers 0) (sym seats));
+      few_seats = let n = ap length seats in let m = kept.few_seats in omega arith;
+      few_frames = omega arith;
     }

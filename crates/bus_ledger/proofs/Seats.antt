@@ -1,5 +1,5 @@
 -- What a change of one seat does to the value of a bus.
-use Rattle.std.proofs.Common.{ℕ, suc, zero, ◌≡◌, ◌≢◌, ◌+◌, ◌<◌, ◌≤◌, List, [], ◌∷◌, map, length, get_or, set, drop, Bool, cond, true, false, not, Result, Ok, Err, OnOk, IfErr, refl, sym, ap, ◌∙◌, subst, arith, inl, inr, ◌-◌, nat_lt, if◌then◌else◌}
+use Rattle.std.proofs.Common.{ℕ, suc, zero, ◌≡◌, ◌≢◌, ◌+◌, ◌<◌, ◌≤◌, List, [], ◌∷◌, map, length, get_or, set, drop, Bool, cond, true, false, not, Some, Result, Ok, Err, OnOk, IfErr, refl, sym, ap, ◌∙◌, subst, arith, inl, inr, ◌-◌, nat_lt, if◌then◌else◌}
 use Rattle.std.proofs.lemmas.List.{map-set, length-set, length-drop, length-map, get_or_read, get_or-set_same, get_or-set_other, set-get_or, drop-drop, length_push}
 use Rattle.std.proofs.lemmas.List.Elements.{All-drop}
 use Rattle.std.specs.List.{All, filter}
@@ -140,7 +140,7 @@ balanced_hearing wire k n s h b = record {
   carried = b.carried;
   gone = b.gone;
   heard = h;
-  own = subst (λ (l : List CarriedFrame). All (λ c. c.seat ≢ k) l) (drop-drop n s.heard wire) (All-drop (λ (c : CarriedFrame). c.seat ≢ k) n (drop s.heard wire) b.own);
+  own = subst (λ (l : List CarriedFrame). All (λ c. c.seat ≢ Some k) l) (drop-drop n s.heard wire) (All-drop (λ (c : CarriedFrame). c.seat ≢ Some k) n (drop s.heard wire) b.own);
 }
 
 -- the same at what callers see, for each change of a seat

@@ -6,9 +6,10 @@ use Rattle.std.proofs.lemmas.List.{length-set, length_push, get_or-set_same, get
 use Rattle.std.proofs.lemmas.List.Elements.{All-push, All-nil, All-head, All-tail, All-weaker}
 use Rattle.std.proofs.lemmas.List.Sums.{sum_by_push, sum_by-cons}
 use Rattle.bus_ledger.specs.BusValue.{SeatValue, Traffic, nobody, seat_at}
-use Rattle.bus_ledger.specs.Changes.{newcomer, joined, sending, carried_frame, carried_from}
+use Rattle.can_frame.specs.FrameValue.{FrameValue}
+use Rattle.bus_ledger.specs.Changes.{newcomer, joined, sending, carried_frame, carried_from, stray_frame, injected}
 use Rattle.bus_ledger.specs.Carrying.{offered, offer}
-use Rattle.bus_ledger.specs.Ledger.{IsBalanced, IsSound, is_from}
+use Rattle.bus_ledger.specs.Ledger.{IsBalanced, IsGiven, IsSound, is_from, is_seat}
 use Rattle.bus_ledger.specs.declared.traffic.QueuedFrame.{QueuedFrame}
 use Rattle.bus_ledger.specs.declared.traffic.CarriedFrame.{CarriedFrame}
 use Rattle.bus_ledger.proofs.Numbers.{same_or_not}
@@ -46,7 +47,7 @@ balanced_sending wire k q s o b =
       gone = λ e. let live = o.live in absurd cc;
       heard = let h = o.heard in omega arith;
       own = let past : length (wire ++ carried_frame k q ∷ []) ≤ s.heard + 1 = (let h = o.heard in omega arith) in
-          subst (λ (l : List CarriedFrame). All (λ c. c.seat ≢ k) l) (sym (drop_all (s.heard + 1) (wire ++ carried_frame k q ∷ []) past)) (All-nil (λ (c : CarriedFrame). c.seat ≢ k));
+          subst (λ (l : List CarriedFrame). All (λ c. c.seat ≢ Some k) l) (sym (drop_all (s.heard + 1) (wire ++ carried_frame k q ∷ []) past)) (All-nil (λ (c : CarriedFrame). c.seat ≢ Some k));
     }
 
 balanced_other : (wire : List CarriedFrame) (j k : ℕ) (q : QueuedFrame) (s : SeatValue) → j ≢ k → IsBalanced wire j s → IsBalanced (wire ++ carried_frame k q ∷ []) j s
@@ -61,8 +62,8 @@ balanced_other wire j k q s n b =
           omega arith;
       gone = b.gone;
       heard = let h = b.heard in omega arith;
-      own = subst (λ (l : List CarriedFrame). All (λ c. c.seat ≢ j) l) (sym (drop-append-le s.heard wire (carried_frame k q ∷ []) b.heard))
-          (All-push (λ (c : CarriedFrame). c.seat ≢ j) (drop s.heard wire) (carried_frame k q) b.own (λ e. n (sym e)));
+      own = subst (λ (l : List CarriedFrame). All (λ c. c.seat ≢ Some j) l) (sym (drop-append-le s.heard wire (carried_frame k q ∷ []) b.heard))
+          (All-push (λ (c : CarriedFrame). c.seat ≢ Some j) (drop s.heard wire) (carried_frame k q) b.own (λ e. n (let same : j ≡ k = cc in same)));
     }
 
 pub sound_carried : (t : Traffic) (k : ℕ) (q : QueuedFrame) → IsSound t → k < length t.seats → offer t k ≡ Some q → IsSound (carried_from k q t)
@@ -75,7 +76,7 @@ sound_carried t k q s in' o =
         | inr n ↦ rw get_or-set_other s.station
       ];
       window = s.window;
-      senders = rw (length-set t.seats k y) (All-push (λ (c : CarriedFrame). c.seat < length t.seats) t.wire (carried_frame k q) s.senders in');
+      senders = rw (length-set t.seats k y) (All-push (λ (c : CarriedFrame). IsGiven (length t.seats) c.seat) t.wire (carried_frame k q) s.senders in');
       seats = λ j h.
           let h' : j < length t.seats = rw (sym (length-set t.seats k y)) h in
           elim (same_or_not j k) [
@@ -85,22 +86,30 @@ sound_carried t k q s in' o =
     }
 
 -- no frame is from a seat that was not given yet
-count_none : (k : ℕ) (wire : List CarriedFrame) → All (λ c. c.seat < k) wire → count_by (is_from k) wire ≡ 0
+given_other : (k : ℕ) (o : Option ℕ) → IsGiven k o → is_seat k o ≡ false
+given_other k None g = refl
+given_other k (Some j) g = ne_eqb j k (λ e. omega arith)
+
+given_more : (n m : ℕ) (o : Option ℕ) → n ≤ m → IsGiven n o → IsGiven m o
+given_more n m None l g = tt
+given_more n m (Some j) l g = omega arith
+
+count_none : (k : ℕ) (wire : List CarriedFrame) → All (λ c. IsGiven k c.seat) wire → count_by (is_from k) wire ≡ 0
 count_none k [] all = refl
 count_none k (c ∷ cs) all =
-    let first : c.seat < k = All-head (λ (c : CarriedFrame). c.seat < k) c cs all in
-    let rest = count_none k cs (All-tail (λ (c : CarriedFrame). c.seat < k) c cs all) in
+    let first : IsGiven k c.seat = All-head (λ (c : CarriedFrame). IsGiven k c.seat) c cs all in
+    let rest = count_none k cs (All-tail (λ (c : CarriedFrame). IsGiven k c.seat) c cs all) in
     let step = sum_by-cons (λ (c : CarriedFrame). cond {A = ℕ} (is_from k c) 1 0) c cs in
-    let none : cond {A = ℕ} (is_from k c) 1 0 ≡ 0 = (let t : nat_eq c.seat k ≡ false = ne_eqb c.seat k (λ e. omega arith) in rw t refl) in
+    let none : cond {A = ℕ} (is_from k c) 1 0 ≡ 0 = (let t : is_seat k c.seat ≡ false = given_other k c.seat first in rw t refl) in
     omega arith
 
-balanced_newcomer : (wire : List CarriedFrame) (k name : ℕ) → All (λ c. c.seat < k) wire → IsBalanced wire k (newcomer name (length wire))
+balanced_newcomer : (wire : List CarriedFrame) (k name : ℕ) → All (λ c. IsGiven k c.seat) wire → IsBalanced wire k (newcomer name (length wire))
 balanced_newcomer wire k name all = record {
   ledger = refl;
   carried = sym (count_none k wire all);
   gone = λ e. refl;
   heard = omega arith;
-  own = subst (λ (l : List CarriedFrame). All (λ c. c.seat ≢ k) l) (sym (drop_all (length wire) wire (omega arith))) (All-nil (λ (c : CarriedFrame). c.seat ≢ k));
+  own = subst (λ (l : List CarriedFrame). All (λ c. c.seat ≢ Some k) l) (sym (drop_all (length wire) wire (omega arith))) (All-nil (λ (c : CarriedFrame). c.seat ≢ Some k));
 }
 
 pub live_within : (xs : List SeatValue) (k : ℕ) → (get_or xs k nobody).live ≡ true → k < length xs
@@ -118,9 +127,33 @@ sound_joined t name s =
     record {
       station = first_stays t name s;
       window = s.window;
-      senders = All-weaker (λ (c : CarriedFrame). c.seat < length t.seats) (λ (c : CarriedFrame). c.seat < length (t.seats ++ y ∷ [])) (λ c h. omega arith) t.wire s.senders;
+      senders = All-weaker (λ (c : CarriedFrame). IsGiven (length t.seats) c.seat) (λ (c : CarriedFrame). IsGiven (length (t.seats ++ y ∷ [])) c.seat) (λ c h. given_more (length t.seats) (length (t.seats ++ y ∷ [])) c.seat (omega arith) h) t.wire s.senders;
       seats = λ j h. elim (same_or_not j (length t.seats)) [
         | inl e ↦ let e' : length t.seats ≡ j = sym e in rw get_or_push (subst (λ (n : ℕ). IsBalanced t.wire n y) e' (balanced_newcomer t.wire (length t.seats) name s.senders))
         | inr n ↦ let h' : j < length t.seats = omega arith in rw get_or_append_left (s.seats j h')
       ];
     }
+
+-- a frame from outside is no seat's
+balanced_stray : (wire : List CarriedFrame) (k : ℕ) (f : FrameValue) (s : SeatValue) → IsBalanced wire k s → IsBalanced (wire ++ stray_frame f ∷ []) k s
+balanced_stray wire k f s b =
+    let longer = length_push wire (stray_frame f) in
+    record {
+      ledger = b.ledger;
+      carried =
+          let more = sum_by_push (λ (c : CarriedFrame). cond {A = ℕ} (is_from k c) 1 0) wire (stray_frame f) in
+          let old = b.carried in
+          omega arith;
+      gone = b.gone;
+      heard = let h = b.heard in omega arith;
+      own = subst (λ (l : List CarriedFrame). All (λ c. c.seat ≢ Some k) l) (sym (drop-append-le s.heard wire (stray_frame f ∷ []) b.heard))
+          (All-push (λ (c : CarriedFrame). c.seat ≢ Some k) (drop s.heard wire) (stray_frame f) b.own (λ e. cc));
+    }
+
+pub sound_injected : (t : Traffic) (f : FrameValue) → IsSound t → IsSound (injected f t)
+sound_injected t f s = record {
+  station = s.station;
+  window = s.window;
+  senders = All-push (λ (c : CarriedFrame). IsGiven (length t.seats) c.seat) t.wire (stray_frame f) s.senders tt;
+  seats = λ k h. balanced_stray t.wire k f (seat_at t k) (s.seats k h);
+}

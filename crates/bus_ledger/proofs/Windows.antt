@@ -7,7 +7,7 @@ use Rattle.can_frame.specs.FrameValue.{FrameValue}
 use Rattle.can_frame.specs.declared.reading.Reading.{Reading}
 use Rattle.can_frame.specs.declared.reading.Reading.TheVariants.{Gap}
 use Rattle.bus_ledger.specs.BusValue.{SeatValue, Traffic, nobody, seat_at}
-use Rattle.bus_ledger.specs.Changes.{with_seat, hearing, heard_more, sending, carried_frame, carried_from}
+use Rattle.bus_ledger.specs.Changes.{with_seat, hearing, heard_more, sending, carried_frame, carried_from, injected, stray_frame}
 use Rattle.bus_ledger.specs.Reception.{unread, first_reading, next_reading, after_reading, passes}
 use Rattle.bus_ledger.specs.Window.{WindowValue, window, pushed, taken_in, first_of, reading_of, rest_of, seen_through, frame_of, window_of}
 use Rattle.bus_ledger.specs.declared.traffic.QueuedFrame.{QueuedFrame}
@@ -146,3 +146,10 @@ window_carried t k q in' heard within =
           let test : nat_eq k 0 ≡ false = ne_eqb k 0 n in
           rw test (other_carried t k q n within)
     ]
+
+-- after a frame from outside
+pub window_injected : (t : Traffic) (f : FrameValue) → (seat_at t 0).heard ≤ length t.wire → pushed f (window_of t) ≡ window_of (injected f t)
+window_injected t f within =
+    let more : unread (injected f t) ≡ unread t ++ stray_frame f ∷ [] = drop-append-le (seat_at t 0).heard t.wire (stray_frame f ∷ []) within in
+    seen_push t.window (map frame_of (unread t)) f
+    ∙ ap (seen_through t.window) (sym (ap (map frame_of) more ∙ map_push frame_of (unread t) (stray_frame f)))

@@ -75,7 +75,7 @@ abbrev pub sending : SeatValue → SeatValue
 sending s = record s { queue = drop 1 s.queue; carried = s.carried + 1; heard = s.heard + 1 }
 
 abbrev pub carried_frame : ℕ → QueuedFrame → CarriedFrame
-carried_frame k q = record { seat = k; frame = q.frame; tag = q.tag }
+carried_frame k q = record { seat = Some k; frame = q.frame; tag = q.tag }
 
 -- a frame of this seat goes from the front of its queue to the end of the wire, its tag with it
 abbrev pub carried_from : ℕ → QueuedFrame → Traffic → Traffic
@@ -84,3 +84,11 @@ carried_from k q t = record {
   seats = slice_set t.seats k (sending (seat_at t k));
   window = t.window;
 }
+
+-- a frame from outside: no seat's, and no part of a message
+abbrev pub stray_frame : FrameValue → CarriedFrame
+stray_frame f = record { seat = None; frame = f; tag = None }
+
+-- it stands at the end of the wire
+abbrev pub injected : FrameValue → Traffic → Traffic
+injected f t = record t { wire = t.wire ++ stray_frame f ∷ [] }

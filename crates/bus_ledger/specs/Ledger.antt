@@ -1,5 +1,5 @@
 -- What becomes of every frame.
-use Rattle.std.specs.Prelude.{ℕ, ◌≡◌, ◌≢◌, ◌+◌, ◌<◌, ◌≤◌, Bool, false, true, ◌==◌, List, [], drop, length}
+use Rattle.std.specs.Prelude.{ℕ, ◌≡◌, ◌≢◌, ◌+◌, ◌<◌, ◌≤◌, Bool, false, true, ◌==◌, List, [], drop, length, Option, Some, None}
 use Rattle.std.specs.List.{All, count_by}
 use Rattle.bus_ledger.specs.declared.traffic.Counts.{Counts}
 use Rattle.bus_ledger.specs.declared.traffic.CarriedFrame.{CarriedFrame}
@@ -8,8 +8,17 @@ use Rattle.bus_ledger.specs.BusValue.{SeatValue, Traffic, seat_at}
 abbrev pub counts_of : SeatValue → Counts
 counts_of s = record { queued = s.queued; carried = s.carried; withdrawn = s.withdrawn; waiting = length s.queue }
 
+abbrev pub is_seat : ℕ → Option ℕ → Bool
+is_seat k None = false
+is_seat k (Some j) = j == k
+
 abbrev pub is_from : ℕ → CarriedFrame → Bool
-is_from k c = c.seat == k
+is_from k c = is_seat k c.seat
+
+-- a frame's seat is one of those given; one from outside has none
+abbrev pub IsGiven : ℕ → Option ℕ → Type 0
+IsGiven seats None = Unit {0}
+IsGiven seats (Some k) = k < seats
 
 -- each frame queued was carried, was withdrawn or waits; those carried stand on the wire; nothing waits after a leave;
 -- a seat has heard a front of the wire, and its own frames are among that
@@ -18,11 +27,11 @@ pub record IsBalanced (wire : List CarriedFrame) (k : ℕ) (s : SeatValue) : Typ
   pub carried : s.carried ≡ count_by (is_from k) wire
   pub gone : s.live ≡ false → s.queue ≡ []
   pub heard : s.heard ≤ length wire
-  pub own : All (λ c. c.seat ≢ k) (drop s.heard wire)
+  pub own : All (λ c. c.seat ≢ Some k) (drop s.heard wire)
 
 -- what holds of every bus
 pub record IsSound (t : Traffic) : Type 0 where
   pub station : (seat_at t 0).live ≡ true
   pub window : (0 < t.window) × (t.window ≤ 4096)
-  pub senders : All (λ c. c.seat < length t.seats) t.wire
+  pub senders : All (λ c. IsGiven (length t.seats) c.seat) t.wire
   pub seats : (k : ℕ) → k < length t.seats → IsBalanced t.wire k (seat_at t k)

@@ -44,7 +44,7 @@ impl Bus {
     ghost use Rattle.std.specs.Option.{option_map, SomeIff};
     ghost use Rattle.std.specs.Result.{result_err};
     ghost use Rattle.bus_ledger.specs.BusValue.{IsLive, IsUnit, KeepsSpares, seat_at, spare_at};
-    ghost use Rattle.bus_ledger.specs.Changes.{carried_from, heard_more, joined, kept, left, new_traffic, queued, queued_frame, withdrawn};
+    ghost use Rattle.bus_ledger.specs.Changes.{carried_from, heard_more, injected, joined, kept, left, new_traffic, queued, queued_frame, withdrawn};
     ghost use Rattle.bus_ledger.specs.Joining.{join_refusal};
     ghost use Rattle.bus_ledger.specs.Carrying.{CanCarry, Carries, IsChoice, IsNext, offer};
     ghost use Rattle.bus_ledger.specs.Reception.{after_reading, next_reading, unread};
@@ -215,7 +215,7 @@ impl Bus {
         };
         self.wire.reserve(1)?;
         self.wire.push_reserved(CarriedFrame {
-            seat,
+            seat: Some(seat),
             frame: queued.frame,
             tag: queued.tag,
         });
@@ -226,6 +226,27 @@ impl Bus {
             seat,
             frame: queued.frame,
         })
+    }
+
+    /// Puts a frame from outside at the end of the wire at once. Every seat hears it, the station reads it, and it counts as
+    /// no seat's.
+    ///
+    /// Refused where there is no memory; then nothing changed.
+    pub fn inject(&mut self, frame: Frame) -> Result<(), BusError>
+        requires { length self.old.traffic.wire + 1 < 2 ^ 32 }
+        ensures ok { OnOk result (self.new.traffic ≡ injected frame self.old.traffic) }
+        ensures err { IfErr result (λ e. (e ≡ BusError.OutOfMemory) × (self.new.traffic ≡ self.old.traffic)) }
+        ensures spares { self.new.spares ≡ self.old.spares }
+    {
+        let stray = CarriedFrame {
+            seat: None,
+            frame,
+            tag: None,
+        };
+        self.wire.reserve(1)?;
+        self.wire.push_reserved(stray);
+        self.tap.push(frame);
+        Ok(())
     }
 
     /// What `carry` would answer, want of memory aside.
@@ -266,7 +287,7 @@ impl Bus {
     /// the oldest unread frame, or that there is none. The station's own frames are no readings.
     pub fn tap_peek(&self) -> Reading
         ensures reading { result ≡ next_reading self.now.traffic }
-        ensures others { All (λ c. c.seat ≢ 0) (unread self.now.traffic) }
+        ensures others { All (λ c. c.seat ≢ Some 0) (unread self.now.traffic) }
         ensures sound { IsSound self.now.traffic }
     {
         self.tap.peek()
@@ -275,7 +296,7 @@ impl Bus {
     /// Takes the station's next reading. The frames of a gap are passed over.
     pub fn tap_next(&mut self) -> Reading
         ensures reading { result ≡ next_reading self.old.traffic }
-        ensures others { All (λ c. c.seat ≢ 0) (unread self.old.traffic) }
+        ensures others { All (λ c. c.seat ≢ Some 0) (unread self.old.traffic) }
         ensures traffic { self.new.traffic ≡ after_reading result self.old.traffic }
         ensures spares { KeepsSpares self.old self.new }
     {

@@ -1,5 +1,5 @@
 ghost use Rattle.std.specs.Prelude.{◌≡◌, ◌-◌, ◌<◌, ◌^◌, [], IfOk};
-ghost use Rattle.bus_ledger.specs.Window.{window, taken_in, reading_of, rest_of};
+ghost use Rattle.bus_ledger.specs.Window.{window, pushed, taken_in, reading_of, rest_of};
 
 use can_frame::{Frame, Reading};
 use circular_buffer::HeapCircularBuffer;
@@ -37,13 +37,22 @@ impl Tap {
         })
     }
 
-    /// A frame was carried from a seat. The station's own is no reading; any other comes in, and where the ring is full the
-    /// oldest one goes out of it, and counts as missed.
+    /// A frame was carried from a seat. The station's own is no reading; any other comes in.
     pub(crate) fn take_in(&mut self, seat: u32, frame: Frame)
         requires { self.old.missed < 2 ^ 32 - 1 }
         ensures { self.new ≡ taken_in seat frame self.old }
     {
-        if seat != 0 && self.ring.push_back(frame).is_some() {
+        if seat != 0 {
+            self.push(frame);
+        }
+    }
+
+    /// A frame comes in, and where the ring is full the oldest one goes out of it, and counts as missed.
+    pub(crate) fn push(&mut self, frame: Frame)
+        requires { self.old.missed < 2 ^ 32 - 1 }
+        ensures { self.new ≡ pushed frame self.old }
+    {
+        if self.ring.push_back(frame).is_some() {
             self.missed += 1;
         }
     }

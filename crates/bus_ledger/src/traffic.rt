@@ -33,10 +33,10 @@ impl QueuedFrame {
     }
 }
 
-/// A frame on the wire, and the seat that it came from.
+/// A frame on the wire, and the seat that it came from: none where it was put there from outside.
 #[derive(Clone, Copy, Debug, PartialEq, Eq)]
 pub struct CarriedFrame {
-    pub seat: u32,
+    pub seat: Option<u32>,
     pub frame: Frame,
     pub tag: Option<Tag>,
 }

@@ -1,5 +1,5 @@
 -- A unit that hears its next frame takes the step of the law's machine.
-use Rattle.std.proofs.Common.{ℕ, suc, zero, ◌≡◌, ◌-◌, ◌<◌, List, ◌∷◌, ◌++◌, reverse, drop, length, get_or, set, slice_get, Bool, true, Option, Some, None, option_map, refl, sym, ap, ◌∙◌, subst, arith}
+use Rattle.std.proofs.Common.{ℕ, suc, zero, ◌≡◌, ◌-◌, ◌<◌, List, ◌∷◌, ◌++◌, reverse, drop, length, get_or, set, slice_get, true, Option, Some, None, option_map, refl, sym, ap, ◌∙◌, subst, arith}
 use Rattle.std.proofs.lemmas.Option.{slice_get-get_or, slice_get-map}
 use Rattle.can_frame.specs.FrameValue.{FrameValue}
 use Rattle.parameter_group.specs.Group.{Group, group_of}

@@ -7,8 +7,8 @@ use Rattle.journal.specs.Steps.{after_read, next_for, order_answer}
 use Rattle.journal.specs.Fits.{Fits}
 use Rattle.journal.specs.Journal.{AllFit, readings_of, state_after}
 use Rattle.journal.specs.declared.event.Event.{Event}
-use Rattle.journal.specs.declared.event.Event.TheVariants.{Join, Hear, Begin, Turned, Carry, Read, Ordered, Leave}
-use Rattle.journal.proofs.Station.{begin_same, carry_same, hear_same, join_same, leave_same, next_is, order_same, readings_more}
+use Rattle.journal.specs.declared.event.Event.TheVariants.{Join, Hear, Begin, Turned, Carry, Read, Ordered, Leave, Inject}
+use Rattle.journal.proofs.Station.{begin_same, carry_same, hear_same, inject_same, join_same, leave_same, next_is, order_same, readings_more}
 
 read_more : (s : State) (x : Reading) → Fits s (Read x) → readings (after_read x s).path ≡ x ∷ readings s.path
 unfolding after_read
@@ -25,3 +25,4 @@ path_readings r (Carry k ∷ older) f = (carry_same _ k (state_after r older)).r
 path_readings r (Read x ∷ older) f = read_more (state_after r older) x f.0 ∙ ap (λ (h : List Reading). x ∷ h) (path_readings r older f.1)
 path_readings r (Ordered o ∷ older) f = (order_same (order_answer (state_after r older).station o) (state_after r older)).readings' ∙ path_readings r older f.1
 path_readings r (Leave k ∷ older) f = (leave_same k (state_after r older)).readings' ∙ path_readings r older f.1
+path_readings r (Inject x ∷ older) f = (inject_same x (state_after r older)).readings' ∙ path_readings r older f.1

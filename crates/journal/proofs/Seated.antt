@@ -11,7 +11,7 @@ use Rattle.bus_model.specs.Machine.{Seat, CanHold}
 use Rattle.dm_messages.specs.View.{pgn_of_kind}
 use Rattle.node_core.specs.declared.session.OpenSession.{OpenSession}
 use Rattle.journal.specs.State.{Settings, State, UnitState, new_unit}
-use Rattle.journal.specs.Steps.{message_numbered}
+use Rattle.journal.specs.Steps.{message_numbered, number_of}
 use Rattle.journal.specs.Worlds.{items_of, queue_of}
 
 -- a tag names a message begun, and says whether it is a session
@@ -67,7 +67,7 @@ no_seat = record { number = 0; name = 0; live = false; held = None; queue = []; 
 
 -- a carried frame's seat was given, and its tag names a message begun
 pub record IsCarried (begun : List Message) (seats : ℕ) (c : CarriedFrame) : Type 0 where
-  pub seat : c.seat < seats
+  pub seat : number_of c.seat < seats
   pub known : IsKnown begun c.tag
 
 abbrev pub AreCarried : List Message → ℕ → List CarriedFrame → Type 0

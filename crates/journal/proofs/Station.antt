@@ -27,11 +27,11 @@ use Rattle.station_table.specs.declared.error.StationError.{StationError}
 use Rattle.station_table.specs.declared.reaction.Reaction.{Reaction}
 use Rattle.station_table.proofs.Stands.{stands_new, stands_after}
 use Rattle.journal.specs.State.{Settings, State, start, unit_at}
-use Rattle.journal.specs.Steps.{after, after_join, after_hear_of, after_begin_of, after_starting, after_carry_of, after_read, after_order_of, after_leave, item_of, next_for, order_answer, path_after}
+use Rattle.journal.specs.Steps.{after, after_join, after_hear_of, after_begin_of, after_starting, after_carry_of, after_read, after_order_of, after_leave, after_inject, item_of, next_for, order_answer, path_after}
 use Rattle.journal.specs.Fits.{Fits}
 use Rattle.journal.specs.Worlds.{station_of}
 use Rattle.journal.specs.declared.event.Event.{Event}
-use Rattle.journal.specs.declared.event.Event.TheVariants.{Join, Hear, Begin, Turned, Carry, Read, Ordered, Leave}
+use Rattle.journal.specs.declared.event.Event.TheVariants.{Join, Hear, Begin, Turned, Carry, Read, Ordered, Leave, Inject}
 
 -- the station's tables say what it read
 abbrev pub AtStation : Settings → State → Type 0
@@ -88,6 +88,10 @@ pub leave_same : (k : ℕ) (s : State) → SameStation s (after_leave k s)
 unfolding after_leave
 leave_same k s = record { station = refl; readings' = refl }
 
+pub inject_same : (f : FrameValue) (s : State) → SameStation s (after_inject f s)
+unfolding after_inject
+inject_same f s = record { station = refl; readings' = refl }
+
 -- ---- readings
 
 -- what stands behind the next reading: the oldest unread frame, or as many as the window was overrun by
@@ -127,3 +131,4 @@ station_stands r (Carry k) s at fits = same_at r s _ (carry_same _ k s) at
 station_stands r (Read x) s at fits = read_at r s x (next_is s.traffic x fits.0 fits.1) at
 station_stands r (Ordered o) s at fits = same_at r s _ (order_same (order_answer s.station o) s) at
 station_stands r (Leave k) s at fits = same_at r s _ (leave_same k s) at
+station_stands r (Inject f) s at fits = same_at r s _ (inject_same f s) at

@@ -20,7 +20,7 @@ use Rattle.station_table.specs.declared.reaction.Reaction.{Reaction}
 use Rattle.journal.specs.Steps.{order_answer, next_for}
 use Rattle.journal.specs.State.{State, unit_at}
 use Rattle.journal.specs.declared.event.Event.{Event}
-use Rattle.journal.specs.declared.event.Event.TheVariants.{Join, Hear, Begin, Turned, Carry, Read, Ordered, Leave}
+use Rattle.journal.specs.declared.event.Event.TheVariants.{Join, Hear, Begin, Turned, Carry, Read, Ordered, Leave, Inject}
 
 -- a unit answered to what the frame put to it, and to nothing else
 abbrev pub IsAnswered : NodeValue → Option FrameValue → Answer → Type 0
@@ -38,3 +38,4 @@ Fits s (Carry k) = (q : QueuedFrame) × IsNext s.traffic k q
 Fits s (Read r) = (r ≡ next_reading s.traffic) × (r ≢ Empty)
 Fits s (Ordered order) = (r : Reaction) × (order_answer s.station order ≡ Ok r)
 Fits s (Leave k) = IsUnit s.traffic k
+Fits s (Inject frame) = Unit {0}

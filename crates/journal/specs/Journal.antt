@@ -4,7 +4,7 @@ use Rattle.bus_ledger.specs.BusValue.{IsUnit, seat_at}
 use Rattle.dm_messages.specs.declared.kind.Kind.{Kind}
 use Rattle.dm_messages.specs.declared.shown.Shown.{Shown}
 use Rattle.bus_model.specs.Expected.{expected}
-use Rattle.bus_model.specs.Heard.{address_heard, address_known}
+use Rattle.bus_model.specs.Heard.{address_heard, address_known, entries_heard}
 use Rattle.bus_model.specs.Machine.{IsFit}
 use Rattle.journal.specs.Worlds.{station_of}
 use Rattle.can_frame.specs.declared.reading.Reading.{Reading}
@@ -12,7 +12,7 @@ use Rattle.journal.specs.State.{State, Settings, start}
 use Rattle.journal.specs.Steps.{after}
 use Rattle.journal.specs.Fits.{Fits}
 use Rattle.journal.specs.declared.event.Event.{Event}
-use Rattle.journal.specs.declared.event.Event.TheVariants.{Join, Hear, Begin, Turned, Carry, Read, Ordered, Leave}
+use Rattle.journal.specs.declared.event.Event.TheVariants.{Join, Hear, Begin, Turned, Carry, Read, Ordered, Leave, Inject}
 use Rattle.journal.specs.declared.tally.Tally.{Tally}
 
 -- a garage as contracts see it
@@ -61,6 +61,7 @@ tallied k before (Carry j) t = t
 tallied k before (Read r) t = t
 tallied k before (Ordered order) t = t
 tallied k before (Leave j) t = if j == k then one_more (record t { left = t.left + 1 }) else t
+tallied k before (Inject frame) t = t
 
 -- what the journal tells of a seat
 unfoldable pub tally_of : ℕ → List Event → Tally
@@ -79,6 +80,12 @@ readings_of [] = []
 readings_of (Read reading ∷ older) = reading ∷ readings_of older
 readings_of (_ ∷ older) = readings_of older
 
+-- how many frames were put on the bus from outside
+unfoldable pub injected_of : List Event → ℕ
+injected_of [] = 0
+injected_of (Inject frame ∷ older) = injected_of older + 1
+injected_of (_ ∷ older) = injected_of older
+
 -- the station's own address, as its readings tell
 abbrev pub own_address : GarageValue → Option ℕ
 own_address g = address_heard (station_of g.settings) (readings_of g.journal)
@@ -86,6 +93,10 @@ own_address g = address_heard (station_of g.settings) (readings_of g.journal)
 -- the address that its readings tell of a NAME
 abbrev pub known_address : GarageValue → ℕ → Option ℕ
 known_address g n = address_known (station_of g.settings) n (readings_of g.journal)
+
+-- what the station lists under a NAME: what was heard of the readings that it took, whoever sent the frames, the oldest first
+abbrev pub listed_of : GarageValue → ℕ → Kind → List Shown
+listed_of g n k = reverse (entries_heard (station_of g.settings) n k (readings_of g.journal))
 
 -- what a garage is to show of a NAME: of its messages of that kind, those that came to the station on a clear path, in the
 -- order begun, each as the view of the fault memory with which it began

@@ -1,5 +1,5 @@
 -- What each event changes. An event that nothing fits leaves the state as it is.
-use Rattle.std.specs.Prelude.{ℕ, ◌-◌, Bool, true, false, not, ◌==◌, List, [], ◌∷◌, ◌++◌, map, reverse, take, length, Option, Some, None, Result, Ok, Err, slice_get, slice_set, if◌then◌else◌}
+use Rattle.std.specs.Prelude.{ℕ, ◌-◌, ◌^◌, Bool, true, false, not, ◌==◌, List, [], ◌∷◌, ◌++◌, map, reverse, take, length, Option, Some, None, Result, Ok, Err, slice_get, slice_set, if◌then◌else◌}
 use Rattle.std.specs.Option.{option_map}
 use Rattle.can_frame.specs.FrameValue.{FrameValue}
 use Rattle.can_frame.specs.declared.reading.Reading.{Reading}
@@ -8,7 +8,7 @@ use Rattle.address_claim.specs.Frames.{claim_frame_value}
 use Rattle.fault_memory.specs.Memory.{MemoryValue}
 use Rattle.dm_messages.specs.declared.kind.Kind.TheVariants.{Dm1}
 use Rattle.bus_ledger.specs.BusValue.{Traffic, seat_at}
-use Rattle.bus_ledger.specs.Changes.{queued, queued_frame, joined, heard_more, withdrawn, left, carried_from, carried_frame}
+use Rattle.bus_ledger.specs.Changes.{queued, queued_frame, joined, heard_more, withdrawn, left, carried_from, carried_frame, injected}
 use Rattle.bus_ledger.specs.Reception.{unread, after_reading as taken}
 use Rattle.bus_ledger.specs.declared.traffic.Tag.{Tag}
 use Rattle.bus_ledger.specs.declared.traffic.QueuedFrame.{QueuedFrame}
@@ -41,7 +41,7 @@ use Rattle.journal.specs.declared.order.Order.TheVariants.{Ask, AskAll, Command}
 use Rattle.station_table.specs.declared.reaction.Reaction.{Reaction}
 use Rattle.journal.specs.State.{State, new_unit, unit_at}
 use Rattle.journal.specs.declared.event.Event.{Event}
-use Rattle.journal.specs.declared.event.Event.TheVariants.{Join, Hear, Begin, Turned, Carry, Read, Ordered, Leave}
+use Rattle.journal.specs.declared.event.Event.TheVariants.{Join, Hear, Begin, Turned, Carry, Read, Ordered, Leave, Inject}
 
 -- ---- queueing
 
@@ -129,9 +129,14 @@ abbrev pub part_of : List Message → Option Tag → Option PartOf
 part_of begun None = None
 part_of begun (Some t) = option_map (λ m. record { message = m; part = t.part }) (message_numbered t.message begun)
 
+-- the number of a frame's seat; a frame from outside has none, and bears one that no seat is given
+abbrev pub number_of : Option ℕ → ℕ
+number_of None = 2 ^ 32
+number_of (Some k) = k
+
 -- a carried frame with the number and the NAME of its seat and the message that it is a part of
 abbrev pub item_of : State → CarriedFrame → Item
-item_of s c = record { seat = c.seat; name = (seat_at s.traffic c.seat).name; frame = c.frame; tag = part_of s.begun c.tag }
+item_of s c = record { seat = number_of c.seat; name = (seat_at s.traffic (number_of c.seat)).name; frame = c.frame; tag = part_of s.begun c.tag }
 
 abbrev pub received : List Reception → Option Item → List Reception
 received path None = path
@@ -182,6 +187,10 @@ unfoldable pub after_order_of : Result Reaction StationError → State → State
 after_order_of (Err e) s = s
 after_order_of (Ok r) s = record s { traffic = reacted r s.traffic }
 
+-- a frame from outside
+unfoldable pub after_inject : FrameValue → State → State
+after_inject f s = record s { traffic = injected f s.traffic }
+
 abbrev pub after : Event → State → State
 after (Join name address) s = after_join name address s
 after (Hear k memory answered) s = after_hear_of (next_for s k) k memory answered s
@@ -191,3 +200,4 @@ after (Carry k) s = after_carry_of (slice_get (seat_at s.traffic k).queue 0) k s
 after (Read r) s = after_read r s
 after (Ordered order) s = after_order_of (order_answer s.station order) s
 after (Leave k) s = after_leave k s
+after (Inject frame) s = after_inject frame s

@@ -1,5 +1,5 @@
 use crate::order::Order;
-use can_frame::Reading;
+use can_frame::{Frame, Reading};
 use fault_memory::FaultMemory;
 use name_field::Name;
 use node_core::Answer;
@@ -42,5 +42,9 @@ pub enum Event {
     /// A unit went.
     Leave {
         seat: u32,
+    },
+    /// A frame that no seat sent was put on the wire from outside.
+    Inject {
+        frame: Frame,
     },
 }

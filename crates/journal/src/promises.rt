@@ -5,33 +5,34 @@ ghost use Rattle.bus_model.specs.Expected.{is_clear};
 ghost use Rattle.bus_model.specs.LawfulTraffic.{IsLawfulTraffic};
 ghost use Rattle.bus_model.specs.Messages.{Message, IsAmong};
 ghost use Rattle.bus_model.specs.Whole.{received_whole};
-ghost use Rattle.journal.specs.Journal.{GarageValue, Adds, shown_of, state_of};
+ghost use Rattle.journal.specs.Journal.{GarageValue, Adds, injected_of, shown_of, state_of};
 ghost use Rattle.journal.specs.declared.event.Event.{Event};
 ghost use Rattle.journal.specs.Promises.{IsFromOwner, IsLawful, KeepsLists, wire_of};
 
-/// Lawful traffic: in every garage each frame of a message is that part of it and comes from its seat, and parts stand in
+/// Lawful traffic: in every garage into which no frame came from outside each frame of a message is that part of it and comes from its seat, and parts stand in
 /// their order.
 pub fn traffic_is_lawful()
-    ensures { (g : GarageValue) → IsLawful g → IsLawfulTraffic (state_of g).begun (wire_of (state_of g)) }
+    ensures { (g : GarageValue) → IsLawful g → injected_of g.journal ≡ 0 → IsLawfulTraffic (state_of g).begun (wire_of (state_of g)) }
 {}
 
 /// Who sends holds the address: before each frame of a message the last claim of its source bears the NAME of its seat.
 pub fn who_sends_holds_the_address()
-    ensures { (g : GarageValue) → IsLawful g → (i : ℕ) → IsFromOwner (state_of g) i }
+    ensures { (g : GarageValue) → IsLawful g → injected_of g.journal ≡ 0 → (i : ℕ) → IsFromOwner (state_of g) i }
 {}
 
 /// Quiet addresses: where nothing was missed, the entries to be shown are the views of all messages whose last part was
 /// read, in the order begun; so in particular where each address is claimed under one NAME only.
 pub fn nothing_missed_shows_all()
-    ensures { (g : GarageValue) → IsLawful g → NoneMissed (state_of g).path → (n : ℕ) (k : Kind) → shown_of g n k ≡ reverse (received_whole n k (state_of g).begun (state_of g).path) }
+    ensures { (g : GarageValue) → IsLawful g → injected_of g.journal ≡ 0 → NoneMissed (state_of g).path → (n : ℕ) (k : Kind) → shown_of g n k ≡ reverse (received_whole n k (state_of g).begun (state_of g).path) }
 {}
 
 /// Clear path: for the messages begun, the walk back along what was read is the clear path said by looking back.
 pub fn clear_path_looks_back()
-    ensures { (g : GarageValue) → IsLawful g → (m : Message) → IsAmong m (state_of g).begun → (is_clear m (state_of g).path ≡ true) ↔ IsOnClearPath m (state_of g).path }
+    ensures { (g : GarageValue) → IsLawful g → injected_of g.journal ≡ 0 → (m : Message) → IsAmong m (state_of g).begun → (is_clear m (state_of g).path ≡ true) ↔ IsOnClearPath m (state_of g).path }
 {}
 
-/// A list only grows: whatever happens next, each list of entries keeps its entries, and new ones come behind them.
+/// A list only grows: whatever happens next, frames from outside too, each list of entries keeps its entries, and new ones
+/// come behind them.
 pub fn lists_only_grow()
-    ensures { (old new : GarageValue) → IsLawful old → (e : Event) → Adds old e new → KeepsLists old new }
+    ensures { (old new : GarageValue) (e : Event) → Adds old e new → KeepsLists old new }
 {}

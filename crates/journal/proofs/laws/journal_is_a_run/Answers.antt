@@ -2,4 +2,4 @@ use Rattle.journal.proofs.Reaching.{reached}
 use Rattle.journal.proofs.laws.journal_is_a_run.Goals as goal
 
 pub returns : goal.returns
-returns c = λ r journal fit. let now = reached r journal fit in (now.seats, now.events, now.run)
+returns c = λ r journal fit none. let now = reached r journal fit none in (now.seats, now.events, now.run)

@@ -2,4 +2,4 @@ use Rattle.journal.proofs.Lifted.{keeps_adds}
 use Rattle.journal.proofs.promises.lists_only_grow.Goals as goal
 
 pub returns : goal.returns
-returns c = λ old new fit e adds. keeps_adds old new e fit adds
+returns c = keeps_adds

@@ -23,3 +23,4 @@ pub mod Marking
 pub mod Reaching
 pub mod Headline
 pub mod Lifted
+pub mod Living

@@ -3,6 +3,7 @@
 import random
 
 from model.script import COMMANDS, Script
+from strangers import Strangers
 
 MOST_LINES, MOST_WIRE = 260, 700  # where a script ends; the model looks back over the wire, so long ones cost time
 MANY = "4294967295"
@@ -18,11 +19,12 @@ NO_GARAGES = ["XY 249 4 16 100", "00000000000000010 249 4 16 100"] + [ONE + " " 
 ASKED = ["dm1", "dm2", "dm1", "dm2", "dm3", "dm11", "claim", "65259", "65226", "65227", "60928", "0", "130762", "16777215"]
 
 
-class Writer:
+class Writer(Strangers):
     """A script that is being written, and the model's answers to it."""
 
     def __init__(self, seed):
         self.random, self.script, self.lines, self.answers = random.Random(seed), Script(), [], []
+        self.strangers = False  # whether frames come from outside
 
     def say(self, *words):
         line = " ".join(map(str, words))
@@ -162,7 +164,7 @@ class Writer:
         self.say(*self.random.choice([
             ("shown", self.name(), self.one_of("dm1", "dm2")), ("row", self.name()), ("stats",),
             ("counts", self.one_of(0, self.seat(), self.random.randrange(len(self.garage.seats)))),
-            ("frame", self.random.randrange(len(self.garage.wire) + 2))]))
+            ("frame", self.random.randrange(len(self.garage.wire) + 2)), ("injected",)]))
 
     def misspelt(self):
         """A line with one thing wrong in it: a word that is missing, too many, another or misspelt, or odd spaces."""
@@ -171,7 +173,7 @@ class Writer:
             "lamps {seat} 04FF",
             "think {seat}", "turn {seat}", "leave {seat}", "hear {seat} 1", "dm1 {seat}", "carry 1", "read 1", "round 1",
             "ask {name} dm1", "ask all dm3", "command {name} 7", "shown {name} dm1", "row {name}", "counts {seat}", "stats",
-            "frame 0", "garage {name} 249 4 16 100"]).format(seat=self.seat(), name=self.name())
+            "frame 0", "inject 18FECA00 04 FF", "injected", "garage {name} 249 4 16 100"]).format(seat=self.seat(), name=self.name())
         words = line.split(" ")
         at = self.random.randrange(len(words))
         way = self.random.randrange(9)
@@ -242,6 +244,9 @@ class Writer:
                     self.fill(len(self.garage.seats) - 1)
 
     def disturb(self):
+        if self.strangers and self.chance(30):
+            self.stranger()
+            return
         self.random.choice([self.gap, self.contend, self.contend, self.order, self.order, self.replace, self.ask, self.ask,
                             self.dm1, self.leave, self.change, self.think, self.hear, self.carry, self.misspelt])()
 
@@ -478,6 +483,9 @@ class Writer:
             self.go_on()
 
     def any_line(self):
+        if self.strangers and self.chance(30):
+            self.stranger()
+            return
         self.random.choice([self.join, self.change, self.lamps, self.dm1, self.dm1, self.carry, self.carry, self.read, self.read,
                             self.hear, self.hear, self.round, self.ask, self.ask, self.command, self.think, self.turn, self.leave,
                             self.query, self.query, self.query, self.misspelt])()
@@ -496,7 +504,7 @@ class Writer:
     # Whole scripts.
 
     def write(self, plan, most_lines=MOST_LINES, most_wire=MOST_WIRE):
-        self.most_lines, self.most_wire = most_lines, most_wire
+        self.most_lines, self.most_wire, self.strangers = most_lines, most_wire, self.chance(20)
         plan(self)
         if self.garage:
             self.ask_all_about_it()
@@ -528,6 +536,12 @@ def mixed(writer):
             writer.random.choice(aims)()
         else:
             writer.any_line()
+
+
+def among_strangers(writer):
+    """Frames from outside between all that units and the station do."""
+    writer.strangers = True
+    mixed(writer)
 
 
 def lines_alone(writer):
@@ -723,7 +737,7 @@ def wide_window(writer):
     writer.say("carry", 1)
 
 
-PLANS = {mixed: 68, lines_alone: 10, at_the_limit: 8, session_at_the_limit: 8, cut_short: 8, full_house: 2, full_memory: 10,
+PLANS = {mixed: 68, among_strangers: 24, lines_alone: 10, at_the_limit: 8, session_at_the_limit: 8, cut_short: 8, full_house: 2, full_memory: 10,
          counted_out: 2, no_free_address: 5, late_listening: 3, wide_window: 2}
 
 

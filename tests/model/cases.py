@@ -202,6 +202,9 @@ stats: none missed
 stats: some missed
 frame: a frame
 frame: no frame
+inject: ok
+injected: none
+injected: some
 """
 
 REFUSALS = {
@@ -209,17 +212,17 @@ REFUSALS = {
     "set": "SpnTooLarge FmiTooLarge Full", "heal": "SpnTooLarge FmiTooLarge NotActive", "turn": "BookFull", "hear": "BookFull",
     "dm1": "Unclaimed BookFull", "carry": "BookFull", "read": "BookFull", "round": "BookFull",
     "ask": "BadName PgnTooLarge NotHeld NoAddress BookFull", "command": "BadName NotAnAddress NotHeld BookFull",
-    "shown": "BadName", "row": "BadName",
+    "shown": "BadName", "row": "BadName", "inject": "IdTooLarge TooLong BookFull",
 }
 SEVERAL = ["set", "heal", "hear", "carry", "read", "round"]  # a refusal leaves what was done before it
-EARLIER = ["join", "dm1", "ask", "command"]  # these have refusals that come before the limit's
+EARLIER = ["join", "dm1", "ask", "command", "inject"]  # these have refusals that come before the limit's
 BAD_LINES = ["garage", "join", "set", "heal", "lamps", "think", "turn", "leave", "hear", "dm1", "carry", "read", "round", "ask",
-             "command", "shown", "row", "counts", "stats", "frame", "fly"]  # `fly`: no command at all
+             "command", "shown", "row", "counts", "stats", "frame", "inject", "injected", "fly"]  # `fly`: no command at all
 NO_SEAT = ["set", "heal", "lamps", "think", "turn", "leave", "hear", "dm1", "counts"]
 
-# Cases that need a frame that neither a unit nor the station of this bus ever sends at that moment. Why: a unit never hears
-# its own NAME's claims; the station grants at least one packet, begins no session and answers its own requests by nobody;
-# an unreadable frame has no sender; and a session's destination is claimed anew before it could be aborted.
+# Cases that need a frame from outside, since neither a unit nor the station of this bus ever sends such a one at that moment:
+# a unit never hears its own NAME's claims; the station grants at least one packet, begins no session and answers its own
+# requests by nobody; an unreadable frame has no sender; and a session's destination is claimed anew before it could be aborted.
 FROM_OUTSIDE = """
 a unit hears a claim of its own NAME
 a unit moves to an address that it claimed before
@@ -248,13 +251,13 @@ def lines(text):
     return text.strip().splitlines()
 
 
-WANTED = lines(UNIT) + lines(STATION) + lines(BUS) + lines(ANSWERS) + [
+WANTED = lines(UNIT) + lines(STATION) + lines(FROM_OUTSIDE) + lines(BUS) + lines(ANSWERS) + [
     f"{command}: refused {refusal}" for command, refusals in REFUSALS.items() for refusal in refusals.split()
 ] + [f"{command}: refused after some" for command in SEVERAL] + [
     f"{command}: another refusal at the limit" for command in EARLIER
 ] + [f"{command}: bad line" for command in BAD_LINES] + [f"{command}: no seat" for command in NO_SEAT]
 
-COUNTS = {case: 0 for case in WANTED + lines(FROM_OUTSIDE)}
+COUNTS = {case: 0 for case in WANTED}
 
 
 def reach(case):

@@ -29,9 +29,9 @@ class Garage:
         if not (address <= LAST_ADDRESS and 1 <= window <= MOST_WINDOW and grant and 1 <= limit <= MOST_LIMIT):
             raise Refused("BadSetting")
         self.station, self.window, self.limit = Station(name, address, grant), window, limit
-        self.wire = []  # pairs: the seat and its frame
+        self.wire = []  # pairs: the seat, None for a frame from outside, and the frame
         self.seats = [Seat(self.station, 0)]
-        self.events = 0
+        self.events = self.injected = 0
 
     def live(self):
         return [seat for seat in self.seats[1:] if seat.live]
@@ -131,6 +131,12 @@ class Garage:
         seat.carried += 1
         seat.heard = len(self.wire)
         return "frame"
+
+    def inject(self, frame):
+        """A frame from outside stands on the wire at once. No seat sent it, so every seat hears it and the station reads it."""
+        self.count_event()
+        self.wire.append((None, frame))
+        self.injected += 1
 
     def has_heard_all(self, seat):
         return not self.unread() if seat.who is self.station else seat.heard == len(self.wire)

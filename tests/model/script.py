@@ -1,14 +1,14 @@
 """The words of a script: one answer for each line that is neither empty nor begins with `#`.
 
-Looked at in this order: the line itself (`bad line`: its words, numbers and kinds), the text of a NAME, a PGN, whether the
-seat has a unit (`no seat`), and then what the call refuses.
+Looked at in this order: the line itself (`bad line`: its words, numbers and kinds), the text of a NAME, a PGN, a frame's
+identifier and then its number of bytes, whether the seat has a unit (`no seat`), and then what the call refuses.
 """
 
 import contextlib
 import re
 
 from .cases import EARLIER, reach
-from .frames import CLAIM, DM1, DM2, DM3, DM11, KINDS
+from .frames import CLAIM, DM1, DM2, DM3, DM11, KINDS, Frame
 from .garage import Garage
 from .memory import Refused, entry_text
 
@@ -292,12 +292,31 @@ class Script:
         reach("frame: a frame")
         return self.garage.wire[at][1].text()
 
+    def inject(self, given):
+        """Eight hexadecimal digits of an identifier, then two of each byte."""
+        if not re.fullmatch("[0-9A-Fa-f]{8}( [0-9A-Fa-f]{2})*", " ".join(given)):
+            raise BadLine
+        identifier, data = int(given[0], 16), bytes.fromhex("".join(given[1:]))
+        if identifier >= 1 << 29:
+            raise Refused("IdTooLarge")
+        if len(data) > 8:
+            raise Refused("TooLong")
+        self.garage.inject(Frame(identifier, data))
+        reach("inject: ok")
+        return "ok"
+
+    def injected(self, given):
+        self.words(given, 0)
+        reach("injected: some" if self.garage.injected else "injected: none")
+        return f"injected {self.garage.injected}"
+
 
 COMMANDS = {
     "garage": Script.make_garage, "join": Script.join, "set": Script.set, "heal": Script.heal, "lamps": Script.lamps,
     "think": Script.think, "turn": Script.turn, "leave": Script.leave, "hear": Script.hear, "dm1": Script.dm1,
     "carry": Script.carry, "read": Script.read, "round": Script.round, "ask": Script.ask, "command": Script.command,
     "shown": Script.shown, "row": Script.row, "counts": Script.counts, "stats": Script.stats, "frame": Script.frame,
+    "inject": Script.inject, "injected": Script.injected,
 }
 
 

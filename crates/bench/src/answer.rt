@@ -38,6 +38,8 @@ pub enum Answer {
     Counts(Counts),
     /// The station's missed frames and messages that it could not read.
     Stats { missed: u64, unread: u64 },
+    /// How many frames came from outside.
+    Injected(u32),
     /// A frame of the wire.
     Frame(Option<Frame>),
 }
@@ -55,6 +57,7 @@ impl fmt::Display for Answer {
             Answer::Row(row) => write_row(f, *row),
             Answer::Counts(counts) => write_counts(f, *counts),
             Answer::Stats { missed, unread } => write!(f, "missed {missed} unread {unread}"),
+            Answer::Injected(count) => write!(f, "injected {count}"),
             Answer::Frame(Some(frame)) => write!(f, "{frame}"),
             Answer::Frame(None) => write!(f, "no frame"),
         }

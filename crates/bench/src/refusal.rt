@@ -1,4 +1,4 @@
-use can_frame::PgnTooLarge;
+use can_frame::{FrameError, PgnTooLarge};
 use fault_memory::FaultError;
 use garage::GarageError;
 use name_field::NameError;
@@ -15,6 +15,8 @@ pub enum Refusal {
     Name(NameError),
     /// A number is no parameter group's.
     Pgn(PgnTooLarge),
+    /// Words are no frame.
+    Frame(FrameError),
     /// A fault memory refused a change.
     Fault(FaultError),
     /// The garage refused.
@@ -28,6 +30,7 @@ impl fmt::Display for Refusal {
             Refusal::NoSeat => write!(f, "no seat"),
             Refusal::Name(error) => write!(f, "refused {} {error}", error.number()),
             Refusal::Pgn(error) => write!(f, "refused {} {error}", error.number()),
+            Refusal::Frame(error) => write!(f, "refused {} {error}", error.number()),
             Refusal::Fault(error) => write!(f, "refused {} {error}", error.number()),
             Refusal::Garage(error) => write!(f, "refused {} {error}", error.number()),
         }
@@ -43,6 +46,12 @@ impl From<NameError> for Refusal {
 impl From<PgnTooLarge> for Refusal {
     fn from(error: PgnTooLarge) -> Refusal {
         Refusal::Pgn(error)
+    }
+}
+
+impl From<FrameError> for Refusal {
+    fn from(error: FrameError) -> Refusal {
+        Refusal::Frame(error)
     }
 }
 

@@ -88,6 +88,11 @@ impl Workshop {
                 missed: self.garage.missed(),
                 unread: self.garage.unread(),
             }),
+            Command::Inject { frame } => {
+                self.garage.inject(frame?)?;
+                Ok(Answer::Done)
+            }
+            Command::Injected => Ok(Answer::Injected(self.garage.injected())),
             Command::Frame { index } => Ok(Answer::Frame(self.garage.wire_frame(index))),
             _ => {
                 let (seat, deed) = deed_of(command)?;

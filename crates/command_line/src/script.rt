@@ -24,6 +24,7 @@ Commands, one a line; an empty line, and one that begins with #, has no answer:
   command NAME ADDRESS                     the unit is commanded to another address
   shown NAME dm1|dm2, row NAME, stats      what the station shows and knows
   counts SEAT, frame I                     a seat's frames; a frame of the wire
+  inject IIIIIIII [BB ..], injected        a frame from outside; how many there were
   report                                   a line for each NAME";
 
 /// The subcommand `script`.

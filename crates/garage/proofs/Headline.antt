@@ -15,7 +15,7 @@ use Rattle.station_table.specs.StandsFor.{StandsFor, row_of, row_heard_as}
 use Rattle.station_table.specs.StationValue.{StationValue}
 use Rattle.station_table.specs.declared.row.Row.{Row}
 use Rattle.station_table.proofs.Queries.{row_as_heard}
-use Rattle.journal.specs.Journal.{readings_of, shown_of, state_of}
+use Rattle.journal.specs.Journal.{injected_of, readings_of, shown_of, state_of}
 use Rattle.journal.specs.Promises.{IsFromOwner, wire_of}
 use Rattle.journal.specs.Worlds.{station_of}
 use Rattle.journal.proofs.Lifted.{from_owner, lawful_wire, looks_back, quiet}
@@ -27,9 +27,9 @@ use Rattle.garage.specs.declared.garage.Garage.TheInside.{Inside}
 pub tables : (a : Inside) → Stands a → StandsFor (station_of (settings_of a)) a.grant (state_of (view_of a)).station (readings_of (reverse a.journal.items))
 tables a stands = station (settings_of a) (reverse a.journal.items) stands.fits
 
-pub shown_expected : (a : Inside) (n : ℕ) (k : Kind) (l : List Shown) → l ≡ entries_under a.station.rows n k → Stands a → l ≡ shown_of (view_of a) n k
-shown_expected a n k l e stands =
-    e ∙ (ap (λ (s : StationValue). entries_under s.rows n k) stands.station ∙ exact (settings_of a) (reverse a.journal.items) stands.fits n k)
+pub shown_expected : (a : Inside) (n : ℕ) (k : Kind) (l : List Shown) → l ≡ entries_under a.station.rows n k → Stands a → injected_of (reverse a.journal.items) ≡ 0 → l ≡ shown_of (view_of a) n k
+shown_expected a n k l e stands none =
+    e ∙ (ap (λ (s : StationValue). entries_under s.rows n k) stands.station ∙ exact (settings_of a) (reverse a.journal.items) stands.fits none n k)
 
 pub shown_heard : (a : Inside) (n : ℕ) (k : Kind) (l : List Shown) → l ≡ entries_under a.station.rows n k → Stands a
     → l ≡ reverse (entries_heard (station_of (settings_of a)) n k (readings_of (reverse a.journal.items)))
@@ -38,8 +38,8 @@ shown_heard a n k l e stands = e ∙ (ap (λ (s : StationValue). entries_under s
 pub missed_heard : (a : Inside) (n : ℕ) → n ≡ a.station.missed → Stands a → n ≡ missed_count (readings_of (reverse a.journal.items))
 missed_heard a n e stands = e ∙ (ap (λ (s : StationValue). s.missed) stands.station ∙ (tables a stands).missed)
 
-pub none_unread : (a : Inside) (n : ℕ) → n ≡ a.station.unread → Stands a → n ≡ 0
-none_unread a n e stands = e ∙ (ap (λ (s : StationValue). s.unread) stands.station ∙ readable (settings_of a) (reverse a.journal.items) stands.fits)
+pub none_unread : (a : Inside) (n : ℕ) → n ≡ a.station.unread → Stands a → injected_of (reverse a.journal.items) ≡ 0 → n ≡ 0
+none_unread a n e stands none = e ∙ (ap (λ (s : StationValue). s.unread) stands.station ∙ readable (settings_of a) (reverse a.journal.items) stands.fits none)
 
 pub row_known_heard : (a : Inside) (n : ℕ) (o : Option Row) → o ≡ row_of a.station.owners n (kept_under a.station.rows n) → Stands a
     → option_map row_heard_as o ≡ row_heard (station_of (settings_of a)) n (readings_of (reverse a.journal.items))
@@ -51,19 +51,19 @@ row_known_heard a n o e stands =
 pub kept_tables : (a : Inside) → Stands a → StandsFor (station_of (settings_of a)) a.grant a.station (readings_of (reverse a.journal.items))
 kept_tables a stands = subst (λ (s : StationValue). StandsFor (station_of (settings_of a)) a.grant s (readings_of (reverse a.journal.items))) (sym stands.station) (tables a stands)
 
-pub shown_quiet : (a : Inside) (n : ℕ) (k : Kind) (l : List Shown) → l ≡ entries_under a.station.rows n k → Stands a → NoneMissed (state_of (view_of a)).path
+pub shown_quiet : (a : Inside) (n : ℕ) (k : Kind) (l : List Shown) → l ≡ entries_under a.station.rows n k → Stands a → injected_of (reverse a.journal.items) ≡ 0 → NoneMissed (state_of (view_of a)).path
     → l ≡ reverse (received_whole n k (state_of (view_of a)).begun (state_of (view_of a)).path)
-shown_quiet a n k l e stands whole = shown_expected a n k l e stands ∙ quiet (view_of a) stands.fits whole n k
+shown_quiet a n k l e stands none whole = shown_expected a n k l e stands none ∙ quiet (view_of a) stands.fits none whole n k
 
-pub path_looks_back : (a : Inside) (m : Message) → Stands a → IsAmong m (state_of (view_of a)).begun
+pub path_looks_back : (a : Inside) (m : Message) → Stands a → injected_of (reverse a.journal.items) ≡ 0 → IsAmong m (state_of (view_of a)).begun
     → (is_clear m (state_of (view_of a)).path ≡ true) ↔ IsOnClearPath m (state_of (view_of a)).path
-path_looks_back a m stands among = looks_back (view_of a) stands.fits m among
+path_looks_back a m stands none among = looks_back (view_of a) stands.fits none m among
 
 pub unread_heard : (a : Inside) (n : ℕ) → n ≡ a.station.unread → Stands a → n ≡ unread_count (station_of (settings_of a)) (readings_of (reverse a.journal.items))
 unread_heard a n e stands = e ∙ (ap (λ (s : StationValue). s.unread) stands.station ∙ (tables a stands).unread)
 
-pub wire_lawful : (a : Inside) → Stands a → IsLawfulTraffic (state_of (view_of a)).begun (wire_of (state_of (view_of a)))
-wire_lawful a stands = lawful_wire (view_of a) stands.fits
+pub wire_lawful : (a : Inside) → Stands a → injected_of (reverse a.journal.items) ≡ 0 → IsLawfulTraffic (state_of (view_of a)).begun (wire_of (state_of (view_of a)))
+wire_lawful a stands none = lawful_wire (view_of a) stands.fits none
 
-pub frame_from_owner : (a : Inside) (i : ℕ) → Stands a → IsFromOwner (state_of (view_of a)) i
-frame_from_owner a i stands = from_owner (view_of a) stands.fits i
+pub frame_from_owner : (a : Inside) (i : ℕ) → Stands a → injected_of (reverse a.journal.items) ≡ 0 → IsFromOwner (state_of (view_of a)) i
+frame_from_owner a i stands none = from_owner (view_of a) stands.fits none i

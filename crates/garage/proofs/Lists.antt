@@ -1,4 +1,4 @@
--- Each call keeps what was to be shown.
+-- Each call keeps what was listed.
 use Rattle.std.proofs.Common.{ℕ, ◌≡◌, Bool, List, [], ◌∷◌, ◌++◌, reverse, ap, ◌∙◌, subst}
 use Rattle.fault_memory.specs.Memory.{MemoryValue}
 use Rattle.unit_trait.specs.declared.question.Question.{Question}
@@ -22,12 +22,9 @@ use Rattle.garage.specs.declared.steps.Begin.TheVariants as began
 pub lists_same : (old new : GarageValue) → new ≡ old → KeepsLists old new
 lists_same old new e = keeps_same old new e
 
-lawful : (a : Inside) (old : GarageValue) → view_of a ≡ old → Stands a → IsLawful old
-lawful a old is stands = subst IsLawful is stands.fits
-
 -- one event more
 pub lists_added : (a : Inside) (old new : GarageValue) (e : Event) → view_of a ≡ old → Stands a → Adds old e new → KeepsLists old new
-lists_added a old new e is stands adds = keeps_adds old new e (lawful a old is stands) adds
+lists_added a old new e is stands adds = keeps_adds old new e adds
 
 pub lists_pushed : (a : Inside) (old : GarageValue) (r : Settings) (events : List Event) (e : Event) → view_of a ≡ old → Stands a → r ≡ settings_of a → events ≡ a.journal.items ++ e ∷ []
     → Fits (state_of (view_of a)) e → KeepsLists old (record { settings = r; journal = reverse events })
@@ -37,19 +34,14 @@ lists_pushed a old r events e is stands settings journal fits =
     let next : v ≡ with_event e (view_of a) = cc in
     lists_added a old v e is stands (record { adds = next ∙ ap (with_event e) is; fits = subst (λ (g : GarageValue). Fits (state_of g) e) is fits })
 
--- what came before a lawful journal's last event is lawful
-before : (old new : GarageValue) (e : Event) → IsLawful new → Adds old e new → IsLawful old
-unfolding AllFit
-before old new e now adds = (let here : IsLawful (with_event e old) = subst IsLawful adds.adds now in here.1)
-
-pub lists_of_event : (old new : GarageValue) (e : Event) → IsLawful new → Adds old e new → KeepsLists old new
-lists_of_event old new e now adds = keeps_adds old new e (before old new e now adds) adds
+pub lists_of_event : (old new : GarageValue) (e : Event) → Adds old e new → KeepsLists old new
+lists_of_event old new e adds = keeps_adds old new e adds
 
 pub lists_heard : {X : Type 0} → (old new : GarageValue) (k : ℕ) (memory memory' : MemoryValue) (answers : Question → Bool → X → Type 0) (unit unit' : X) (h : HeardOne)
-    → IsLawful new → Hears old k memory answers unit h new memory' unit' → KeepsLists old new
-lists_heard old new k memory memory' answers unit unit' (heard.Frame f) now h = lists_of_event old new (event.Hear k memory h.1.0) now h.1.1
-lists_heard old new k memory memory' answers unit unit' heard.Nothing now h = keeps_same old new h.1
+    → Hears old k memory answers unit h new memory' unit' → KeepsLists old new
+lists_heard old new k memory memory' answers unit unit' (heard.Frame f) h = lists_of_event old new (event.Hear k memory h.1.0) h.1.1
+lists_heard old new k memory memory' answers unit unit' heard.Nothing h = keeps_same old new h.1
 
-pub lists_begun : (old new : GarageValue) (k : ℕ) (memory : MemoryValue) (b : Began) → IsLawful new → Begins old k memory b new → KeepsLists old new
-lists_begun old new k memory began.Begun now h = lists_of_event old new (event.Begin k memory) now h
-lists_begun old new k memory began.Held now h = keeps_same old new h.1
+pub lists_begun : (old new : GarageValue) (k : ℕ) (memory : MemoryValue) (b : Began) → Begins old k memory b new → KeepsLists old new
+lists_begun old new k memory began.Begun h = lists_of_event old new (event.Begin k memory) h
+lists_begun old new k memory began.Held h = keeps_same old new h.1

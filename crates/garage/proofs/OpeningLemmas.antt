@@ -5,7 +5,7 @@ use Rattle.bus_ledger.specs.Joining.{live_units}
 use Rattle.bus_model.specs.Machine.{IsFit}
 use Rattle.journal.specs.Worlds.{station_of}
 use Rattle.journal.specs.State.{Settings, State, start}
-use Rattle.journal.specs.Journal.{tally_of, state_after, state_of, AllFit, joins}
+use Rattle.journal.specs.Journal.{tally_of, state_after, state_of, AllFit, injected_of, joins}
 use Rattle.journal.specs.declared.event.Event.{Event}
 use Rattle.garage.specs.Inside.{no_tally, settings_of, view_of, unit_of, Stands}
 use Rattle.garage.specs.declared.garage.Garage.TheInside.{Inside}
@@ -17,6 +17,10 @@ opened_is r = refl
 no_joins : joins [] ≡ 0
 unfolding joins
 no_joins = refl
+
+none_injected : injected_of [] ≡ 0
+unfolding injected_of
+none_injected = refl
 
 none_fit : (r : Settings) → IsFit (station_of r) → AllFit r []
 unfolding AllFit
@@ -34,9 +38,9 @@ no_tallies : (k : ℕ) → tally_of k [] ≡ no_tally
 unfolding tally_of
 no_tallies k = refl
 
-pub opened_stands : (g : Inside) → IsFit (station_of (settings_of g)) → g.journal.items ≡ [] → g.places.items ≡ [] → g.begun ≡ 0 → g.live ≡ 0 → vec_len g.journal ≡ 0 → g.limit ≤ 2 ^ 24
+pub opened_stands : (g : Inside) → IsFit (station_of (settings_of g)) → g.journal.items ≡ [] → g.places.items ≡ [] → g.begun ≡ 0 → g.live ≡ 0 → g.injected ≡ 0 → vec_len g.journal ≡ 0 → g.limit ≤ 2 ^ 24
     → g.bus.traffic ≡ (start (settings_of g)).traffic → g.station ≡ (start (settings_of g)).station → Stands g
-opened_stands g fit empty none begun live len few traffic station =
+opened_stands g fit empty none begun live injected len few traffic station =
     let r : Settings = settings_of g in
     let history : reverse g.journal.items ≡ [] = ap reverse empty in
     let is : state_of (view_of g) ≡ start r = ap (λ (es : List Event). state_after r es) history ∙ opened_is r in
@@ -52,6 +56,7 @@ opened_stands g fit empty none begun live len few traffic station =
       units = ap (map unit_of) none ∙ sym (ap (λ (s : State). s.units) is);
       begun = begun ∙ sym (ap (λ (s : State). length s.begun) is);
       fits = subst (λ (es : List Event). AllFit r es) (sym history) (none_fit r fit);
+      injected = injected ∙ sym (ap injected_of history ∙ none_injected);
       joined = ap joins history ∙ (no_joins ∙ sym places);
       tallies = λ k h. absurd (omega arith);
       fresh = λ k h. ap (λ (es : List Event). tally_of k es) history ∙ no_tallies k;

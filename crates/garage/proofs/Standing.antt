@@ -4,7 +4,7 @@ use Rattle.std.proofs.lemmas.Bool.{ne_eqb}
 use Rattle.std.proofs.lemmas.List.{reverse-append, length-reverse, length-set, length_push, map-set, get_or_read, get_or-set_same, get_or-set_other, set-get_or}
 use Rattle.bus_ledger.specs.BusValue.{SeatValue, Traffic, nobody, seat_at, IsUnit}
 use Rattle.bus_ledger.specs.Joining.{live_units}
-use Rattle.bus_ledger.specs.Changes.{leaving, left, sending, carried_from, carried_frame, queued, joined}
+use Rattle.bus_ledger.specs.Changes.{leaving, left, sending, carried_from, carried_frame, queued, joined, injected}
 use Rattle.bus_ledger.specs.declared.traffic.QueuedFrame.{QueuedFrame}
 use Rattle.bus_model.specs.Expected.{Own}
 use Rattle.std.specs.List.{count_by}
@@ -13,7 +13,7 @@ use Rattle.std.proofs.lemmas.List.Sums.{sum_by-set}
 use Rattle.fault_memory.specs.Memory.{MemoryValue, IsLawfulMemory}
 use Rattle.can_frame.specs.declared.reading.Reading.{Reading}
 use Rattle.journal.specs.State.{Settings, State, UnitState, unit_at}
-use Rattle.journal.specs.Steps.{after, after_leave, after_carry_of, item_of, reacted, after_read, path_after, after_join, untagged}
+use Rattle.journal.specs.Steps.{after, after_leave, after_carry_of, item_of, reacted, after_read, path_after, after_join, after_inject, untagged}
 use Rattle.bus_ledger.specs.Reception.{after_reading}
 use Rattle.station_table.specs.Reactions.{reaction}
 use Rattle.station_table.specs.Steps.{after_reading as station_after}
@@ -42,9 +42,9 @@ use Rattle.std.specs.Option.{option_map}
 use Rattle.garage.specs.Answers.{with_begun, Hears}
 use Rattle.garage.specs.declared.steps.HeardOne.TheVariants as heard
 use Rattle.journal.specs.Fits.{IsAnswered, Fits}
-use Rattle.journal.specs.Journal.{GarageValue, state_after, state_of, AllFit, joins, tallied, tally_of}
+use Rattle.journal.specs.Journal.{GarageValue, state_after, state_of, AllFit, injected_of, joins, tallied, tally_of}
 use Rattle.journal.specs.declared.event.Event.{Event}
-use Rattle.journal.specs.declared.event.Event.TheVariants.{Join, Hear, Begin, Turned, Carry, Read, Ordered, Leave}
+use Rattle.journal.specs.declared.event.Event.TheVariants.{Join, Hear, Begin, Turned, Carry, Read, Ordered, Leave, Inject}
 use Rattle.journal.specs.declared.tally.Tally.{Tally}
 use Rattle.garage.specs.Inside.{settings_of, view_of, unit_of, no_place, no_tally, place_at, Stands}
 use Rattle.garage.specs.declared.garage.Place.{Place}
@@ -89,6 +89,7 @@ few_event k before n (Carry j) t f = few_if false n t t f (record { events = (le
 few_event k before n (Read r) t f = few_if false n t t f (record { events = (let h = f.events in omega arith); turned = (let h = f.turned in omega arith); left = (let h = f.left in omega arith) })
 few_event k before n (Ordered o) t f = few_if false n t t f (record { events = (let h = f.events in omega arith); turned = (let h = f.turned in omega arith); left = (let h = f.left in omega arith) })
 few_event k before n (Leave j) t f = few_if (j == k) n t _ f (record { events = (let h = f.events in omega arith); turned = (let h = f.turned in omega arith); left = (let h = f.left in omega arith) })
+few_event k before n (Inject x) t f = few_if false n t t f (record { events = (let h = f.events in omega arith); turned = (let h = f.turned in omega arith); left = (let h = f.left in omega arith) })
 
 pub tally_few : (k : ℕ) (es : List Event) → IsFewTally (length es) (tally_of k es)
 unfolding tally_of
@@ -130,6 +131,42 @@ tallies_one xs es e k seat p f old rule at h is j l =
           ap (λ (q : Place). q.tally) (get_or-set_other xs k j p no_place n) ∙ (old j l' ∙ sym (more ∙ rw t refl))
     ]
 
+-- how many frames an event puts on the bus from outside
+abbrev pub from_outside : Event → ℕ
+from_outside (Inject f) = 1
+from_outside _ = 0
+
+injected_more : (e : Event) (es : List Event) → injected_of (e ∷ es) ≡ injected_of es + from_outside e
+unfolding injected_of
+injected_more (Join name address) es = omega arith
+injected_more (Hear k memory answered) es = omega arith
+injected_more (Begin k memory) es = omega arith
+injected_more (Turned k) es = omega arith
+injected_more (Carry k) es = omega arith
+injected_more (Read r) es = omega arith
+injected_more (Ordered o) es = omega arith
+injected_more (Leave k) es = omega arith
+injected_more (Inject f) es = refl
+
+few_outside : (e : Event) → from_outside e ≤ 1
+few_outside (Join name address) = omega arith
+few_outside (Hear k memory answered) = omega arith
+few_outside (Begin k memory) = omega arith
+few_outside (Turned k) = omega arith
+few_outside (Carry k) = omega arith
+few_outside (Read r) = omega arith
+few_outside (Ordered o) = omega arith
+few_outside (Leave k) = omega arith
+few_outside (Inject f) = omega arith
+
+none_outside : injected_of [] ≡ 0
+unfolding injected_of
+none_outside = refl
+
+pub injected_few : (es : List Event) → injected_of es ≤ length es
+injected_few [] = (let e = none_outside in omega arith)
+injected_few (e ∷ es) = (let m = injected_more e es in let f = few_outside e in let r = injected_few es in omega arith)
+
 -- what a call has to show of the fields after one event more
 pub record More (a b : Inside) (e : Event) : Type 0 where
   pub settings : settings_of b ≡ settings_of a
@@ -139,6 +176,7 @@ pub record More (a b : Inside) (e : Event) : Type 0 where
   pub station : b.station ≡ (after e (state a)).station
   pub units : map unit_of b.places.items ≡ (after e (state a)).units
   pub begun : b.begun ≡ length (after e (state a)).begun
+  pub injected : b.injected ≡ a.injected + from_outside e
   pub joined : joins (e ∷ reverse a.journal.items) ≡ length b.places.items
   pub tallies : (k : ℕ) → k < length b.places.items → (place_at b.places.items k).tally ≡ tally_of (suc k) (e ∷ reverse a.journal.items)
   pub fresh : (k : ℕ) → length b.places.items < k → tally_of k (e ∷ reverse a.journal.items) ≡ no_tally
@@ -166,6 +204,7 @@ stands_more a b e stands m =
       units = m.units ∙ ap (λ (s : State). s.units) (sym is);
       begun = m.begun ∙ ap (λ (s : State). length s.begun) (sym is);
       fits = subst (λ (r : Settings). AllFit r (reverse b.journal.items)) (sym m.settings) (subst (λ (es : List Event). AllFit (settings_of a) es) (sym history) (fit_more (settings_of a) e (reverse a.journal.items) m.fits stands.fits));
+      injected = (let more = injected_more e (reverse a.journal.items) in let same = ap injected_of history in let old = stands.injected in let now = m.injected in omega arith);
       joined = ap joins history ∙ m.joined;
       tallies = λ k h. m.tallies k h ∙ ap (λ (es : List Event). tally_of (suc k) es) (sym history);
       fresh = λ k h. ap (λ (es : List Event). tally_of k es) history ∙ m.fresh k h;
@@ -281,6 +320,14 @@ pub join_is : (name address : ℕ) (s : State) → after (Join name address) s �
 unfolding after_join
 join_is name address s = refl
 
+pub inject_is : (f : FrameValue) (s : State) → after (Inject f) s ≡ record s { traffic = injected f s.traffic }
+unfolding after_inject
+inject_is f s = refl
+
+pub joins_inject : (f : FrameValue) (es : List Event) → joins (Inject f ∷ es) ≡ joins es
+unfolding joins
+joins_inject f es = refl
+
 -- a call that added this event
 pub added : (a b : Inside) (v : GarageValue) (e : Event) → view_of a ≡ v → settings_of b ≡ settings_of a → b.journal.items ≡ a.journal.items ++ e ∷ [] → Fits (state a) e → Adds v e (view_of b)
 added a b v e is settings journal fits = record {
@@ -293,8 +340,8 @@ added a b v e is settings journal fits = record {
 
 -- a garage stays as it stood where nothing that counts has changed
 pub still : (a b : Inside) → Stands a → settings_of b ≡ settings_of a → b.bus.traffic ≡ a.bus.traffic → b.station ≡ a.station → b.places.items ≡ a.places.items → b.begun ≡ a.begun → b.live ≡ a.live
-    → b.journal.items ≡ a.journal.items → vec_len b.journal + b.live ≤ vec_capacity b.journal → Stands b
-still a b stands settings traffic station places begun live journal room =
+    → b.injected ≡ a.injected → b.journal.items ≡ a.journal.items → vec_len b.journal + b.live ≤ vec_capacity b.journal → Stands b
+still a b stands settings traffic station places begun live injected journal room =
     let same : state b ≡ state a = (let v : view_of b ≡ view_of a = cc in ap state_of v) in
     let limit : b.limit ≡ a.limit = ap (λ (r : Settings). r.limit) settings in
     let n : length b.journal.items ≡ length a.journal.items = ap length journal in
@@ -306,6 +353,7 @@ still a b stands settings traffic station places begun live journal room =
       units = ap (map unit_of) places ∙ (stands.units ∙ ap (λ (s : State). s.units) (sym same));
       begun = begun ∙ (stands.begun ∙ ap (λ (s : State). length s.begun) (sym same));
       fits = subst (λ (r : Settings). AllFit r (reverse b.journal.items)) (sym settings) (subst (λ (es : List Event). AllFit (settings_of a) (reverse es)) (sym journal) stands.fits);
+      injected = injected ∙ (stands.injected ∙ ap (λ (es : List Event). injected_of (reverse es)) (sym journal));
       joined = ap (λ (es : List Event). joins (reverse es)) journal ∙ (stands.joined ∙ sym m);
       tallies = λ k h. ap (λ (xs : List Place). (place_at xs k).tally) places ∙ (stands.tallies k (omega arith) ∙ ap (λ (es : List Event). tally_of (suc k) (reverse es)) (sym journal));
       fresh = λ k h. ap (λ (es : List Event). tally_of k (reverse es)) journal ∙ stands.fresh k (omega arith);

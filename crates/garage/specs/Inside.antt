@@ -3,7 +3,7 @@ use Rattle.std.specs.Prelude.{ℕ, suc, ◌≡◌, ◌+◌, ◌*◌, ◌<◌, �
 use Rattle.bus_ledger.specs.BusValue.{seat_at}
 use Rattle.bus_ledger.specs.Joining.{live_units}
 use Rattle.journal.specs.State.{Settings, UnitState}
-use Rattle.journal.specs.Journal.{GarageValue, state_of, AllFit, joins, tally_of}
+use Rattle.journal.specs.Journal.{GarageValue, state_of, AllFit, injected_of, joins, tally_of}
 use Rattle.journal.specs.declared.tally.Tally.{Tally}
 use Rattle.node_core.specs.NodeValue.{new_node}
 use Rattle.garage.specs.declared.garage.Place.{Place}
@@ -35,6 +35,7 @@ pub record Stands (g : Inside) : Type 0 where
   pub units : map unit_of g.places.items ≡ (state_of (view_of g)).units
   pub begun : g.begun ≡ length (state_of (view_of g)).begun
   pub fits : AllFit (settings_of g) (reverse g.journal.items)
+  pub injected : g.injected ≡ injected_of (reverse g.journal.items)
   pub joined : joins (reverse g.journal.items) ≡ length g.places.items
   pub tallies : (k : ℕ) → k < length g.places.items → (place_at g.places.items k).tally ≡ tally_of (suc k) (reverse g.journal.items)
   pub fresh : (k : ℕ) → length g.places.items < k → tally_of k (reverse g.journal.items) ≡ no_tally

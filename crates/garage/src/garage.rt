@@ -38,6 +38,8 @@ pub struct Garage {
     pub(crate) places: Vec<Place>,
     pub(crate) begun: u32,
     pub(crate) live: u32,
+    // how many frames came from outside
+    pub(crate) injected: u32,
     pub(crate) journal: Vec<Event>,
 }
 
@@ -69,7 +71,7 @@ impl Garage {
     ghost use Rattle.bus_model.specs.LawfulTraffic.{IsLawfulTraffic};
     ghost use Rattle.bus_model.specs.Messages.{Message, IsAmong};
     ghost use Rattle.bus_model.specs.Whole.{received_whole};
-    ghost use Rattle.journal.specs.Journal.{state_of, tally_of, readings_of, shown_of, Adds};
+    ghost use Rattle.journal.specs.Journal.{injected_of, state_of, tally_of, readings_of, shown_of, Adds};
     ghost use Rattle.journal.specs.Promises.{IsFromOwner, IsLawful, KeepsLists, wire_of};
     ghost use Rattle.journal.specs.Worlds.{station_of};
     ghost use Rattle.journal.specs.declared.event.Event.TheVariants.{Carry, Read};
@@ -117,18 +119,20 @@ impl Garage {
 
     /// The entries of a kind under a NAME, the oldest first; none where the NAME was never seen.
     ///
-    /// They are exactly the views of the fault memories with which units of that NAME began messages of that kind whose
-    /// frames were all read on a clear path, in the order begun (`expected`).
+    /// Where no frame came from outside (`injected` answers 0) they are exactly the views of the fault memories with which units
+    /// of that NAME began messages of that kind whose frames were all read on a clear path, in the order begun (`expected`).
     ///
+    /// - `heard`: whoever sent the frames, they are what was heard of the readings: what the frames read say, under the NAME that
+    ///   the last claim read gave.
     /// - `quiet`: where nothing was missed they are the views of all messages whose last part was read; so in particular where
     ///   each address was claimed under one NAME only.
     /// - `looks_back`: what a clear path is, said without the walk of `expected`.
     #[tactic(auto, using(crate::proofs::Headline::shown_expected, crate::proofs::Headline::shown_heard, crate::proofs::Headline::shown_quiet, crate::proofs::Headline::path_looks_back))]
     pub fn shown(&self, name: Name, kind: Kind) -> &[Shown]
-        ensures expected { result.now ≡ shown_of self.now name kind }
+        ensures expected { injected_of self.now.journal ≡ 0 → result.now ≡ shown_of self.now name kind }
         ensures heard { result.now ≡ reverse (entries_heard (station_of self.now.settings) name kind (readings_of self.now.journal)) }
-        ensures quiet { NoneMissed (state_of self.now).path → result.now ≡ reverse (received_whole name kind (state_of self.now).begun (state_of self.now).path) }
-        ensures looks_back { (m : Message) → IsAmong m (state_of self.now).begun → (is_clear m (state_of self.now).path ≡ true) ↔ IsOnClearPath m (state_of self.now).path }
+        ensures quiet { injected_of self.now.journal ≡ 0 → NoneMissed (state_of self.now).path → result.now ≡ reverse (received_whole name kind (state_of self.now).begun (state_of self.now).path) }
+        ensures looks_back { injected_of self.now.journal ≡ 0 → (m : Message) → IsAmong m (state_of self.now).begun → (is_clear m (state_of self.now).path ≡ true) ↔ IsOnClearPath m (state_of self.now).path }
         ensures kept { result.now ≡ entries_under (state_of self.now).station.rows name kind }
     {
         self.station.shown(name, kind)
@@ -143,10 +147,10 @@ impl Garage {
         self.station.missed()
     }
 
-    /// How many messages the station could not read: none.
+    /// How many messages the station could not read: none where no frame came from outside.
     #[tactic(auto, using(crate::proofs::Headline::none_unread, crate::proofs::Headline::unread_heard))]
     pub fn unread(&self) -> u64
-        ensures none { result ≡ 0 }
+        ensures none { injected_of self.now.journal ≡ 0 → result ≡ 0 }
         ensures heard { result ≡ unread_count (station_of self.now.settings) (readings_of self.now.journal) }
         ensures kept { result ≡ (state_of self.now).station.unread }
     {
@@ -185,25 +189,26 @@ impl Garage {
         self.live
     }
 
-    /// How many frames were carried.
+    /// How many frames stand on the wire.
     ///
-    /// They are lawful traffic: each frame of a message is that part of it and comes from its seat, and the parts of messages
-    /// stand in their order.
+    /// Where none came from outside they are lawful traffic: each frame of a message is that part of it and comes from its seat,
+    /// and the parts of messages stand in their order.
     #[tactic(auto, using(crate::proofs::Headline::wire_lawful))]
     pub fn wire_len(&self) -> u32
         ensures len { result ≡ length (state_of self.now).traffic.wire }
-        ensures lawful { IsLawfulTraffic (state_of self.now).begun (wire_of (state_of self.now)) }
+        ensures lawful { injected_of self.now.journal ≡ 0 → IsLawfulTraffic (state_of self.now).begun (wire_of (state_of self.now)) }
     {
         self.bus.wire_len()
     }
 
-    /// The i-th frame carried, counted from 0.
+    /// The i-th frame on the wire, counted from 0.
     ///
-    /// Where it is a part of a message, the last claim of the message's source before it bears the NAME of its seat.
+    /// Where none came from outside and it is a part of a message, the last claim of the message's source before it bears the
+    /// NAME of its seat.
     #[tactic(auto, using(crate::proofs::Headline::frame_from_owner))]
     pub fn wire_frame(&self, i: u32) -> Option<Frame>
         ensures frame { result ≡ option_map (λ c. c.frame) (slice_get (state_of self.now).traffic.wire i) }
-        ensures sender { IsFromOwner (state_of self.now) i }
+        ensures sender { injected_of self.now.journal ≡ 0 → IsFromOwner (state_of self.now) i }
     {
         self.bus.wire_frame(i)
     }

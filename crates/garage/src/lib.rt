@@ -5,6 +5,7 @@ mod error;
 mod garage;
 mod opening;
 mod orders;
+mod outside;
 mod plug;
 mod queries;
 mod queueing;

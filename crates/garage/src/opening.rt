@@ -56,6 +56,7 @@ impl Garage {
             places: Vec::new(alloc),
             begun: 0,
             live: 0,
+            injected: 0,
             journal: Vec::new(alloc),
         })
     }

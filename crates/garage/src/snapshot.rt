@@ -45,9 +45,9 @@ pub struct Snapshot {
 
 impl Garage {
     ghost use Rattle.std.specs.Prelude.{◌≡◌, ◌<◌, IfOk, IfErr, length, map, slice_get};
-    ghost use Rattle.bus_model.specs.Heard.{missed_count, names_heard, row_heard};
+    ghost use Rattle.bus_model.specs.Heard.{missed_count, names_heard, row_heard, unread_count};
     ghost use Rattle.journal.specs.Worlds.{station_of};
-    ghost use Rattle.journal.specs.Journal.{readings_of};
+    ghost use Rattle.journal.specs.Journal.{injected_of, readings_of};
     ghost use Rattle.garage.specs.Snapshots.{address_in, line_of};
 
     /// What the station knows now, of every NAME that it read a claim of. Its lines hold what `row` and `shown` answer.
@@ -57,7 +57,8 @@ impl Garage {
     pub fn snapshot(&self, alloc: Global) -> Result<Snapshot, GarageError>
         ensures rows { IfOk result (λ s. s.rows.items ≡ map (line_of self.now) (names_heard (readings_of self.now.journal))) }
         ensures missed { IfOk result (λ s. s.missed ≡ missed_count (readings_of self.now.journal)) }
-        ensures unread { IfOk result (λ s. s.unread ≡ 0) }
+        ensures unread { IfOk result (λ s. s.unread ≡ unread_count (station_of self.now.settings) (readings_of self.now.journal)) }
+        ensures none { injected_of self.now.journal ≡ 0 → IfOk result (λ s. s.unread ≡ 0) }
         ensures err { IfErr result (λ e. e ≡ GarageError.OutOfMemory) }
     {
         let mut rows = Vec::new(alloc);

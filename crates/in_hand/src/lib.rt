@@ -4,7 +4,7 @@
 #![tactic(auto)]
 
 ghost use Rattle.std.specs.Prelude.{◌≡◌, ◌+◌, length, option_map, slice_get, OnErr, IfOk};
-ghost use Rattle.journal.specs.Journal.{shown_of, state_of};
+ghost use Rattle.journal.specs.Journal.{listed_of, state_of};
 
 use dm_messages::Kind;
 use garage::{Garage, GarageError};
@@ -34,7 +34,7 @@ pub fn read_new(
     name: Name,
     kind: Kind,
 ) -> Result<usize, GarageError>
-    ensures ok { IfOk result (λ n. length (shown_of garage.new name kind) ≡ length (shown_of garage.old name kind) + n) }
+    ensures ok { IfOk result (λ n. length (listed_of garage.new name kind) ≡ length (listed_of garage.old name kind) + n) }
     ensures err { OnErr result (garage.new ≡ garage.old) }
 {
     let before = garage.shown(name, kind).len();

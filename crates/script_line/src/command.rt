@@ -1,10 +1,13 @@
-use can_frame::{Pgn, PgnTooLarge};
+use can_frame::{Frame, FrameError, Pgn, PgnTooLarge};
 use dm_messages::Kind;
 use name_field::{Name, NameError};
 use trouble_code::Lamps;
 
 /// A NAME as a word spells it: sixteen hexadecimal digits of either case, or none.
 pub type NameWord = Result<Name, NameError>;
+
+/// A frame as words spell it: an identifier of eight hexadecimal digits and bytes of two digits each, or why there is none such.
+pub type FrameWords = Result<Frame, FrameError>;
 
 /// What a unit is like.
 #[derive(Clone, Copy, Debug, PartialEq, Eq)]
@@ -141,6 +144,12 @@ pub enum Command {
     Frame {
         index: u32,
     },
+    /// `inject IIIIIIII [BB ..]`: a frame from outside.
+    Inject {
+        frame: FrameWords,
+    },
+    /// `injected`
+    Injected,
     /// `report`
     Report,
 }

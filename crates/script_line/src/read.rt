@@ -2,6 +2,7 @@ ghost use Rattle.std.specs.Prelude.{◌↔◌, IsTrue};
 ghost use Rattle.script_line.specs.Line.{IsSilent};
 
 use crate::command::{Asked, Command, NameWord, Receiver, UnitKind};
+use crate::frames::read_frame;
 use crate::numbers::{read_lamps, read_number, read_small_number};
 use crate::words::Words;
 use can_frame::Pgn;
@@ -43,6 +44,10 @@ fn read_words(words: &mut Words<'_>) -> Option<Command> {
         }),
         "stats" => Some(Command::Stats),
         "report" => Some(Command::Report),
+        "injected" => Some(Command::Injected),
+        "inject" => Some(Command::Inject {
+            frame: read_frame(words)?,
+        }),
         "frame" => Some(Command::Frame {
             index: next_number(words)?,
         }),

@@ -10,6 +10,11 @@ impl<'a> Words<'a> {
         Words { rest: line }
     }
 
+    /// No more words than this are left.
+    pub fn most_left(&self) -> usize {
+        self.rest.len()
+    }
+
     /// The next word, or `None` where there is none left.
     pub fn next_word(&mut self) -> Option<&'a str> {
         let start = self.rest.trim_start_matches(' ');

@@ -1,6 +1,6 @@
 //! Lines of a script.
 
-use can_frame::{Pgn, PgnTooLarge};
+use can_frame::{Frame, FrameError, Pgn, PgnTooLarge};
 use dm_messages::Kind;
 use name_field::{Name, NameError};
 use script_line::{Asked, Command, NameWord, Receiver, UnitKind, is_silent, read_command};
@@ -139,6 +139,40 @@ fn queries(rt: HostRuntime) {
 }
 
 #[test]
+fn frames_from_outside(rt: HostRuntime) {
+    let bytes: &[u8] = &[0x04, 0xFF, 0xB8, 0x04, 0x03, 0x0A, 0xFF, 0xFF];
+    reads(
+        &rt,
+        "inject 18FECA00 04 FF b8 04 03 0a  FF FF ",
+        Command::Inject {
+            frame: Frame::new(0x18FE_CA00, bytes),
+        },
+    );
+    reads(
+        &rt,
+        "inject 00000000",
+        Command::Inject {
+            frame: Frame::new(0, &[]),
+        },
+    );
+    for (line, refusal) in [
+        ("inject 20000000", FrameError::IdTooLarge),
+        (
+            "inject FFFFFFFF 00 00 00 00 00 00 00 00 00",
+            FrameError::IdTooLarge,
+        ),
+        (
+            "inject 1FFFFFFF 00 00 00 00 00 00 00 00 00",
+            FrameError::TooLong,
+        ),
+    ] {
+        let frame = Err(refusal);
+        reads(&rt, line, Command::Inject { frame });
+    }
+    reads(&rt, "injected", Command::Injected);
+}
+
+#[test]
 fn bad_lines(rt: HostRuntime) {
     for line in [
         "",
@@ -174,6 +208,15 @@ fn bad_lines(rt: HostRuntime) {
         "command 00000000000000A0 256",
         "frame",
         "frame 1 2",
+        "inject",
+        "inject 18FECA0",
+        "inject 018FECA00",
+        "inject +8FECA00",
+        "inject 18FECA00 0",
+        "inject 18FECA00 004",
+        "inject 18FECA00 +4",
+        "inject 20000000 00 00 00 00 00 00 00 00 00 0",
+        "injected 1",
     ] {
         assert_eq!(rt; read_command(line), None, "{line}");
     }

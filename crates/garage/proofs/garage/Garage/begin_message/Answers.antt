@@ -94,6 +94,7 @@ invariant_of-self-2 g c =
       station = stands.station ∙ sym (ap (λ (v : State). v.station) is);
       units = units_same a.places.items k x p h c.index_mut-place.ensures.value refl ∙ (stands.units ∙ sym (ap (λ (v : State). v.units) is));
       begun = (let e : a.begun + 1 ≡ suc (length s.begun) = omega arith in e) ∙ sym (ap (λ (v : State). length v.begun) is);
+      injected = omega arith;
       joined = joins_begin' seat memory _ ∙ (stands.joined ∙ sym (length-set a.places.items k p));
       tallies = tallies_one a.places.items _ (Begin seat memory) k seat p one_more stands.tallies (λ j t'. refl) (omega arith) h (ap one_more (place_tally a k x h c.index_mut-place.ensures.value));
       fresh = λ j l. fresh_one _ (Begin seat memory) seat (length a.places.items) one_more stands.fresh (λ i t'. refl) (omega arith) j (omega (arith, length-set a.places.items k));
@@ -137,6 +138,7 @@ returns-clause-ok g c =
       places = with_item a.places (seat - 1) (record x { tally = one_more x.tally });
       begun = a.begun + 1;
       live = a.live;
+      injected = a.injected;
       journal = c.push_reserved.new.self;
     })
     c.args.self.now seat memory _ c.self.view_is refl

@@ -43,6 +43,7 @@ invariant_of-self-2 c =
       station = stands.station ∙ sym (ap (λ (s : State). s.station) is);
       units = stands.units ∙ sym (ap (λ (s : State). s.units) is);
       begun = stands.begun ∙ sym (ap (λ (s : State). length s.begun) is);
+      injected = omega arith;
       joined = joins_carry k _ ∙ stands.joined;
       tallies = tallies_still a.places.items _ (Carry k) stands.tallies (λ j t. refl);
       fresh = fresh_still _ (Carry k) (length a.places.items) stands.fresh (λ i t. refl);

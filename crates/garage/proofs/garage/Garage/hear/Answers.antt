@@ -35,7 +35,7 @@ invariant_of-self-in_err-heard g c =
     let node = c.in_err-heard.ensures.kept in
     still a _ stands refl c.make_ready.ensures.traffic refl
     (same_place a.places.items (c.args.seat - 1) x _ h c.index_mut-place.ensures.value (ap (λ (n : NodeValue). record { node = n; session_message = x.session_message; tally = x.tally }) node))
-    refl refl c.make_ready.ensures.items (let r = stands.room in let l = c.make_ready.ensures.len in let m = c.make_ready.ensures.grows in omega arith)
+    refl refl refl c.make_ready.ensures.items (let r = stands.room in let l = c.make_ready.ensures.len in let m = c.make_ready.ensures.grows in omega arith)
 
 pub overflow_add-place : goal.overflow_add-place
 overflow_add-place g c =
@@ -127,6 +127,7 @@ invariant_of-self-2 g c =
       units = map-set unit_of a.places.items k p ∙ (ap (λ (l : ℕ). set (map unit_of a.places.items) k (record { node = node'; session_message = l })) last_is
           ∙ (ap (λ (us : List UnitState). set us k (record { node = node'; session_message = session_message_after (unit_at s seat).session_message (length s.begun) heard.begun })) stands.units ∙ sym (ap (λ (v : State). v.units) is)));
       begun = counted ∙ (ap (λ (n : ℕ). with_begun n heard.begun) number ∙ (sym (begun_length s.begun seat (seat_at s.traffic seat).name memory heard.begun) ∙ sym (ap (λ (v : State). length v.begun) is)));
+      injected = omega arith;
       joined = joins_hear seat memory heard.answer _ ∙ (stands.joined ∙ sym (length-set a.places.items k p));
       tallies = tallies_one a.places.items _ (Hear seat memory heard.answer) k seat p one_more stands.tallies (λ j t'. refl) (omega arith) h (ap one_more (place_tally a k x h c.index_mut-place.ensures.value));
       fresh = λ j l. fresh_one _ (Hear seat memory heard.answer) seat (length a.places.items) one_more stands.fresh (λ i t'. refl) (omega arith) j (omega (arith, length-set a.places.items k));
@@ -173,6 +174,7 @@ returns-clause-ok g c =
         places = with_item a.places (seat - 1) (record { node = c.hear.new.self; session_message = c.last_session-place.result; tally = one_more x.tally });
         begun = c.begun_count-begun.result;
         live = a.live;
+        injected = a.injected;
         journal = c.push_reserved.new.self;
       })
           c.args.self.now seat x.node f heard.answer memory _ _ answers c.args.unit.now.1 asked.0 c.self.view_is refl

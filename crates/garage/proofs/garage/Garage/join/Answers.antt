@@ -60,6 +60,7 @@ invariant_of-self-2 c =
       units = ap (map unit_of) items ∙ (map_push unit_of a.places.items p ∙ (ap (λ (u : UnitState). map unit_of a.places.items ++ u ∷ []) (ap (λ (x : NodeValue). record { node = x; session_message = 0 }) c.new-node.ensures)
           ∙ (ap (λ (us : List UnitState). us ++ new_unit name want ∷ []) stands.units ∙ sym (ap (λ (v : State). v.units) is))));
       begun = stands.begun ∙ sym (ap (λ (v : State). length v.begun) is);
+      injected = omega arith;
       joined = joins_join name want (reverse a.journal.items) ∙ (let j = stands.joined in omega arith);
       tallies = subst (λ (xs : List Place). (j : ℕ) → j < length xs → (place_at xs j).tally ≡ tally_of (suc j) (Join name want ∷ reverse a.journal.items)) (sym items)
           (tallies_push a.places.items (reverse a.journal.items) p name want stands.tallies stands.joined refl (stands.fresh (suc (length a.places.items)) (omega arith)));
@@ -77,7 +78,7 @@ invariant_of-self-2 c =
 pub returns-clause-ok : goal.returns-clause-ok
 returns-clause-ok c =
     let a = c.self.inside in
-    let b : Inside = (record { name = a.name; address = a.address; window = a.window; grant = a.grant; limit = a.limit; bus = c.queue_frames.new.bus; station = a.station; places = c.push_reserved.new.self; begun = a.begun; live = a.live + 1; journal = c.push_reserved-2.new.self }) in
+    let b : Inside = (record { name = a.name; address = a.address; window = a.window; grant = a.grant; limit = a.limit; bus = c.queue_frames.new.bus; station = a.station; places = c.push_reserved.new.self; begun = a.begun; live = a.live + 1; injected = a.injected; journal = c.push_reserved-2.new.self }) in
     let stands = c.self.invariant in
     let did = c.in_ok-seat.ensures.ok in
     let small : c.args.name < 2 ^ 64 = (let e = c.number-number.ensures in let b = c.number-number.type_inv in omega arith) in

@@ -68,6 +68,7 @@ invariant_of-self c =
       station = stands.station ∙ sym (ap (λ (s : State). s.station) (leave_is c.args.seat _));
       units = units_same a.places.items k x _ h c.index_mut-place.ensures.value refl ∙ (stands.units ∙ sym (ap (λ (s : State). s.units) (leave_is c.args.seat _)));
       begun = stands.begun ∙ sym (ap (λ (s : State). length s.begun) (leave_is c.args.seat _));
+      injected = omega arith;
       joined = joins_leave c.args.seat _ ∙ (stands.joined ∙ sym (length-set a.places.items k _));
       tallies = tallies_one a.places.items _ (Leave c.args.seat) k c.args.seat _ (λ (t : Tally). one_more (record t { left = t.left + 1 })) stands.tallies (λ j t. refl) (omega arith) h
           (ap (λ (t : Tally). one_more (record t { left = t.left + 1 })) (place_tally a k x h c.index_mut-place.ensures.value));

@@ -14,7 +14,7 @@ invariant_of-result c =
     let few = setting.limit in
     let claim = c.start.ensures ∙ ap (λ (s : StationValue). own_claim s.claimer) c.new-station.ensures.value in
     let small : c.args.name < 2 ^ 64 = (let e = c.number-number.ensures in let b = c.number-number.type_inv in omega arith) in
-    opened_stands _ (record { name = small; address = setting.address }) c.new-3.ensures.items c.new-2.ensures.items refl refl c.new-3.ensures.len (omega arith)
+    opened_stands _ (record { name = small; address = setting.address }) c.new-3.ensures.items c.new-2.ensures.items refl refl refl c.new-3.ensures.len (omega arith)
     (c.queue_frames.ensures
     ∙ (ap (λ (f : FrameValue). put_all 0 (map untagged (f ∷ [])) c.reserve.new.self.traffic) claim
     ∙ ap (λ (t : Traffic). put_all 0 (map untagged (claim_frame_value c.args.name (Some c.args.address) ∷ [])) t) (c.reserve.ensures.traffic ∙ c.in_ok-bus.ensures.ok)))

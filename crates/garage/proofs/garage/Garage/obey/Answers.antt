@@ -52,6 +52,7 @@ invariant_of-self-2 c =
       station = stands.station ∙ sym (ap (λ (s : State). s.station) is);
       units = stands.units ∙ sym (ap (λ (s : State). s.units) is);
       begun = stands.begun ∙ sym (ap (λ (s : State). length s.begun) is);
+      injected = omega arith;
       joined = joins_ordered c.args.order _ ∙ stands.joined;
       tallies = tallies_still a.places.items _ (Ordered c.args.order) stands.tallies (λ j t. refl);
       fresh = fresh_still _ (Ordered c.args.order) (length a.places.items) stands.fresh (λ i t. refl);

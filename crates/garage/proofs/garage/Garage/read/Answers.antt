@@ -58,6 +58,7 @@ invariant_of-self-2 c =
       station = c.in_ok-reaction.ensures.step ∙ (ap (λ (x : StationValue). station_after x r) stands.station ∙ sym (ap (λ (v : State). v.station) is));
       units = stands.units ∙ sym (ap (λ (v : State). v.units) is);
       begun = stands.begun ∙ sym (ap (λ (v : State). length v.begun) is);
+      injected = omega arith;
       joined = joins_read r _ ∙ stands.joined;
       tallies = tallies_still a.places.items _ (Read r) stands.tallies (λ j t. refl);
       fresh = fresh_still _ (Read r) (length a.places.items) stands.fresh (λ i t. refl);

@@ -43,6 +43,7 @@ invariant_of-self-2 c =
       station = stands.station;
       units = units_same a.places.items k x _ h c.index_mut-place.ensures.value refl ∙ stands.units;
       begun = stands.begun;
+      injected = omega arith;
       joined = joins_turned c.args.seat _ ∙ (stands.joined ∙ sym (length-set a.places.items k _));
       tallies = tallies_one a.places.items _ (Turned c.args.seat) k c.args.seat _ (λ (t : Tally). one_more (record t { turned = t.turned + 1 })) stands.tallies (λ j t. refl) (omega arith) h
           (ap (λ (t : Tally). one_more (record t { turned = t.turned + 1 })) (place_tally a k x h c.index_mut-place.ensures.value));

@@ -21,4 +21,4 @@ returns-clause-counted g c =
     ∙ turn_counted c.args.self.now.garage.now c.args.self.now.seat c.turned.new.self c.args.self.now.events c.in_ok-turned.ensures.ok c.args.self.now.seated.counted
 
 pub returns-clause-lists : goal.returns-clause-lists
-returns-clause-lists g c = lists_of_event c.args.self.now.garage.now c.turned.new.self (Turned c.args.self.now.seat) c.events_of-self.ensures.lawful c.in_ok-turned.ensures.ok
+returns-clause-lists g c = lists_of_event c.args.self.now.garage.now c.turned.new.self (Turned c.args.self.now.seat) c.in_ok-turned.ensures.ok

@@ -529,6 +529,8 @@ def mixed(writer):
             writer.stale_end, writer.half_command, writer.to_the_station, writer.foreign_session, writer.unowned_session,
             writer.shortened, writer.shortened, writer.clear, writer.clear, writer.answer_after_gap,
             writer.begun_again, writer.begun_again, writer.gap_in_session, writer.gap_in_session]
+    if writer.strangers:
+        aims += [writer.in_a_session] * 6 + [writer.strange_session, writer.strange_broadcast, writer.claimed_before] * 2
     while not writer.is_long():
         if len(writer.seats()) > 7:
             writer.leave()
@@ -559,6 +561,8 @@ def at_the_limit(writer):
     for _ in range(writer.random.randrange(40, 120)):
         if writer.chance(25):
             writer.random.choice([writer.session, writer.broadcast, writer.replace, writer.half_command])()
+        elif writer.chance(6):
+            writer.random.choice([writer.any_frame, writer.no_frame])()
         else:
             writer.any_line()
         if writer.is_long():

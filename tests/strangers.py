@@ -5,6 +5,7 @@ from model.frames import (ABORT, ACKNOWLEDGMENT, BAM, CLAIM, COMMANDED_ADDRESS, 
                           request, rts, to_all, to_one)
 
 GROUPS = [CLAIM, REQUEST, ACKNOWLEDGMENT, CONTROL, PACKET, DM1, DM2, DM3, DM11, COMMANDED_ADDRESS, 65259, 0]
+MANY = "4294967295"
 NOBODYS = [NULL, GLOBAL]
 UNREADABLE = ["20 08 00 02 FF CA FE 00", "20 0A 00 03 FF CA FE 00", "12 00 00 00 00 CA FE 00", "20 16 00 04 FF CA FE",
               "10 16 00 04 FF CA FE", "10 00 00 00 FF CA FE 00", "13 FF FF FF FF CA FE 00", ""]
@@ -103,6 +104,14 @@ class Strangers:
                     + self.random.choice([DM1, DM2, COMMANDED_ADDRESS, 130762]).to_bytes(3, "little"))
         self.inject(to_one(7, CONTROL, self.one_of(GLOBAL, self.owned(), self.own_address()), self.anybody(), data))
 
+    def to_one_alone(self):
+        """A broadcast is announced to one alone; or what no announcement is, to all."""
+        start = broadcast(codes_of(3), DM1, self.anybody())[0]
+        if self.chance(60):
+            self.inject(to_one(7, CONTROL, self.owned(), start.source, start.data))
+        else:
+            self.inject(to_one(7, CONTROL, GLOBAL, start.source, bytes([CTS]) + start.data[1:]))
+
     def strange_packet(self):
         """A packet that nothing announced, or one between those of a message."""
         data = bytes([self.random.choice([0, 1, 2, 3, 4, 255])]) + bytes(range(self.random.choice([7, 7, 7, 6])))
@@ -119,7 +128,7 @@ class Strangers:
         unit = self.random.choice(units)
         session, size = unit.session, len(unit.session.payload)
         pgn = session.kind.to_bytes(3, "little")
-        way = self.random.randrange(6)
+        way = self.random.choice([0, 0, 0, 1, 2, 2, 3, 4, 4, 5])
         if way < 4:
             data = [bytes([CTS, 0, session.following & 255, 255, 255]), bytes([CTS, 255, session.following & 255, 255, 255]),
                     bytes([ABORT, 2, 255, 255, 255]), bytes([END_OF_MESSAGE]) + size.to_bytes(2, "little") + bytes([packets_of(size), 255])][way]
@@ -171,5 +180,5 @@ class Strangers:
         self.random.choice([
             self.any_frame, self.any_of_a_group, self.any_of_a_group, self.strange_claim, self.strange_claim, self.claimed_before,
             self.strange_request, self.strange_request, self.strange_acknowledgment, self.strange_memory, self.strange_control,
-            self.strange_control, self.strange_packet, self.in_a_session, self.in_a_session, self.strange_broadcast,
+            self.strange_control, self.to_one_alone, self.strange_packet, self.in_a_session, self.in_a_session, self.strange_broadcast,
             self.strange_session, self.strange_command, self.no_frame])()

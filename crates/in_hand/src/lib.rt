@@ -1,10 +1,10 @@
-//! What one can conclude of a garage that was handed over: two small uses of what its calls promise.
+//! What one can conclude of a garage that was handed over: small uses of what its calls promise.
 //!
-//! Neither function knows how the garage came about. That no subtraction goes below 0 follows from the clauses of its calls.
+//! No function here knows how the garage came about. That no subtraction goes below 0 follows from the clauses of its calls.
 #![tactic(auto)]
 
-ghost use Rattle.std.specs.Prelude.{◌≡◌, ◌+◌, length, option_map, slice_get, OnErr, IfOk};
-ghost use Rattle.journal.specs.Journal.{listed_of, state_of};
+ghost use Rattle.std.specs.Prelude.{◌≡◌, ◌+◌, length, option_map, slice_get, OnErr, IfOk, IfSome};
+ghost use Rattle.journal.specs.Journal.{listed_of, shown_of, state_of};
 
 use dm_messages::Kind;
 use garage::{Garage, GarageError};
@@ -23,6 +23,19 @@ pub fn lost(garage: &Garage, seat: u32) -> Option<u32>
 {
     let counts = garage.counts(seat)?;
     Some(counts.queued - counts.carried - counts.waiting)
+}
+
+/// How many messages of a kind that the units of a NAME began came to the station on a clear path; nothing where frames came
+/// from outside, since the list then says what was heard and no more.
+///
+/// By the headline of `Garage::shown`, under its premise.
+pub fn came_clear(garage: &Garage, name: Name, kind: Kind) -> Option<usize>
+    ensures { IfSome result (λ n. n ≡ length (shown_of garage.now name kind)) }
+{
+    if garage.injected() > 0 {
+        return None;
+    }
+    Some(garage.shown(name, kind).len())
 }
 
 /// Has the station take its next reading, and tells how many entries came to a NAME's list by it.

@@ -48,6 +48,8 @@ class Apart:
             self.heard[answer.split()[1]] = 0
         if words[0] == "leave":
             self.heard.pop(words[1], None)
+        if words[0] == "inject" and answer == "ok":
+            self.carried += 1
         if words[0] in ("set", "heal") and len(words) == 5:
             self.steps += [f"{words[0]} {words[1]} {int(words[2]) + number} {words[3]}" for number in range(int(words[4]))]
         elif words[0] == "hear":

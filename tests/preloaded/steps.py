@@ -98,7 +98,9 @@ def queries_for(commands, answers, more):
     names = sorted({command.split()[1] for command in commands if command.split()[0] in ("garage", "join")})
     seats = 1 + sum(answer.startswith("seat ") for answer in answers)
     carried = sum(int(answer.split()[1]) for answer in answers if answer.startswith("carried "))
-    queries = [f"counts {seat}" for seat in range(seats + 1)] + ["stats"]
+    injected = [command for command, answer in zip(commands, answers) if command.startswith("inject ") and answer == "ok"]
+    carried += len(injected)
+    queries = [f"counts {seat}" for seat in range(seats + 1)] + ["stats"] + ["injected"] * bool(injected)
     for name in names:
         queries += [f"shown {name} dm1", f"shown {name} dm2", f"row {name}"]
     return queries + [f"frame {index}" for index in sorted({0, 1, carried // 2, carried - 1, carried})] + more

@@ -742,7 +742,7 @@ def wide_window(writer):
 
 
 PLANS = {mixed: 68, among_strangers: 24, lines_alone: 10, at_the_limit: 8, session_at_the_limit: 8, cut_short: 8, full_house: 2, full_memory: 10,
-         counted_out: 2, no_free_address: 5, late_listening: 3, wide_window: 2}
+         counted_out: 2, no_free_address: 5, late_listening: 3, wide_window: 3}
 
 
 def script(seed):

@@ -1,4 +1,5 @@
 pub mod Numbers
+pub mod Queues
 pub mod Windows
 pub mod Seats
 pub mod Live

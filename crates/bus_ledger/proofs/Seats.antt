@@ -1,11 +1,11 @@
 -- What a change of one seat does to the value of a bus.
-use Rattle.std.proofs.Common.{ℕ, suc, zero, ◌≡◌, ◌≢◌, ◌+◌, ◌<◌, ◌≤◌, List, [], ◌∷◌, map, length, get_or, set, drop, Bool, cond, true, false, not, Some, Result, Ok, Err, OnOk, IfErr, refl, sym, ap, ◌∙◌, subst, arith, inl, inr, ◌-◌, nat_lt, if◌then◌else◌}
+use Rattle.std.proofs.Common.{ℕ, suc, zero, ◌≡◌, ◌≢◌, ◌+◌, ◌<◌, ◌≤◌, List, [], ◌∷◌, map, length, get_or, set, drop, Bool, cond, true, false, not, Some, Result, Ok, Err, OnOk, IfErr, refl, sym, ap, ◌∙◌, subst, arith, inl, inr, ◌-◌, nat_lt, if◌then◌else◌, length-append}
 use Rattle.std.proofs.lemmas.List.{map-set, length-set, length-drop, length-map, get_or_read, get_or-set_same, get_or-set_other, set-get_or, drop-drop, length_push}
 use Rattle.std.proofs.lemmas.List.Elements.{All-drop}
-use Rattle.std.specs.List.{All, filter}
+use Rattle.std.specs.List.{All}
 use Rattle.std.specs.Vec.{with_item}
 use Rattle.bus_ledger.specs.BusValue.{SeatValue, SeatBook, Traffic, BusValue, KeepsSpares, nobody, no_book, book_at, seat_at, spare_at}
-use Rattle.bus_ledger.specs.Changes.{with_seat, hearing, heard_more, queueing, kept, is_in_session, withdrawing, leaving}
+use Rattle.bus_ledger.specs.Changes.{with_seat, hearing, heard_more, queueing_all, kept, withdrawing, leaving}
 use Rattle.bus_ledger.specs.declared.traffic.QueuedFrame.{QueuedFrame}
 use Rattle.bus_ledger.specs.declared.error.BusError.{BusError}
 use Rattle.bus_ledger.specs.declared.error.BusError.TheVariants.{OutOfMemory}
@@ -22,6 +22,7 @@ use Rattle.bus_ledger.specs.Window.{WindowValue, window_of, rest_of}
 use Rattle.bus_ledger.proofs.Numbers.{same_or_not}
 use Rattle.bus_ledger.proofs.Windows.{window_set, window_rest, rest_size}
 use Rattle.bus_ledger.proofs.Live.{live_set}
+use Rattle.bus_ledger.proofs.Queues.{kept_fewer}
 
 pub seat_book : (xs : List SeatBook) (k : ℕ) → get_or (map seat_of xs) k nobody ≡ (book_at xs k).seat
 seat_book [] k = refl
@@ -165,25 +166,15 @@ hear_kept a v k n x y is kept h read e unit bound =
     changed_kept a v k x y is kept h read (ap (λ (z : SeatValue). z.live) e) (λ z. absurd (omega arith))
     (λ b. subst (λ (z : SeatValue). IsBalanced a.wire.items k z) (sym e) (balanced_hearing a.wire.items k n x.seat bound' b))
 
--- a live seat stays balanced where it queues a frame
-balanced_queueing : (wire : List CarriedFrame) (k : ℕ) (q : QueuedFrame) (s : SeatValue) → s.live ≡ true → IsBalanced wire k s → IsBalanced wire k (queueing q s)
-balanced_queueing wire k q s live b = record {
-  ledger = let e = length_push s.queue q in let l = b.ledger in omega arith;
+-- a live seat stays balanced where it queues frames
+balanced_queueing : (wire : List CarriedFrame) (k : ℕ) (qs : List QueuedFrame) (s : SeatValue) → s.live ≡ true → IsBalanced wire k s → IsBalanced wire k (queueing_all qs s)
+balanced_queueing wire k qs s live b = record {
+  ledger = let e = length-append s.queue qs in let l = b.ledger in omega arith;
   carried = b.carried;
   gone = λ e. absurd cc;
   heard = b.heard;
   own = b.own;
 }
-
-filter_short : (p : QueuedFrame → Bool) (qs : List QueuedFrame) → length (filter p qs) ≤ length qs
-filter_short p [] = omega arith
-filter_short p (q ∷ qs) =
-    let r = filter_short p qs in
-    elim (p q) as (λ v. length (cond v (q ∷ filter p qs) (filter p qs)) ≤ length (q ∷ qs)) [ true ↦ omega arith | false ↦ omega arith ]
-
-kept_fewer : (which : Which) (qs : List QueuedFrame) → length (kept which qs) ≤ length qs
-kept_fewer Session qs = filter_short (λ (q : QueuedFrame). not (is_in_session q)) qs
-kept_fewer Everything qs = omega arith
 
 kept_nil : (which : Which) → kept which [] ≡ []
 kept_nil Session = refl
@@ -222,18 +213,18 @@ withdraw_kept a v k which x y is kept h read e =
     changed_kept a v k x y is kept h read (ap (λ (z : SeatValue). z.live) e) (λ z. ap (λ (w : SeatValue). w.heard) e)
     (λ b. subst (λ (z : SeatValue). IsBalanced a.wire.items k z) (sym e) (balanced_withdrawing a.wire.items k which x.seat b))
 
-pub queue_kept : (a : Inside) (v : BusValue) (k : ℕ) (q : QueuedFrame) (x y : SeatBook) (r : Result (Unit {0}) BusError) → view_of a ≡ v → IsKept a → k < length v.traffic.seats → (seat_at v.traffic k).live ≡ true → x ≡ get_or a.seats.items k x
-    → OnOk r (y.seat ≡ queueing q x.seat) → IfErr r (λ e. (e ≡ OutOfMemory) × (x.spare ≡ 0) × (y.seat ≡ x.seat)) → IsKept (placed a k y)
-queue_kept a v k q x y (Ok u) is kept h live read ok err =
+pub queue_kept : (a : Inside) (v : BusValue) (k : ℕ) (qs : List QueuedFrame) (x y : SeatBook) (r : Result (Unit {0}) BusError) → view_of a ≡ v → IsKept a → k < length v.traffic.seats → (seat_at v.traffic k).live ≡ true → x ≡ get_or a.seats.items k x
+    → OnOk r (y.seat ≡ queueing_all qs x.seat) → IfErr r (λ e. (e ≡ OutOfMemory) × (x.spare ≡ 0) × (y.seat ≡ x.seat)) → IsKept (placed a k y)
+queue_kept a v k qs x y (Ok u) is kept h live read ok err =
     let s = seat_is a v k x is (within a v k is h) read in
     changed_kept a v k x y is kept h read (ap (λ (z : SeatValue). z.live) ok) (λ z. ap (λ (w : SeatValue). w.heard) ok)
-    (λ b. subst (λ (z : SeatValue). IsBalanced a.wire.items k z) (sym ok) (balanced_queueing a.wire.items k q x.seat (ap (λ (z : SeatValue). z.live) s ∙ live) b))
-queue_kept a v k q x y (Err e) is kept h live read ok err = same_kept a v k x y is kept h read err.2
+    (λ b. subst (λ (z : SeatValue). IsBalanced a.wire.items k z) (sym ok) (balanced_queueing a.wire.items k qs x.seat (ap (λ (z : SeatValue). z.live) s ∙ live) b))
+queue_kept a v k qs x y (Err e) is kept h live read ok err = same_kept a v k x y is kept h read err.2
 
-pub queue_ok : (a : Inside) (v : BusValue) (k : ℕ) (q : QueuedFrame) (x y : SeatBook) (r : Result (Unit {0}) BusError) → view_of a ≡ v → k < length v.traffic.seats → x ≡ get_or a.seats.items k x
-    → OnOk r (y.seat ≡ queueing q x.seat) → OnOk r (traffic_of (placed a k y) ≡ with_seat v.traffic k (queueing q (seat_at v.traffic k)))
-queue_ok a v k q x y (Ok u) is h read ok = changed_traffic (queueing q) a v k x y is h read ok
-queue_ok a v k q x y (Err e) is h read ok = tt
+pub queue_ok : (a : Inside) (v : BusValue) (k : ℕ) (qs : List QueuedFrame) (x y : SeatBook) (r : Result (Unit {0}) BusError) → view_of a ≡ v → k < length v.traffic.seats → x ≡ get_or a.seats.items k x
+    → OnOk r (y.seat ≡ queueing_all qs x.seat) → OnOk r (traffic_of (placed a k y) ≡ with_seat v.traffic k (queueing_all qs (seat_at v.traffic k)))
+queue_ok a v k qs x y (Ok u) is h read ok = changed_traffic (queueing_all qs) a v k x y is h read ok
+queue_ok a v k qs x y (Err e) is h read ok = tt
 
 pub queue_err : (a : Inside) (v : BusValue) (k : ℕ) (x y : SeatBook) (r : Result (Unit {0}) BusError) → view_of a ≡ v → k < length v.traffic.seats → x ≡ get_or a.seats.items k x
     → IfErr r (λ e. (e ≡ OutOfMemory) × (x.spare ≡ 0) × (y.seat ≡ x.seat)) → IfErr r (λ e. (e ≡ OutOfMemory) × (spare_at v k ≡ 0) × (traffic_of (placed a k y) ≡ v.traffic))

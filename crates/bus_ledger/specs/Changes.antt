@@ -1,8 +1,9 @@
 -- What each call changes.
-use Rattle.std.specs.Prelude.{ℕ, ◌+◌, ◌-◌, Bool, true, false, not, List, [], ◌∷◌, ◌++◌, drop, length, Option, slice_set}
+use Rattle.std.specs.Prelude.{ℕ, ◌+◌, ◌-◌, Bool, true, false, not, List, [], ◌∷◌, ◌++◌, drop, length, map, Option, slice_set}
 use Rattle.std.specs.List.{filter}
 use Rattle.std.specs.Prelude.{Some, None}
 use Rattle.can_frame.specs.FrameValue.{FrameValue}
+use Rattle.transport.specs.Runs.{NumberedFrame}
 use Rattle.bus_ledger.specs.declared.traffic.Tag.{Tag}
 use Rattle.bus_ledger.specs.declared.traffic.QueuedFrame.{QueuedFrame}
 use Rattle.bus_ledger.specs.declared.traffic.CarriedFrame.{CarriedFrame}
@@ -42,6 +43,21 @@ queueing q s = record s { queue = s.queue ++ q ∷ []; queued = s.queued + 1 }
 
 abbrev pub queued : ℕ → QueuedFrame → Traffic → Traffic
 queued k q t = with_seat t k (queueing q (seat_at t k))
+
+-- a part of a message, with its tag
+abbrev pub run_frame : ℕ → Bool → NumberedFrame → QueuedFrame
+run_frame message session n = queued_frame n.frame (Some (record { message = message; part = n.part; session = session }))
+
+-- the frames of a run, with their tags
+abbrev pub run_frames : ℕ → Bool → List NumberedFrame → List QueuedFrame
+run_frames message session run = map (run_frame message session) run
+
+-- all of these at the end of the queue, in order
+abbrev pub queueing_all : List QueuedFrame → SeatValue → SeatValue
+queueing_all qs s = record s { queue = s.queue ++ qs; queued = s.queued + length qs }
+
+abbrev pub queued_all : ℕ → List QueuedFrame → Traffic → Traffic
+queued_all k qs t = with_seat t k (queueing_all qs (seat_at t k))
 
 abbrev pub is_session_tag : Option Tag → Bool
 is_session_tag (Some t) = t.session

@@ -1,5 +1,6 @@
 pub mod BusValue
 pub mod Changes
+pub mod Places
 pub mod Joining
 pub mod Carrying
 pub mod Reception

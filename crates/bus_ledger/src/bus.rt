@@ -11,6 +11,7 @@ use can_frame::{Frame, Reading};
 use name_field::Name;
 use std::alloc::{AllocFailed, Global};
 use std::marker::Model;
+use transport::Run;
 
 /// How many units may be live beside the station.
 const MOST_UNITS: usize = 64;
@@ -44,7 +45,7 @@ impl Bus {
     ghost use Rattle.std.specs.Option.{option_map, SomeIff};
     ghost use Rattle.std.specs.Result.{result_err};
     ghost use Rattle.bus_ledger.specs.BusValue.{IsLive, IsUnit, KeepsSpares, seat_at, spare_at};
-    ghost use Rattle.bus_ledger.specs.Changes.{carried_from, heard_more, injected, joined, kept, left, new_traffic, queued, queued_frame, withdrawn};
+    ghost use Rattle.bus_ledger.specs.Changes.{carried_from, heard_more, injected, joined, kept, left, new_traffic, queued, queued_frame, withdrawn, queued_all, run_frames};
     ghost use Rattle.bus_ledger.specs.Joining.{join_refusal};
     ghost use Rattle.bus_ledger.specs.Carrying.{CanCarry, Carries, IsChoice, IsNext, offer};
     ghost use Rattle.bus_ledger.specs.Reception.{after_reading, next_reading, unread};
@@ -173,6 +174,29 @@ impl Bus {
     {
         let place = &mut self.seats[seat as usize];
         place.put(QueuedFrame { frame, tag })
+    }
+
+    /// Puts the frames that are left of a run at the end of the seat's queue, in one place of it: parts of the message of
+    /// this number, in a session or not. It cannot fail where the seat's spare is at least 1, and lowers the spare by at
+    /// most 1. The queue is seen as with each frame queued by itself; a frame is made when it is looked at or carried.
+    ///
+    /// Refused where there is no memory; then nothing was queued, and the run is dropped.
+    pub fn queue_run(
+        &mut self,
+        seat: u32,
+        run: Run,
+        message: u32,
+        session: bool,
+    ) -> Result<(), BusError>
+        requires live { IsLive self.old.traffic seat }
+        requires few { (seat_at self.old.traffic seat).queued + length run < 2 ^ 32 }
+        ensures ok { OnOk result (self.new.traffic ≡ queued_all seat (run_frames message session run) self.old.traffic) }
+        ensures err { IfErr result (λ e. (e ≡ BusError.OutOfMemory) × (spare_at self.old seat ≡ 0) × (self.new.traffic ≡ self.old.traffic)) }
+        ensures spare { spare_at self.old seat ≤ spare_at self.new seat + 1 }
+        ensures spares { (k : ℕ) → k ≢ seat → spare_at self.old k ≤ spare_at self.new k }
+    {
+        let place = &mut self.seats[seat as usize];
+        place.put_run(run, message, session)
     }
 
     /// Withdraws frames of the seat's queue, and answers how many: all of them, or those that are part of a session.

@@ -9,6 +9,7 @@
 mod bus;
 mod error;
 mod offers;
+mod queued;
 mod seat;
 mod tap;
 mod traffic;

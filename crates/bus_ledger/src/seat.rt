@@ -1,16 +1,16 @@
-ghost use Rattle.std.specs.Prelude.{◌≡◌, ℕ, ◌+◌, ◌-◌, ◌<◌, ◌≤◌, ◌^◌, true, drop, length, nat_lt, OnOk, IfOk, IfErr};
-ghost use Rattle.bus_ledger.specs.Changes.{newcomer, hearing, queueing, kept, withdrawing, leaving, sending};
+ghost use Rattle.std.specs.Prelude.{◌≡◌, ℕ, ◌+◌, ◌-◌, ◌<◌, ◌≤◌, ◌^◌, length, nat_lt, OnOk, IfOk, IfErr};
+ghost use Rattle.bus_ledger.specs.Changes.{newcomer, hearing, queueing, queueing_all, run_frames, withdrawing, leaving, sending};
 ghost use Rattle.bus_ledger.specs.Carrying.{offered};
 ghost use Rattle.bus_ledger.specs.Ledger.{counts_of};
-ghost use Rattle.bus_ledger.specs.declared.traffic.Which.TheVariants.{Session};
-ghost use Rattle.std.specs.VecDeque.{deque_capacity, deque_len};
 
 use crate::error::BusError;
+use crate::queued::{Queued, count_frames, keep, take_first};
 use crate::traffic::{Counts, QueuedFrame, Which};
 use name_field::Name;
 use std::alloc::Global;
 use std::collections::VecDeque;
 use std::marker::Model;
+use transport::Run;
 
 /// A place on the bus.
 #[derive(Drop)]
@@ -21,22 +21,24 @@ pub(crate) struct Seat {
     queued: u32,
     carried: u32,
     withdrawn: u32,
-    queue: VecDeque<QueuedFrame>,
+    queue: VecDeque<Queued>,
 }
 
 impl Model for Seat {
-    ghost use Rattle.std.specs.Prelude.{◌≡◌, ◌+◌, ◌-◌, ◌<◌, ◌^◌};
+    ghost use Rattle.std.specs.Prelude.{◌≡◌, ◌+◌, ◌-◌, ◌<◌, ◌^◌, length};
+    ghost use Rattle.std.specs.List.{All};
     ghost use Rattle.std.specs.VecDeque.{deque_capacity, deque_len};
     ghost use Rattle.bus_ledger.specs.BusValue.{SeatBook};
+    ghost use Rattle.bus_ledger.specs.Places.{IsFilled, frames_in};
 
     ghost Value = { SeatBook };
 
     ghost view = { λ s. record {
-      seat = record { name = s.name; live = s.live; heard = s.heard; queue = s.queue.items; queued = s.queued; carried = s.carried; withdrawn = s.withdrawn };
+      seat = record { name = s.name; live = s.live; heard = s.heard; queue = frames_in s.queue.items; queued = s.queued; carried = s.carried; withdrawn = s.withdrawn };
       spare = deque_capacity s.queue - deque_len s.queue;
     } };
 
-    ghost invariant = { λ s. (s.queued ≡ s.carried + s.withdrawn + deque_len s.queue) × (s.queued < 2 ^ 32) };
+    ghost invariant = { λ s. (s.queued ≡ s.carried + s.withdrawn + length (frames_in s.queue.items)) × (s.queued < 2 ^ 32) × All IsFilled s.queue.items };
 }
 
 impl Seat {
@@ -87,7 +89,7 @@ impl Seat {
         ensures { result ≡ offered wire_len self.now.seat }
     {
         if self.live && self.heard == wire_len {
-            self.queue.front().copied()
+            self.queue.front()?.first()
         } else {
             None
         }
@@ -100,7 +102,7 @@ impl Seat {
             queued: self.queued,
             carried: self.carried,
             withdrawn: self.withdrawn,
-            waiting: self.queue.len() as u32,
+            waiting: self.queued - self.carried - self.withdrawn,
         }
     }
 
@@ -131,23 +133,41 @@ impl Seat {
         ensures spare { self.old.spare ≤ self.new.spare + 1 }
         ensures err { IfErr result (λ e. (e ≡ BusError.OutOfMemory) × (self.old.spare ≡ 0) × (self.new.seat ≡ self.old.seat)) }
     {
-        self.queue.push_back(queued)?;
+        self.queue.push_back(Queued::One(queued))?;
         self.queued += 1;
         Ok(())
     }
 
+    /// Puts the frames of a run at the end of the queue, in one place; none where the run has none left.
+    pub(crate) fn put_run(&mut self, run: Run, message: u32, session: bool) -> Result<(), BusError>
+        requires { self.old.seat.queued + length run < 2 ^ 32 }
+        ensures ok { OnOk result (self.new.seat ≡ queueing_all (run_frames message session run) self.old.seat) }
+        ensures spare { self.old.spare ≤ self.new.spare + 1 }
+        ensures err { IfErr result (λ e. (e ≡ BusError.OutOfMemory) × (self.old.spare ≡ 0) × (self.new.seat ≡ self.old.seat)) }
+    {
+        let count = u32::from(run.left());
+        if count == 0 {
+            return Ok(());
+        }
+        self.queue.push_back(Queued::Many {
+            run,
+            message,
+            session,
+        })?;
+        self.queued += count;
+        Ok(())
+    }
+
     /// Withdraws frames of the queue, and says how many.
+    #[tactic(auto, using(crate::proofs::Queues::kept_fewer))]
     pub(crate) fn withdraw(&mut self, which: Which) -> u32
         ensures seat { self.new.seat ≡ withdrawing which self.old.seat }
         ensures spare { self.old.spare ≤ self.new.spare }
         ensures count { result + length self.new.seat.queue ≡ length self.old.seat.queue }
     {
-        let before = self.queue.len();
-        match which {
-            Which::Session => keep_single(&mut self.queue),
-            Which::All => self.queue.clear(),
-        }
-        let count = (before - self.queue.len()) as u32;
+        let before = self.queued - self.carried - self.withdrawn;
+        keep(&mut self.queue, which);
+        let count = before - count_frames(&self.queue);
         self.withdrawn += count;
         count
     }
@@ -170,17 +190,8 @@ impl Seat {
         ensures seat { self.new.seat ≡ sending self.old.seat }
         ensures spare { self.old.spare ≤ self.new.spare }
     {
-        let _ = self.queue.pop_front();
+        take_first(&mut self.queue);
         self.carried += 1;
         self.heard += 1;
     }
-}
-
-/// Takes the frames that are part of a session out of a queue.
-fn keep_single(queue: &mut VecDeque<QueuedFrame>)
-    ensures items { queue.new.items ≡ kept Session queue.old.items }
-    ensures capacity { deque_capacity queue.new ≡ deque_capacity queue.old }
-    ensures bound { deque_len queue.new ≤ deque_len queue.old }
-{
-    queue.retain(|queued| !queued.is_in_session());
 }

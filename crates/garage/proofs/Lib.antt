@@ -1,5 +1,6 @@
 pub mod Standing
 pub mod Traffics
+mod Pieces
 pub mod Headline
 mod Lists
 mod CarryLemmas

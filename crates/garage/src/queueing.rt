@@ -1,34 +1,87 @@
 ghost use Rattle.std.specs.Prelude.{◌≡◌, ℕ, ◌+◌, ◌<◌, ◌≤◌, ◌^◌, Bool, map, length, if◌then◌else◌};
 ghost use Rattle.bus_ledger.specs.BusValue.{IsLive, IsUnit, seat_at, spare_at};
-ghost use Rattle.bus_ledger.specs.Changes.{heard_more, withdrawn};
+ghost use Rattle.bus_ledger.specs.Changes.{heard_more, queued, queued_all, queued_frame, run_frames, withdrawn};
 ghost use Rattle.bus_ledger.specs.declared.traffic.Which.TheVariants.{All};
+ghost use Rattle.node_core.specs.Pieces.{outs_of};
 ghost use Rattle.journal.specs.Steps as steps;
 ghost use Rattle.journal.specs.Steps.{put_all, tagged, untagged, withdrawn_by, reacted};
 
 use bus_ledger::{Bus, Tag, Which};
 use can_frame::Frame;
-use node_core::{Heard, Out, Part, Withdraw};
+use node_core::{Heard, Outs, Part, Piece, Withdraw};
 use station_table::Reaction;
+use transport::Run;
 
 /// Queues what a unit puts, in order. The room is there.
 pub(crate) fn queue_outs(
     bus: &mut Bus,
     seat: u32,
-    outs: &[Out],
+    mut put: Outs,
     number: u32,
     session: bool,
     session_number: u32,
 )
     requires live { IsLive bus.old.traffic seat }
-    requires spare { length outs.now ≤ spare_at bus.old seat }
-    requires few { (seat_at bus.old.traffic seat).queued + length outs.now < 2 ^ 32 }
-    ensures { bus.new.traffic ≡ put_all seat (map (tagged number session session_number) outs.now) bus.old.traffic }
+    requires spare { length put ≤ spare_at bus.old seat }
+    requires few { (seat_at bus.old.traffic seat).queued + length put < 2 ^ 32 }
+    ensures { bus.new.traffic ≡ put_all seat (map (tagged number session session_number) put) bus.old.traffic }
 {
-    for out in outs {
-        let tag = tag_of(number, session, session_number, out.part);
-        if bus.queue(seat, out.frame, tag).is_err() {
-            unreachable!();
+    while let Some(piece) = put.take_piece() {
+        queue_piece(bus, seat, piece, number, session, session_number);
+    }
+}
+
+/// Queues one frame that a unit puts, or the parts of a run. The room for it is there.
+#[tactic(auto, using(crate::proofs::Pieces::put_begun, crate::proofs::Pieces::put_session))]
+fn queue_piece(
+    bus: &mut Bus,
+    seat: u32,
+    piece: Piece,
+    number: u32,
+    session: bool,
+    session_number: u32,
+)
+    requires live { IsLive bus.old.traffic seat }
+    requires spare { 0 < spare_at bus.old seat }
+    requires few { (seat_at bus.old.traffic seat).queued + length (outs_of piece) < 2 ^ 32 }
+    ensures traffic { bus.new.traffic ≡ put_all seat (map (tagged number session session_number) (outs_of piece)) bus.old.traffic }
+    ensures spare { spare_at bus.old seat ≤ spare_at bus.new seat + 1 }
+{
+    match piece {
+        Piece::One(out) => {
+            let tag = tag_of(number, session, session_number, out.part);
+            queue_one(bus, seat, out.frame, tag);
         }
+        Piece::Many { run, part } => match part {
+            Part::Begun(_) => queue_parts(bus, seat, run, number, session),
+            Part::Session(_) => queue_parts(bus, seat, run, session_number, true),
+        },
+    }
+}
+
+/// Queues one frame. The room for it is there.
+fn queue_one(bus: &mut Bus, seat: u32, frame: Frame, tag: Option<Tag>)
+    requires live { IsLive bus.old.traffic seat }
+    requires spare { 0 < spare_at bus.old seat }
+    requires few { (seat_at bus.old.traffic seat).queued + 1 < 2 ^ 32 }
+    ensures traffic { bus.new.traffic ≡ queued seat (queued_frame frame tag) bus.old.traffic }
+    ensures spare { spare_at bus.old seat ≤ spare_at bus.new seat + 1 }
+{
+    if bus.queue(seat, frame, tag).is_err() {
+        unreachable!();
+    }
+}
+
+/// Queues parts of a message, in one place of the queue. The room for it is there.
+fn queue_parts(bus: &mut Bus, seat: u32, run: Run, message: u32, session: bool)
+    requires live { IsLive bus.old.traffic seat }
+    requires spare { 0 < spare_at bus.old seat }
+    requires few { (seat_at bus.old.traffic seat).queued + length run < 2 ^ 32 }
+    ensures traffic { bus.new.traffic ≡ queued_all seat (run_frames message session run) bus.old.traffic }
+    ensures spare { spare_at bus.old seat ≤ spare_at bus.new seat + 1 }
+{
+    if bus.queue_run(seat, run, message, session).is_err() {
+        unreachable!();
     }
 }
 
@@ -108,25 +161,19 @@ fn withdraw_if(bus: &mut Bus, withdraw: bool)
 pub(crate) fn do_heard(
     bus: &mut Bus,
     seat: u32,
-    heard: &Heard,
+    heard: Heard,
     number: u32,
     session: bool,
     session_number: u32,
 )
     requires unit { IsUnit bus.old.traffic seat }
     requires next { (seat_at bus.old.traffic seat).heard < length bus.old.traffic.wire }
-    requires spare { length heard.now.put ≤ spare_at bus.old seat }
-    requires few { (seat_at bus.old.traffic seat).queued + length heard.now.put < 2 ^ 32 }
-    ensures { bus.new.traffic ≡ put_all seat (map (tagged number session session_number) heard.now.put) (withdrawn_by seat heard.now.withdraw (heard_more seat 1 bus.old.traffic)) }
+    requires spare { length heard.put ≤ spare_at bus.old seat }
+    requires few { (seat_at bus.old.traffic seat).queued + length heard.put < 2 ^ 32 }
+    ensures { bus.new.traffic ≡ put_all seat (map (tagged number session session_number) heard.put) (withdrawn_by seat heard.withdraw (heard_more seat 1 bus.old.traffic)) }
 {
+    let Heard { withdraw, put, .. } = heard;
     bus.mark_heard(seat);
-    withdraw_by(bus, seat, heard.withdraw);
-    queue_outs(
-        bus,
-        seat,
-        heard.put.as_slice(),
-        number,
-        session,
-        session_number,
-    );
+    withdraw_by(bus, seat, withdraw);
+    queue_outs(bus, seat, put, number, session, session_number);
 }

@@ -129,20 +129,21 @@ impl Garage {
         place.session_message = last_session(place.session_message, self.begun, heard.begun);
         place.tally.events += 1;
         let session_number = place.session_message;
+        let begun = begun_count(self.begun, heard.begun);
+        let answer = heard.answer;
         do_heard(
             &mut self.bus,
             seat,
-            &heard,
+            heard,
             self.begun,
             session,
             session_number,
         );
-        let begun = begun_count(self.begun, heard.begun);
         self.begun = begun;
         self.journal.push_reserved(Event::Hear {
             seat,
             memory,
-            answer: heard.answer,
+            answer,
         });
         Ok(HeardOne::Frame(frame))
     }
@@ -209,14 +210,7 @@ impl Garage {
         let place = &mut self.places[seat as usize - 1];
         place.tally.events += 1;
         let session_number = place.session_message;
-        queue_outs(
-            &mut self.bus,
-            seat,
-            put.as_slice(),
-            self.begun,
-            false,
-            session_number,
-        );
+        queue_outs(&mut self.bus, seat, put, self.begun, false, session_number);
         self.begun += 1;
         self.journal.push_reserved(Event::Begin { seat, memory });
         Ok(())

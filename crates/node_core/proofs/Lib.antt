@@ -2,3 +2,4 @@ pub mod Begins
 pub mod Unasked
 pub mod NineBytes
 pub mod PartLists
+pub mod Contested

@@ -7,3 +7,4 @@ pub mod Reaction
 pub mod Laws
 pub mod Beginning
 pub mod Refusals
+pub mod Pieces

@@ -14,4 +14,4 @@ mod session;
 pub use error::NodeError;
 pub use heard::{Answer, Begun, Heard, Started, Withdraw};
 pub use node::Node;
-pub use out::{Out, Outs, Part};
+pub use out::{Out, Outs, Part, Piece};

@@ -5,7 +5,7 @@ use crate::commanding::HalfCommand;
 use crate::error::NodeError;
 use crate::heard::{Answer, Begun, Heard, Started, Withdraw};
 use crate::out::Outs;
-use crate::parts::parts_begun;
+use crate::parts::parts_to_all;
 use crate::session::OpenSession;
 use address_claim::{Claimer, claim_frame};
 use can_frame::Frame;
@@ -106,7 +106,7 @@ impl Node {
             source,
             dest: 255,
         };
-        let put = parts_begun(alloc, payload.as_slice(), begun)?;
+        let put = parts_to_all(alloc, payload, begun)?;
         Ok(Started::Begun { begun, put })
     }
 

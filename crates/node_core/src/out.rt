@@ -1,8 +1,12 @@
-ghost use Rattle.std.specs.Prelude.{◌≡◌, [], ◌∷◌, ◌++◌, ◌↔◌, length, IfOk, OnOk, OnErr, IsTrue};
+ghost use Rattle.std.specs.Prelude.{◌≡◌, ◌<◌, [], ◌∷◌, ◌++◌, length, map, IfNone, IfOk, IfSome, MatchOption, Some, slice_get, option_map};
+ghost use Rattle.transport.specs.Runs.{part_in};
+ghost use Rattle.node_core.specs.Pieces.{number_in, outs_of, run_out};
 
 use can_frame::Frame;
 use std::alloc::{AllocError, Global};
+use std::collections::VecDeque;
 use std::marker::Model;
+use transport::Run;
 
 /// Which part of a message a frame is. Part 0 is the first frame, part j the packet with number j.
 #[derive(Clone, Copy, Debug, PartialEq, Eq)]
@@ -22,19 +26,32 @@ pub struct Out {
     pub part: Option<Part>,
 }
 
-/// Frames that a unit wants carried, in order.
+/// One frame that a unit wants carried, or some parts of one message, one after another.
+#[derive(Debug, Drop)]
+pub enum Piece {
+    /// One frame.
+    One(Out),
+    /// The parts of a run. `part` is that of its first frame.
+    Many { run: Run, part: Part },
+}
+
+/// Frames that a unit wants carried, in order, piece by piece. A frame of a run is made when it is looked at.
 #[derive(Debug, Drop)]
 pub struct Outs {
-    items: Vec<Out>,
+    pieces: VecDeque<Piece>,
 }
 
 impl Model for Outs {
     ghost use Rattle.std.specs.Prelude.{List};
+    ghost use Rattle.std.specs.List.{All};
     ghost use Rattle.node_core.specs.declared.out.Out.{Out};
+    ghost use Rattle.node_core.specs.Pieces.{IsMarked, outs_in};
 
     ghost Value = { List Out };
 
-    ghost view = { λ o. o.items.items };
+    ghost view = { λ o. outs_in o.pieces.items };
+
+    ghost invariant = { λ o. All IsMarked o.pieces.items };
 }
 
 impl Outs {
@@ -45,7 +62,7 @@ impl Outs {
         ensures { result ≡ [] }
     {
         Outs {
-            items: Vec::new(alloc),
+            pieces: VecDeque::new(alloc),
         }
     }
 
@@ -53,36 +70,68 @@ impl Outs {
     pub fn plain(alloc: Global, frame: Frame) -> Result<Outs, AllocError>
         ensures { IfOk result (λ o. o ≡ plain frame ∷ []) }
     {
-        let mut items = Vec::with_capacity(alloc, 1)?;
-        items.push_reserved(Out { frame, part: None });
-        Ok(Outs { items })
+        Outs::one(alloc, Out { frame, part: None })
     }
 
-    /// These frames.
-    pub fn from_vec(items: Vec<Out>) -> Outs
-        ensures { result ≡ items.items }
+    /// One frame.
+    pub fn one(alloc: Global, out: Out) -> Result<Outs, AllocError>
+        ensures { IfOk result (λ o. o ≡ out ∷ []) }
     {
-        Outs { items }
+        let room = Room::new(alloc)?;
+        Ok(room.holding(out))
     }
 
-    /// The frames, the first one first.
-    pub fn as_slice(&self) -> &[Out]
-        ensures { result.now ≡ self.now }
+    /// The frames that are left of a run; `part` is that of the first of them.
+    pub fn run(alloc: Global, run: Run, part: Part) -> Result<Outs, AllocError>
+        requires { option_map part_in (slice_get run 0) ≡ Some (number_in part) }
+        ensures { IfOk result (λ o. o ≡ map (run_out part) run) }
     {
-        self.items.as_slice()
+        let mut pieces = VecDeque::with_capacity(alloc, 1)?;
+        pieces.push_back_reserved(Piece::Many { run, part });
+        Ok(Outs { pieces })
     }
 
-    /// How many frames there are.
-    pub fn len(&self) -> usize
-        ensures { result ≡ length self.now }
+    /// Takes the first piece, which has at least one frame.
+    pub fn take_piece(&mut self) -> Option<Piece>
+        ensures pieces { MatchOption result (self.old ≡ []) (λ p. self.old ≡ outs_of p ++ self.new) }
+        ensures some { IfSome result (λ p. 0 < length (outs_of p)) }
+        ensures none { IfNone result (self.new ≡ []) }
     {
-        self.items.len()
+        self.pieces.pop_front()
+    }
+}
+
+/// Room for one frame, taken before anything changes that the frame tells of.
+#[derive(Drop)]
+pub(crate) struct Room {
+    pieces: VecDeque<Piece>,
+}
+
+impl Model for Room {
+    ghost use Rattle.std.specs.Prelude.{◌≡◌, ◌<◌, []};
+    ghost use Rattle.std.specs.VecDeque.{deque_capacity, deque_len};
+
+    ghost Value = { Unit {0} };
+
+    ghost view = { λ r. tt };
+
+    ghost invariant = { λ r. (r.pieces.items ≡ []) × (deque_len r.pieces < deque_capacity r.pieces) };
+}
+
+impl Room {
+    /// Takes the memory for one frame.
+    pub(crate) fn new(alloc: Global) -> Result<Room, AllocError> {
+        Ok(Room {
+            pieces: VecDeque::with_capacity(alloc, 1)?,
+        })
     }
 
-    /// Whether there are none.
-    pub fn is_empty(&self) -> bool
-        ensures { IsTrue result ↔ (self.now ≡ []) }
+    /// This frame alone. Takes no memory.
+    pub(crate) fn holding(self, out: Out) -> Outs
+        ensures { result ≡ out ∷ [] }
     {
-        self.items.is_empty()
+        let Room { mut pieces } = self;
+        pieces.push_back_reserved(Piece::One(out));
+        Outs { pieces }
     }
 }

@@ -2,15 +2,15 @@ ghost use Rattle.std.specs.Prelude.{◌≡◌, ◌<◌, ◌≤◌, ◌^◌, IfOk
 ghost use Rattle.can_frame.specs.Fields.{pdu_format_of_pgn};
 ghost use Rattle.transport.specs.Sending.{packets_left};
 ghost use Rattle.dm_messages.specs.View.{pgn_of_kind};
-ghost use Rattle.node_core.specs.Deed.{first_parts, parts_begun, parts_of_session};
+ghost use Rattle.node_core.specs.Deed.{parts_begun, parts_of_session};
 
 use crate::heard::Begun;
 use crate::out::{Out, Outs, Part};
 use crate::session::OpenSession;
-use can_frame::Pgn;
+use can_frame::{GLOBAL_ADDRESS, Pgn};
 use dm_messages::Kind;
 use std::alloc::{AllocError, Global};
-use transport::{last, message_part, packet_frame, part};
+use transport::{Payload, Run, message_part, packets};
 
 /// The group of a kind of message.
 pub fn group_of_kind(kind: Kind) -> Pgn
@@ -24,40 +24,43 @@ pub fn group_of_kind(kind: Kind) -> Pgn
     }
 }
 
-/// The frames that are queued when a message of 8 to 1,785 bytes begins: all that go to all, of a session the first.
-pub fn parts_begun(alloc: Global, payload: &[u8], begun: Begun) -> Result<Outs, AllocError>
+/// The frames that are queued when a message of 8 to 1,785 bytes to all begins: one, or the run of a broadcast, into which the
+/// payload moves.
+#[tactic(auto, using(crate::proofs::PartLists::run_of_broadcast, crate::proofs::PartLists::run_begins))]
+pub fn parts_to_all(alloc: Global, payload: Payload, begun: Begun) -> Result<Outs, AllocError>
+    requires least { 8 ≤ length payload }
+    requires most { length payload ≤ 1785 }
+    requires to_all { begun.dest ≡ 255 }
+    ensures parts { IfOk result (λ o. o ≡ parts_begun payload (pgn_of_kind begun.kind) begun.source begun.dest) }
+    ensures few { IfOk result (λ o. length o ≤ 256) }
+{
+    if payload.len() == 8 {
+        return first_part(alloc, payload.as_slice(), begun);
+    }
+    let end = packets(payload.len() as u16);
+    let pgn = group_of_kind(begun.kind);
+    let run = Run::new(payload, pgn, begun.source, GLOBAL_ADDRESS, 0, end);
+    Outs::run(alloc, run, Part::Begun(0))
+}
+
+/// The first frame of a message of 8 to 1,785 bytes: the only one that is queued when a session begins.
+#[tactic(auto, using(crate::proofs::PartLists::one_part))]
+pub fn first_part(alloc: Global, payload: &[u8], begun: Begun) -> Result<Outs, AllocError>
     requires least { 8 ≤ length payload.now }
     requires most { length payload.now ≤ 1785 }
+    requires alone { begun.dest ≡ 255 → length payload.now ≡ 8 }
     ensures parts { IfOk result (λ o. o ≡ parts_begun payload.now (pgn_of_kind begun.kind) begun.source begun.dest) }
     ensures few { IfOk result (λ o. length o ≤ 256) }
 {
     let pgn = group_of_kind(begun.kind);
-    let end = first_parts(payload, begun.dest);
-    let mut items = Vec::with_capacity(alloc, usize::from(end))?;
-    for j in 0..end {
-        items.push(Out {
-            frame: message_part(payload, pgn, begun.source, begun.dest, j as u8),
-            part: Some(Part::Begun(j)),
-        })?;
-    }
-    Ok(Outs::from_vec(items))
+    let frame = message_part(payload, pgn, begun.source, begun.dest, 0);
+    let part = Some(Part::Begun(0));
+    Outs::one(alloc, Out { frame, part })
 }
 
-/// How many frames are queued when a message begins.
-fn first_parts(payload: &[u8], dest: u8) -> u16
-    requires least { 8 ≤ length payload.now }
-    requires most { length payload.now ≤ 1785 }
-    ensures count { result ≡ first_parts payload.now dest }
-    ensures few { result ≤ 256 }
-{
-    if dest == 255 {
-        u16::from(last(payload)) + 1
-    } else {
-        1
-    }
-}
-
-/// The next packets of an open session, so many of them, from the first one not yet queued on.
+/// The next packets of an open session, so many of them, from the first one not yet queued on. The session keeps its payload, so
+/// their run has a copy.
+#[tactic(auto, using(crate::proofs::PartLists::run_of_session, crate::proofs::PartLists::run_begins))]
 pub fn parts_of_session(
     alloc: Global,
     session: &OpenSession,
@@ -68,15 +71,20 @@ pub fn parts_of_session(
     ensures parts { IfOk result (λ o. o ≡ parts_of_session session.now source count) }
     ensures few { IfOk result (λ o. length o ≤ 256) }
 {
-    let sending = &session.sending;
-    let payload = sending.payload();
-    let first = sending.next_unsent();
-    let mut items = Vec::with_capacity(alloc, usize::from(count))?;
-    for j in first..first + u16::from(count) {
-        items.push(Out {
-            frame: packet_frame(part(payload, j as u8), source, sending.dest()),
-            part: Some(Part::Session(j)),
-        })?;
+    if count == 0 {
+        return Ok(Outs::new(alloc));
     }
-    Ok(Outs::from_vec(items))
+    let sending = &session.sending;
+    let bytes = sending.payload();
+    let first = sending.next_unsent() as u8;
+    let payload = Payload::from_slice(alloc, bytes)?;
+    let run = Run::new(
+        payload,
+        sending.pgn(),
+        source,
+        sending.dest(),
+        first,
+        first - 1 + count,
+    );
+    Outs::run(alloc, run, Part::Session(u16::from(first)))
 }

@@ -7,8 +7,8 @@ ghost use Rattle.node_core.specs.Requested as requested;
 use crate::error::NodeError;
 use crate::heard::{Answer, Begun, Heard, Withdraw};
 use crate::node::Node;
-use crate::out::{Out, Outs};
-use crate::parts::{group_of_kind, parts_begun};
+use crate::out::{Out, Outs, Room};
+use crate::parts::{first_part, group_of_kind, parts_to_all};
 use crate::requested::{Wanted, acknowledgment, counts_from, put};
 use crate::session::OpenSession;
 use can_frame::Pgn;
@@ -130,7 +130,7 @@ impl Node {
             source: address,
             dest: 255,
         };
-        message_begun(alloc, payload.as_slice(), begun)
+        Ok(message_begun(parts_to_all(alloc, payload, begun)?, begun))
     }
 
     /// Asked at the unit's own address for more than the claim.
@@ -198,7 +198,7 @@ impl Node {
                 source: address,
                 dest: 255,
             };
-            return message_begun(alloc, payload.as_slice(), begun);
+            return Ok(message_begun(parts_to_all(alloc, payload, begun)?, begun));
         }
         if self.session.is_some() {
             return busy(alloc, request, address);
@@ -208,7 +208,7 @@ impl Node {
             source: address,
             dest: request.source,
         };
-        let heard = message_begun(alloc, payload.as_slice(), begun)?;
+        let heard = message_begun(first_part(alloc, payload.as_slice(), begun)?, begun);
         let sending = Sending::start(payload, request.source, group_of_kind(kind));
         self.session = Some(OpenSession { kind, sending });
         Ok(heard)
@@ -231,20 +231,20 @@ fn asked_to_clear(
     ensures answer { IfOk result (λ h. IsAnswerTo (Some (Question.Clear which)) h.answer) }
     ensures asked { IfOk result (λ h. (u : _) × (unit.new ≡ (unit.old.0, u)) × IsAsked (Answers unit.old) (Some (Question.Clear which)) h.answer unit.old.1 u) }
 {
-    let mut room = Vec::with_capacity(alloc, 1)?;
+    let room = Room::new(alloc)?;
     let answer = put(Question::Clear(which), unit);
     let control = if answer == Answer::Agreed {
         POSITIVE
     } else {
         NEGATIVE
     };
-    room.push_reserved(Out {
+    let out = Out {
         frame: acknowledgment(control, request.source, request.pgn, address),
         part: None,
-    });
+    };
     Ok(Heard {
         withdraw: Withdraw::Keep,
-        put: Outs::from_vec(room),
+        put: room.holding(out),
         begun: None,
         answer,
     })
@@ -261,18 +261,14 @@ fn busy(alloc: Global, request: Request, address: u8) -> Result<Heard, NodeError
     )?)
 }
 
-/// A message begins.
-fn message_begun(alloc: Global, payload: &[u8], begun: Begun) -> Result<Heard, NodeError>
-    requires least { 8 ≤ length payload.now }
-    requires most { length payload.now ≤ 1785 }
-    ensures heard { IfOk result (λ h. h ≡ beginning payload.now begun) }
-    ensures few { IfOk result (λ h. length h.put ≤ 256) }
-    ensures refused { IfErr result (λ e. e ≡ NodeError.OutOfMemory) }
+/// A message begins, and these are the frames that are queued with it.
+fn message_begun(put: Outs, begun: Begun) -> Heard
+    ensures { result ≡ record { withdraw = Withdraw.Keep; put = put; begun = Some begun; answer = Answer.NotAsked } }
 {
-    Ok(Heard {
+    Heard {
         withdraw: Withdraw::Keep,
-        put: parts_begun(alloc, payload, begun)?,
+        put,
         begun: Some(begun),
         answer: Answer::NotAsked,
-    })
+    }
 }

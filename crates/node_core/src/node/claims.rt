@@ -1,9 +1,9 @@
-ghost use Rattle.std.specs.Prelude.{◌≡◌, ◌≤◌, ◌<◌, IfOk, OnOk, OnErr, [], length, vec_len, vec_capacity, slice_index_or, None};
+ghost use Rattle.std.specs.Prelude.{◌≡◌, ◌≤◌, IfOk, OnOk, OnErr, length, slice_index_or, None};
 
 use crate::commanding::HalfCommand;
 use crate::heard::{Answer, Heard, Withdraw};
 use crate::node::Node;
-use crate::out::{Out, Outs};
+use crate::out::{Out, Room};
 use address_claim::ClaimStep;
 use name_field::Name;
 use std::alloc::{AllocError, Global};
@@ -30,7 +30,7 @@ impl Node {
             self.note_claim(source, name);
             return Ok(self.end_session_with(alloc, source));
         }
-        let room = Vec::with_capacity(alloc, 1)?;
+        let room = Room::new(alloc)?;
         self.note_claim(source, name);
         Ok(self.claim_again(room, Answer::NotAsked))
     }
@@ -70,21 +70,19 @@ impl Node {
         self.end_session(alloc)
     }
 
-    /// Withdraws all, ends the session, and claims the address held, or says that none is. There is room for one frame.
-    pub(super) fn claim_again(&mut self, mut room: Vec<Out>, answer: Answer) -> Heard
-        requires empty { room.items ≡ [] }
-        requires fits { vec_len room < vec_capacity room }
+    /// Withdraws all, ends the session, and claims the address held, or says that none is.
+    pub(super) fn claim_again(&mut self, room: Room, answer: Answer) -> Heard
         ensures heard { result ≡ heard_of answer (Claims self.old.claimer.name self.old.claimer.held) }
         ensures node { self.new ≡ after self.old (Claims self.old.claimer.name self.old.claimer.held) }
     {
         self.session = None;
-        room.push_reserved(Out {
+        let out = Out {
             frame: self.start(),
             part: None,
-        });
+        };
         Heard {
             withdraw: Withdraw::All,
-            put: Outs::from_vec(room),
+            put: room.holding(out),
             begun: None,
             answer,
         }

@@ -1,10 +1,10 @@
-ghost use Rattle.std.specs.Prelude.{◌≡◌, ◌≤◌, ◌<◌, IfOk, IfErr, OnErr, IfSome, Some, [], length, vec_len, vec_capacity};
+ghost use Rattle.std.specs.Prelude.{◌≡◌, ◌≤◌, IfOk, IfErr, OnErr, IfSome, Some, length};
 
 use crate::commanding::{HalfCommand, for_name, is_broadcast};
 use crate::error::NodeError;
 use crate::heard::{Answer, Heard, Withdraw};
 use crate::node::Node;
-use crate::out::{Out, Outs};
+use crate::out::{Outs, Room};
 use crate::requested::put;
 use can_frame::Pgn;
 use requests::Commanded;
@@ -51,7 +51,7 @@ impl Node {
             self.join_packet(source, destination, bytes);
             return Ok(Heard::nothing(alloc));
         };
-        let room = Vec::with_capacity(alloc, 1)?;
+        let room = Room::new(alloc)?;
         self.join_packet(source, destination, bytes);
         match put(Question::Hold(command.address), unit) {
             Answer::Agreed => Ok(self.obey(command.address, room)),
@@ -87,11 +87,9 @@ impl Node {
         self.half_commands[source as usize] = half.continued(bytes);
     }
 
-    /// Holds the address from now on, and claims it. There is room for one frame.
-    fn obey(&mut self, address: u8, room: Vec<Out>) -> Heard
-        requires holdable { address ≤ 253 }
-        requires empty { room.items ≡ [] }
-        requires fits { vec_len room < vec_capacity room }
+    /// Holds the address from now on, and claims it.
+    fn obey(&mut self, address: u8, room: Room) -> Heard
+        requires { address ≤ 253 }
         ensures heard { result ≡ heard_of Answer.Agreed (Claims self.old.claimer.name (Some address)) }
         ensures node { self.new ≡ after self.old (Claims self.old.claimer.name (Some address)) }
     {

@@ -4,10 +4,14 @@ use crate::tests::frame_text::{assert_written, frame};
 use crate::tests::told::Told;
 use dm_messages::Kind;
 use name_field::Name;
-use node_core::{Answer, Heard, Node, NodeError, Out, Part, Started, Withdraw};
+use node_core::{Answer, Heard, Node, NodeError, Out, Outs, Part, Piece, Started, Withdraw};
 use std::alloc::Global;
 use std::process::Abort;
 use std::test::Fail;
+use transport::Run;
+
+/// More pieces than a unit ever puts at once.
+const MOST_PIECES: u32 = 4;
 
 /// The NAME of the unit.
 const UNIT: u64 = 0xA0;
@@ -295,7 +299,7 @@ fn plays(
                 let heard = hears(alloc, node, unit, frame)?;
                 assert_eq!(rt; heard.withdraw, *withdraws, "{}", scene.title);
                 assert_eq!(rt; heard.answer, *answer, "{}", scene.title);
-                assert_puts(rt, alloc, heard.put.as_slice(), puts)?;
+                assert_puts(rt, alloc, heard.put, puts)?;
             }
             Step::Is { held, session } => {
                 assert_eq!(rt; node.held(), *held, "{}", scene.title);
@@ -323,7 +327,7 @@ fn is_to_begin(
     match (node.begin(alloc, Kind::Dm1, unit), wanted) {
         (Ok(Started::Begun { begun, put }), Begins::Begun(dest, puts)) => {
             assert_eq!(rt; begun.dest, *dest);
-            assert_puts(rt, alloc, put.as_slice(), puts)
+            assert_puts(rt, alloc, put, puts)
         }
         (Ok(Started::Held), Begins::Held) => Ok(()),
         (Err(refusal), Begins::Refused(error)) => {
@@ -334,13 +338,50 @@ fn is_to_begin(
     }
 }
 
-fn assert_puts(rt: &impl Abort, alloc: Global, outs: &[Out], puts: &[Put]) -> Result<(), Fail> {
+fn assert_puts(rt: &impl Abort, alloc: Global, put: Outs, puts: &[Put]) -> Result<(), Fail> {
+    let outs = all_of(alloc, put)?;
     assert_eq!(rt; outs.len(), puts.len());
     for (out, (text, part)) in outs.iter().zip(puts) {
         assert_written(rt, alloc, out.frame, text)?;
         assert_eq!(rt; out.part, *part);
     }
     Ok(())
+}
+
+/// The frames of what is put, each by itself.
+fn all_of(alloc: Global, mut put: Outs) -> Result<Vec<Out>, Fail> {
+    let mut outs = Vec::new(alloc);
+    for _ in 0..MOST_PIECES {
+        match put.take_piece() {
+            None => return Ok(outs),
+            Some(Piece::One(out)) => outs.push(out)?,
+            Some(Piece::Many { run, part }) => add_run(&mut outs, run, part)?,
+        }
+    }
+    Err(Fail::from("more pieces than any unit puts"))
+}
+
+/// Adds the frames of a run, whose first one is this part.
+fn add_run(outs: &mut Vec<Out>, mut run: Run, first: Part) -> Result<(), Fail> {
+    for _ in 0..run.left() {
+        let part = run.part();
+        let Some(frame) = run.next_frame() else {
+            return Ok(());
+        };
+        outs.push(Out {
+            frame,
+            part: part.map(|number| same_message(first, number)),
+        })?;
+    }
+    Ok(())
+}
+
+/// The part of this number, of the message that another part is of.
+fn same_message(part: Part, number: u16) -> Part {
+    match part {
+        Part::Begun(_) => Part::Begun(number),
+        Part::Session(_) => Part::Session(number),
+    }
 }
 
 #[test]

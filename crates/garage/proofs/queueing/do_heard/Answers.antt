@@ -1,4 +1,4 @@
-use Rattle.std.proofs.Common.{arith, ap, sym, subst, length}
+use Rattle.std.proofs.Common.{arith, sym, subst}
 use Rattle.bus_ledger.specs.BusValue.{Traffic, IsLive}
 use Rattle.garage.proofs.Traffics.{Keeps, keeps_heard, keeps_withdrawn_by, keeps_then, live_kept}
 use Rattle.garage.proofs.queueing.do_heard.Goals as goal
@@ -13,11 +13,10 @@ queue_outs-requires c =
     let t = c.args.bus.now.traffic in
     let mid = c.mark_heard.new.self.traffic in
     let one = subst (λ (u : Traffic). Keeps t u) (sym c.mark_heard.ensures.traffic) (keeps_heard t c.args.seat 1) in
-    let two = subst (λ (u : Traffic). Keeps mid u) (sym c.withdraw_by.ensures.traffic) (keeps_withdrawn_by c.args.seat c.args.heard.now.withdraw mid) in
+    let two = subst (λ (u : Traffic). Keeps mid u) (sym c.withdraw_by.ensures.traffic) (keeps_withdrawn_by c.args.seat c.args.heard.withdraw mid) in
     let keeps = keeps_then t mid _ one two in
     let same = keeps.queued c.args.seat in
     let few = c.requires.few in
-    let put = ap length c.as_slice.ensures in
     record {
       live = live_kept t _ c.args.seat keeps (c.requires.unit.1, c.requires.unit.2);
       spare = (let s = c.requires.spare in let r = c.withdraw_by.ensures.spare in let m = c.mark_heard.ensures.spares c.args.seat in omega arith);

@@ -1,19 +1,51 @@
-use Rattle.std.proofs.Common.{arith, ap, ◌∙◌, sym, subst, Option}
+use Rattle.std.proofs.Common.{List, map, length, arith, ap, ◌∙◌, sym, subst, length-append}
+use Rattle.std.proofs.lemmas.List.{length-map}
 use Rattle.bus_ledger.specs.BusValue.{Traffic, IsLive, seat_at}
-use Rattle.bus_ledger.specs.Changes.{queued, queued_frame}
-use Rattle.bus_ledger.specs.declared.traffic.Tag.{Tag}
-use Rattle.journal.specs.Steps.{tagged}
-use Rattle.garage.proofs.Traffics.{ok_of, put_more, IsLive-queued, own_queued}
+use Rattle.node_core.specs.Pieces.{outs_of}
+use Rattle.node_core.specs.declared.out.Out.{Out}
+use Rattle.journal.specs.Steps.{put_all, tagged}
+use Rattle.garage.proofs.Traffics.{live_put, put_count}
+use Rattle.garage.proofs.Pieces.{put_piece}
 use Rattle.garage.proofs.queueing.queue_outs.Goals as goal
 
-pub loop-out-preserved : goal.loop-out-preserved
-loop-out-preserved c =
-    let before = c.loop-out.bus.traffic in
-    let now = ok_of c.queue.result _ (sym c.is_err.ensures.value ∙ c.if-is_err.false) c.queue.ensures.ok ∙ ap (λ (tag : Option Tag). queued c.args.seat (queued_frame c.out-item.result.frame tag) before) c.tag_of-tag.ensures in
-    let old = c.loop-out.invariant in
+pub queue_piece-requires : goal.queue_piece-requires
+queue_piece-requires c =
+    let old = c.loop-piece.invariant in
+    let spare = old.spare in
+    let few = old.few in
+    let long = ap length c.in-Some.ensures.pieces ∙ length-append (outs_of c.in-Some.piece) c.take_piece.new.self in
+    let some = c.in-Some.ensures.some in
+    record { live = old.live; spare = omega arith; few = omega arith }
+
+pub loop-piece-preserved : goal.loop-piece-preserved
+loop-piece-preserved c =
+    let tag = tagged c.args.number c.args.session c.args.session_number in
+    let seat = c.args.seat in
+    let piece = c.in-Some.piece in
+    let t = c.loop-piece.bus.traffic in
+    let old = c.loop-piece.invariant in
+    let spare = old.spare in
+    let few = old.few in
+    let long = ap length c.in-Some.ensures.pieces ∙ length-append (outs_of piece) c.take_piece.new.self in
+    let some = c.in-Some.ensures.some in
+    let now = c.queue_piece.ensures.traffic in
+    let room = c.queue_piece.ensures.spare in
+    let tags = length-map (outs_of piece) tag in
+    let count = ap (λ (u : Traffic). (seat_at u seat).queued) now ∙ put_count seat (map tag (outs_of piece)) t old.live.0 in
     record {
-      traffic = put_more (tagged c.args.number c.args.session c.args.session_number) c.args.seat c.args.outs.now c.loop-out.out-index c.out-item.result c.args.bus.now.traffic before c.queue.new.self.traffic c.loop-out-test.true c.out-item.is old.traffic now;
-      spare = (let o = old.spare in let s = c.queue.ensures.spare in omega arith);
-      live = subst (λ (t : Traffic). IsLive t c.args.seat) (sym now) (IsLive-queued before c.args.seat c.args.seat ((tagged c.args.number c.args.session c.args.session_number) c.out-item.result) old.live);
-      count = (let o = own_queued before c.args.seat ((tagged c.args.number c.args.session c.args.session_number) c.out-item.result) old.live.0 in let n = ap (λ (t : Traffic). (seat_at t c.args.seat).queued) now in let m = old.count in omega arith);
+      traffic = put_piece tag seat c.loop-piece.put piece c.take_piece.new.self t c.queue_piece.new.bus.traffic c.in-Some.ensures.pieces now ∙ old.traffic;
+      spare = omega arith;
+      live = subst (λ (u : Traffic). IsLive u seat) (sym now) (live_put seat seat (map tag (outs_of piece)) t old.live);
+      few = omega arith;
     }
+
+pub loop-piece-smaller : goal.loop-piece-smaller
+loop-piece-smaller c =
+    let long = ap length c.in-Some.ensures.pieces ∙ length-append (outs_of c.in-Some.piece) c.take_piece.new.self in
+    let some = c.in-Some.ensures.some in
+    omega arith
+
+pub returns : goal.returns
+returns c =
+    let tag = tagged c.args.number c.args.session c.args.session_number in
+    sym (ap (λ (l : List Out). put_all c.args.seat (map tag l) c.loop-piece.bus.traffic) c.in_default.ensures.pieces) ∙ c.loop-piece.invariant.traffic

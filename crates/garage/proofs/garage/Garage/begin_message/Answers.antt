@@ -7,7 +7,6 @@ use Rattle.fault_memory.specs.Memory.{IsLawfulMemory}
 use Rattle.bus_ledger.specs.BusValue.{Traffic, seat_at}
 use Rattle.bus_ledger.specs.Joining.{live_units}
 use Rattle.node_core.specs.Beginning.{IsFew}
-use Rattle.node_core.specs.declared.out.Out.{Out}
 use Rattle.journal.specs.State.{State, UnitState, unit_at}
 use Rattle.journal.specs.Steps.{put_all, tagged}
 use Rattle.journal.specs.Journal.{GarageValue, one_more}
@@ -37,7 +36,6 @@ queue_outs-requires-clause-few g c =
     let q = stands.queued c.args.seat in
     let same = ap (λ (t : Traffic). (seat_at t c.args.seat).queued) c.make_ready.ensures.traffic in
     let few : length c.in-Begun.put ≤ 256 = subst IsFew c.in-Begun.is c.in_ok-started.ensures.few in
-    let long = ap length c.as_slice.ensures in
     let ok = c.in_ok-memory.ensures.room in
     let fits = ok.0 in
     let limit = stands.few in
@@ -71,8 +69,8 @@ invariant_of-self-2 g c =
     let number = stands.begun in
     let p : Place = record x { tally = one_more x.tally } in
     let last : x.session_message ≡ (unit_at s seat).session_message = sym (ap (λ (v : UnitState). v.session_message) same) in
-    let now = c.queue_outs.ensures ∙ (ap (λ (l : List Out). put_all seat (map (tagged a.begun false x.session_message) l) c.make_ready.new.bus.traffic) c.as_slice.ensures
-    ∙ ap (put_all seat (map (tagged a.begun false x.session_message) put)) c.make_ready.ensures.traffic) in
+    let now = c.queue_outs.ensures
+    ∙ ap (put_all seat (map (tagged a.begun false x.session_message) put)) c.make_ready.ensures.traffic in
     let more = puts seat (map (tagged a.begun false x.session_message) put) t t (keeps_refl t) in
     let long = length-map put (tagged a.begun false x.session_message) in
     let few : length put ≤ 256 = subst IsFew c.in-Begun.is c.in_ok-started.ensures.few in

@@ -1,4 +1,4 @@
-use Rattle.std.proofs.Common.{rules, ◌≡◌, refl}
+use Rattle.std.proofs.Common.{rules, refl}
 use Rattle.node_core.specs.Requested.{put_by}
 use Rattle.node_core.proofs.Unasked.{left_alone}
 use Rattle.node_core.proofs.node.Node.asked_of_all.Goals as goal

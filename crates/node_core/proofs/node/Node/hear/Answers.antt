@@ -1,4 +1,4 @@
-use Rattle.std.proofs.Common.{rules, ◌≡◌, refl}
+use Rattle.std.proofs.Common.{rules, refl}
 use Rattle.node_core.proofs.node.Node.hear.Goals as goal
 
 pub returns-in_ok-hear_claim-in-AddressClaimed-clause-asked :

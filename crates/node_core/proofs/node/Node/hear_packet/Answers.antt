@@ -1,4 +1,4 @@
-use Rattle.std.proofs.Common.{rules, ◌≡◌, refl}
+use Rattle.std.proofs.Common.{rules, refl}
 use Rattle.node_core.proofs.node.Node.hear_packet.Goals as goal
 
 pub returns-in_default-clause-asked : goal.returns-in_default-clause-asked

@@ -1,0 +1,25 @@
+-- The places of a queue: each holds one frame, or some parts of one message.
+use Rattle.std.specs.Prelude.{Bool, ◌<◌, List, [], ◌∷◌, length}
+use Rattle.std.specs.List.{flat_map}
+use Rattle.bus_ledger.specs.declared.traffic.QueuedFrame.{QueuedFrame}
+use Rattle.bus_ledger.specs.declared.queued.Queued.{Queued}
+use Rattle.bus_ledger.specs.declared.queued.Queued.TheVariants.{One, Many}
+use Rattle.bus_ledger.specs.Changes.{is_in_session, run_frames}
+
+-- the frames that a place holds
+abbrev pub frames_at : Queued → List QueuedFrame
+frames_at (One q) = q ∷ []
+frames_at (Many run message session) = run_frames message session run
+
+-- the frames of a queue: those of its places, one after another
+abbrev pub frames_in : List Queued → List QueuedFrame
+frames_in places = flat_map frames_at places
+
+-- a place holds at least one frame
+abbrev pub IsFilled : Queued → Type 0
+IsFilled place = 0 < length (frames_at place)
+
+-- whether the frames of a place are tagged as part of a session
+abbrev pub is_of_session : Queued → Bool
+is_of_session (One q) = is_in_session q
+is_of_session (Many run message session) = session

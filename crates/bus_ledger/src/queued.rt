@@ -1,0 +1,141 @@
+ghost use Rattle.std.specs.Prelude.{◌≡◌, ◌<◌, ◌≤◌, ◌^◌, drop, length, slice_get};
+ghost use Rattle.std.specs.List.{All};
+ghost use Rattle.std.specs.VecDeque.{deque_capacity, deque_len};
+ghost use Rattle.bus_ledger.specs.Changes.{kept, run_frames};
+ghost use Rattle.bus_ledger.specs.Places.{IsFilled, frames_at, frames_in, is_of_session};
+ghost use Rattle.bus_ledger.specs.declared.traffic.Which.TheVariants.{Session};
+
+use crate::traffic::{QueuedFrame, Tag, Which};
+use std::collections::VecDeque;
+use transport::Run;
+
+/// What one place of a queue holds.
+#[derive(Drop)]
+pub(crate) enum Queued {
+    /// One frame.
+    One(QueuedFrame),
+    /// Some parts of a message, one after another; a frame of them is made when it is looked at.
+    Many {
+        run: Run,
+        message: u32,
+        session: bool,
+    },
+}
+
+impl Queued {
+    /// The first of its frames.
+    pub(crate) fn first(&self) -> Option<QueuedFrame>
+        ensures { result ≡ slice_get (frames_at self.now) 0 }
+    {
+        match self {
+            Queued::One(queued) => Some(*queued),
+            Queued::Many {
+                run,
+                message,
+                session,
+            } => first_of(run, *message, *session),
+        }
+    }
+
+    /// How many frames it holds.
+    pub(crate) fn left(&self) -> u32
+        ensures { result ≡ length (frames_at self.now) }
+    {
+        match self {
+            Queued::One(_) => 1,
+            Queued::Many { run, .. } => u32::from(run.left()),
+        }
+    }
+
+    /// Whether its frames are parts of a session.
+    pub(crate) fn is_in_session(&self) -> bool
+        ensures { result ≡ is_of_session self.now }
+    {
+        match self {
+            Queued::One(queued) => queued.is_in_session(),
+            Queued::Many { session, .. } => *session,
+        }
+    }
+
+    /// Takes the first of its frames; there are others behind it.
+    fn pass(&mut self)
+        requires { 1 < length (frames_at self.old) }
+        ensures { frames_at self.new ≡ drop 1 (frames_at self.old) }
+    {
+        if let Queued::Many { run, .. } = self {
+            let _ = run.next_frame();
+        }
+    }
+}
+
+/// The first frame of a run, with its tag.
+fn first_of(run: &Run, message: u32, session: bool) -> Option<QueuedFrame>
+    ensures { result ≡ slice_get (run_frames message session run.now) 0 }
+{
+    let frame = run.peek()?;
+    let part = run.part()?;
+    Some(QueuedFrame {
+        frame,
+        tag: Some(Tag {
+            message,
+            part,
+            session,
+        }),
+    })
+}
+
+/// How many frames a queue holds.
+pub(crate) fn count_frames(queue: &VecDeque<Queued>) -> u32
+    requires { length (frames_in queue.now.items) < 2 ^ 32 }
+    ensures { result ≡ length (frames_in queue.now.items) }
+{
+    let mut count = 0;
+    for queued in queue.iter() {
+        count += queued.left();
+    }
+    count
+}
+
+/// Takes the first frame of a queue.
+pub(crate) fn take_first(queue: &mut VecDeque<Queued>)
+    requires { All IsFilled queue.old.items }
+    ensures frames { frames_in queue.new.items ≡ drop 1 (frames_in queue.old.items) }
+    ensures filled { All IsFilled queue.new.items }
+    ensures places { deque_len queue.new ≤ deque_len queue.old }
+    ensures capacity { deque_capacity queue.new ≡ deque_capacity queue.old }
+{
+    let Some(first) = queue.front() else {
+        return;
+    };
+    if first.left() == 1 {
+        let _ = queue.pop_front();
+        return;
+    }
+    let first = &mut queue[0];
+    first.pass();
+}
+
+/// Keeps the frames of a queue that are not withdrawn.
+pub(crate) fn keep(queue: &mut VecDeque<Queued>, which: Which)
+    requires { All IsFilled queue.old.items }
+    ensures frames { frames_in queue.new.items ≡ kept which (frames_in queue.old.items) }
+    ensures filled { All IsFilled queue.new.items }
+    ensures places { deque_len queue.new ≤ deque_len queue.old }
+    ensures capacity { deque_capacity queue.new ≡ deque_capacity queue.old }
+{
+    match which {
+        Which::Session => keep_single(queue),
+        Which::All => queue.clear(),
+    }
+}
+
+/// Takes the frames that are part of a session out of a queue.
+fn keep_single(queue: &mut VecDeque<Queued>)
+    requires { All IsFilled queue.old.items }
+    ensures frames { frames_in queue.new.items ≡ kept Session (frames_in queue.old.items) }
+    ensures filled { All IsFilled queue.new.items }
+    ensures places { deque_len queue.new ≤ deque_len queue.old }
+    ensures capacity { deque_capacity queue.new ≡ deque_capacity queue.old }
+{
+    queue.retain(|queued| !queued.is_in_session());
+}

@@ -1,7 +1,7 @@
 /* Loaded before a program (LD_PRELOAD), refuses some of its requests for memory.
  *
  * Requests are counted from 1, from the program's start on. Those from REFUSE_FROM to REFUSE_TO are refused. With LEAVE_SPACE
- * the address space may grow by so many KiB from then on; a stack of a MiB is taken first, since a stack that cannot grow is no
+ * the address space may grow by so many KiB from then on; a stack of two MiB is taken first, since a stack that cannot grow is no
  * request. The file that REFUSE_COUNTS names has two 64-bit numbers: how many requests there were, and how many of them were
  * refused, here or for want of space.
  */
@@ -19,7 +19,7 @@ static unsigned long first, last;
 static unsigned long *counts;
 
 static __attribute__((noinline)) void take_stack(void) {
-    volatile char room[1 << 20];
+    volatile char room[2 << 20];
     for (size_t at = 0; at < sizeof room; at += 1024) room[at] = 0;
 }
 

@@ -10,17 +10,22 @@ pub const LIMIT: usize = 1_048_576;
 
 /// Reads a whole input.
 ///
+/// The bytes that a read is offered lie on the stack, and are more than all later calls take of it. This stays a call of its
+/// own, so those use the stack that it had: a stack that cannot grow shows itself here, before anything is answered, and not
+/// between two answers.
+///
 /// # Errors
 /// - `Read`: a read failed.
 /// - `InputTooLong`: there are more than `LIMIT` bytes; no more is read then.
 /// - `Memory`: memory was refused.
+#[inline(never)]
 pub fn read_input<R: Read>(alloc: Global, reader: &mut R) -> Result<Vec<u8>, Fault>
     ensures within { IfOk result (λ v. length v.items ≤ input_limit) }
     ensures whole { IfOk result (λ v. IfSome (R.remaining reader.old) (λ bytes. v.items ≡ bytes)) }
     ensures too_long { result ≡ Err Fault.InputTooLong → IfSome (R.remaining reader.old) (λ bytes. input_limit < length bytes) }
 {
     let mut bytes = Vec::new(alloc);
-    let mut buffer = [0u8; 4096];
+    let mut buffer = [0u8; LIMIT];
     for _turn in 0..LIMIT + 2 {
         let n = match reader.read(&mut buffer) {
             Ok(n) => n,

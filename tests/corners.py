@@ -29,7 +29,7 @@ class Writer:
         self.lines.append(line)
         answer = self.script.answer(line)
         if answer is not None:
-            self.answers.append(answer)
+            self.answers.extend(answer.split("\n"))
         return answer
 
     def one_of(self, *things):
@@ -160,7 +160,7 @@ class Writer:
 
     def query(self):
         self.say(*self.random.choice([
-            ("shown", self.name(), self.one_of("dm1", "dm2")), ("row", self.name()), ("stats",),
+            ("shown", self.name(), self.one_of("dm1", "dm2")), ("row", self.name()), ("stats",), ("report",),
             ("counts", self.one_of(0, self.seat(), self.random.randrange(len(self.garage.seats)))),
             ("frame", self.random.randrange(len(self.garage.wire) + 2))]))
 
@@ -171,7 +171,7 @@ class Writer:
             "lamps {seat} 04FF",
             "think {seat}", "turn {seat}", "leave {seat}", "hear {seat} 1", "dm1 {seat}", "carry 1", "read 1", "round 1",
             "ask {name} dm1", "ask all dm3", "command {name} 7", "shown {name} dm1", "row {name}", "counts {seat}", "stats",
-            "frame 0", "garage {name} 249 4 16 100"]).format(seat=self.seat(), name=self.name())
+            "report", "frame 0", "garage {name} 249 4 16 100"]).format(seat=self.seat(), name=self.name())
         words = line.split(" ")
         at = self.random.randrange(len(words))
         way = self.random.randrange(9)
@@ -490,6 +490,7 @@ class Writer:
         for seat in range(min(6, len(self.garage.seats))):
             self.say("counts", seat)
         self.say("stats")
+        self.say("report")
         for at in sorted(self.random.sample(range(len(self.garage.wire)), min(60, len(self.garage.wire)))):
             self.say("frame", at)
 

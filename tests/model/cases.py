@@ -202,6 +202,13 @@ stats: none missed
 stats: some missed
 frame: a frame
 frame: no frame
+report: no NAME
+report: one NAME
+report: several NAMEs
+report: a NAME with an address
+report: a NAME without an address
+report: a newest DM1
+report: no DM1
 """
 
 REFUSALS = {
@@ -214,7 +221,7 @@ REFUSALS = {
 SEVERAL = ["set", "heal", "hear", "carry", "read", "round"]  # a refusal leaves what was done before it
 EARLIER = ["join", "dm1", "ask", "command"]  # these have refusals that come before the limit's
 BAD_LINES = ["garage", "join", "set", "heal", "lamps", "think", "turn", "leave", "hear", "dm1", "carry", "read", "round", "ask",
-             "command", "shown", "row", "counts", "stats", "frame", "fly"]  # `fly`: no command at all
+             "command", "shown", "row", "counts", "stats", "frame", "report", "fly"]  # `fly`: no command at all
 NO_SEAT = ["set", "heal", "lamps", "think", "turn", "leave", "hear", "dm1", "counts"]
 
 # Cases that need a frame that neither a unit nor the station of this bus ever sends at that moment. Why: a unit never hears

@@ -16,6 +16,9 @@ use unit_threads::{Ended, Gate, run};
 use unit_trait::Unit;
 use vehicle::{Station, read_vehicle};
 
+/// More units than this a run cannot number. No input of the greatest size has so many.
+const MOST_UNITS: usize = 4_294_967_295;
+
 /// Before its turns no unit waits.
 struct Open;
 
@@ -52,6 +55,9 @@ pub fn threads<R: Threads + Wait + Sync, I: Read, W: Write>(
     let vehicle = read_vehicle(alloc, text)?;
     let garage = garage_of(alloc, vehicle.station)?;
     let lines = vehicle.units.as_slice();
+    if lines.len() > MOST_UNITS {
+        return Err(Fault::Vehicle);
+    }
     let mut units: Vec<(Box<dyn Unit>, u8)> = Vec::new(alloc);
     for line in lines {
         let unit: Box<dyn Unit> = Box::new(alloc, Simulated::new(alloc, line.name, line.kind))?;

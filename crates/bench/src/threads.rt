@@ -1,20 +1,20 @@
-ghost use Rattle.std.specs.Prelude.{◌≡◌, ◌<◌, ◌^◌, length, vec_len, IfErr, IfSome};
+ghost use Rattle.std.specs.Prelude.{◌≡◌, ◌⊎◌, ◌<◌, length, vec_len, IfErr, IfOk, IfSome};
 ghost use Rattle.bench.specs.Fault.{IsOfInput};
 ghost use Rattle.bench.specs.Input.{input_limit};
 
 use crate::fault::Fault;
 use crate::input::read_input;
 use crate::kinds::Simulated;
-use garage::{Garage, GarageError};
+use garage::{Garage, GarageError, Snapshot};
 use journal::Tally;
 use std::alloc::Global;
 use std::io;
 use std::io::{BufWriter, Read, Write};
 use std::sync::Wait;
 use std::thread::Threads;
-use unit_threads::{Ended, Gate, run};
+use unit_threads::{Ended, Gate, Ran, run};
 use unit_trait::Unit;
-use vehicle::{Station, read_vehicle};
+use vehicle::{Station, UnitLine, Vehicle, read_vehicle};
 
 /// More units than this a run cannot number. No input of the greatest size has so many.
 const MOST_UNITS: usize = 4_294_967_295;
@@ -48,34 +48,43 @@ pub fn threads<R: Threads + Wait + Sync, I: Read, W: Write>(
     ensures unanswered { IfErr result (λ fault. IsOfInput fault → writer.new ≡ writer.old) }
     ensures too_long { result ≡ Err Fault.InputTooLong → IfSome (I.remaining reader.old) (λ bytes. input_limit < length bytes) }
 {
+    let vehicle = vehicle_of(alloc, reader)?;
+    let garage = garage_of(alloc, vehicle.station)?;
+    let units = vehicle.units.as_slice();
+    let (garage, ran) = run_units(rt, alloc, garage, units, turns, reads)?;
+    let Ok(mut writer) = BufWriter::new(alloc, writer) else {
+        return Err(Fault::Memory);
+    };
+    write_ends(&mut writer, &garage, ran.ended.as_slice())?;
+    if !report {
+        return flush(&mut writer);
+    }
+    let Ok(snapshot) = garage.snapshot(alloc) else {
+        return Err(Fault::Memory);
+    };
+    write_report(&mut writer, &snapshot)
+}
+
+/// The vehicle that an input describes.
+fn vehicle_of<I: Read>(alloc: Global, reader: &mut I) -> Result<Vehicle, Fault>
+    ensures few { IfOk result (λ vehicle. vec_len vehicle.units < 4294967296) }
+    ensures too_long { result ≡ Err Fault.InputTooLong → IfSome (I.remaining reader.old) (λ bytes. input_limit < length bytes) }
+{
     let input = read_input(alloc, reader)?;
     let Ok(text) = std::str::from_utf8(input.as_slice()) else {
         return Err(Fault::NotUtf8);
     };
     let vehicle = read_vehicle(alloc, text)?;
-    let garage = garage_of(alloc, vehicle.station)?;
-    let lines = vehicle.units.as_slice();
-    if lines.len() > MOST_UNITS {
+    if vehicle.units.len() > MOST_UNITS {
         return Err(Fault::Vehicle);
     }
-    let mut units: Vec<(Box<dyn Unit>, u8)> = Vec::new(alloc);
-    for line in lines {
-        let unit: Box<dyn Unit> = Box::new(alloc, Simulated::new(alloc, line.name, line.kind))?;
-        units.push((unit, line.address))?;
-    }
-    let Ok(mut writer) = BufWriter::new(alloc, writer) else {
-        return Err(Fault::Memory);
-    };
-    let (garage, ran) = run(rt, alloc, garage, units, turns, reads, &Open);
-    write_ends(&mut writer, &garage, ran?.ended.as_slice())?;
-    if report {
-        write_report(alloc, &mut writer, &garage)?;
-    }
-    writer.flush().map_err(|_| Fault::Write)
+    Ok(vehicle)
 }
 
 /// The garage of a vehicle's station.
-fn garage_of(alloc: Global, station: Station) -> Result<Garage, Fault> {
+fn garage_of(alloc: Global, station: Station) -> Result<Garage, Fault>
+    ensures { IfErr result (λ fault. (fault ≡ Fault.Memory) ⊎ (fault ≡ Fault.Vehicle)) }
+{
     let Station {
         name,
         address,
@@ -90,6 +99,26 @@ fn garage_of(alloc: Global, station: Station) -> Result<Garage, Fault> {
     }
 }
 
+/// Runs units of these kinds in the garage.
+fn run_units<R: Threads + Wait + Sync>(
+    rt: &R,
+    alloc: Global,
+    garage: Garage,
+    lines: &[UnitLine],
+    turns: u32,
+    reads: u32,
+) -> Result<(Garage, Ran), Fault>
+    requires few { length lines.now < 4294967296 }
+    ensures memory { IfErr result (λ fault. fault ≡ Fault.Memory) }
+{
+    let mut units: Vec<(Box<dyn Unit>, u8)> = Vec::new(alloc);
+    for line in lines {
+        let unit: Box<dyn Unit> = Box::new(alloc, Simulated::new(alloc, line.name, line.kind))?;
+        units.push((unit, line.address))?;
+    }
+    let (garage, ran) = run(rt, alloc, garage, units, turns, reads, &Open);
+    Ok((garage, ran?))
+}
 /// Writes a line for the end of each unit.
 fn write_ends<W: Write>(writer: &mut W, garage: &Garage, ended: &[Ended]) -> Result<(), Fault>
     ensures { IfErr result (λ fault. fault ≡ Fault.Write) }
@@ -117,15 +146,28 @@ fn write_end<W: Write>(
         left,
         events: _,
     } = garage.tally(end.seat.unwrap_or(0));
-    writeln!(writer, "unit {unit} joined {joined} turned {turned} left {left}")
+    writeln!(
+        writer,
+        "unit {unit} joined {joined} turned {turned} left {left}"
+    )
 }
 
-/// Writes what the station knows.
-fn write_report<W: Write>(alloc: Global, writer: &mut W, garage: &Garage) -> Result<(), Fault>
-    ensures { IfErr result (λ fault. (fault ≡ Fault.Write) ⊎ (fault ≡ Fault.Memory)) }
+/// Writes what the station knows, and all that is still to be written.
+fn write_report<W: Write>(writer: &mut W, snapshot: &Snapshot) -> Result<(), Fault>
+    ensures { IfErr result (λ fault. fault ≡ Fault.Write) }
 {
-    let Ok(snapshot) = garage.snapshot(alloc) else {
-        return Err(Fault::Memory);
-    };
-    report::write(&snapshot, writer).map_err(|_| Fault::Write)
+    if report::write(snapshot, writer).is_err() {
+        return Err(Fault::Write);
+    }
+    flush(writer)
+}
+
+/// Writes all that is still to be written.
+fn flush<W: Write>(writer: &mut W) -> Result<(), Fault>
+    ensures { IfErr result (λ fault. fault ≡ Fault.Write) }
+{
+    match writer.flush() {
+        Ok(()) => Ok(()),
+        Err(_) => Err(Fault::Write),
+    }
 }

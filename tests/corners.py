@@ -31,7 +31,7 @@ class Writer(Strangers):
         self.lines.append(line)
         answer = self.script.answer(line)
         if answer is not None:
-            self.answers.append(answer)
+            self.answers.extend(answer.split("\n"))
         return answer
 
     def one_of(self, *things):
@@ -162,7 +162,7 @@ class Writer(Strangers):
 
     def query(self):
         self.say(*self.random.choice([
-            ("shown", self.name(), self.one_of("dm1", "dm2")), ("row", self.name()), ("stats",),
+            ("shown", self.name(), self.one_of("dm1", "dm2")), ("row", self.name()), ("stats",), ("report",),
             ("counts", self.one_of(0, self.seat(), self.random.randrange(len(self.garage.seats)))),
             ("frame", self.random.randrange(len(self.garage.wire) + 2)), ("injected",)]))
 
@@ -173,7 +173,7 @@ class Writer(Strangers):
             "lamps {seat} 04FF",
             "think {seat}", "turn {seat}", "leave {seat}", "hear {seat} 1", "dm1 {seat}", "carry 1", "read 1", "round 1",
             "ask {name} dm1", "ask all dm3", "command {name} 7", "shown {name} dm1", "row {name}", "counts {seat}", "stats",
-            "frame 0", "inject 18FECA00 04 FF", "injected", "garage {name} 249 4 16 100"]).format(seat=self.seat(), name=self.name())
+            "frame 0", "inject 18FECA00 04 FF", "injected", "report", "garage {name} 249 4 16 100"]).format(seat=self.seat(), name=self.name())
         words = line.split(" ")
         at = self.random.randrange(len(words))
         way = self.random.randrange(9)
@@ -498,6 +498,7 @@ class Writer(Strangers):
         for seat in range(min(6, len(self.garage.seats))):
             self.say("counts", seat)
         self.say("stats")
+        self.say("report")
         for at in sorted(self.random.sample(range(len(self.garage.wire)), min(60, len(self.garage.wire)))):
             self.say("frame", at)
 

@@ -205,6 +205,13 @@ frame: no frame
 inject: ok
 injected: none
 injected: some
+report: no NAME
+report: one NAME
+report: several NAMEs
+report: a NAME with an address
+report: a NAME without an address
+report: a newest DM1
+report: no DM1
 """
 
 REFUSALS = {
@@ -217,7 +224,7 @@ REFUSALS = {
 SEVERAL = ["set", "heal", "hear", "carry", "read", "round"]  # a refusal leaves what was done before it
 EARLIER = ["join", "dm1", "ask", "command", "inject"]  # these have refusals that come before the limit's
 BAD_LINES = ["garage", "join", "set", "heal", "lamps", "think", "turn", "leave", "hear", "dm1", "carry", "read", "round", "ask",
-             "command", "shown", "row", "counts", "stats", "frame", "inject", "injected", "fly"]  # `fly`: no command at all
+             "command", "shown", "row", "counts", "stats", "frame", "inject", "injected", "report", "fly"]  # `fly`: no command at all
 NO_SEAT = ["set", "heal", "lamps", "think", "turn", "leave", "hear", "dm1", "counts"]
 
 # Cases that need a frame from outside, since neither a unit nor the station of this bus ever sends such a one at that moment:

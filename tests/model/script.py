@@ -1,4 +1,4 @@
-"""The words of a script: one answer for each line that is neither empty nor begins with `#`.
+"""The words of a script: one answer for each line that is neither empty nor begins with `#`. That of `report` has several lines.
 
 Looked at in this order: the line itself (`bad line`: its words, numbers and kinds), the text of a NAME, a PGN, a frame's
 identifier and then its number of bytes, whether the seat has a unit (`no seat`), and then what the call refuses.
@@ -284,6 +284,21 @@ class Script:
         reach("stats: some missed" if station.missed else "stats: none missed")
         return f"missed {station.missed} unread {station.unread}"
 
+    def report(self, given):
+        """A line for each NAME, in order of the first claim read: its address right in 4 places, its numbers of DM1 and DM2
+        entries right in 6, of the newest DM1 the lamps and the number of codes right in 4. At the end what `stats` tells."""
+        self.words(given, 0)
+        station, lines = self.garage.station, []
+        for name in station.names():
+            address, dm1 = station.address_of(name), station.shown(name, DM1)
+            newest = "%s %4d" % (dm1[-1][0].hex().upper(), len(dm1[-1][1])) if dm1 else "----    -"
+            held = "none" if address is None else "%4d" % address
+            lines.append("%016X %s %6d %6d %s" % (name, held, len(dm1), len(station.shown(name, DM2)), newest))
+            reach("report: a NAME without an address" if address is None else "report: a NAME with an address")
+            reach("report: a newest DM1" if dm1 else "report: no DM1")
+        reach("report: no NAME" if not lines else "report: one NAME" if len(lines) == 1 else "report: several NAMEs")
+        return "\n".join(lines + [f"missed {station.missed} unread {station.unread}"])
+
     def frame(self, given):
         at = number_of(self.words(given, 1)[0], WORD)
         if at >= len(self.garage.wire):
@@ -317,10 +332,11 @@ COMMANDS = {
     "carry": Script.carry, "read": Script.read, "round": Script.round, "ask": Script.ask, "command": Script.command,
     "shown": Script.shown, "row": Script.row, "counts": Script.counts, "stats": Script.stats, "frame": Script.frame,
     "inject": Script.inject, "injected": Script.injected,
+    "report": Script.report,
 }
 
 
 def answers(text):
-    """The answers to a whole script, in order."""
+    """The lines of the answers to a whole script, in order."""
     script = Script()
-    return [answer for answer in map(script.answer, lines_of(text)) if answer is not None]
+    return [line for answer in map(script.answer, lines_of(text)) if answer is not None for line in answer.split("\n")]

@@ -1,6 +1,8 @@
 use Rattle.std.specs.Prelude.{ℕ}
 use Rattle.bench.specs.declared.fault.Fault.{Fault}
-use Rattle.bench.specs.declared.fault.Fault.TheVariants.{Read, Write, Memory, CommandLine, InputTooLong, NotUtf8}
+use Rattle.bench.specs.declared.fault.Fault.TheVariants.{Read, Write, Memory, CommandLine, InputTooLong, NotUtf8, Vehicle}
+use Rattle.vehicle.specs.declared.fault.VehicleFault.{VehicleFault}
+use Rattle.vehicle.specs.declared.fault.VehicleFault.TheVariants as given
 
 -- the exit status: 1 where the machine failed, 2 where what was given is refused
 abbrev pub status_of : Fault → ℕ
@@ -10,10 +12,17 @@ status_of Memory = 1
 status_of CommandLine = 2
 status_of InputTooLong = 2
 status_of NotUtf8 = 2
+status_of Vehicle = 2
 
 -- the input could not be read, or is refused as a whole
 abbrev pub IsOfInput : Fault → Type 0
 IsOfInput Read = Unit {0}
 IsOfInput InputTooLong = Unit {0}
 IsOfInput NotUtf8 = Unit {0}
+IsOfInput Vehicle = Unit {0}
 IsOfInput _ = ⊥
+
+-- what a text that gives no vehicle is to the program
+abbrev pub fault_of_vehicle : VehicleFault → Fault
+fault_of_vehicle given.Refused = Vehicle
+fault_of_vehicle given.Memory = Memory

@@ -1,7 +1,8 @@
 ghost use Rattle.std.specs.Prelude.{◌≡◌};
 
-use std::alloc::AllocError;
+use std::alloc::{AllocError, AllocFailed};
 use thiserror::Error;
+use vehicle::VehicleFault;
 
 /// Why a run ends early. `Display` writes the line that goes to standard error.
 #[derive(Clone, Copy, Debug, PartialEq, Eq, Error)]
@@ -24,6 +25,9 @@ pub enum Fault {
     /// The input is no text.
     #[error("fault: not UTF-8")]
     NotUtf8,
+    /// The input is no vehicle.
+    #[error("fault: vehicle")]
+    Vehicle,
 }
 
 impl Fault {
@@ -35,7 +39,7 @@ impl Fault {
     {
         match self {
             Fault::Read | Fault::Write | Fault::Memory => 1,
-            Fault::CommandLine | Fault::InputTooLong | Fault::NotUtf8 => 2,
+            Fault::CommandLine | Fault::InputTooLong | Fault::NotUtf8 | Fault::Vehicle => 2,
         }
     }
 }
@@ -47,5 +51,28 @@ impl From<AllocError> for Fault {
 
     fn from(_: AllocError) -> Fault {
         Fault::Memory
+    }
+}
+
+impl<T: Drop> From<AllocFailed<T>> for Fault {
+    ghost use Rattle.bench.specs.declared.fault.Fault.TheVariants.{Memory};
+
+    ghost from_gives = { λ _ fault. fault ≡ Memory };
+
+    fn from(_: AllocFailed<T>) -> Fault {
+        Fault::Memory
+    }
+}
+
+impl From<VehicleFault> for Fault {
+    ghost use Rattle.bench.specs.Fault.{fault_of_vehicle};
+
+    ghost from_gives = { λ refused fault. fault ≡ fault_of_vehicle refused };
+
+    fn from(refused: VehicleFault) -> Fault {
+        match refused {
+            VehicleFault::Refused => Fault::Vehicle,
+            VehicleFault::Memory => Fault::Memory,
+        }
     }
 }

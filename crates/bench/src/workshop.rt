@@ -65,6 +65,10 @@ impl Workshop {
                 name: Ok(name),
                 kind,
             } => write_shown(writer, self.garage.shown(name, kind)),
+            Command::Report => match self.garage.snapshot(self.alloc) {
+                Ok(snapshot) => report::write(&snapshot, writer),
+                Err(error) => write_answer(writer, Err(Refusal::Garage(error))),
+            },
             command => write_answer(writer, self.carry_out(command)),
         }
     }

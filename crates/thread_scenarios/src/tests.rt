@@ -1,0 +1,5 @@
+mod many;
+mod meetings;
+mod runs;
+mod thinker;
+mod worker;

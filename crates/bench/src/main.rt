@@ -9,37 +9,21 @@ mod input;
 mod kinds;
 mod refusal;
 mod script;
+mod tools;
+mod trial;
+mod wire;
 mod workshop;
 
-use command_line::{Job, LineFault, read_line};
+use command_line::{Job, LineFault, page, read_line};
 use fault::Fault;
 use std::io;
 use std::process::ExitCode;
 use std::rt::Runtime;
 
-const USAGE: &str = "usage: j1939bench script
-
-Reads commands from standard input, one a line, and writes an answer line for each.
-An empty line, and one that begins with #, has no answer.
-
-  garage NAME ADDRESS WINDOW GRANT LIMIT   the bus and its station; comes first, and once
-  join NAME ADDRESS KIND                   a unit; KIND is plain, guarded or flicker SPN FMI
-  leave SEAT                               the unit is taken off the bus
-  set SEAT SPN FMI [N]                     N codes become active
-  heal SEAT SPN FMI [N]                    N codes become previously active
-  lamps SEAT HHHH                          lamps and flash codes
-  think SEAT, turn SEAT                    the unit does its own work; ends a turn
-  dm1 SEAT                                 the unit begins a DM1
-  hear SEAT [N], read [N]                  the unit hears, the station reads
-  carry [N], round N                       frames are carried; all hear, read and carry
-  ask NAME|all WHAT                        WHAT is dm1, dm2, dm3, dm11, claim or a PGN
-  command NAME ADDRESS                     the unit is commanded to another address
-  shown NAME dm1|dm2, row NAME, stats      what the station shows and knows
-  counts SEAT, frame I                     a seat's frames; a frame of the wire";
-
 fn main(rt: HostRuntime) -> ExitCode {
     match run(&rt) {
         Ok(()) => ExitCode::SUCCESS,
+        Err(Fault::BadLines) => ExitCode::from(Fault::BadLines.status()),
         Err(fault) => {
             let _ = eprintln!(rt; "{fault}");
             ExitCode::from(fault.status())
@@ -57,7 +41,11 @@ fn run<R: Runtime + AllocGlobal>(rt: &R) -> Result<(), Fault> {
     match read_line(alloc, words.as_slice()) {
         Ok(Job::Script) => script::script(alloc, &mut rt.reader(), &mut io::writer(rt)),
         Ok(Job::Threads { .. }) => Err(Fault::CommandLine),
-        Err(LineFault::Help) => println!(rt; "{USAGE}").map_err(|_| Fault::Write),
+        Ok(Job::Watch) => tools::watch(rt, words.as_slice()),
+        Err(LineFault::Help) => write_page(rt, words.as_slice()),
+        Ok(Job::Log) => tools::log(rt, words.as_slice()),
+        Ok(Job::Decode) => tools::decode(rt, words.as_slice()),
+        Ok(Job::Check) => wire::check(alloc, &mut rt.reader(), io::writer(rt)),
         Err(LineFault::Refused) => Err(Fault::CommandLine),
         Err(LineFault::Memory) => Err(Fault::Memory),
     }
@@ -66,4 +54,12 @@ fn run<R: Runtime + AllocGlobal>(rt: &R) -> Result<(), Fault> {
 fn read_words<R: Runtime + AllocGlobal>(rt: &R) -> io::Result<Vec<String>> {
     let words = std::env::args(rt)?.collect(rt.alloc())?;
     Ok(words)
+}
+
+/// Writes the page of help, or of the version, that the words ask for.
+fn write_page<R: Runtime + AllocGlobal>(rt: &R, words: &[String]) -> Result<(), Fault> {
+    match page(rt.alloc(), words)? {
+        Some(page) => print!(rt; "{page}").map_err(|_| Fault::Write),
+        None => Err(Fault::CommandLine),
+    }
 }

@@ -67,7 +67,9 @@ pub fn answer_line<W: Write>(
     workshop: &mut Workshop,
     line: &str,
     writer: &mut W,
-) -> io::Result<()> {
+) -> io::Result<()>
+    requires { Unit {0} }
+{
     match read_command(line) {
         Some(
             Command::Join {

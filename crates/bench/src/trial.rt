@@ -132,7 +132,9 @@ pub fn try_lines<W: Write>(
     text: &str,
     writer: &mut W,
     teller: &mut Teller,
-) -> Result<Option<Workshop>, Fault> {
+) -> Result<Option<Workshop>, Fault>
+    requires { Unit {0} }
+{
     let mut lines = text.lines();
     let Some(mut workshop) = opened(alloc, &mut lines, writer, teller)? else {
         return Ok(None);
@@ -162,7 +164,9 @@ fn try_line<W: Write>(
     line: &str,
     writer: &mut W,
     teller: &mut Teller,
-) -> io::Result<()> {
+) -> io::Result<()>
+    requires { Unit {0} }
+{
     answer_line(alloc, workshop, line, &mut teller.answer)?;
     teller.look_at(writer, line, true)
 }

@@ -1,15 +1,14 @@
 //! The subcommands over the lines of a log: their words, standard input, output and error handed on.
 
 use crate::fault::Fault;
-use bus_watch::Settings;
 use crate::wire;
+use bus_watch::Settings;
 use command_line::{WatchWords, decode_words, log_words, watch_words};
 use decode_lines::{Texts, TextsFault};
 use log_lines::Ended;
-use std::fs;
-use std::io;
 use std::io::{LineWriter, Write};
 use std::rt::Runtime;
+use std::{fs, io};
 use watch_lines::{Assumed, Form, Options};
 
 /// Standard error as a writer.
@@ -60,13 +59,7 @@ pub fn watch<R: Runtime + AllocGlobal>(rt: &R, words: &[String]) -> Result<(), F
         return Err(Fault::Memory);
     };
     let options = options_of(&words, assumed.as_slice());
-    outcome(watch_lines::watch(
-        alloc,
-        rt.reader(),
-        io::writer(rt),
-        &mut errors,
-        &options,
-    ))
+    outcome(watch_lines::watch(alloc, rt.reader(), io::writer(rt), &mut errors, &options))
 }
 
 /// How the bus is watched, by the words.
@@ -96,13 +89,7 @@ pub fn log<R: Runtime + AllocGlobal>(rt: &R, words: &[String]) -> Result<(), Fau
     let Ok(mut errors) = LineWriter::new(alloc, Errors { rt }) else {
         return Err(Fault::Memory);
     };
-    wire::log(
-        alloc,
-        words,
-        &mut rt.reader(),
-        io::writer(rt),
-        &mut errors,
-    )
+    wire::log(alloc, words, &mut rt.reader(), io::writer(rt), &mut errors)
 }
 
 /// `decode`: each line of standard input in words.

@@ -74,7 +74,7 @@ fn write_wire<W: Write>(
         let Some(frame) = workshop.frame(index) else {
             break;
         };
-        let Some(time) = Time::from_micros(u64::from(index) * words.period) else {
+        let Some(time) = Time::from_micros(u64::from(index).saturating_mul(words.period)) else {
             break;
         };
         if write_line(writer, time, words.bus, &frame).is_err() {

@@ -45,7 +45,7 @@ watch_station_shape = record (new_shape (codes "watch")) {
 abbrev pub watch_lines_shape : Shape
 watch_lines_shape = record watch_station_shape {
   rules = watch_station_shape.rules
-    ++ list_rule (codes "assume") ∷ value_rule (codes "bad") ∷ value_rule (codes "silence") ∷ [];
+      ++ list_rule (codes "assume") ∷ value_rule (codes "bad") ∷ value_rule (codes "silence") ∷ [];
 }
 
 abbrev pub watch_shape : Shape

@@ -17,12 +17,7 @@ pub(crate) fn flag_arg<'a>(alloc: Global, name: &'a str, help: &'a str) -> Arg<'
 }
 
 /// `--NAME VALUE`, which may be given.
-pub(crate) fn value_arg<'a>(
-    alloc: Global,
-    name: &'a str,
-    value: &'a str,
-    help: &'a str,
-) -> Arg<'a>
+pub(crate) fn value_arg<'a>(alloc: Global, name: &'a str, value: &'a str, help: &'a str) -> Arg<'a>
     ensures rule { rule_of result ≡ value_rule name.entry.now }
     ensures local { result.global ≡ false }
 {
@@ -34,12 +29,7 @@ pub(crate) fn value_arg<'a>(
 }
 
 /// `--NAME VALUE`, which may be given more than once.
-pub(crate) fn list_arg<'a>(
-    alloc: Global,
-    name: &'a str,
-    value: &'a str,
-    help: &'a str,
-) -> Arg<'a>
+pub(crate) fn list_arg<'a>(alloc: Global, name: &'a str, value: &'a str, help: &'a str) -> Arg<'a>
     ensures rule { rule_of result ≡ list_rule name.entry.now }
     ensures local { result.global ≡ false }
 {

@@ -86,7 +86,12 @@ pub(crate) fn decode_command<'a>(alloc: Global) -> Result<Command<'a>, AllocErro
     ensures shape { IfOk result (λ c. shape_of c ≡ decode_shape) }
     ensures local { IfOk result (λ c. (fields_of c).has_globals ≡ false) }
 {
-    let format = value_arg(alloc, "format", "text|json", "How each line is answered [text]");
+    let format = value_arg(
+        alloc,
+        "format",
+        "text|json",
+        "How each line is answered [text]",
+    );
     let texts = value_arg(alloc, "texts", "FILE", "Texts of SPNs and FMIs");
     Command::new(alloc, "decode")
         .about("Writes what each line of a log says, in words")

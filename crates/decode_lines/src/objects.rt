@@ -115,12 +115,20 @@ fn put_name(json: &mut Writer, alloc: Global, name: Name) -> Result<(), AllocErr
     let fields = name.fields();
     json.key("fields")?;
     json.begin_object()?;
-    put_number(json, "arbitrary_capable", u64::from(fields.arbitrary_capable))?;
+    put_number(
+        json,
+        "arbitrary_capable",
+        u64::from(fields.arbitrary_capable),
+    )?;
     put_number(json, "industry_group", u64::from(fields.industry_group))?;
     put_number(json, "system_instance", u64::from(fields.system_instance))?;
     put_number(json, "vehicle_system", u64::from(fields.vehicle_system))?;
     put_number(json, "function", u64::from(fields.function))?;
-    put_number(json, "function_instance", u64::from(fields.function_instance))?;
+    put_number(
+        json,
+        "function_instance",
+        u64::from(fields.function_instance),
+    )?;
     put_number(json, "ecu_instance", u64::from(fields.ecu_instance))?;
     put_number(json, "manufacturer", u64::from(fields.manufacturer))?;
     put_number(json, "identity", u64::from(fields.identity))?;

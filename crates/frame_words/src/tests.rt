@@ -43,10 +43,7 @@ const LINES: [(&[u8], &str); 12] = [
         "dropped 7 frames",
     ),
     (b"# a note", "-"),
-    (
-        b"(0.000000) can0 18FECA00#04F",
-        "bad: odd number of digits",
-    ),
+    (b"(0.000000) can0 18FECA00#04F", "bad: odd number of digits"),
 ];
 
 /// The words of a line; none where memory ran out.

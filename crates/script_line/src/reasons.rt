@@ -44,9 +44,13 @@ pub enum LineReason<'a> {
     /// It has spaces alone.
     Blank,
     /// No command begins with this word.
-    Unknown { word: &'a str },
+    Unknown {
+        word: &'a str,
+    },
     /// It ends before this place of its command.
-    Missing { place: &'static str },
+    Missing {
+        place: &'static str,
+    },
     /// The word at this place is none that may stand there.
     Unfit {
         place: &'static str,
@@ -54,7 +58,9 @@ pub enum LineReason<'a> {
         wanted: Wanted,
     },
     /// It goes on with this word behind its command.
-    Behind { word: &'a str },
+    Behind {
+        word: &'a str,
+    },
 }
 
 impl fmt::Display for LineReason<'_> {

@@ -1,9 +1,9 @@
-use log_lines::LogFault;
 use crate::objects::{change_object, report_object};
 use crate::rows::report_rows;
 use crate::run::Options;
 use crate::text;
 use bus_watch::{Change, Watch};
+use log_lines::LogFault;
 use std::alloc::Global;
 use std::io::Write;
 

@@ -6,8 +6,8 @@ mod form;
 mod lines;
 mod objects;
 mod rows;
-mod text;
 mod run;
+mod text;
 
 pub use form::{Form, write_change, write_report};
 pub use run::{Assumed, Options, watch};

@@ -32,7 +32,15 @@ pub(crate) fn read_lines<R: Read + Drop, W: Write + Drop, E: Write>(
                 break;
             }
         }
-        match hear_line(alloc, writer, errors, watch, options, line.as_slice(), number) {
+        match hear_line(
+            alloc,
+            writer,
+            errors,
+            watch,
+            options,
+            line.as_slice(),
+            number,
+        ) {
             Ok(false) => {}
             Ok(true) => {
                 bad = bad.saturating_add(1);

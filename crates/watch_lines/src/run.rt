@@ -56,14 +56,7 @@ pub fn watch<R: Read + Drop, W: Write + Drop, E: Write>(
     };
     match opened(alloc, &mut writer, options) {
         Ok(mut watch) => {
-            let ended = read_lines(
-                alloc,
-                &mut reader,
-                &mut writer,
-                errors,
-                &mut watch,
-                options,
-            );
+            let ended = read_lines(alloc, &mut reader, &mut writer, errors, &mut watch, options);
             reported(alloc, &mut writer, &watch, options, ended)
         }
         Err(fault) => Ended::failed(fault),

@@ -18,4 +18,4 @@ returns-clause-script c = λ asks.
 pub returns-in_err-matches-clause-help : goal.returns-in_err-matches-clause-help
 returns-in_err-matches-clause-help c = λ help.
     only_help c.in_ok-command.command _ c.in_err-matches.field-0.0 c.in_ok-command.ensures c.in_err-matches.ensures.kinds
-        (same_err c.from_residual-in_err-matches.result _ _ (is_err_of c.from_residual-in_err-matches.result _ c.from_residual-in_err-matches.ensures.1) help)
+    (same_err c.from_residual-in_err-matches.result _ _ (is_err_of c.from_residual-in_err-matches.result _ c.from_residual-in_err-matches.ensures.1) help)

@@ -3,7 +3,7 @@
 use crate::fault::Fault;
 use crate::script::{answer_before, answer_line};
 use crate::workshop::Workshop;
-use script_line::{Command, is_silent, read_command, reason};
+use script_line::{Words, is_silent, read_number, reason};
 use std::alloc::Global;
 use std::io;
 use std::io::Write;
@@ -92,35 +92,37 @@ fn write_reason<W: Write>(
     seats: u64,
 ) -> io::Result<()> {
     if answer == "no seat" {
-        return match read_command(line).and_then(seat_of) {
-            Some(seat) => writeln!(writer, "no seat {seat}; seats given so far: {seats}"),
-            None => writeln!(writer, "{answer}"),
-        };
+        return write_no_seat(writer, line, seats);
     }
-    if answer != "bad line" {
-        return writeln!(writer, "{answer}");
+    if answer == "bad line" {
+        return write_bad_line(writer, line, has_garage);
     }
-    match reason(line) {
-        Some(reason) => writeln!(writer, "{reason}"),
-        None if has_garage => writeln!(writer, "there is a garage already"),
-        None => writeln!(writer, "no garage yet: it comes first"),
+    writeln!(writer, "{answer}")
+}
+
+fn write_no_seat<W: Write>(writer: &mut W, line: &str, seats: u64) -> io::Result<()> {
+    match seat_in(line) {
+        Some(seat) => writeln!(writer, "no seat {seat}; seats given so far: {seats}"),
+        None => writeln!(writer, "no seat"),
     }
 }
 
-/// The seat that a command names.
-fn seat_of(command: Command) -> Option<u32> {
-    match command {
-        Command::Set { seat, .. }
-        | Command::Heal { seat, .. }
-        | Command::Lamps { seat, .. }
-        | Command::Think { seat }
-        | Command::Turn { seat }
-        | Command::Leave { seat }
-        | Command::Hear { seat, .. }
-        | Command::Dm1 { seat }
-        | Command::Counts { seat } => Some(seat),
-        _ => None,
+fn write_bad_line<W: Write>(writer: &mut W, line: &str, has_garage: bool) -> io::Result<()> {
+    if let Some(why) = reason(line) {
+        return writeln!(writer, "{why}");
     }
+    if has_garage {
+        writeln!(writer, "there is a garage already")
+    } else {
+        writeln!(writer, "no garage yet: it comes first")
+    }
+}
+
+/// The seat that a line names: its second word.
+fn seat_in(line: &str) -> Option<u32> {
+    let mut words = Words::of(line);
+    let _command = words.next_word()?;
+    read_number(words.next_word()?)
 }
 
 /// Carries out the lines of a script, and hands out the garage as it stands then, where there is one.

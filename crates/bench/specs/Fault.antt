@@ -1,10 +1,10 @@
 use Rattle.std.specs.Prelude.{ℕ}
 use Rattle.bench.specs.declared.fault.Fault.{Fault}
-use Rattle.bench.specs.declared.fault.Fault.TheVariants.{Read, Write, Memory, CommandLine, InputTooLong, NotUtf8, Vehicle}
+use Rattle.bench.specs.declared.fault.Fault.TheVariants.{Read, Write, Memory, CommandLine, InputTooLong, NotUtf8, Vehicle, Texts, BadLines}
 use Rattle.vehicle.specs.declared.fault.VehicleFault.{VehicleFault}
 use Rattle.vehicle.specs.declared.fault.VehicleFault.TheVariants as given
 
--- the exit status: 1 where the machine failed, 2 where what was given is refused
+-- the exit status: 1 where the machine failed, 2 where what was given is refused, 3 where lines of it were bad
 abbrev pub status_of : Fault → ℕ
 status_of Read = 1
 status_of Write = 1
@@ -13,6 +13,8 @@ status_of CommandLine = 2
 status_of InputTooLong = 2
 status_of NotUtf8 = 2
 status_of Vehicle = 2
+status_of Texts = 2
+status_of BadLines = 3
 
 -- the input could not be read, or is refused as a whole
 abbrev pub IsOfInput : Fault → Type 0

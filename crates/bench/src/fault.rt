@@ -1,5 +1,7 @@
 ghost use Rattle.std.specs.Prelude.{◌≡◌};
 
+use command_line::LineFault;
+use log_lines::LogFault;
 use std::alloc::{AllocError, AllocFailed};
 use thiserror::Error;
 use vehicle::VehicleFault;
@@ -28,18 +30,48 @@ pub enum Fault {
     /// The input is no vehicle.
     #[error("fault: vehicle")]
     Vehicle,
+    /// A file of texts holds none.
+    #[error("fault: texts")]
+    Texts,
+    /// All is done, but lines were bad: each was told with its number, and no line follows.
+    #[error("lines were bad")]
+    BadLines,
 }
 
 impl Fault {
     ghost use Rattle.bench.specs.Fault.{status_of};
 
-    /// The exit status: 1 where the machine failed, 2 where what was given is refused.
+    /// The exit status: 1 where the machine failed, 2 where what was given is refused, 3 where lines of it were bad.
     pub fn status(self) -> u8
         ensures { result ≡ status_of self }
     {
         match self {
             Fault::Read | Fault::Write | Fault::Memory => 1,
-            Fault::CommandLine | Fault::InputTooLong | Fault::NotUtf8 | Fault::Vehicle => 2,
+            Fault::CommandLine
+            | Fault::InputTooLong
+            | Fault::NotUtf8
+            | Fault::Vehicle
+            | Fault::Texts => 2,
+            Fault::BadLines => 3,
+        }
+    }
+}
+
+impl From<LineFault> for Fault {
+    fn from(fault: LineFault) -> Fault {
+        match fault {
+            LineFault::Help | LineFault::Refused => Fault::CommandLine,
+            LineFault::Memory => Fault::Memory,
+        }
+    }
+}
+
+impl From<LogFault> for Fault {
+    fn from(fault: LogFault) -> Fault {
+        match fault {
+            LogFault::Read => Fault::Read,
+            LogFault::Write => Fault::Write,
+            LogFault::Memory => Fault::Memory,
         }
     }
 }

@@ -10,6 +10,9 @@ mod kinds;
 mod refusal;
 mod script;
 mod threads;
+mod tools;
+mod trial;
+mod wire;
 mod workshop;
 
 use command_line::{Job, LineFault, page, read_line};
@@ -23,6 +26,7 @@ use std::thread::Threads;
 fn main(rt: HostRuntime) -> ExitCode {
     match run(&rt) {
         Ok(()) => ExitCode::SUCCESS,
+        Err(Fault::BadLines) => ExitCode::from(Fault::BadLines.status()),
         Err(fault) => {
             let _ = eprintln!(rt; "{fault}");
             ExitCode::from(fault.status())
@@ -54,6 +58,10 @@ fn run<R: Runtime + AllocGlobal + Threads + Wait + Sync>(rt: &R) -> Result<(), F
             &mut rt.reader(),
             &mut io::writer(rt),
         ),
+        Ok(Job::Watch) => tools::watch(rt, words.as_slice()),
+        Ok(Job::Log) => tools::log(rt, words.as_slice()),
+        Ok(Job::Decode) => tools::decode(rt, words.as_slice()),
+        Ok(Job::Check) => wire::check(alloc, &mut rt.reader(), io::writer(rt)),
         Err(LineFault::Help) => write_page(rt, words.as_slice()),
         Err(LineFault::Refused) => Err(Fault::CommandLine),
         Err(LineFault::Memory) => Err(Fault::Memory),

@@ -11,6 +11,7 @@ use crate::workshop::Workshop;
 use garage::{Garage, GarageError};
 use script_line::{Command, is_silent, read_command};
 use std::alloc::Global;
+use std::io;
 use std::io::{BufWriter, Read, Write};
 use std::str::Lines;
 
@@ -51,29 +52,41 @@ fn answer_lines<W: Write>(alloc: Global, text: &str, writer: &mut W) -> Result<(
         if is_silent(line) {
             continue;
         }
-        written = match read_command(line) {
-            Some(
-                Command::Join {
-                    name: Ok(name),
-                    address,
-                    kind,
-                },
-            ) => {
-                let joined = match Box::new(alloc, Simulated::new(alloc, name, kind)) {
-                    Ok(unit) => workshop.join(unit, address),
-                    Err(_) => Err(Refusal::Garage(GarageError::OutOfMemory)),
-                };
-                write_answer(writer, joined)
-            }
-            Some(command) => workshop.answer(command, writer),
-            None => write_answer(writer, Err(Refusal::BadLine)),
-        };
+        written = answer_line(alloc, &mut workshop, line, writer);
         if written.is_err() {
             break;
         }
     }
     workshop.close();
     written.map_err(|_| Fault::Write)
+}
+
+/// Answers a line of a script that has its garage.
+pub fn answer_line<W: Write>(
+    alloc: Global,
+    workshop: &mut Workshop,
+    line: &str,
+    writer: &mut W,
+) -> io::Result<()>
+    requires { Unit {0} }
+{
+    match read_command(line) {
+        Some(
+            Command::Join {
+                name: Ok(name),
+                address,
+                kind,
+            },
+        ) => {
+            let joined = match Box::new(alloc, Simulated::new(alloc, name, kind)) {
+                Ok(unit) => workshop.join(unit, address),
+                Err(_) => Err(Refusal::Garage(GarageError::OutOfMemory)),
+            };
+            write_answer(writer, joined)
+        }
+        Some(command) => workshop.answer(command, writer),
+        None => write_answer(writer, Err(Refusal::BadLine)),
+    }
 }
 
 /// Answers lines up to the one that makes a garage, where there is such a line.
@@ -88,26 +101,41 @@ fn opened<W: Write>(
         if is_silent(line) {
             continue;
         }
-        let made = match read_command(line) {
-            Some(command) => garage_of(alloc, command),
-            None => Err(Refusal::BadLine),
-        };
-        let refusal = match made {
-            Ok(garage) => {
-                let workshop = Workshop::new(alloc, garage);
-                if write_answer(writer, Ok(Answer::Done)).is_err() {
-                    workshop.close();
-                    return Err(Fault::Write);
-                }
-                return Ok(Some(workshop));
-            }
-            Err(refusal) => refusal,
-        };
-        if write_answer(writer, Err(refusal)).is_err() {
-            return Err(Fault::Write);
+        match answer_before(alloc, line, writer) {
+            Ok(Some(workshop)) => return Ok(Some(workshop)),
+            Ok(None) => {}
+            Err(_) => return Err(Fault::Write),
         }
     }
     Ok(None)
+}
+
+/// Answers a line of a script that has no garage yet; it may make one.
+pub fn answer_before<W: Write>(
+    alloc: Global,
+    line: &str,
+    writer: &mut W,
+) -> io::Result<Option<Workshop>> {
+    let made = match read_command(line) {
+        Some(command) => garage_of(alloc, command),
+        None => Err(Refusal::BadLine),
+    };
+    match made {
+        Ok(garage) => {
+            let workshop = Workshop::new(alloc, garage);
+            match write_answer(writer, Ok(Answer::Done)) {
+                Ok(()) => Ok(Some(workshop)),
+                Err(error) => {
+                    workshop.close();
+                    Err(error)
+                }
+            }
+        }
+        Err(refusal) => {
+            write_answer(writer, Err(refusal))?;
+            Ok(None)
+        }
+    }
 }
 
 /// The garage that a command makes; any other command is refused here.

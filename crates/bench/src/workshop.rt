@@ -3,7 +3,7 @@ use crate::deed::Deed;
 use crate::desk::Desk;
 use crate::refusal::Refusal;
 use bus_ledger::Carried;
-use can_frame::{PgnTooLarge, Reading};
+use can_frame::{Frame, PgnTooLarge, Reading};
 use garage::{Garage, GarageError};
 use script_line::{Asked, Command, Receiver};
 use station_table::Ask;
@@ -56,6 +56,11 @@ impl Workshop {
         } = self;
         desk.clear(&mut garage);
         drop(garage);
+    }
+
+    /// The frame of the wire with this number, from 0.
+    pub fn frame(&self, index: u32) -> Option<Frame> {
+        self.garage.wire_frame(index)
     }
 
     /// Carries a command out, and writes its answer.

@@ -1,21 +1,23 @@
 -- What `clap` makes of the program's command.
-use Rattle.std.proofs.Common.{◌≡◌, ◌&&◌, ◌∷◌, [], List, Option, Some, None, Result, Ok, Err, IsErrAnd, OnOk, option_map, true, refl, sym, ◌∙◌, ap, subst, codes, Box}
+use Rattle.std.proofs.Common.{◌≡◌, ◌&&◌, ◌⊎◌, inl, inr, ◌∷◌, [], List, Option, Some, None, Result, Ok, Err, IsErrAnd, OnOk, option_map, true, refl, sym, ◌∙◌, ap, subst, codes, Box}
 use Rattle.std.specs.Box.{box_value}
 use Rattle.clap.specs.Walk.{Text, nothing_held, stop_after}
-use Rattle.clap.specs.Simple.{app_of, built, entered, is_simple, names_of, subcommand_of, subcommand_rows, subcommand_rows_of}
+use Rattle.clap.specs.Simple.{App, app_of, built, entered, is_simple, names_of, subcommand_of, subcommand_rows, subcommand_rows_of}
 use Rattle.clap.specs.Faults.{fault_of, is_simple_and_free}
+use Rattle.clap.specs.Kinds.{HasKind, IsAmong, Kinds}
 use Rattle.clap.specs.Takes.{built_takes, takes}
 use Rattle.clap.specs.Values.{kind_of}
 use Rattle.clap.specs.Matches.{subcommand_name_of}
 use Rattle.clap.specs.declared.builder.command.Command.{Command}
 use Rattle.clap.specs.declared.error.Error.{Error}
-use Rattle.clap.specs.declared.error.kind.ErrorKind.TheVariants.{OutOfMemory}
+use Rattle.clap.specs.declared.error.kind.ErrorKind.{ErrorKind}
+use Rattle.clap.specs.declared.error.kind.ErrorKind.TheVariants.{InvalidValue, UnknownArgument, InvalidSubcommand, NoEquals, ValueValidation, TooManyValues, TooFewValues, WrongNumberOfValues, ArgumentConflict, MissingRequiredArgument, MissingSubcommand, DisplayHelp, DisplayHelpOnMissingArgumentOrSubcommand, DisplayVersion, Io, Format, OutOfMemory}
 use Rattle.clap.specs.declared.parser.matches.ArgMatches.{ArgMatches}
 use Rattle.clap.specs.declared.parser.matches.ArgMatches.TheViews.{out-ArgMatches, out-SubCommand}
 use Rattle.clap.specs.declared.parser.matches.SubCommand.{SubCommand}
 use Rattle.clap.proofs.OnLiterals.{clap_on_literals}
-use Rattle.command_line.specs.CommandLine.{AsksForScript, bench_app, faults_in, line_fault_of}
-use Rattle.command_line.specs.declared.fault.LineFault.TheVariants.{Memory}
+use Rattle.command_line.specs.CommandLine.{AsksForHelp, AsksForScript, bench_app, faults_in, line_fault_of}
+use Rattle.command_line.specs.declared.fault.LineFault.TheVariants.{Help, Memory, Refused}
 
 pub is_exact : is_simple_and_free bench_app ≡ true
 unfolding clap_on_literals
@@ -80,3 +82,44 @@ on_ok (Err e) h = tt
 pub is_err_of : {T E : Type 0} (r : Result T E) (e : E) → IsErrAnd r (λ f. f ≡ e) → r ≡ Err e
 is_err_of (Ok v) e h = absurd h
 is_err_of (Err f) e h = ap Err h
+
+refused_no_help : Refused ≡ Help → ⊥
+refused_no_help e = cc
+
+memory_no_help : Memory ≡ Help → ⊥
+memory_no_help e = cc
+
+-- of the kinds of error, the two that ask for help alone are taken as such
+help_among : (k : ErrorKind) (ks : Kinds) → line_fault_of k ≡ Help → IsAmong k ks → IsAmong DisplayHelp ks ⊎ IsAmong DisplayVersion ks
+help_among DisplayHelp ks h a = inl a
+help_among DisplayVersion ks h a = inr a
+help_among OutOfMemory ks h a = absurd (memory_no_help h)
+help_among InvalidValue ks h a = absurd (refused_no_help h)
+help_among UnknownArgument ks h a = absurd (refused_no_help h)
+help_among InvalidSubcommand ks h a = absurd (refused_no_help h)
+help_among NoEquals ks h a = absurd (refused_no_help h)
+help_among ValueValidation ks h a = absurd (refused_no_help h)
+help_among TooManyValues ks h a = absurd (refused_no_help h)
+help_among TooFewValues ks h a = absurd (refused_no_help h)
+help_among WrongNumberOfValues ks h a = absurd (refused_no_help h)
+help_among ArgumentConflict ks h a = absurd (refused_no_help h)
+help_among MissingRequiredArgument ks h a = absurd (refused_no_help h)
+help_among MissingSubcommand ks h a = absurd (refused_no_help h)
+help_among DisplayHelpOnMissingArgumentOrSubcommand ks h a = absurd (refused_no_help h)
+help_among Io ks h a = absurd (refused_no_help h)
+help_among Format ks h a = absurd (refused_no_help h)
+
+help_found : (k : ErrorKind) (ks : Kinds) → line_fault_of k ≡ Help → (k ≡ OutOfMemory) ⊎ IsAmong k ks → IsAmong DisplayHelp ks ⊎ IsAmong DisplayVersion ks
+help_found k ks h (inl e) = absurd (memory_no_help (sym (ap line_fault_of e) ∙ h))
+help_found k ks h (inr a) = help_among k ks h a
+
+-- an error that is taken as a call for help is one of the words
+pub only_help : (command : Command) (words : List Text) (e : Error) → app_of command ≡ bench_app
+    → (is_simple_and_free (app_of command) ≡ true → HasKind (fault_of (app_of command) words) e)
+    → line_fault_of (kind_of e) ≡ Help → AsksForHelp words
+only_help command words e same exact help =
+    let P : App → Type 0 = λ a. HasKind (fault_of a words) e in
+    help_found (kind_of e) (faults_in words) help (subst P same (exact (ap is_simple_and_free same ∙ is_exact)))
+
+pub same_err : {T E : Type 0} (r : Result T E) (e f : E) → r ≡ Err e → r ≡ Err f → e ≡ f
+same_err r e f g h = cc

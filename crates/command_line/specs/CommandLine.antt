@@ -1,14 +1,14 @@
 -- The words that the program takes, as `clap` reads them.
-use Rattle.std.specs.Prelude.{ℕ, List, Some, true, codes, drop, ◌≡◌, ◌≤◌, ◌⊎◌, ◌∷◌, []}
+use Rattle.std.specs.Prelude.{ℕ, List, Some, true, codes, drop, ◌≡◌, ◌≤◌, ◌⊎◌, ◌∷◌, [], ◌++◌}
 use Rattle.clap.specs.Simple.{App, Shape, new_app, new_rule, new_shape, with_subcommand, on_top}
 use Rattle.clap.specs.Faults.{fault_of}
 use Rattle.clap.specs.Kinds.{Kinds, IsAmong}
 use Rattle.clap.specs.Walk.{Rule, Text}
-use Rattle.clap.specs.declared.builder.action.ArgAction.TheVariants.{Set, SetTrue}
+use Rattle.clap.specs.declared.builder.action.ArgAction.TheVariants.{Append, Set, SetTrue}
 use Rattle.clap.specs.declared.error.kind.ErrorKind.{ErrorKind}
 use Rattle.clap.specs.declared.error.kind.ErrorKind.TheVariants.{OutOfMemory, DisplayHelp, DisplayVersion}
 use Rattle.command_line.specs.declared.Job.{Job}
-use Rattle.command_line.specs.declared.Job.TheVariants.{Script, Threads}
+use Rattle.command_line.specs.declared.Job.TheVariants.{Threads}
 use Rattle.command_line.specs.declared.fault.LineFault.{LineFault}
 use Rattle.command_line.specs.declared.fault.LineFault.TheVariants.{Memory, Help, Refused}
 
@@ -20,6 +20,14 @@ count_rule name = record (new_rule name) { long = Some name; action = Some Set; 
 abbrev pub flag_rule : Text → Rule
 flag_rule name = record (new_rule name) { long = Some name; action = Some SetTrue }
 
+-- `--NAME VALUE`, which may be given
+abbrev pub value_rule : Text → Rule
+value_rule name = record (new_rule name) { long = Some name; action = Some Set; value_names = 1 }
+
+-- `--NAME VALUE`, which may be given more than once
+abbrev pub list_rule : Text → Rule
+list_rule name = record (new_rule name) { long = Some name; action = Some Append; value_names = 1 }
+
 abbrev pub script_shape : Shape
 script_shape = new_shape (codes "script")
 
@@ -28,11 +36,47 @@ threads_shape = record (new_shape (codes "threads")) {
   rules = count_rule (codes "turns") ∷ count_rule (codes "reads") ∷ flag_rule (codes "report") ∷ [];
 }
 
+-- `watch`: with the words of its station, with those on its lines, and with those on what is written
+abbrev pub watch_station_shape : Shape
+watch_station_shape = record (new_shape (codes "watch")) {
+  rules = value_rule (codes "bus") ∷ value_rule (codes "address") ∷ value_rule (codes "name") ∷ [];
+}
+
+abbrev pub watch_lines_shape : Shape
+watch_lines_shape = record watch_station_shape {
+  rules = watch_station_shape.rules
+      ++ list_rule (codes "assume") ∷ value_rule (codes "bad") ∷ value_rule (codes "silence") ∷ [];
+}
+
+abbrev pub watch_shape : Shape
+watch_shape = record watch_lines_shape {
+  rules = watch_lines_shape.rules ++ value_rule (codes "format") ∷ flag_rule (codes "strict") ∷ [];
+}
+
+abbrev pub log_shape : Shape
+log_shape = record (new_shape (codes "log")) {
+  rules = value_rule (codes "bus") ∷ value_rule (codes "period") ∷ [];
+}
+
+abbrev pub decode_shape : Shape
+decode_shape = record (new_shape (codes "decode")) {
+  rules = value_rule (codes "format") ∷ value_rule (codes "texts") ∷ [];
+}
+
+abbrev pub check_shape : Shape
+check_shape = new_shape (codes "check")
+
 -- the command `j1939bench`: it has a version, and wants one of its subcommands
-abbrev pub bench_app : App
-bench_app = with_subcommand (with_subcommand
+abbrev pub garage_app : App
+garage_app = with_subcommand (with_subcommand
     (on_top (λ s. record s { has_version = true; subcommand_required = true }) (new_app (codes "j1939bench")))
     script_shape) threads_shape
+
+abbrev pub wire_app : App
+wire_app = with_subcommand (with_subcommand garage_app log_shape) check_shape
+
+abbrev pub bench_app : App
+bench_app = with_subcommand (with_subcommand wire_app watch_shape) decode_shape
 
 -- what `clap` finds wrong with the words, where it finds anything
 abbrev pub faults_in : List Text → Kinds
@@ -52,13 +96,13 @@ IsCount n = (1 ≤ n) × (n ≤ 100000)
 
 -- the numbers of a job are such numbers
 abbrev pub IsInRange : Job → Type 0
-IsInRange Script = Unit {0}
 IsInRange (Threads turns reads report) = IsCount turns × IsCount reads
+IsInRange _ = Unit {0}
 
 -- a run of threads, with such numbers
 abbrev pub IsThreads : Job → Type 0
-IsThreads Script = ⊥
 IsThreads (Threads turns reads report) = IsCount turns × IsCount reads
+IsThreads _ = ⊥
 
 -- what an error of `clap` is to the program
 abbrev pub line_fault_of : ErrorKind → LineFault

@@ -1,9 +1,9 @@
 ghost use Rattle.std.specs.Prelude.{◌≡◌, ◌⊎◌, ◌↔◌, [], IfErr, IfOk, OnOk, codes, map, string_bytes};
 ghost use Rattle.clap.specs.Words.{app_of, subcommand_name_of, IsAmong};
-ghost use Rattle.command_line.specs.CommandLine.{AsksForHelp, AsksForScript, IsInRange, bench_app, faults_in};
+ghost use Rattle.command_line.specs.CommandLine.{AsksForHelp, AsksForScript, IsInRange, bench_app, faults_in, garage_app, wire_app};
 
 use crate::fault::LineFault;
-use crate::{Job, script, threads};
+use crate::{Job, script, threads, tools, watch};
 use clap::error::ErrorKind;
 use clap::{ArgMatches, Command};
 use std::alloc::{AllocError, Global};
@@ -53,13 +53,38 @@ fn job_of(matches: &ArgMatches<'_>) -> Result<Job, LineFault>
     match matches.subcommand() {
         Some(("script", _)) => Ok(Job::Script),
         Some(("threads", found)) => threads::job(found),
+        Some(("watch", _)) => Ok(Job::Watch),
+        Some(("log", _)) => Ok(Job::Log),
+        Some(("decode", _)) => Ok(Job::Decode),
+        Some(("check", _)) => Ok(Job::Check),
         _ => Err(LineFault::Refused),
     }
+}
+
+/// What `clap` makes of the words.
+pub(crate) fn matches_of<'a>(
+    alloc: Global,
+    words: &'a [String],
+) -> Result<ArgMatches<'a>, LineFault>
+    ensures taken { OnOk result (faults_in (map string_bytes words.now) ≡ []) }
+{
+    let command = bench_command(alloc)?;
+    let matches = command.try_get_matches_from(words)?;
+    Ok(matches)
 }
 
 /// The program's command with its subcommands.
 fn bench_command<'a>(alloc: Global) -> Result<Command<'a>, AllocError>
     ensures { IfOk result (λ c. app_of c ≡ bench_app) }
+{
+    with_wire(alloc, with_garage(alloc)?)?
+        .subcommand(watch::command(alloc)?)?
+        .subcommand(tools::decode_command(alloc)?)
+}
+
+/// With the subcommands that run a garage.
+fn with_garage<'a>(alloc: Global) -> Result<Command<'a>, AllocError>
+    ensures { IfOk result (λ c. app_of c ≡ garage_app) }
 {
     Command::new(alloc, "j1939bench")
         .version("1.0")
@@ -68,4 +93,14 @@ fn bench_command<'a>(alloc: Global) -> Result<Command<'a>, AllocError>
         .subcommand_required(true)
         .subcommand(script::command(alloc))?
         .subcommand(threads::command(alloc)?)
+}
+
+/// With those that tell of a script's wire and of its lines.
+fn with_wire<'a>(alloc: Global, command: Command<'a>) -> Result<Command<'a>, AllocError>
+    requires { app_of command ≡ garage_app }
+    ensures { IfOk result (λ c. app_of c ≡ wire_app) }
+{
+    command
+        .subcommand(tools::log_command(alloc)?)?
+        .subcommand(tools::check_command(alloc))
 }

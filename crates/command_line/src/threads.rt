@@ -2,9 +2,10 @@ ghost use Rattle.std.specs.Prelude.{◌≡◌, IfErr, IfOk, false};
 ghost use Rattle.clap.specs.declared.builder.command.Command.TheViews.{out-Command as fields_of};
 ghost use Rattle.clap.specs.Simple.{shape_of};
 ghost use Rattle.clap.specs.Walk.{rule_of};
-ghost use Rattle.command_line.specs.CommandLine.{IsThreads, count_rule, flag_rule, threads_shape};
+ghost use Rattle.command_line.specs.CommandLine.{IsThreads, count_rule, threads_shape};
 
 use crate::Job;
+use crate::args::flag_arg;
 use crate::counts::count;
 use crate::fault::LineFault;
 use clap::{Arg, ArgAction, ArgMatches, Command};
@@ -75,17 +76,6 @@ fn count_arg<'a>(alloc: Global, name: &'a str, value: &'a str, help: &'a str) ->
         .value_name(value)
         .required(true)
         .action(ArgAction::Set)
-        .help(help)
-}
-
-/// `--NAME`, which may be given.
-fn flag_arg<'a>(alloc: Global, name: &'a str, help: &'a str) -> Arg<'a>
-    ensures rule { rule_of result ≡ flag_rule name.entry.now }
-    ensures local { result.global ≡ false }
-{
-    Arg::new(alloc, name)
-        .long(name)
-        .action(ArgAction::SetTrue)
         .help(help)
 }
 

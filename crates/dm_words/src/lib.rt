@@ -1,11 +1,13 @@
-//! Lamps and trouble codes in words, as a person reads them (SAE J1939-73).
+//! Lamps and trouble codes in words, as a person reads them, and as JSON (SAE J1939-73).
 #![tactic(auto)]
 
 mod codes;
 mod lamps;
+mod objects;
 
 pub use codes::CodeWords;
 pub use lamps::LampWords;
+pub use objects::{put_code, put_lamps, put_number};
 
 #[cfg(test)]
 mod tests;

@@ -6,6 +6,7 @@ mod line;
 mod message;
 
 pub use line::write_line_words;
+pub use message::write_message;
 
 #[cfg(test)]
 mod tests;

@@ -6,7 +6,7 @@ use std::alloc::Global;
 use std::io;
 use std::io::Write;
 
-/// Writes what a line says, in a line: `(TIME) BUS pPRIORITY SOURCE>DESTINATION GROUP WORDS`.
+/// Writes what a line says, without a line end: `(TIME) BUS pPRIORITY SOURCE>DESTINATION GROUP WORDS`.
 ///
 /// The time and the bus are left out where the line has none. A line that is no data frame of SAE J1939 is told as such,
 /// and a note as `-`.
@@ -23,19 +23,18 @@ pub fn write_line_words<W: Write>(
             if let Some(bus) = bus {
                 write!(writer, "{bus} ")?;
             }
-            write_frame(writer, alloc, frame)?;
-            writeln!(writer)
+            write_frame(writer, alloc, frame)
         }
-        Line::Dropped { count, .. } => writeln!(writer, "dropped {count} frames"),
-        Line::Overflow { .. } => writeln!(writer, "dropped a frame or more"),
+        Line::Dropped { count, .. } => write!(writer, "dropped {count} frames"),
+        Line::Overflow { .. } => write!(writer, "dropped a frame or more"),
         Line::Foreign { what, .. } => match what {
-            Foreign::Short => writeln!(writer, "not J1939: 11-bit identifier"),
-            Foreign::Remote => writeln!(writer, "not J1939: remote frame"),
-            Foreign::Fd => writeln!(writer, "not J1939: CAN FD frame"),
-            Foreign::Error => writeln!(writer, "not J1939: error frame"),
+            Foreign::Short => write!(writer, "not J1939: 11-bit identifier"),
+            Foreign::Remote => write!(writer, "not J1939: remote frame"),
+            Foreign::Fd => write!(writer, "not J1939: CAN FD frame"),
+            Foreign::Error => write!(writer, "not J1939: error frame"),
         },
-        Line::Note => writeln!(writer, "-"),
-        Line::Bad(reason) => writeln!(writer, "bad: {reason}"),
+        Line::Note => write!(writer, "-"),
+        Line::Bad(reason) => write!(writer, "bad: {reason}"),
     }
 }
 

@@ -10,12 +10,8 @@ use std::io;
 use std::io::Write;
 use transport::Control;
 
-/// Writes what a frame says, behind its group.
-pub(crate) fn write_message<W: Write>(
-    writer: &mut W,
-    alloc: Global,
-    frame: &Frame,
-) -> io::Result<()> {
+/// Writes what a frame says: the name of its group, and what it tells.
+pub fn write_message<W: Write>(writer: &mut W, alloc: Global, frame: &Frame) -> io::Result<()> {
     match ParameterGroup::read(frame) {
         ParameterGroup::AddressClaimed { name, .. } => write_name(writer, "claim", name),
         ParameterGroup::CannotClaim { name } => write_name(writer, "cannot claim", name),

@@ -9,9 +9,11 @@ mod command;
 mod frames;
 mod numbers;
 mod read;
+mod reasons;
 mod words;
 
 pub use command::{Asked, Command, FrameWords, NameWord, Receiver, UnitKind};
 pub use numbers::{read_lamps, read_number, read_small_number};
 pub use read::{is_silent, read_command};
+pub use reasons::{LineReason, Wanted, reason};
 pub use words::Words;

@@ -10,4 +10,5 @@ mod names;
 mod packets;
 mod vehicles;
 mod views;
+mod watched;
 mod words;

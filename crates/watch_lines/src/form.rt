@@ -1,7 +1,9 @@
-use crate::fault::WatchFault;
 use crate::objects::{change_object, report_object};
+use crate::rows::report_rows;
+use crate::run::Options;
 use crate::text;
 use bus_watch::{Change, Watch};
+use log_lines::LogFault;
 use std::alloc::Global;
 use std::io::Write;
 
@@ -12,6 +14,8 @@ pub enum Form {
     Text,
     /// A JSON object a line.
     Json,
+    /// No changes; the report has a line of comma-separated values for each code of each run of equal entries.
+    Csv,
 }
 
 /// Writes a change that the line of this number made.
@@ -22,16 +26,17 @@ pub fn write_change<W: Write>(
     form: Form,
     number: u64,
     change: Change,
-) -> Result<(), WatchFault> {
+) -> Result<(), LogFault> {
     match form {
         Form::Text => match text::write_change(writer, watch, change) {
             Ok(()) => Ok(()),
-            Err(_) => Err(WatchFault::Write),
+            Err(_) => Err(LogFault::Write),
         },
         Form::Json => {
             let object = change_object(alloc, watch, number, change)?;
             write_object(writer, object)
         }
+        Form::Csv => Ok(()),
     }
 }
 
@@ -40,25 +45,32 @@ pub fn write_report<W: Write>(
     writer: &mut W,
     alloc: Global,
     watch: &Watch,
-    form: Form,
-) -> Result<(), WatchFault> {
-    match form {
-        Form::Text => match text::write_report(writer, watch) {
+    options: &Options<'_>,
+) -> Result<(), LogFault> {
+    match options.form {
+        Form::Text => match text::write_report(writer, watch, options.assumed) {
             Ok(()) => Ok(()),
-            Err(_) => Err(WatchFault::Write),
+            Err(_) => Err(LogFault::Write),
         },
         Form::Json => {
-            let object = report_object(alloc, watch)?;
+            let object = report_object(alloc, watch, options.assumed)?;
             write_object(writer, object)
+        }
+        Form::Csv => {
+            let rows = report_rows(alloc, watch)?;
+            match writer.write_all(rows.as_slice()) {
+                Ok(()) => Ok(()),
+                Err(_) => Err(LogFault::Write),
+            }
         }
     }
 }
 
-fn write_object<W: Write>(writer: &mut W, object: Vec<u8>) -> Result<(), WatchFault> {
+fn write_object<W: Write>(writer: &mut W, object: Vec<u8>) -> Result<(), LogFault> {
     let mut line = object;
     line.push(b'\n')?;
     match writer.write_all(line.as_slice()) {
         Ok(()) => Ok(()),
-        Err(_) => Err(WatchFault::Write),
+        Err(_) => Err(LogFault::Write),
     }
 }

@@ -2,12 +2,12 @@
 //! report by NAME.
 #![tactic(auto)]
 
-mod fault;
 mod form;
 mod lines;
 mod objects;
+mod rows;
+mod run;
 mod text;
 
-pub use fault::WatchFault;
 pub use form::{Form, write_change, write_report};
-pub use lines::{Ended, next_line, watch_lines};
+pub use run::{Assumed, Options, watch};

@@ -1,13 +1,11 @@
+use crate::run::{Assumed, is_assumed};
 use bus_watch::{Change, Counts, Run, Watch};
 use candump_line::Time;
 use dm_messages::Kind;
+use dm_words::{put_code, put_lamps, put_number};
 use json::Writer;
 use name_field::Name;
 use std::alloc::{AllocError, Global};
-use trouble_code::Dtc;
-
-/// The count of a code that is not available (SAE J1939-73).
-const NO_COUNT: u8 = 127;
 
 /// A change as a JSON object: the number of its line, its time, what happened, and to whom.
 pub(crate) fn change_object(
@@ -94,35 +92,23 @@ fn put_entry(
 
 /// The lamps, the codes, and whether the entry is contested.
 fn put_shown(json: &mut Writer, alloc: Global, run: &Run) -> Result<(), AllocError> {
-    let [lamps, flashes] = run.shown.lamps.to_bytes();
-    let text = format!(in alloc; "{lamps:02X}{flashes:02X}")?;
-    json.key("lamps")?;
-    json.string(text.as_str())?;
+    put_lamps(json, alloc, run.shown.lamps)?;
     json.key("codes")?;
     json.begin_array()?;
     for code in run.shown.codes.as_slice() {
-        put_code(json, *code)?;
+        put_code(json, *code, None)?;
     }
     json.end_array()?;
     json.key("contested")?;
     json.boolean(run.contested)
 }
 
-fn put_code(json: &mut Writer, code: Dtc) -> Result<(), AllocError> {
-    json.begin_object()?;
-    put_number(json, "spn", u64::from(code.spn()))?;
-    put_number(json, "fmi", u64::from(code.fmi()))?;
-    json.key("count")?;
-    if code.count() == NO_COUNT {
-        json.null()?;
-    } else {
-        json.u64(u64::from(code.count()))?;
-    }
-    json.end_object()
-}
-
 /// The report: a row for each NAME with its runs of entries, the counts of the station, and those of the lines.
-pub(crate) fn report_object(alloc: Global, watch: &Watch) -> Result<Vec<u8>, AllocError> {
+pub(crate) fn report_object(
+    alloc: Global,
+    watch: &Watch,
+    assumed: &[Assumed],
+) -> Result<Vec<u8>, AllocError> {
     let mut json = Writer::new(Vec::new(alloc));
     json.begin_object()?;
     json.key("event")?;
@@ -131,7 +117,7 @@ pub(crate) fn report_object(alloc: Global, watch: &Watch) -> Result<Vec<u8>, All
     json.begin_array()?;
     for place in 0..watch.names() {
         if let Some(name) = watch.name_at(place) {
-            put_row(&mut json, alloc, watch, name)?;
+            put_row(&mut json, alloc, watch, name, is_assumed(assumed, name))?;
         }
     }
     json.end_array()?;
@@ -142,10 +128,20 @@ pub(crate) fn report_object(alloc: Global, watch: &Watch) -> Result<Vec<u8>, All
     Ok(json.into_inner())
 }
 
-fn put_row(json: &mut Writer, alloc: Global, watch: &Watch, name: Name) -> Result<(), AllocError> {
+fn put_row(
+    json: &mut Writer,
+    alloc: Global,
+    watch: &Watch,
+    name: Name,
+    is_assumed: bool,
+) -> Result<(), AllocError> {
     json.begin_object()?;
     put_name(json, alloc, name)?;
     put_address(json, watch, name)?;
+    if is_assumed {
+        json.key("assumed")?;
+        json.boolean(true)?;
+    }
     put_runs(json, alloc, watch, name, Kind::Dm1)?;
     put_runs(json, alloc, watch, name, Kind::Dm2)?;
     json.end_object()
@@ -189,11 +185,6 @@ fn put_counts(json: &mut Writer, counts: Counts) -> Result<(), AllocError> {
     json.end_object()?;
     put_number(json, "not_attributed", counts.not_attributed)?;
     put_number(json, "not_sent", counts.not_sent)
-}
-
-fn put_number(json: &mut Writer, key: &str, number: u64) -> Result<(), AllocError> {
-    json.key(key)?;
-    json.u64(number)
 }
 
 fn put_name(json: &mut Writer, alloc: Global, name: Name) -> Result<(), AllocError> {

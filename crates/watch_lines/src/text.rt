@@ -1,3 +1,4 @@
+use crate::run::{Assumed, is_assumed};
 use bus_watch::{Change, Counts, Watch};
 use candump_line::Time;
 use dm_messages::Kind;
@@ -58,10 +59,18 @@ fn write_entry<W: Write>(writer: &mut W, watch: &Watch, name: Name, kind: Kind) 
 }
 
 /// Writes a line for each NAME, the counts of the station, and those of the lines.
-pub fn write_report<W: Write>(writer: &mut W, watch: &Watch) -> io::Result<()> {
+pub fn write_report<W: Write>(
+    writer: &mut W,
+    watch: &Watch,
+    assumed: &[Assumed],
+) -> io::Result<()> {
     for place in 0..watch.names() {
         if let Some(name) = watch.name_at(place) {
             write_row(writer, watch, name)?;
+            if is_assumed(assumed, name) {
+                write!(writer, " assumed")?;
+            }
+            writeln!(writer)?;
         }
     }
     let missed = watch.missed();
@@ -71,7 +80,7 @@ pub fn write_report<W: Write>(writer: &mut W, watch: &Watch) -> io::Result<()> {
 }
 
 /// The NAME, its address, how many DM1 and DM2 messages stand under it, and the lamps and the number of codes of the
-/// newest DM1.
+/// newest DM1, without a line end.
 fn write_row<W: Write>(writer: &mut W, watch: &Watch, name: Name) -> io::Result<()> {
     write!(writer, "{name} ")?;
     match watch.row(name) {
@@ -88,9 +97,9 @@ fn write_row<W: Write>(writer: &mut W, watch: &Watch, name: Name) -> io::Result<
         Some(newest) => {
             let [lamps, flashes] = newest.lamps.to_bytes();
             let codes = newest.codes.as_slice().len();
-            writeln!(writer, "{lamps:02X}{flashes:02X} {codes:>4}")
+            write!(writer, "{lamps:02X}{flashes:02X} {codes:>4}")
         }
-        None => writeln!(writer, "----    -"),
+        None => write!(writer, "----    -"),
     }
 }
 

@@ -1,0 +1,96 @@
+//! `log` and `check`: a script is carried out, and its wire is written, or which of its lines are not accepted.
+
+use crate::fault::Fault;
+use crate::input::read_input;
+use crate::trial::{Teller, Telling, try_lines};
+use crate::workshop::Workshop;
+use candump_line::{Time, write_line};
+use command_line::LogWords;
+use std::alloc::Global;
+use std::io::{BufWriter, Read, Write};
+
+/// Carries out a script and writes its wire as a log: frame I, from 0, at I periods.
+///
+/// Lines that are not accepted are told on `errors`.
+///
+/// # Errors
+/// - `Read`, `InputTooLong`, `NotUtf8`: as for a script; nothing is written.
+/// - `Write`: a line could not be written.
+/// - `Memory`: memory was refused outside a command.
+/// - `BadLines`: all is written, but there were lines that are not accepted.
+pub fn log<R: Read, W: Write + Drop, E: Write>(
+    alloc: Global,
+    words: LogWords<'_>,
+    reader: &mut R,
+    writer: W,
+    errors: &mut E,
+) -> Result<(), Fault> {
+    let input = read_input(alloc, reader)?;
+    let Ok(text) = std::str::from_utf8(input.as_slice()) else {
+        return Err(Fault::NotUtf8);
+    };
+    let Ok(mut writer) = BufWriter::new(alloc, writer) else {
+        return Err(Fault::Memory);
+    };
+    let mut teller = Teller::new(alloc, Telling::Answer);
+    if let Some(workshop) = try_lines(alloc, text, errors, &mut teller)? {
+        let written = write_wire(&workshop, words, &mut writer);
+        workshop.close();
+        written?;
+    }
+    finished(&mut writer, &teller)
+}
+
+/// Carries out a script and writes each of its lines that is not accepted, with its number and the reason.
+///
+/// # Errors
+/// As by `log`.
+pub fn check<R: Read, W: Write + Drop>(
+    alloc: Global,
+    reader: &mut R,
+    writer: W,
+) -> Result<(), Fault> {
+    let input = read_input(alloc, reader)?;
+    let Ok(text) = std::str::from_utf8(input.as_slice()) else {
+        return Err(Fault::NotUtf8);
+    };
+    let Ok(mut writer) = BufWriter::new(alloc, writer) else {
+        return Err(Fault::Memory);
+    };
+    let mut teller = Teller::new(alloc, Telling::Reason);
+    if let Some(workshop) = try_lines(alloc, text, &mut writer, &mut teller)? {
+        workshop.close();
+    }
+    finished(&mut writer, &teller)
+}
+
+/// Writes each frame of the wire.
+fn write_wire<W: Write>(
+    workshop: &Workshop,
+    words: LogWords<'_>,
+    writer: &mut W,
+) -> Result<(), Fault> {
+    for index in 0..u32::MAX {
+        let Some(frame) = workshop.frame(index) else {
+            break;
+        };
+        let Some(time) = Time::from_micros(u64::from(index).saturating_mul(words.period)) else {
+            break;
+        };
+        if write_line(writer, time, words.bus, &frame).is_err() {
+            return Err(Fault::Write);
+        }
+    }
+    Ok(())
+}
+
+/// Writes what is left, and says whether lines were bad.
+fn finished<W: Write>(writer: &mut W, teller: &Teller) -> Result<(), Fault> {
+    if writer.flush().is_err() {
+        return Err(Fault::Write);
+    }
+    if teller.bad() > 0 {
+        return Err(Fault::BadLines);
+    }
+    Ok(())
+}

@@ -1,0 +1,163 @@
+use crate::objects::line_object;
+use crate::texts::Texts;
+use can_frame::Frame;
+use candump_line::{Line, read_line};
+use dm_messages::{Shown, read};
+use frame_words::write_line_words;
+use log_lines::{Ended, LogFault, ROOM, may_wait, next_line};
+use parameter_group::ParameterGroup;
+use std::alloc::Global;
+use std::io::{BufReader, BufWriter, Read, Write};
+
+/// How a line is answered.
+#[derive(Clone, Copy, Debug, PartialEq, Eq)]
+pub enum Form {
+    /// In words.
+    Text,
+    /// By a JSON object.
+    Json,
+}
+
+/// Reads lines to their end and answers each by one. A bad line is told on `errors` besides, with its number.
+///
+/// Lines are answered before the program waits for another.
+pub fn decode<R: Read + Drop, W: Write + Drop, E: Write>(
+    alloc: Global,
+    reader: R,
+    writer: W,
+    errors: &mut E,
+    form: Form,
+    texts: &Texts,
+) -> Ended {
+    let (Ok(mut reader), Ok(mut writer)) = (
+        BufReader::with_capacity(alloc, ROOM, reader),
+        BufWriter::with_capacity(alloc, ROOM, writer),
+    ) else {
+        return Ended::failed(LogFault::Memory);
+    };
+    let mut line = Vec::new(alloc);
+    let mut ended = Ended {
+        bad: 0,
+        fault: None,
+    };
+    for number in 1..u64::MAX {
+        if may_wait(&reader) && writer.flush().is_err() {
+            return Ended {
+                fault: Some(LogFault::Write),
+                ..ended
+            };
+        }
+        match next_line(&mut reader, &mut line) {
+            Ok(true) => {}
+            Ok(false) => break,
+            Err(fault) => {
+                ended.fault = Some(fault);
+                break;
+            }
+        }
+        match answer(
+            alloc,
+            &mut writer,
+            errors,
+            form,
+            texts,
+            line.as_slice(),
+            number,
+        ) {
+            Ok(false) => {}
+            Ok(true) => ended.bad = ended.bad.saturating_add(1),
+            Err(fault) => {
+                ended.fault = Some(fault);
+                break;
+            }
+        }
+    }
+    if writer.flush().is_err() {
+        ended.fault = Some(LogFault::Write);
+    }
+    ended
+}
+
+/// Answers a line. Tells whether it is bad.
+fn answer<W: Write, E: Write>(
+    alloc: Global,
+    writer: &mut W,
+    errors: &mut E,
+    form: Form,
+    texts: &Texts,
+    line: &[u8],
+    number: u64,
+) -> Result<bool, LogFault> {
+    let said = read_line(line);
+    let is_bad = match said {
+        Line::Bad(reason) => {
+            if writeln!(errors, "line {number}: {reason}").is_err() {
+                return Err(LogFault::Write);
+            }
+            true
+        }
+        _ => false,
+    };
+    match form {
+        Form::Text => write_words(alloc, writer, texts, &said)?,
+        Form::Json => {
+            let mut object = line_object(alloc, texts, number, &said)?;
+            object.push(b'\n')?;
+            if writer.write_all(object.as_slice()).is_err() {
+                return Err(LogFault::Write);
+            }
+        }
+    }
+    Ok(is_bad)
+}
+
+/// Writes a line in words, with the texts of its codes in parentheses behind.
+fn write_words<W: Write>(
+    alloc: Global,
+    writer: &mut W,
+    texts: &Texts,
+    line: &Line<'_>,
+) -> Result<(), LogFault> {
+    if write_line_words(writer, alloc, line).is_err() {
+        return Err(LogFault::Write);
+    }
+    if let Line::Frame { frame, .. } = line {
+        if let Some(shown) = shown_by(alloc, frame)? {
+            write_texts(alloc, writer, texts, &shown)?;
+        }
+    }
+    match writeln!(writer) {
+        Ok(()) => Ok(()),
+        Err(_) => Err(LogFault::Write),
+    }
+}
+
+/// Writes the text of each code that has one.
+fn write_texts<W: Write>(
+    alloc: Global,
+    writer: &mut W,
+    texts: &Texts,
+    shown: &Shown,
+) -> Result<(), LogFault> {
+    for code in shown.codes.as_slice() {
+        let Some(text) = texts.text_of(alloc, code.spn(), code.fmi())? else {
+            continue;
+        };
+        if write!(writer, " ({}/{}: {text})", code.spn(), code.fmi()).is_err() {
+            return Err(LogFault::Write);
+        }
+    }
+    Ok(())
+}
+
+/// What a frame shows, where it is a diagnostic message that can be read.
+pub(crate) fn shown_by(alloc: Global, frame: &Frame) -> Result<Option<Shown>, LogFault> {
+    match ParameterGroup::read(frame) {
+        ParameterGroup::Diagnostic { bytes, .. } => match read(alloc, bytes) {
+            Ok(shown) => Ok(Some(shown)),
+            Err(dm_messages::ReadError::OutOfMemory) => Err(LogFault::Memory),
+            Err(_) => Ok(None),
+        },
+        _ => Ok(None),
+    }
+}

@@ -1,0 +1,62 @@
+use std::alloc::{AllocError, AllocFailed};
+use std::io;
+
+/// Why a run ends early.
+#[derive(Clone, Copy, Debug, PartialEq, Eq)]
+pub enum LogFault {
+    /// A line could not be read.
+    Read,
+    /// A line could not be written.
+    Write,
+    /// Memory was refused.
+    Memory,
+}
+
+impl From<AllocError> for LogFault {
+    fn from(_: AllocError) -> LogFault {
+        LogFault::Memory
+    }
+}
+
+impl<T: Drop> From<AllocFailed<T>> for LogFault {
+    fn from(_: AllocFailed<T>) -> LogFault {
+        LogFault::Memory
+    }
+}
+
+impl LogFault {
+    /// What a failed read is.
+    pub fn of_read(error: io::Error) -> LogFault {
+        match error.kind() {
+            io::ErrorKind::OutOfMemory => LogFault::Memory,
+            _ => LogFault::Read,
+        }
+    }
+
+    /// What a failed write is.
+    pub fn of_write(error: io::Error) -> LogFault {
+        match error.kind() {
+            io::ErrorKind::OutOfMemory => LogFault::Memory,
+            _ => LogFault::Write,
+        }
+    }
+}
+
+/// How a run ended.
+#[derive(Clone, Copy, Debug, PartialEq, Eq)]
+pub struct Ended {
+    /// How many lines were bad.
+    pub bad: u64,
+    /// Why it ended before the last line, where it did.
+    pub fault: Option<LogFault>,
+}
+
+impl Ended {
+    /// It failed before the first line.
+    pub fn failed(fault: LogFault) -> Ended {
+        Ended {
+            bad: 0,
+            fault: Some(fault),
+        }
+    }
+}

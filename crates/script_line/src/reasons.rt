@@ -1,0 +1,204 @@
+use crate::numbers::{read_lamps, read_number, read_small_number};
+use crate::words::Words;
+use std::fmt;
+
+/// What is wanted at a place of a command.
+#[derive(Clone, Copy, Debug, PartialEq, Eq)]
+pub enum Wanted {
+    /// Any word: whether it is a NAME is seen when the command is carried out.
+    Name,
+    /// A decimal number below 2^32.
+    Number,
+    /// The same; where it is left out, it is 1.
+    Count,
+    /// A decimal number from 0 to 255.
+    Small,
+    /// Four hexadecimal digits.
+    Lamps,
+    /// `plain`, `guarded`, or `flicker` and its SPN and FMI.
+    Kind,
+    /// `dm1`, `dm2`, `dm3`, `dm11`, `claim`, or the number of a parameter group.
+    What,
+    /// `dm1` or `dm2`.
+    Which,
+}
+
+/// Follows `is`, and tells what a word should be.
+impl fmt::Display for Wanted {
+    fn fmt<W: fmt::Write>(&self, f: &mut fmt::Formatter<W>) -> fmt::Result {
+        match self {
+            Wanted::Name => write!(f, "no NAME"),
+            Wanted::Number | Wanted::Count => write!(f, "no decimal number from 0 to 4294967295"),
+            Wanted::Small => write!(f, "no decimal number from 0 to 255"),
+            Wanted::Lamps => write!(f, "not four hexadecimal digits"),
+            Wanted::Kind => write!(f, "not plain, guarded or flicker"),
+            Wanted::What => write!(f, "not dm1, dm2, dm3, dm11, claim or a decimal number"),
+            Wanted::Which => write!(f, "not dm1 or dm2"),
+        }
+    }
+}
+
+/// Why a line is no command. `Display` writes it.
+#[derive(Clone, Copy, Debug, PartialEq, Eq)]
+pub enum LineReason<'a> {
+    /// It has spaces alone.
+    Blank,
+    /// No command begins with this word.
+    Unknown {
+        word: &'a str,
+    },
+    /// It ends before this place of its command.
+    Missing {
+        place: &'static str,
+    },
+    /// The word at this place is none that may stand there.
+    Unfit {
+        place: &'static str,
+        word: &'a str,
+        wanted: Wanted,
+    },
+    /// It goes on with this word behind its command.
+    Behind {
+        word: &'a str,
+    },
+}
+
+impl fmt::Display for LineReason<'_> {
+    fn fmt<W: fmt::Write>(&self, f: &mut fmt::Formatter<W>) -> fmt::Result {
+        match self {
+            LineReason::Blank => write!(f, "no word"),
+            LineReason::Unknown { word } => write!(f, "no command begins with '{word}'"),
+            LineReason::Missing { place } => write!(f, "{place}: missing"),
+            LineReason::Unfit {
+                place,
+                word,
+                wanted,
+            } => write!(f, "{place}: '{word}' is {wanted}"),
+            LineReason::Behind { word } => write!(f, "'{word}' stands behind the command"),
+        }
+    }
+}
+
+/// A place of a command: its name, and what is wanted there.
+type Place = (&'static str, Wanted);
+
+const NAME: Place = ("NAME", Wanted::Name);
+
+const ADDRESS: Place = ("ADDRESS", Wanted::Small);
+
+const SEAT: Place = ("SEAT", Wanted::Number);
+
+const SPN: Place = ("SPN", Wanted::Number);
+
+const FMI: Place = ("FMI", Wanted::Small);
+
+const COUNT: Place = ("N", Wanted::Count);
+
+/// The places of a command behind its first word.
+fn places_of(word: &str) -> Option<&'static [Place]> {
+    match word {
+        "garage" => Some(&[
+            NAME,
+            ADDRESS,
+            ("WINDOW", Wanted::Number),
+            ("GRANT", Wanted::Small),
+            ("LIMIT", Wanted::Number),
+        ]),
+        "join" => Some(&[NAME, ADDRESS, ("KIND", Wanted::Kind)]),
+        "set" | "heal" => Some(&[SEAT, SPN, FMI, COUNT]),
+        "lamps" => Some(&[SEAT, ("HHHH", Wanted::Lamps)]),
+        "think" | "turn" | "leave" | "dm1" | "counts" => Some(&[SEAT]),
+        "hear" => Some(&[SEAT, COUNT]),
+        "carry" | "read" => Some(&[COUNT]),
+        "round" => Some(&[("N", Wanted::Number)]),
+        "ask" => Some(&[NAME, ("WHAT", Wanted::What)]),
+        "command" => Some(&[NAME, ADDRESS]),
+        "shown" => Some(&[NAME, ("KIND", Wanted::Which)]),
+        "row" => Some(&[NAME]),
+        "frame" => Some(&[("I", Wanted::Number)]),
+        "stats" | "report" => Some(&[]),
+        _ => None,
+    }
+}
+
+/// Why a line is no command; none where it is one.
+pub fn reason(line: &str) -> Option<LineReason<'_>> {
+    let mut words = Words::of(line);
+    let Some(first) = words.next_word() else {
+        return Some(LineReason::Blank);
+    };
+    let Some(places) = places_of(first) else {
+        return Some(LineReason::Unknown { word: first });
+    };
+    for place in places {
+        if let Some(reason) = unfit_at(&mut words, *place) {
+            return Some(reason);
+        }
+    }
+    match words.next_word() {
+        Some(word) => Some(LineReason::Behind { word }),
+        None => None,
+    }
+}
+
+/// Why the next word does not fit this place; none where it does.
+fn unfit_at<'a>(words: &mut Words<'a>, place: Place) -> Option<LineReason<'a>> {
+    let (name, wanted) = place;
+    let Some(word) = words.next_word() else {
+        if wanted == Wanted::Count {
+            return None;
+        }
+        return Some(LineReason::Missing { place: name });
+    };
+    if !fits(word, wanted) {
+        return Some(LineReason::Unfit {
+            place: name,
+            word,
+            wanted,
+        });
+    }
+    if wanted == Wanted::Kind && word == "flicker" {
+        if let Some(reason) = unfit_number(words, "SPN", Wanted::Number) {
+            return Some(reason);
+        }
+        return unfit_number(words, "FMI", Wanted::Small);
+    }
+    None
+}
+
+/// Why the next word is no number of this size; none where it is.
+fn unfit_number<'a>(
+    words: &mut Words<'a>,
+    place: &'static str,
+    wanted: Wanted,
+) -> Option<LineReason<'a>> {
+    match words.next_word() {
+        Some(word) if fits(word, wanted) => None,
+        Some(word) => Some(LineReason::Unfit {
+            place,
+            word,
+            wanted,
+        }),
+        None => Some(LineReason::Missing { place }),
+    }
+}
+
+/// Whether a word is what is wanted.
+fn fits(word: &str, wanted: Wanted) -> bool {
+    match wanted {
+        Wanted::Name => true,
+        Wanted::Number | Wanted::Count => read_number(word).is_some(),
+        Wanted::Small => read_small_number(word).is_some(),
+        Wanted::Lamps => read_lamps(word).is_some(),
+        Wanted::Kind => word == "plain" || word == "guarded" || word == "flicker",
+        Wanted::What => {
+            word == "dm1"
+                || word == "dm2"
+                || word == "dm3"
+                || word == "dm11"
+                || word == "claim"
+                || read_number(word).is_some()
+        }
+        Wanted::Which => word == "dm1" || word == "dm2",
+    }
+}

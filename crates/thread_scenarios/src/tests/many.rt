@@ -68,7 +68,10 @@ fn full_journal_ends_the_run(rt: HostRuntime) -> Result<(), Fail> {
             continue;
         };
         let tally = garage.tally(seat);
-        assert_eq!(rt; (tally.joined, tally.left, tally.events), (1, 1, end.events));
+        assert_eq!(rt;
+            (tally.joined, tally.left, tally.events),
+            (1, 1, end.events)
+        );
         let Some(Counts { waiting, .. }) = garage.counts(seat) else {
             assert!(rt; false, "a seat without counts");
             continue;

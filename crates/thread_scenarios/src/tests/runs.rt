@@ -188,7 +188,10 @@ fn shows_the_first_run(rt: &impl Abort, garage: &Garage) {
     assert_eq!(rt; shown[0].lamps.to_bytes(), [0x04, 0xFF]);
     let codes = shown[0].codes.as_slice();
     assert_eq!(rt; codes.len(), 1);
-    assert_eq!(rt; (codes[0].spn(), codes[0].fmi(), codes[0].count()), (1208, 3, 1));
+    assert_eq!(rt;
+        (codes[0].spn(), codes[0].fmi(), codes[0].count()),
+        (1208, 3, 1)
+    );
     match garage.wire_frame(2) {
         Some(frame) => {
             assert_eq!(rt; frame.id().number(), 0x18FE_CA00);

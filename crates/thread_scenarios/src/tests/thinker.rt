@@ -1,13 +1,13 @@
 //! Units that tell others of their thoughts.
 
+ghost use Rattle.std.specs.Prelude.{◌≡◌, false};
+
 use fault_memory::{FaultChange, FaultError, FaultMemory};
 use name_field::Name;
 use std::alloc::{AllocError, AllocFailed, Global};
 use std::sync::Arc;
 use std::sync::atomic::{AtomicU64, Ordering};
 use unit_trait::{Refused, Unit};
-
-ghost use Rattle.std.specs.Prelude.{◌≡◌, false};
 
 /// How often a wait looks before it gives up.
 const MOST_LOOKS: u32 = 100_000_000;

@@ -1,13 +1,13 @@
 //! Units that do their work and wait for nobody.
 
+ghost use Rattle.std.specs.Prelude.{◌≡◌, true};
+
 use fault_memory::{FaultChange, FaultError, FaultMemory};
 use name_field::Name;
 use std::alloc::Global;
 use std::sync::Wait;
 use unit_threads::Gate;
 use unit_trait::{Refused, Unit};
-
-ghost use Rattle.std.specs.Prelude.{◌≡◌, true};
 
 /// A unit that clears, obeys and wants to tell. The code 100/1 of one that flickers comes and goes as it works.
 #[derive(Drop)]

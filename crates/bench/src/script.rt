@@ -52,41 +52,29 @@ fn answer_lines<W: Write>(alloc: Global, text: &str, writer: &mut W) -> Result<(
         if is_silent(line) {
             continue;
         }
-        written = answer_line(alloc, &mut workshop, line, writer);
+        written = match read_command(line) {
+            Some(
+                Command::Join {
+                    name: Ok(name),
+                    address,
+                    kind,
+                },
+            ) => {
+                let joined = match Box::new(alloc, Simulated::new(alloc, name, kind)) {
+                    Ok(unit) => workshop.join(unit, address),
+                    Err(_) => Err(Refusal::Garage(GarageError::OutOfMemory)),
+                };
+                write_answer(writer, joined)
+            }
+            Some(command) => workshop.answer(command, writer),
+            None => write_answer(writer, Err(Refusal::BadLine)),
+        };
         if written.is_err() {
             break;
         }
     }
     workshop.close();
     written.map_err(|_| Fault::Write)
-}
-
-/// Answers a line of a script that has its garage.
-pub fn answer_line<W: Write>(
-    alloc: Global,
-    workshop: &mut Workshop,
-    line: &str,
-    writer: &mut W,
-) -> io::Result<()>
-    requires { Unit {0} }
-{
-    match read_command(line) {
-        Some(
-            Command::Join {
-                name: Ok(name),
-                address,
-                kind,
-            },
-        ) => {
-            let joined = match Box::new(alloc, Simulated::new(alloc, name, kind)) {
-                Ok(unit) => workshop.join(unit, address),
-                Err(_) => Err(Refusal::Garage(GarageError::OutOfMemory)),
-            };
-            write_answer(writer, joined)
-        }
-        Some(command) => workshop.answer(command, writer),
-        None => write_answer(writer, Err(Refusal::BadLine)),
-    }
 }
 
 /// Answers lines up to the one that makes a garage, where there is such a line.

@@ -1,9 +1,15 @@
 //! A script that is carried out for what it does and not for its answers: the lines that are not accepted are told.
 
+use crate::answer::write_answer;
 use crate::fault::Fault;
-use crate::script::{answer_before, answer_line};
+use crate::kinds::Simulated;
+use crate::refusal::Refusal;
+use crate::script::answer_before;
 use crate::workshop::Workshop;
-use script_line::{Words, is_silent, read_number, reason};
+use candump_line::{Time, write_line};
+use command_line::LogWords;
+use garage::GarageError;
+use script_line::{Command, Words, is_silent, read_command, read_number, reason};
 use std::alloc::Global;
 use std::io;
 use std::io::Write;
@@ -62,7 +68,19 @@ impl Teller {
         writer: &mut W,
         line: &str,
         has_garage: bool,
-    ) -> io::Result<()> {
+        answered: io::Result<()>,
+    ) -> Result<(), Fault> {
+        if answered.is_err() {
+            return Err(Fault::Memory);
+        }
+        match self.tell(writer, line, has_garage) {
+            Ok(()) => Ok(()),
+            Err(_) => Err(Fault::Write),
+        }
+    }
+
+    /// Tells of a line where its answer says that it is not accepted.
+    fn tell<W: Write>(&mut self, writer: &mut W, line: &str, has_garage: bool) -> io::Result<()> {
         let answer = std::str::from_utf8(self.answer.as_slice()).unwrap_or("");
         let answer = answer.trim_end_matches('\n');
         if answer.starts_with("seat ") {
@@ -125,52 +143,78 @@ fn seat_in(line: &str) -> Option<u32> {
     read_number(words.next_word()?)
 }
 
-/// Carries out the lines of a script, and hands out the garage as it stands then, where there is one.
+/// Carries out the lines of a script, and tells on `errors` of those that are not accepted. Where it is asked for, the wire
+/// is written at the end.
 ///
 /// # Errors
-/// - `Write`: a line could not be told, or memory for its answer was refused.
-pub fn try_lines<W: Write>(
+/// - `Write`: a line could not be told or written.
+/// - `Memory`: memory was refused outside a command.
+pub fn try_lines<E: Write, W: Write>(
     alloc: Global,
     text: &str,
-    writer: &mut W,
+    errors: &mut E,
     teller: &mut Teller,
-) -> Result<Option<Workshop>, Fault>
-    requires { Unit {0} }
-{
+    wire: Option<LogWords<'_>>,
+    writer: &mut W,
+) -> Result<(), Fault> {
     let mut lines = text.lines();
-    let Some(mut workshop) = opened(alloc, &mut lines, writer, teller)? else {
-        return Ok(None);
+    let Some(mut workshop) = opened(alloc, &mut lines, errors, teller)? else {
+        return Ok(());
     };
     let mut told = Ok(());
     for line in lines {
         if teller.passes(line) {
             continue;
         }
-        told = try_line(alloc, &mut workshop, line, writer, teller);
+        let answered = match read_command(line) {
+            Some(
+                Command::Join {
+                    name: Ok(name),
+                    address,
+                    kind,
+                },
+            ) => {
+                let joined = match Box::new(alloc, Simulated::new(alloc, name, kind)) {
+                    Ok(unit) => workshop.join(unit, address),
+                    Err(_) => Err(Refusal::Garage(GarageError::OutOfMemory)),
+                };
+                write_answer(&mut teller.answer, joined)
+            }
+            Some(command) => workshop.answer(command, &mut teller.answer),
+            None => write_answer(&mut teller.answer, Err(Refusal::BadLine)),
+        };
+        told = teller.look_at(errors, line, true, answered);
         if told.is_err() {
             break;
         }
     }
-    match told {
-        Ok(()) => Ok(Some(workshop)),
-        Err(_) => {
-            workshop.close();
-            Err(Fault::Write)
+    if told.is_ok() {
+        if let Some(words) = wire {
+            told = write_wire(&workshop, words, writer);
         }
     }
+    workshop.close();
+    told
 }
 
-fn try_line<W: Write>(
-    alloc: Global,
-    workshop: &mut Workshop,
-    line: &str,
+/// Writes each frame of the wire: frame I, from 0, at I periods.
+fn write_wire<W: Write>(
+    workshop: &Workshop,
+    words: LogWords<'_>,
     writer: &mut W,
-    teller: &mut Teller,
-) -> io::Result<()>
-    requires { Unit {0} }
-{
-    answer_line(alloc, workshop, line, &mut teller.answer)?;
-    teller.look_at(writer, line, true)
+) -> Result<(), Fault> {
+    for index in 0..u32::MAX {
+        let Some(frame) = workshop.frame(index) else {
+            break;
+        };
+        let Some(time) = Time::from_micros(u64::from(index).saturating_mul(words.period)) else {
+            break;
+        };
+        if write_line(writer, time, words.bus, &frame).is_err() {
+            return Err(Fault::Write);
+        }
+    }
+    Ok(())
 }
 
 /// Carries out lines up to the one that makes a garage, where there is such a line.
@@ -184,14 +228,12 @@ fn opened<W: Write>(
         if teller.passes(line) {
             continue;
         }
-        match answer_before(alloc, line, &mut teller.answer) {
+        let answered = match answer_before(alloc, line, &mut teller.answer) {
             Ok(Some(workshop)) => return Ok(Some(workshop)),
-            Ok(None) => {}
-            Err(_) => return Err(Fault::Memory),
-        }
-        if teller.look_at(writer, line, false).is_err() {
-            return Err(Fault::Write);
-        }
+            Ok(None) => Ok(()),
+            Err(error) => Err(error),
+        };
+        teller.look_at(writer, line, false, answered)?;
     }
     Ok(None)
 }

@@ -3,8 +3,6 @@
 use crate::fault::Fault;
 use crate::input::read_input;
 use crate::trial::{Teller, Telling, try_lines};
-use crate::workshop::Workshop;
-use candump_line::{Time, write_line};
 use command_line::LogWords;
 use std::alloc::Global;
 use std::io::{BufWriter, Read, Write};
@@ -33,11 +31,7 @@ pub fn log<R: Read, W: Write + Drop, E: Write>(
         return Err(Fault::Memory);
     };
     let mut teller = Teller::new(alloc, Telling::Answer);
-    if let Some(workshop) = try_lines(alloc, text, errors, &mut teller)? {
-        let written = write_wire(&workshop, words, &mut writer);
-        workshop.close();
-        written?;
-    }
+    try_lines(alloc, text, errors, &mut teller, Some(words), &mut writer)?;
     finished(&mut writer, &teller)
 }
 
@@ -58,30 +52,9 @@ pub fn check<R: Read, W: Write + Drop>(
         return Err(Fault::Memory);
     };
     let mut teller = Teller::new(alloc, Telling::Reason);
-    if let Some(workshop) = try_lines(alloc, text, &mut writer, &mut teller)? {
-        workshop.close();
-    }
+    let mut nothing: Vec<u8> = Vec::new(alloc);
+    try_lines(alloc, text, &mut writer, &mut teller, None, &mut nothing)?;
     finished(&mut writer, &teller)
-}
-
-/// Writes each frame of the wire.
-fn write_wire<W: Write>(
-    workshop: &Workshop,
-    words: LogWords<'_>,
-    writer: &mut W,
-) -> Result<(), Fault> {
-    for index in 0..u32::MAX {
-        let Some(frame) = workshop.frame(index) else {
-            break;
-        };
-        let Some(time) = Time::from_micros(u64::from(index).saturating_mul(words.period)) else {
-            break;
-        };
-        if write_line(writer, time, words.bus, &frame).is_err() {
-            return Err(Fault::Write);
-        }
-    }
-    Ok(())
 }
 
 /// Writes what is left, and says whether lines were bad.

@@ -1,5 +1,6 @@
 use crate::numbers::{read_lamps, read_number, read_small_number};
 use crate::words::Words;
+use hex_text::read_hex;
 use std::fmt;
 
 /// What is wanted at a place of a command.
@@ -15,6 +16,10 @@ pub enum Wanted {
     Small,
     /// Four hexadecimal digits.
     Lamps,
+    /// Eight hexadecimal digits.
+    Identifier,
+    /// Two hexadecimal digits, as often as there are words.
+    Bytes,
     /// `plain`, `guarded`, or `flicker` and its SPN and FMI.
     Kind,
     /// `dm1`, `dm2`, `dm3`, `dm11`, `claim`, or the number of a parameter group.
@@ -31,6 +36,8 @@ impl fmt::Display for Wanted {
             Wanted::Number | Wanted::Count => write!(f, "no decimal number from 0 to 4294967295"),
             Wanted::Small => write!(f, "no decimal number from 0 to 255"),
             Wanted::Lamps => write!(f, "not four hexadecimal digits"),
+            Wanted::Identifier => write!(f, "not eight hexadecimal digits"),
+            Wanted::Bytes => write!(f, "not two hexadecimal digits"),
             Wanted::Kind => write!(f, "not plain, guarded or flicker"),
             Wanted::What => write!(f, "not dm1, dm2, dm3, dm11, claim or a decimal number"),
             Wanted::Which => write!(f, "not dm1 or dm2"),
@@ -116,7 +123,8 @@ fn places_of(word: &str) -> Option<&'static [Place]> {
         "shown" => Some(&[NAME, ("KIND", Wanted::Which)]),
         "row" => Some(&[NAME]),
         "frame" => Some(&[("I", Wanted::Number)]),
-        "stats" | "report" => Some(&[]),
+        "inject" => Some(&[("IIIIIIII", Wanted::Identifier), ("BB", Wanted::Bytes)]),
+        "stats" | "report" | "injected" => Some(&[]),
         _ => None,
     }
 }
@@ -144,6 +152,9 @@ pub fn reason(line: &str) -> Option<LineReason<'_>> {
 /// Why the next word does not fit this place; none where it does.
 fn unfit_at<'a>(words: &mut Words<'a>, place: Place) -> Option<LineReason<'a>> {
     let (name, wanted) = place;
+    if wanted == Wanted::Bytes {
+        return unfit_byte(words, name);
+    }
     let Some(word) = words.next_word() else {
         if wanted == Wanted::Count {
             return None;
@@ -162,6 +173,21 @@ fn unfit_at<'a>(words: &mut Words<'a>, place: Place) -> Option<LineReason<'a>> {
             return Some(reason);
         }
         return unfit_number(words, "FMI", Wanted::Small);
+    }
+    None
+}
+
+/// Why a word that is left is no byte; none where each is one.
+fn unfit_byte<'a>(words: &mut Words<'a>, place: &'static str) -> Option<LineReason<'a>> {
+    for _ in 0..words.most_left() {
+        let word = words.next_word()?;
+        if !fits(word, Wanted::Bytes) {
+            return Some(LineReason::Unfit {
+                place,
+                word,
+                wanted: Wanted::Bytes,
+            });
+        }
     }
     None
 }
@@ -190,6 +216,8 @@ fn fits(word: &str, wanted: Wanted) -> bool {
         Wanted::Number | Wanted::Count => read_number(word).is_some(),
         Wanted::Small => read_small_number(word).is_some(),
         Wanted::Lamps => read_lamps(word).is_some(),
+        Wanted::Identifier => read_hex(word, 8).is_some(),
+        Wanted::Bytes => read_hex(word, 2).is_some(),
         Wanted::Kind => word == "plain" || word == "guarded" || word == "flicker",
         Wanted::What => {
             word == "dm1"

@@ -1,6 +1,6 @@
 //! Runs of several units to their end.
 
-use crate::tests::worker::{Open, Worker};
+use crate::tests::worker::{Crowd, Worker};
 use bus_ledger::Counts;
 use garage::{Garage, GarageError};
 use journal::Tally;
@@ -20,6 +20,7 @@ fn ran<R: Threads + Wait + Sync>(
     limit: u32,
     count: u8,
     turns: u32,
+    crowd: &Crowd,
 ) -> Result<(Garage, Ran), Fail> {
     let mut units: Vec<(Box<dyn Unit>, u8)> = Vec::new(alloc);
     for number in 0..count {
@@ -28,15 +29,18 @@ fn ran<R: Threads + Wait + Sync>(
         units.push((unit, number))?;
     }
     let garage = Garage::new(alloc, Name::from_number(1), 249, 64, 16, limit)?;
-    let (garage, ran) = run(rt, alloc, garage, units, turns, turns, &Open);
+    let (garage, ran) = run(rt, alloc, garage, units, turns, turns, crowd);
     Ok((garage, ran?))
 }
 
-/// No refusal ends a unit of such runs, and what is told of each agrees with the garage's counts.
+/// All units are on the bus before the first one has a turn. No refusal ends any of them, and what is told of each agrees with
+/// the garage's counts.
 #[test]
 fn units_end_without_refusal(rt: HostRuntime) -> Result<(), Fail> {
     for (count, turns) in [(1, 1), (2, 50), (64, 1), (64, 100)] {
-        let (garage, ran) = ran(&rt, rt.alloc(), 16_777_216, count, turns)?;
+        let crowd = Crowd::new(count);
+        let (garage, ran) = ran(&rt, rt.alloc(), 16_777_216, count, turns, &crowd)?;
+        assert_eq!(rt; crowd.met(), u64::from(count));
         assert_eq!(rt; ran.ended.len(), count as usize);
         assert!(rt; ran.station.is_none());
         for end in &ran.ended {
@@ -58,7 +62,7 @@ fn units_end_without_refusal(rt: HostRuntime) -> Result<(), Fail> {
 /// With room for forty events the run ends by itself. Each unit that has a seat left it, and none of its frames waits.
 #[test]
 fn full_journal_ends_the_run(rt: HostRuntime) -> Result<(), Fail> {
-    let (garage, ran) = ran(&rt, rt.alloc(), 40, 2, 50)?;
+    let (garage, ran) = ran(&rt, rt.alloc(), 40, 2, 50, &Crowd::new(2))?;
     assert!(rt; garage.events() <= 40);
     assert_eq!(rt; ran.ended.len(), 2);
     assert_eq!(rt; garage.live(), 0);

@@ -1,4 +1,3 @@
-mod many;
 mod meetings;
 mod runs;
 mod thinker;

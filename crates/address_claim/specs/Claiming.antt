@@ -1,5 +1,6 @@
 -- By which rules an address is kept, defended, moved or lost (SAE J1939-81, address management).
 use Rattle.std.specs.Prelude.{ℕ, ◌+◌, ◌≤◌, Bool, true, false, not, ◌||◌, nat_eq, nat_lt, if◌then◌else◌, List, Option, Some, None, option_map, replicate, position, slice_range, slice_set}
+use Rattle.can_frame.specs.declared.address.TheConstants.{GREATEST_ADDRESS, NULL_ADDRESS}
 use Rattle.name_field.specs.Fields.{arbitrary_capable_of}
 use Rattle.address_claim.specs.declared.claimer.ClaimStep.{ClaimStep}
 use Rattle.address_claim.specs.declared.claimer.ClaimStep.TheVariants.{Nothing, Defend, Move, CannotClaim}
@@ -16,12 +17,17 @@ new_claimer name want = record { name = name; held = Some want; noted = replicat
 
 -- the claims noted after one more; 254 and 255 are no addresses
 abbrev pub noted_after : ℕ → ℕ → List (Option ℕ) → List (Option ℕ)
-noted_after source name noted = if nat_lt source 254 then slice_set noted source (Some name) else noted
+noted_after source name noted = if nat_lt source NULL_ADDRESS then slice_set noted source (Some name) else noted
 
 -- whether an address is the one held
 abbrev pub is_held : Option ℕ → ℕ → Bool
 is_held None address = false
 is_held (Some held) address = nat_eq held address
+
+-- an address that can be held, or none
+abbrev pub CanHold : Option ℕ → Type 0
+CanHold None = Unit {0}
+CanHold (Some address) = address ≤ GREATEST_ADDRESS
 
 -- whether an address with this last claim is free for a NAME: it has no claim of another NAME
 abbrev pub is_free : ℕ → Option ℕ → Bool

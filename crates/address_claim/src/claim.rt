@@ -18,10 +18,11 @@ pub struct Claim {
 }
 
 /// The frame by which a NAME claims an address, 0 to 253; with no address, the one by which it says that
-/// it cannot claim. It goes to all with priority 6.
+/// it cannot claim. It goes to all with priority 6; its eight bytes are the NAME's 64 bits.
 pub fn claim_frame(name: Name, address: Option<u8>) -> Frame
     requires { IfSome address (λ a. a ≤ 253) }
-    ensures { result ≡ claim_frame_value name address }
+    ensures frame { result ≡ claim_frame_value name address }
+    ensures name_fits { name < 2 ^ 64 }
 {
     let source = address.unwrap_or(NULL_ADDRESS);
     Frame::of(

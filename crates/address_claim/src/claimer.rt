@@ -120,8 +120,16 @@ impl Claimer {
         if address > GREATEST_ADDRESS {
             return Err(ClaimError::NotAnAddress);
         }
-        self.held = Some(address);
+        self.hold(address);
         Ok(())
+    }
+
+    /// Holds this address, 0 to 253, from now on.
+    pub fn hold(&mut self, address: u8)
+        requires { address ≤ 253 }
+        ensures { self.new ≡ after_command address self.old }
+    {
+        self.held = Some(address);
     }
 
     /// Where it moves to when it loses its address to this claim.

@@ -14,11 +14,11 @@ pub enum ClaimError {
 }
 
 impl ClaimError {
-    ghost use Rattle.address_claim.specs.Refusals.{number_of};
+    ghost use Rattle.address_claim.specs.Refusals.{claim_error_number};
 
     /// The refusal's number: 7 or 8.
     pub fn number(self) -> u8
-        ensures { result ≡ number_of self }
+        ensures { result ≡ claim_error_number self }
     {
         match self {
             ClaimError::NotAnAddress => 7,

@@ -1,5 +1,6 @@
 use Rattle.std.specs.Prelude.{ℕ}
+use Rattle.bench.specs.declared.input.TheConstants.{LIMIT}
 
 -- the most bytes of an input
 abbrev pub input_limit : ℕ
-input_limit = 1048576
+input_limit = LIMIT

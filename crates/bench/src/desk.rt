@@ -1,8 +1,8 @@
 ghost use Rattle.std.specs.Prelude.{◌<◌, OnOk};
 
 use crate::answer::Answer;
-use crate::deed::{Deed, done_with, left};
 use crate::refusal::Refusal;
+use crate::task::{Task, done_with, left};
 use garage::{Garage, Parked};
 use std::alloc::{AllocError, Global};
 use std::collections::VecDeque;
@@ -47,14 +47,14 @@ impl Desk {
         self.units.push_back_reserved(parked);
     }
 
-    /// Does a deed with the unit of a seat. A unit that leaves is off the desk.
-    pub fn act(&mut self, garage: &mut Garage, seat: u32, deed: &Deed) -> Result<Answer, Refusal> {
+    /// Does a task with the unit of a seat. A unit that leaves is off the desk.
+    pub fn act(&mut self, garage: &mut Garage, seat: u32, task: &Task) -> Result<Answer, Refusal> {
         let mut answer = Err(Refusal::NoSeat);
         for _ in 0..self.units.len() {
             let Some(parked) = self.units.pop_front() else {
                 break;
             };
-            let (parked, done) = done_at(self.alloc, garage, parked, seat, deed);
+            let (parked, done) = done_at(self.alloc, garage, parked, seat, task);
             if let Some(parked) = parked {
                 self.units.push_back_reserved(parked);
             }
@@ -73,7 +73,7 @@ impl Desk {
                 break;
             };
             let most = if result.is_ok() { u32::MAX } else { 0 };
-            let (parked, done) = done_with(self.alloc, garage, parked, Deed::Hear { most });
+            let (parked, done) = done_with(self.alloc, garage, parked, Task::Hear { most });
             if let Some(parked) = parked {
                 self.units.push_back_reserved(parked);
             }
@@ -94,17 +94,17 @@ impl Desk {
     }
 }
 
-/// Does a deed with a unit, where its seat is the one that is meant.
+/// Does a task with a unit, where its seat is the one that is meant.
 fn done_at(
     alloc: Global,
     garage: &mut Garage,
     parked: Parked,
     seat: u32,
-    deed: &Deed,
+    task: &Task,
 ) -> (Option<Parked>, Option<Result<Answer, Refusal>>) {
     if parked.seat() != seat {
         return (Some(parked), None);
     }
-    let (parked, done) = done_with(alloc, garage, parked, *deed);
+    let (parked, done) = done_with(alloc, garage, parked, *task);
     (parked, Some(done))
 }

@@ -2,13 +2,13 @@
 #![tactic(auto)]
 
 mod answer;
-mod deed;
 mod desk;
 mod fault;
 mod input;
 mod kinds;
 mod refusal;
 mod script;
+mod task;
 mod threads;
 mod tools;
 mod trial;

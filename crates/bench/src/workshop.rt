@@ -1,7 +1,7 @@
 use crate::answer::{Answer, End, write_answer, write_shown};
-use crate::deed::Deed;
 use crate::desk::Desk;
 use crate::refusal::Refusal;
+use crate::task::Task;
 use bus_ledger::Carried;
 use can_frame::{Frame, PgnTooLarge, Reading};
 use garage::{Garage, GarageError};
@@ -104,8 +104,8 @@ impl Workshop {
             Command::Injected => Ok(Answer::Injected(self.garage.injected())),
             Command::Frame { index } => Ok(Answer::Frame(self.garage.wire_frame(index))),
             _ => {
-                let (seat, deed) = deed_of(command)?;
-                self.desk.act(&mut self.garage, seat, &deed)
+                let (seat, task) = task_of(command)?;
+                self.desk.act(&mut self.garage, seat, &task)
             }
         }
     }
@@ -185,27 +185,27 @@ impl Workshop {
     }
 }
 
-/// Which deed a command asks for, and of which seat's unit. Any other command that comes here is refused.
-fn deed_of(command: Command) -> Result<(u32, Deed), Refusal> {
+/// Which task a command asks for, and of which seat's unit. Any other command that comes here is refused.
+fn task_of(command: Command) -> Result<(u32, Task), Refusal> {
     match command {
         Command::Set {
             seat,
             spn,
             fmi,
             count,
-        } => Ok((seat, Deed::Set { spn, fmi, count })),
+        } => Ok((seat, Task::Set { spn, fmi, count })),
         Command::Heal {
             seat,
             spn,
             fmi,
             count,
-        } => Ok((seat, Deed::Heal { spn, fmi, count })),
-        Command::Lamps { seat, lamps } => Ok((seat, Deed::Lamps { lamps })),
-        Command::Think { seat } => Ok((seat, Deed::Think)),
-        Command::Turn { seat } => Ok((seat, Deed::Turn)),
-        Command::Leave { seat } => Ok((seat, Deed::Leave)),
-        Command::Hear { seat, most } => Ok((seat, Deed::Hear { most })),
-        Command::Dm1 { seat } => Ok((seat, Deed::Dm1)),
+        } => Ok((seat, Task::Heal { spn, fmi, count })),
+        Command::Lamps { seat, lamps } => Ok((seat, Task::Lamps { lamps })),
+        Command::Think { seat } => Ok((seat, Task::Think)),
+        Command::Turn { seat } => Ok((seat, Task::Turn)),
+        Command::Leave { seat } => Ok((seat, Task::Leave)),
+        Command::Hear { seat, most } => Ok((seat, Task::Hear { most })),
+        Command::Dm1 { seat } => Ok((seat, Task::Dm1)),
         Command::Shown { name, .. } | Command::Join { name, .. } => {
             name?;
             Err(Refusal::BadLine)

@@ -4,10 +4,10 @@ use Rattle.std.specs.List.{filter}
 use Rattle.std.proofs.lemmas.List.{map-set, map_push, length-set, length-map, length_push, get_or_read, get_or_append_left}
 use Rattle.can_frame.specs.FrameValue.{FrameValue}
 use Rattle.bus_ledger.specs.BusValue.{SeatValue, SeatBook, Traffic, BusValue, no_book, seat_at}
-use Rattle.bus_ledger.specs.Changes.{newcomer, joined, sending, leaving, left, carried_frame, carried_from, injected, stray_frame}
-use Rattle.bus_ledger.specs.Carrying.{IsNext}
+use Rattle.bus_ledger.specs.Changes.{newcomer, with_newcomer, sending, leaving, left, carried_frame, carried_from, injected, stray_frame}
+use Rattle.bus_ledger.specs.Carrying.{IsCarriedNext}
 use Rattle.bus_ledger.specs.Ledger.{IsSound}
-use Rattle.bus_ledger.specs.Inside.{seat_of, traffic_of, view_of, live_numbers, IsKept}
+use Rattle.bus_ledger.specs.Inside.{seat_of, traffic_of, bus_value_of, live_numbers, IsKept}
 use Rattle.bus_ledger.specs.declared.bus.Bus.TheInside.{Inside}
 use Rattle.bus_ledger.specs.declared.traffic.QueuedFrame.{QueuedFrame}
 use Rattle.bus_ledger.specs.Window.{WindowValue, window_of, pushed, taken_in}
@@ -17,11 +17,11 @@ use Rattle.bus_ledger.proofs.Seats.{within, seat_is, sound_set, station_given, b
 use Rattle.bus_ledger.proofs.Sounds.{sound_carried, sound_injected, sound_joined, live_within, offer_says, first_rest}
 
 -- the seat of an offer was given
-pub next_within : (t : Traffic) (k : ℕ) (q : QueuedFrame) → IsNext t k q → k < length t.seats
+pub next_within : (t : Traffic) (k : ℕ) (q : QueuedFrame) → IsCarriedNext t k q → k < length t.seats
 next_within t k q n = live_within t.seats k (offer_says (length t.wire) (seat_at t k) q n.offers).live
 
 -- the sender of an offer may send
-pub send_waits : (a : Inside) (v : BusValue) (k : ℕ) (q : QueuedFrame) (x : SeatBook) → view_of a ≡ v → IsNext v.traffic k q → x ≡ get_or a.seats.items k x → 0 < length x.seat.queue
+pub send_waits : (a : Inside) (v : BusValue) (k : ℕ) (q : QueuedFrame) (x : SeatBook) → bus_value_of a ≡ v → IsCarriedNext v.traffic k q → x ≡ get_or a.seats.items k x → 0 < length x.seat.queue
 send_waits a v k q x is n read =
     let s = seat_is a v k x is (within a v k is (next_within v.traffic k q n)) read in
     let o = offer_says (length v.traffic.wire) (seat_at v.traffic k) q n.offers in
@@ -29,7 +29,7 @@ send_waits a v k q x is n read =
     let same : length x.seat.queue ≡ length (seat_at v.traffic k).queue = ap (λ (z : SeatValue). length z.queue) s in
     omega arith
 
-pub send_few : (a : Inside) (v : BusValue) (k : ℕ) (q : QueuedFrame) (x : SeatBook) → view_of a ≡ v → IsNext v.traffic k q → x ≡ get_or a.seats.items k x → length v.traffic.wire + 1 < 2 ^ 32 → x.seat.heard + 1 < 2 ^ 32
+pub send_few : (a : Inside) (v : BusValue) (k : ℕ) (q : QueuedFrame) (x : SeatBook) → bus_value_of a ≡ v → IsCarriedNext v.traffic k q → x ≡ get_or a.seats.items k x → length v.traffic.wire + 1 < 2 ^ 32 → x.seat.heard + 1 < 2 ^ 32
 send_few a v k q x is n read few =
     let s = seat_is a v k x is (within a v k is (next_within v.traffic k q n)) read in
     let o = offer_says (length v.traffic.wire) (seat_at v.traffic k) q n.offers in
@@ -37,22 +37,22 @@ send_few a v k q x is n read few =
     let all = o.heard in
     omega arith
 
-pub seat_count : (a : Inside) (v : BusValue) → view_of a ≡ v → length a.seats.items ≡ length v.traffic.seats
+pub seat_count : (a : Inside) (v : BusValue) → bus_value_of a ≡ v → length a.seats.items ≡ length v.traffic.seats
 seat_count a v is = sym (length-map a.seats.items seat_of) ∙ ap (λ (b : BusValue). length b.traffic.seats) is
 
 -- the value after a carry
-pub carry_traffic : (a b : Inside) (v : BusValue) (k : ℕ) (q : QueuedFrame) (x y : SeatBook) → view_of a ≡ v → k < length v.traffic.seats → x ≡ get_or a.seats.items k x
+pub carry_traffic : (a b : Inside) (v : BusValue) (k : ℕ) (q : QueuedFrame) (x y : SeatBook) → bus_value_of a ≡ v → k < length v.traffic.seats → x ≡ get_or a.seats.items k x
     → y.seat ≡ sending x.seat → b.wire.items ≡ a.wire.items ++ carried_frame k q ∷ [] → b.seats.items ≡ set a.seats.items k y → b.tap ≡ taken_in k q.frame a.tap
     → traffic_of b ≡ carried_from k q v.traffic
 carry_traffic a b v k q x y is h read e wire seats tap =
     let window : b.tap.size ≡ a.tap.size = ap (λ (w : WindowValue). w.size) tap ∙ taken_size k q.frame a.tap in
-    let y' : y.seat ≡ sending (seat_at (traffic_of a) k) = e ∙ ap sending (seat_is a (view_of a) k x refl (within a v k is h) read) in
+    let y' : y.seat ≡ sending (seat_at (traffic_of a) k) = e ∙ ap sending (seat_is a (bus_value_of a) k x refl (within a v k is h) read) in
     let s : map seat_of b.seats.items ≡ set (map seat_of a.seats.items) k (sending (seat_at (traffic_of a) k)) =
     ap (map seat_of) seats ∙ (map-set seat_of a.seats.items k y ∙ ap (λ (z : SeatValue). set (map seat_of a.seats.items) k z) y') in
     let t : traffic_of b ≡ carried_from k q (traffic_of a) = cc in
     t ∙ ap (λ (w : BusValue). carried_from k q w.traffic) is
 
-pub carry_kept : (a b : Inside) (v : BusValue) (k : ℕ) (q : QueuedFrame) (x y : SeatBook) → view_of a ≡ v → IsKept a → IsNext v.traffic k q → x ≡ get_or a.seats.items k x
+pub carry_kept : (a b : Inside) (v : BusValue) (k : ℕ) (q : QueuedFrame) (x y : SeatBook) → bus_value_of a ≡ v → IsKept a → IsCarriedNext v.traffic k q → x ≡ get_or a.seats.items k x
     → y.seat ≡ sending x.seat → b.wire.items ≡ a.wire.items ++ carried_frame k q ∷ [] → b.seats.items ≡ set a.seats.items k y → b.live.items ≡ a.live.items → b.tap ≡ taken_in k q.frame a.tap
     → length v.traffic.wire + 1 < 2 ^ 32 → IsKept b
 carry_kept a b v k q x y is kept next read e wire seats live tap few =
@@ -75,7 +75,7 @@ carry_kept a b v k q x y is kept next read e wire seats live tap few =
 
 -- the value after a join
 join_traffic : (a b : Inside) (name : ℕ) (y : SeatBook) → y.seat ≡ newcomer name (length a.wire.items) → b.wire.items ≡ a.wire.items → b.seats.items ≡ a.seats.items ++ y ∷ [] → b.tap ≡ a.tap
-    → traffic_of b ≡ joined name (traffic_of a)
+    → traffic_of b ≡ with_newcomer name (traffic_of a)
 join_traffic a b name y e wire seats window =
     let s : map seat_of b.seats.items ≡ map seat_of a.seats.items ++ newcomer name (length a.wire.items) ∷ [] =
     ap (map seat_of) seats ∙ (map_push seat_of a.seats.items y ∙ ap (λ (z : SeatValue). map seat_of a.seats.items ++ z ∷ []) e) in
@@ -83,11 +83,11 @@ join_traffic a b name y e wire seats window =
     cc
 
 -- the newcomer comes after the station
-window_joined : (t : Traffic) (name : ℕ) → IsSound t → window_of (joined name t) ≡ window_of t
+window_joined : (t : Traffic) (name : ℕ) → IsSound t → window_of (with_newcomer name t) ≡ window_of t
 window_joined t name s =
     let h : 0 < length t.seats = station_given t s in
-    let same : (seat_at (joined name t) 0).heard ≡ (seat_at t 0).heard = rw get_or_append_left refl in
-    window_same t (joined name t) refl refl same
+    let same : (seat_at (with_newcomer name t) 0).heard ≡ (seat_at t 0).heard = rw get_or_append_left refl in
+    window_same t (with_newcomer name t) refl refl same
 
 pub join_kept : (a b : Inside) (name number : ℕ) (y : SeatBook) → IsKept a → y.seat ≡ newcomer name (length a.wire.items) → b.wire.items ≡ a.wire.items → b.seats.items ≡ a.seats.items ++ y ∷ []
     → b.live.items ≡ a.live.items ++ number ∷ [] → b.tap ≡ a.tap → number ≡ length a.seats.items → length a.seats.items + 1 < 2 ^ 32 → IsKept b
@@ -102,17 +102,17 @@ join_kept a b name number y kept e wire seats live window n few =
     }
 
 -- the value after a leave
-pub leave_traffic : (a b : Inside) (v : BusValue) (k : ℕ) (x y : SeatBook) → view_of a ≡ v → k < length v.traffic.seats → x ≡ get_or a.seats.items k x → y.seat ≡ leaving x.seat
+pub leave_traffic : (a b : Inside) (v : BusValue) (k : ℕ) (x y : SeatBook) → bus_value_of a ≡ v → k < length v.traffic.seats → x ≡ get_or a.seats.items k x → y.seat ≡ leaving x.seat
     → b.wire.items ≡ a.wire.items → b.seats.items ≡ set a.seats.items k y → b.tap ≡ a.tap → traffic_of b ≡ left k v.traffic
 leave_traffic a b v k x y is h read e wire seats window =
-    let y' : y.seat ≡ leaving (seat_at (traffic_of a) k) = e ∙ ap leaving (seat_is a (view_of a) k x refl (within a v k is h) read) in
+    let y' : y.seat ≡ leaving (seat_at (traffic_of a) k) = e ∙ ap leaving (seat_is a (bus_value_of a) k x refl (within a v k is h) read) in
     let s : map seat_of b.seats.items ≡ set (map seat_of a.seats.items) k (leaving (seat_at (traffic_of a) k)) =
     ap (map seat_of) seats ∙ (map-set seat_of a.seats.items k y ∙ ap (λ (z : SeatValue). set (map seat_of a.seats.items) k z) y') in
     let size : b.tap.size ≡ a.tap.size = ap (λ (w : WindowValue). w.size) window in
     let t : traffic_of b ≡ left k (traffic_of a) = cc in
     t ∙ ap (λ (w : BusValue). left k w.traffic) is
 
-pub leave_kept : (a b : Inside) (v : BusValue) (k : ℕ) (x y : SeatBook) → view_of a ≡ v → IsKept a → 0 < k → k < length v.traffic.seats → x ≡ get_or a.seats.items k x → y.seat ≡ leaving x.seat
+pub leave_kept : (a b : Inside) (v : BusValue) (k : ℕ) (x y : SeatBook) → bus_value_of a ≡ v → IsKept a → 0 < k → k < length v.traffic.seats → x ≡ get_or a.seats.items k x → y.seat ≡ leaving x.seat
     → b.wire.items ≡ a.wire.items → b.seats.items ≡ set a.seats.items k y → b.live.items ≡ filter (λ n. not (n == k)) a.live.items → b.tap ≡ a.tap → IsKept b
 leave_kept a b v k x y is kept above h read e wire seats live window =
     let in' = within a v k is h in
@@ -127,14 +127,14 @@ leave_kept a b v k x y is kept above h read e wire seats live window =
     }
 
 -- the value after a frame from outside
-pub inject_traffic : (a b : Inside) (v : BusValue) (f : FrameValue) → view_of a ≡ v → b.wire.items ≡ a.wire.items ++ stray_frame f ∷ [] → b.seats.items ≡ a.seats.items → b.tap ≡ pushed f a.tap
+pub inject_traffic : (a b : Inside) (v : BusValue) (f : FrameValue) → bus_value_of a ≡ v → b.wire.items ≡ a.wire.items ++ stray_frame f ∷ [] → b.seats.items ≡ a.seats.items → b.tap ≡ pushed f a.tap
     → traffic_of b ≡ injected f v.traffic
 inject_traffic a b v f is wire seats tap =
     let size : b.tap.size ≡ a.tap.size = ap (λ (w : WindowValue). w.size) tap in
     let t : traffic_of b ≡ injected f (traffic_of a) = cc in
     t ∙ ap (λ (w : BusValue). injected f w.traffic) is
 
-pub inject_kept : (a b : Inside) (v : BusValue) (f : FrameValue) → view_of a ≡ v → IsKept a → b.wire.items ≡ a.wire.items ++ stray_frame f ∷ [] → b.seats.items ≡ a.seats.items
+pub inject_kept : (a b : Inside) (v : BusValue) (f : FrameValue) → bus_value_of a ≡ v → IsKept a → b.wire.items ≡ a.wire.items ++ stray_frame f ∷ [] → b.seats.items ≡ a.seats.items
     → b.live.items ≡ a.live.items → b.tap ≡ pushed f a.tap → length v.traffic.wire + 1 < 2 ^ 32 → IsKept b
 inject_kept a b v f is kept wire seats live tap few =
     let t = inject_traffic a b v f is wire seats tap in

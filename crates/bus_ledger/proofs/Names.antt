@@ -4,9 +4,9 @@ use Rattle.std.specs.List.{list_any}
 use Rattle.std.proofs.lemmas.Bool.{ne_eqb}
 use Rattle.bus_ledger.specs.BusValue.{SeatValue, SeatBook, book_at}
 use Rattle.bus_ledger.specs.Inside.{seat_of, traffic_of, live_numbers, IsKept}
-use Rattle.bus_ledger.specs.Joining.{is_in_use, live_units, join_refusal}
+use Rattle.bus_ledger.specs.Newcomers.{is_in_use, live_units, join_refusal}
 use Rattle.bus_ledger.specs.BusValue.{BusValue}
-use Rattle.bus_ledger.specs.Inside.{view_of}
+use Rattle.bus_ledger.specs.Inside.{bus_value_of}
 use Rattle.bus_ledger.specs.declared.error.BusError.TheVariants.{NameInUse, TooManySeats}
 use Rattle.bus_ledger.proofs.Live.{live_count}
 use Rattle.std.proofs.lemmas.Bool.{le-leb, lt-leb}
@@ -51,7 +51,7 @@ not_in_use a name kept none =
     none at.index at.within (ap (λ (n : ℕ). (book_at a.seats.items n).seat.name) at.is ∙ e)))
 
 -- `may_join` at its three exits
-pub refused_name : (a : Inside) (v : BusValue) (name : ℕ) (seats : List SeatBook) (live : List ℕ) → view_of a ≡ v → IsKept a → seats ≡ a.seats.items → live ≡ a.live.items
+pub refused_name : (a : Inside) (v : BusValue) (name : ℕ) (seats : List SeatBook) (live : List ℕ) → bus_value_of a ≡ v → IsKept a → seats ≡ a.seats.items → live ≡ a.live.items
     → (i : ℕ) × (i < length live) × ((book_at seats (get_or live i 0)).seat.name ≡ name) → Some NameInUse ≡ join_refusal name v.traffic
 refused_name a v name seats live is kept es el w =
     let used : is_in_use name (traffic_of a) ≡ true =
@@ -61,17 +61,17 @@ refused_name a v name seats live is kept es el w =
     let used' : is_in_use name v.traffic ≡ true = ap (λ (b : BusValue). is_in_use name b.traffic) (sym is) ∙ used in
     rw used' refl
 
-free_name : (a : Inside) (v : BusValue) (name : ℕ) (seats : List SeatBook) (live : List ℕ) → view_of a ≡ v → IsKept a → seats ≡ a.seats.items → live ≡ a.live.items
+free_name : (a : Inside) (v : BusValue) (name : ℕ) (seats : List SeatBook) (live : List ℕ) → bus_value_of a ≡ v → IsKept a → seats ≡ a.seats.items → live ≡ a.live.items
     → ((i : ℕ) → i < length live → (book_at seats (get_or live i 0)).seat.name ≢ name) → is_in_use name v.traffic ≡ false
 free_name a v name seats live is kept es el w =
     let P : List SeatBook → List ℕ → Type 0 = λ s l. (i : ℕ) → i < length l → (book_at s (get_or l i 0)).seat.name ≢ name in
     let w' : P a.seats.items a.live.items = subst (λ (s : List SeatBook). P s a.live.items) es (subst (λ (l : List ℕ). P seats l) el w) in
     ap (λ (b : BusValue). is_in_use name b.traffic) (sym is) ∙ not_in_use a name kept w'
 
-units_are : (a : Inside) (v : BusValue) → view_of a ≡ v → IsKept a → live_units v.traffic ≡ length a.live.items - 1
+units_are : (a : Inside) (v : BusValue) → bus_value_of a ≡ v → IsKept a → live_units v.traffic ≡ length a.live.items - 1
 units_are a v is kept = ap (λ (b : BusValue). live_units b.traffic) (sym is) ∙ ap (λ (n : ℕ). n - 1) (sym (live_count 0 a.seats.items) ∙ ap length (sym kept.live))
 
-pub refused_many : (a : Inside) (v : BusValue) (name : ℕ) (seats : List SeatBook) (live : List ℕ) → view_of a ≡ v → IsKept a → seats ≡ a.seats.items → live ≡ a.live.items
+pub refused_many : (a : Inside) (v : BusValue) (name : ℕ) (seats : List SeatBook) (live : List ℕ) → bus_value_of a ≡ v → IsKept a → seats ≡ a.seats.items → live ≡ a.live.items
     → ((i : ℕ) → i < length live → (book_at seats (get_or live i 0)).seat.name ≢ name) → 64 < length live → Some TooManySeats ≡ join_refusal name v.traffic
 refused_many a v name seats live is kept es el w many =
     let free = free_name a v name seats live is kept es el w in
@@ -80,7 +80,7 @@ refused_many a v name seats live is kept es el w many =
     let full : nat_le 64 (live_units v.traffic) ≡ true = le-leb 64 (live_units v.traffic) (omega arith) in
     rw (free, full) refl
 
-pub not_refused : (a : Inside) (v : BusValue) (name : ℕ) (seats : List SeatBook) (live : List ℕ) → view_of a ≡ v → IsKept a → seats ≡ a.seats.items → live ≡ a.live.items
+pub not_refused : (a : Inside) (v : BusValue) (name : ℕ) (seats : List SeatBook) (live : List ℕ) → bus_value_of a ≡ v → IsKept a → seats ≡ a.seats.items → live ≡ a.live.items
     → ((i : ℕ) → i < length live → (book_at seats (get_or live i 0)).seat.name ≢ name) → length live ≤ 64 → None ≡ join_refusal name v.traffic
 not_refused a v name seats live is kept es el w few =
     let free = free_name a v name seats live is kept es el w in

@@ -1,10 +1,10 @@
 -- The best offer among the live seats is the best of all.
 use Rattle.std.proofs.Common.{ℕ, suc, zero, ◌≡◌, ◌<◌, ◌≤◌, List, [], map, length, get_or, Bool, true, false, MatchOption, cond, ◌&&◌, ◌==◌, Option, Some, None, slice_get, refl, sym, ap, ◌∙◌, subst, arith, ◌⊎◌, inl, inr}
 use Rattle.bus_ledger.specs.BusValue.{SeatValue, SeatBook, nobody, book_at, seat_at}
-use Rattle.bus_ledger.specs.Carrying.{offered, offer, Wins, IsNext, IsIdle}
+use Rattle.bus_ledger.specs.Carrying.{offered, offer, Wins, IsCarriedNext, IsIdle}
 use Rattle.bus_ledger.specs.Offers.{IsInOrder, IsBest, IsBestSoFar, offer_at}
 use Rattle.bus_ledger.specs.BusValue.{BusValue}
-use Rattle.bus_ledger.specs.Inside.{view_of, seat_of, traffic_of, live_numbers, IsKept}
+use Rattle.bus_ledger.specs.Inside.{bus_value_of, seat_of, traffic_of, live_numbers, IsKept}
 use Rattle.bus_ledger.specs.declared.bus.Bus.TheInside.{Inside}
 use Rattle.bus_ledger.specs.declared.traffic.QueuedFrame.{QueuedFrame}
 use Rattle.bus_ledger.proofs.Live.{LiveAt, live_complete, live_sound, live_rises}
@@ -31,7 +31,7 @@ offer_is_live_at false c o r e = absurd cc
 offer_is_live : (n : ℕ) (s : SeatValue) (r : QueuedFrame) → offered n s ≡ Some r → s.live ≡ true
 offer_is_live n s r e = offer_is_live_at s.live (s.heard == n) (slice_get s.queue 0) r e
 
-pub best_is_next : (a : Inside) (k : ℕ) (q : QueuedFrame) → IsKept a → IsBest (length a.wire.items) a.seats.items a.live.items (length a.live.items) k q → IsNext (traffic_of a) k q
+pub best_is_next : (a : Inside) (k : ℕ) (q : QueuedFrame) → IsKept a → IsBest (length a.wire.items) a.seats.items a.live.items (length a.live.items) k q → IsCarriedNext (traffic_of a) k q
 best_is_next a k q kept best = record {
   offers = offer_is a k ∙ best.offers;
   wins = λ j r o.
@@ -79,22 +79,22 @@ none_waits a kept none k =
     ap (λ (s : SeatValue). s.queue) (seat_book a.seats.items k) ∙ (ap (λ (n : ℕ). (book_at a.seats.items n).seat.queue) (sym at.is) ∙ none at.index at.within))
 
 -- the next sender, at what callers see
-pub sender_is : (a : Inside) (v : BusValue) (n : ℕ) (seats : List SeatBook) (live : List ℕ) (r : Option (ℕ × QueuedFrame)) → view_of a ≡ v → IsKept a → seats ≡ a.seats.items → live ≡ a.live.items → n ≡ length a.wire.items
-    → IsBestSoFar n seats live (length live) r → MatchOption r ((k : ℕ) → offer v.traffic k ≡ None) (λ b. IsNext v.traffic b.0 b.1)
+pub sender_is : (a : Inside) (v : BusValue) (n : ℕ) (seats : List SeatBook) (live : List ℕ) (r : Option (ℕ × QueuedFrame)) → bus_value_of a ≡ v → IsKept a → seats ≡ a.seats.items → live ≡ a.live.items → n ≡ length a.wire.items
+    → IsBestSoFar n seats live (length live) r → MatchOption r ((k : ℕ) → offer v.traffic k ≡ None) (λ b. IsCarriedNext v.traffic b.0 b.1)
 sender_is a v n seats live None is kept es el en best = λ k.
     ap (λ (b : BusValue). offer b.traffic k) (sym is) ∙ none_offers a kept (subst (λ (m : ℕ). IsBestSoFar m a.seats.items a.live.items (length a.live.items) None) en
     (subst (λ (s : List SeatBook). IsBestSoFar n s a.live.items (length a.live.items) None) es (subst (λ (l : List ℕ). IsBestSoFar n seats l (length l) None) el best))) k
 sender_is a v n seats live (Some b) is kept es el en best =
-    subst (λ (w : BusValue). IsNext w.traffic b.0 b.1) is (best_is_next a b.0 b.1 kept (subst (λ (m : ℕ). IsBestSoFar m a.seats.items a.live.items (length a.live.items) (Some b)) en
+    subst (λ (w : BusValue). IsCarriedNext w.traffic b.0 b.1) is (best_is_next a b.0 b.1 kept (subst (λ (m : ℕ). IsBestSoFar m a.seats.items a.live.items (length a.live.items) (Some b)) en
     (subst (λ (s : List SeatBook). IsBestSoFar n s a.live.items (length a.live.items) (Some b)) es (subst (λ (l : List ℕ). IsBestSoFar n seats l (length l) (Some b)) el best))))
 
 pub in_order_of : (a : Inside) (seats : List SeatBook) (live : List ℕ) → IsKept a → seats ≡ a.seats.items → live ≡ a.live.items → IsInOrder seats live
 in_order_of a seats live kept es el = rw (es, el) (in_order a kept)
 
-pub waiting_is : (a : Inside) (v : BusValue) (seats : List SeatBook) → view_of a ≡ v → seats ≡ a.seats.items → (k : ℕ) × (0 < length (book_at seats k).seat.queue) → (k : ℕ) × (0 < length (seat_at v.traffic k).queue)
+pub waiting_is : (a : Inside) (v : BusValue) (seats : List SeatBook) → bus_value_of a ≡ v → seats ≡ a.seats.items → (k : ℕ) × (0 < length (book_at seats k).seat.queue) → (k : ℕ) × (0 < length (seat_at v.traffic k).queue)
 waiting_is a v seats is es w = subst (λ (b : BusValue). (k : ℕ) × (0 < length (seat_at b.traffic k).queue)) is (some_waits a (subst (λ (s : List SeatBook). (k : ℕ) × (0 < length (book_at s k).seat.queue)) es w))
 
-pub idle_is : (a : Inside) (v : BusValue) (seats : List SeatBook) (live : List ℕ) → view_of a ≡ v → IsKept a → seats ≡ a.seats.items → live ≡ a.live.items
+pub idle_is : (a : Inside) (v : BusValue) (seats : List SeatBook) (live : List ℕ) → bus_value_of a ≡ v → IsKept a → seats ≡ a.seats.items → live ≡ a.live.items
     → ((i : ℕ) → i < length live → (book_at seats (get_or live i 0)).seat.queue ≡ []) → IsIdle v.traffic
 idle_is a v seats live is kept es el none =
     let P : List SeatBook → List ℕ → Type 0 = λ s l. (i : ℕ) → i < length l → (book_at s (get_or l i 0)).seat.queue ≡ [] in

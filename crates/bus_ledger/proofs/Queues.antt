@@ -9,7 +9,7 @@ use Rattle.transport.specs.Runs.{NumberedFrame}
 use Rattle.bus_ledger.specs.BusValue.{SeatValue}
 use Rattle.bus_ledger.specs.Carrying.{offered}
 use Rattle.bus_ledger.specs.Changes.{kept, is_in_session, run_frame}
-use Rattle.bus_ledger.specs.Places.{IsFilled, frames_at, frames_in, is_of_session}
+use Rattle.bus_ledger.specs.Places.{IsFilled, frames_at, frames_in, is_session_place}
 use Rattle.bus_ledger.specs.declared.queued.Queued.{Queued}
 use Rattle.bus_ledger.specs.declared.queued.Queued.TheVariants.{One, Many}
 use Rattle.bus_ledger.specs.declared.traffic.QueuedFrame.{QueuedFrame}
@@ -92,16 +92,16 @@ all_kept : (message : ℕ) (run : List NumberedFrame) → filter (λ q. not (is_
 all_kept message [] = refl
 all_kept message (n ∷ run) = ap (λ (l : List QueuedFrame). run_frame message false n ∷ l) (all_kept message run)
 
-kept_at : (p : Queued) → filter (λ q. not (is_in_session q)) (frames_at p) ≡ cond (not (is_of_session p)) (frames_at p) []
+kept_at : (p : Queued) → filter (λ q. not (is_in_session q)) (frames_at p) ≡ cond (not (is_session_place p)) (frames_at p) []
 kept_at (One q) = refl
 kept_at (Many run message true) = none_kept message run
 kept_at (Many run message false) = all_kept message run
 
-pub frames_kept : (ps : List Queued) → frames_in (filter (λ p. not (is_of_session p)) ps) ≡ kept Session (frames_in ps)
+pub frames_kept : (ps : List Queued) → frames_in (filter (λ p. not (is_session_place p)) ps) ≡ kept Session (frames_in ps)
 frames_kept [] = refl
 frames_kept (x ∷ ps) =
-    by_place (frames_kept ps) (not (is_of_session x)) ∙ (ap (λ (l : List QueuedFrame). l ++ kept Session (frames_in ps)) (sym (kept_at x)) ∙ sym (filter-append (λ (q : QueuedFrame). not (is_in_session q)) (frames_at x) (frames_in ps))) where
-      by_place : frames_in (filter (λ p. not (is_of_session p)) ps) ≡ kept Session (frames_in ps) → (b : Bool) → frames_in (cond b (x ∷ filter (λ p. not (is_of_session p)) ps) (filter (λ p. not (is_of_session p)) ps)) ≡ cond b (frames_at x) [] ++ kept Session (frames_in ps)
+    by_place (frames_kept ps) (not (is_session_place x)) ∙ (ap (λ (l : List QueuedFrame). l ++ kept Session (frames_in ps)) (sym (kept_at x)) ∙ sym (filter-append (λ (q : QueuedFrame). not (is_in_session q)) (frames_at x) (frames_in ps))) where
+      by_place : frames_in (filter (λ p. not (is_session_place p)) ps) ≡ kept Session (frames_in ps) → (b : Bool) → frames_in (cond b (x ∷ filter (λ p. not (is_session_place p)) ps) (filter (λ p. not (is_session_place p)) ps)) ≡ cond b (frames_at x) [] ++ kept Session (frames_in ps)
       by_place h true = ap (λ (l : List QueuedFrame). frames_at x ++ l) h
       by_place h false = h
 

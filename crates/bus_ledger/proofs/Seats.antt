@@ -1,6 +1,6 @@
 -- What a change of one seat does to the value of a bus.
-use Rattle.std.proofs.Common.{ℕ, suc, zero, ◌≡◌, ◌≢◌, ◌+◌, ◌<◌, ◌≤◌, List, [], ◌∷◌, map, length, get_or, set, drop, Bool, cond, true, false, not, Some, Result, Ok, Err, OnOk, IfErr, refl, sym, ap, ◌∙◌, subst, arith, inl, inr, ◌-◌, nat_lt, if◌then◌else◌, length-append}
-use Rattle.std.proofs.lemmas.List.{map-set, length-set, length-drop, length-map, get_or_read, get_or-set_same, get_or-set_other, set-get_or, drop-drop, length_push}
+use Rattle.std.proofs.Common.{ℕ, suc, zero, ◌≡◌, ◌≢◌, ◌+◌, ◌<◌, ◌≤◌, List, [], ◌∷◌, map, length, get_or, set, drop, Bool, true, false, Some, Result, Ok, Err, OnOk, IfErr, refl, sym, ap, ◌∙◌, subst, arith, inl, inr, ◌-◌, nat_lt, if◌then◌else◌, length-append}
+use Rattle.std.proofs.lemmas.List.{map-set, length-set, length-drop, length-map, get_or_read, get_or-set_same, get_or-set_other, set-get_or, drop-drop}
 use Rattle.std.proofs.lemmas.List.Elements.{All-drop}
 use Rattle.std.specs.List.{All}
 use Rattle.std.specs.Vec.{with_item}
@@ -12,10 +12,10 @@ use Rattle.bus_ledger.specs.declared.error.BusError.TheVariants.{OutOfMemory}
 use Rattle.bus_ledger.specs.declared.traffic.Which.{Which}
 use Rattle.bus_ledger.specs.declared.traffic.Which.TheVariants.{Session, All as Everything}
 use Rattle.bus_ledger.specs.Ledger.{IsBalanced, IsSound}
-use Rattle.bus_ledger.specs.Reception.{unread, first_reading, next_reading, passes}
+use Rattle.bus_ledger.specs.Reception.{not_yet_read, first_reading, next_reading, passes}
 use Rattle.can_frame.specs.declared.reading.Reading.{Reading}
 use Rattle.can_frame.specs.declared.reading.Reading.TheVariants.{Frame, Gap, Empty}
-use Rattle.bus_ledger.specs.Inside.{seat_of, spare_of, traffic_of, view_of, live_numbers, IsKept}
+use Rattle.bus_ledger.specs.Inside.{seat_of, spare_of, traffic_of, bus_value_of, live_numbers, IsKept}
 use Rattle.bus_ledger.specs.declared.bus.Bus.TheInside.{Inside}
 use Rattle.bus_ledger.specs.declared.traffic.CarriedFrame.{CarriedFrame}
 use Rattle.bus_ledger.specs.Window.{WindowValue, window_of, rest_of}
@@ -56,48 +56,48 @@ sound_set t k y s in' live balanced = record {
 abbrev pub placed : Inside → ℕ → SeatBook → Inside
 placed a k y = record { wire = a.wire; seats = with_item a.seats k y; live = a.live; tap = a.tap }
 
-pub within : (a : Inside) (v : BusValue) (k : ℕ) → view_of a ≡ v → k < length v.traffic.seats → k < length a.seats.items
+pub within : (a : Inside) (v : BusValue) (k : ℕ) → bus_value_of a ≡ v → k < length v.traffic.seats → k < length a.seats.items
 within a v k is h =
     let e : length v.traffic.seats ≡ length a.seats.items = ap (λ (b : BusValue). length b.traffic.seats) (sym is) ∙ length-map a.seats.items seat_of in
     omega arith
 
 -- what was read of the list is what the value has there
-pub seat_is : (a : Inside) (v : BusValue) (k : ℕ) (x : SeatBook) → view_of a ≡ v → k < length a.seats.items → x ≡ get_or a.seats.items k x → x.seat ≡ seat_at v.traffic k
+pub seat_is : (a : Inside) (v : BusValue) (k : ℕ) (x : SeatBook) → bus_value_of a ≡ v → k < length a.seats.items → x ≡ get_or a.seats.items k x → x.seat ≡ seat_at v.traffic k
 seat_is a v k x is in' read =
     ap (λ (b : SeatBook). b.seat) (get_or_read a.seats.items k x in' read no_book)
     ∙ (sym (seat_book a.seats.items k) ∙ ap (λ (b : BusValue). seat_at b.traffic k) is)
 
-pub spare_is : (a : Inside) (v : BusValue) (k : ℕ) (x : SeatBook) → view_of a ≡ v → k < length a.seats.items → x ≡ get_or a.seats.items k x → x.spare ≡ spare_at v k
+pub spare_is : (a : Inside) (v : BusValue) (k : ℕ) (x : SeatBook) → bus_value_of a ≡ v → k < length a.seats.items → x ≡ get_or a.seats.items k x → x.spare ≡ spare_at v k
 spare_is a v k x is in' read =
     ap (λ (b : SeatBook). b.spare) (get_or_read a.seats.items k x in' read no_book)
     ∙ (sym (spare_book a.seats.items k) ∙ ap (λ (b : BusValue). spare_at b k) is)
 
-pub placed_traffic : (a : Inside) (v : BusValue) (k : ℕ) (y : SeatBook) (s : SeatValue) → view_of a ≡ v → y.seat ≡ s → traffic_of (placed a k y) ≡ with_seat v.traffic k s
+pub placed_traffic : (a : Inside) (v : BusValue) (k : ℕ) (y : SeatBook) (s : SeatValue) → bus_value_of a ≡ v → y.seat ≡ s → traffic_of (placed a k y) ≡ with_seat v.traffic k s
 placed_traffic a v k y s is e =
     ap (λ (l : List SeatValue). let t : Traffic = record { wire = a.wire.items; seats = l; window = a.tap.size } in t) (map-set seat_of a.seats.items k y)
     ∙ (ap (λ (z : SeatValue). with_seat (traffic_of a) k z) e ∙ ap (λ (b : BusValue). with_seat b.traffic k s) is)
 
 -- a seat replaced by itself
-pub placed_same : (a : Inside) (v : BusValue) (k : ℕ) (x y : SeatBook) → view_of a ≡ v → k < length a.seats.items → x ≡ get_or a.seats.items k x → y.seat ≡ x.seat → traffic_of (placed a k y) ≡ v.traffic
+pub placed_same : (a : Inside) (v : BusValue) (k : ℕ) (x y : SeatBook) → bus_value_of a ≡ v → k < length a.seats.items → x ≡ get_or a.seats.items k x → y.seat ≡ x.seat → traffic_of (placed a k y) ≡ v.traffic
 placed_same a v k x y is in' read e =
     placed_traffic a v k y (seat_at v.traffic k) is (e ∙ seat_is a v k x is in' read)
     ∙ ap (λ (l : List SeatValue). record v.traffic { seats = l }) (set-get_or v.traffic.seats k nobody)
 
-pub own_spare : (a : Inside) (k : ℕ) (y : SeatBook) → k < length a.seats.items → spare_at (view_of (placed a k y)) k ≡ y.spare
+pub own_spare : (a : Inside) (k : ℕ) (y : SeatBook) → k < length a.seats.items → spare_at (bus_value_of (placed a k y)) k ≡ y.spare
 own_spare a k y in' = spare_book (set a.seats.items k y) k ∙ ap (λ (b : SeatBook). b.spare) (get_or-set_same a.seats.items k y no_book in')
 
-pub other_spares : (a : Inside) (v : BusValue) (k : ℕ) (y : SeatBook) → view_of a ≡ v → (j : ℕ) → j ≢ k → spare_at v j ≤ spare_at (view_of (placed a k y)) j
+pub other_spares : (a : Inside) (v : BusValue) (k : ℕ) (y : SeatBook) → bus_value_of a ≡ v → (j : ℕ) → j ≢ k → spare_at v j ≤ spare_at (bus_value_of (placed a k y)) j
 other_spares a v k y is j n =
-    let e : spare_at (view_of (placed a k y)) j ≡ spare_at v j =
+    let e : spare_at (bus_value_of (placed a k y)) j ≡ spare_at v j =
     spare_book (set a.seats.items k y) j ∙ (ap (λ (b : SeatBook). b.spare) (get_or-set_other a.seats.items k j y no_book n)
     ∙ (sym (spare_book a.seats.items j) ∙ ap (λ (b : BusValue). spare_at b j) is)) in
     omega arith
 
-pub placed_spares : (a : Inside) (v : BusValue) (k : ℕ) (x y : SeatBook) → view_of a ≡ v → k < length a.seats.items → x ≡ get_or a.seats.items k x → x.spare ≤ y.spare → KeepsSpares v (view_of (placed a k y))
+pub placed_spares : (a : Inside) (v : BusValue) (k : ℕ) (x y : SeatBook) → bus_value_of a ≡ v → k < length a.seats.items → x ≡ get_or a.seats.items k x → x.spare ≤ y.spare → KeepsSpares v (bus_value_of (placed a k y))
 placed_spares a v k x y is in' read grows j =
     elim (same_or_not j k) [
       | inl e ↦
-          let here : spare_at (view_of (placed a k y)) j ≡ y.spare = ap (λ (n : ℕ). spare_at (view_of (placed a k y)) n) e ∙ own_spare a k y in' in
+          let here : spare_at (bus_value_of (placed a k y)) j ≡ y.spare = ap (λ (n : ℕ). spare_at (bus_value_of (placed a k y)) n) e ∙ own_spare a k y in' in
           let there : x.spare ≡ spare_at v j = spare_is a v k x is in' read ∙ ap (λ (n : ℕ). spare_at v n) (sym e) in
           omega arith
       | inr n ↦ other_spares a v k y is j n
@@ -106,7 +106,7 @@ placed_spares a v k x y is in' read grows j =
 placed_sound : (a : Inside) (k : ℕ) (x y : SeatBook) → IsKept a → k < length a.seats.items → x ≡ get_or a.seats.items k x
     → y.seat.live ≡ x.seat.live → (IsBalanced a.wire.items k x.seat → IsBalanced a.wire.items k y.seat) → IsSound (traffic_of (placed a k y))
 placed_sound a k x y kept in' read live balanced =
-    let s = seat_is a (view_of a) k x refl in' read in
+    let s = seat_is a (bus_value_of a) k x refl in' read in
     let in'' : k < length (map seat_of a.seats.items) = rw length-map in' in
     subst (λ (l : List SeatValue). IsSound (record { wire = a.wire.items; seats = l; window = a.tap.size })) (sym (map-set seat_of a.seats.items k y))
     (sound_set (traffic_of a) k y.seat kept.sound in''
@@ -122,13 +122,13 @@ placed_live a k x y kept in' read live =
 pub placed_kept : (a : Inside) (k : ℕ) (x y : SeatBook) → IsKept a → k < length a.seats.items → x ≡ get_or a.seats.items k x
     → y.seat.live ≡ x.seat.live → (k ≡ 0 → y.seat.heard ≡ x.seat.heard) → (IsBalanced a.wire.items k x.seat → IsBalanced a.wire.items k y.seat) → IsKept (placed a k y)
 placed_kept a k x y kept in' read live heard balanced =
-    let s = seat_is a (view_of a) k x refl in' read in
+    let s = seat_is a (bus_value_of a) k x refl in' read in
     let in'' : k < length (map seat_of a.seats.items) = rw length-map in' in
     let same : k ≡ 0 → y.seat.heard ≡ (seat_at (traffic_of a) 0).heard =
     λ z. heard z ∙ (ap (λ (b : SeatValue). b.heard) s ∙ ap (λ (n : ℕ). (seat_at (traffic_of a) n).heard) z) in
     record {
       sound = placed_sound a k x y kept in' read live balanced;
-      tap = kept.tap ∙ sym (ap window_of (placed_traffic a (view_of a) k y y.seat refl refl) ∙ window_set (traffic_of a) k y.seat in'' same);
+      tap = kept.tap ∙ sym (ap window_of (placed_traffic a (bus_value_of a) k y y.seat refl refl) ∙ window_set (traffic_of a) k y.seat in'' same);
       live = placed_live a k x y kept in' read live;
       few_seats = rw (length-set a.seats.items k y) kept.few_seats;
       few_frames = kept.few_frames;
@@ -145,19 +145,19 @@ balanced_hearing wire k n s h b = record {
 }
 
 -- the same at what callers see, for each change of a seat
-pub changed_traffic : (f : SeatValue → SeatValue) (a : Inside) (v : BusValue) (k : ℕ) (x y : SeatBook) → view_of a ≡ v → k < length v.traffic.seats → x ≡ get_or a.seats.items k x
+pub changed_traffic : (f : SeatValue → SeatValue) (a : Inside) (v : BusValue) (k : ℕ) (x y : SeatBook) → bus_value_of a ≡ v → k < length v.traffic.seats → x ≡ get_or a.seats.items k x
     → y.seat ≡ f x.seat → traffic_of (placed a k y) ≡ with_seat v.traffic k (f (seat_at v.traffic k))
 changed_traffic f a v k x y is h read e =
     placed_traffic a v k y (f (seat_at v.traffic k)) is (e ∙ ap f (seat_is a v k x is (within a v k is h) read))
 
-pub changed_spares : (a : Inside) (v : BusValue) (k : ℕ) (x y : SeatBook) → view_of a ≡ v → k < length v.traffic.seats → x ≡ get_or a.seats.items k x → x.spare ≤ y.spare → KeepsSpares v (view_of (placed a k y))
+pub changed_spares : (a : Inside) (v : BusValue) (k : ℕ) (x y : SeatBook) → bus_value_of a ≡ v → k < length v.traffic.seats → x ≡ get_or a.seats.items k x → x.spare ≤ y.spare → KeepsSpares v (bus_value_of (placed a k y))
 changed_spares a v k x y is h read grows = placed_spares a v k x y is (within a v k is h) read grows
 
-pub changed_kept : (a : Inside) (v : BusValue) (k : ℕ) (x y : SeatBook) → view_of a ≡ v → IsKept a → k < length v.traffic.seats → x ≡ get_or a.seats.items k x
+pub changed_kept : (a : Inside) (v : BusValue) (k : ℕ) (x y : SeatBook) → bus_value_of a ≡ v → IsKept a → k < length v.traffic.seats → x ≡ get_or a.seats.items k x
     → y.seat.live ≡ x.seat.live → (k ≡ 0 → y.seat.heard ≡ x.seat.heard) → (IsBalanced a.wire.items k x.seat → IsBalanced a.wire.items k y.seat) → IsKept (placed a k y)
 changed_kept a v k x y is kept h read live heard balanced = placed_kept a k x y kept (within a v k is h) read live heard balanced
 
-pub hear_kept : (a : Inside) (v : BusValue) (k n : ℕ) (x y : SeatBook) → view_of a ≡ v → IsKept a → k < length v.traffic.seats → x ≡ get_or a.seats.items k x
+pub hear_kept : (a : Inside) (v : BusValue) (k n : ℕ) (x y : SeatBook) → bus_value_of a ≡ v → IsKept a → k < length v.traffic.seats → x ≡ get_or a.seats.items k x
     → y.seat ≡ hearing n x.seat → 0 < k → (seat_at v.traffic k).heard + n ≤ length v.traffic.wire → IsKept (placed a k y)
 hear_kept a v k n x y is kept h read e unit bound =
     let s = seat_is a v k x is (within a v k is h) read in
@@ -200,58 +200,46 @@ balanced_leaving wire k s b = record {
   own = b.own;
 }
 
-pub same_kept : (a : Inside) (v : BusValue) (k : ℕ) (x y : SeatBook) → view_of a ≡ v → IsKept a → k < length v.traffic.seats → x ≡ get_or a.seats.items k x → y.seat ≡ x.seat → IsKept (placed a k y)
+pub same_kept : (a : Inside) (v : BusValue) (k : ℕ) (x y : SeatBook) → bus_value_of a ≡ v → IsKept a → k < length v.traffic.seats → x ≡ get_or a.seats.items k x → y.seat ≡ x.seat → IsKept (placed a k y)
 same_kept a v k x y is kept h read e =
     changed_kept a v k x y is kept h read (ap (λ (z : SeatValue). z.live) e) (λ z. ap (λ (w : SeatValue). w.heard) e) (λ b. subst (λ (z : SeatValue). IsBalanced a.wire.items k z) (sym e) b)
 
-pub same_traffic : (a : Inside) (v : BusValue) (k : ℕ) (x y : SeatBook) → view_of a ≡ v → k < length v.traffic.seats → x ≡ get_or a.seats.items k x → y.seat ≡ x.seat → traffic_of (placed a k y) ≡ v.traffic
+pub same_traffic : (a : Inside) (v : BusValue) (k : ℕ) (x y : SeatBook) → bus_value_of a ≡ v → k < length v.traffic.seats → x ≡ get_or a.seats.items k x → y.seat ≡ x.seat → traffic_of (placed a k y) ≡ v.traffic
 same_traffic a v k x y is h read e = placed_same a v k x y is (within a v k is h) read e
 
-pub withdraw_kept : (a : Inside) (v : BusValue) (k : ℕ) (which : Which) (x y : SeatBook) → view_of a ≡ v → IsKept a → k < length v.traffic.seats → x ≡ get_or a.seats.items k x
+pub withdraw_kept : (a : Inside) (v : BusValue) (k : ℕ) (which : Which) (x y : SeatBook) → bus_value_of a ≡ v → IsKept a → k < length v.traffic.seats → x ≡ get_or a.seats.items k x
     → y.seat ≡ withdrawing which x.seat → IsKept (placed a k y)
 withdraw_kept a v k which x y is kept h read e =
     changed_kept a v k x y is kept h read (ap (λ (z : SeatValue). z.live) e) (λ z. ap (λ (w : SeatValue). w.heard) e)
     (λ b. subst (λ (z : SeatValue). IsBalanced a.wire.items k z) (sym e) (balanced_withdrawing a.wire.items k which x.seat b))
 
-pub queue_kept : (a : Inside) (v : BusValue) (k : ℕ) (qs : List QueuedFrame) (x y : SeatBook) (r : Result (Unit {0}) BusError) → view_of a ≡ v → IsKept a → k < length v.traffic.seats → (seat_at v.traffic k).live ≡ true → x ≡ get_or a.seats.items k x
-    → OnOk r (y.seat ≡ queueing_all qs x.seat) → IfErr r (λ e. (e ≡ OutOfMemory) × (x.spare ≡ 0) × (y.seat ≡ x.seat)) → IsKept (placed a k y)
-queue_kept a v k qs x y (Ok u) is kept h live read ok err =
+pub queue_kept : (a : Inside) (v : BusValue) (k : ℕ) (qs : List QueuedFrame) (x y : SeatBook) → bus_value_of a ≡ v → IsKept a → k < length v.traffic.seats → (seat_at v.traffic k).live ≡ true → x ≡ get_or a.seats.items k x
+    → y.seat ≡ queueing_all qs x.seat → IsKept (placed a k y)
+queue_kept a v k qs x y is kept h live read e =
     let s = seat_is a v k x is (within a v k is h) read in
-    changed_kept a v k x y is kept h read (ap (λ (z : SeatValue). z.live) ok) (λ z. ap (λ (w : SeatValue). w.heard) ok)
-    (λ b. subst (λ (z : SeatValue). IsBalanced a.wire.items k z) (sym ok) (balanced_queueing a.wire.items k qs x.seat (ap (λ (z : SeatValue). z.live) s ∙ live) b))
-queue_kept a v k qs x y (Err e) is kept h live read ok err = same_kept a v k x y is kept h read err.2
+    changed_kept a v k x y is kept h read (ap (λ (z : SeatValue). z.live) e) (λ z. ap (λ (w : SeatValue). w.heard) e)
+    (λ b. subst (λ (z : SeatValue). IsBalanced a.wire.items k z) (sym e) (balanced_queueing a.wire.items k qs x.seat (ap (λ (z : SeatValue). z.live) s ∙ live) b))
 
-pub queue_ok : (a : Inside) (v : BusValue) (k : ℕ) (qs : List QueuedFrame) (x y : SeatBook) (r : Result (Unit {0}) BusError) → view_of a ≡ v → k < length v.traffic.seats → x ≡ get_or a.seats.items k x
-    → OnOk r (y.seat ≡ queueing_all qs x.seat) → OnOk r (traffic_of (placed a k y) ≡ with_seat v.traffic k (queueing_all qs (seat_at v.traffic k)))
-queue_ok a v k qs x y (Ok u) is h read ok = changed_traffic (queueing_all qs) a v k x y is h read ok
-queue_ok a v k qs x y (Err e) is h read ok = tt
-
-pub queue_err : (a : Inside) (v : BusValue) (k : ℕ) (x y : SeatBook) (r : Result (Unit {0}) BusError) → view_of a ≡ v → k < length v.traffic.seats → x ≡ get_or a.seats.items k x
-    → IfErr r (λ e. (e ≡ OutOfMemory) × (x.spare ≡ 0) × (y.seat ≡ x.seat)) → IfErr r (λ e. (e ≡ OutOfMemory) × (spare_at v k ≡ 0) × (traffic_of (placed a k y) ≡ v.traffic))
-queue_err a v k x y (Ok u) is h read err = tt
-queue_err a v k x y (Err e) is h read err =
-    (err.0, sym (spare_is a v k x is (within a v k is h) read) ∙ err.1, same_traffic a v k x y is h read err.2)
-
-pub queue_spare : (a : Inside) (v : BusValue) (k : ℕ) (x y : SeatBook) → view_of a ≡ v → k < length v.traffic.seats → x ≡ get_or a.seats.items k x
-    → x.spare ≤ y.spare + 1 → spare_at v k ≤ spare_at (view_of (placed a k y)) k + 1
+pub queue_spare : (a : Inside) (v : BusValue) (k : ℕ) (x y : SeatBook) → bus_value_of a ≡ v → k < length v.traffic.seats → x ≡ get_or a.seats.items k x
+    → x.spare ≤ y.spare + 1 → spare_at v k ≤ spare_at (bus_value_of (placed a k y)) k + 1
 queue_spare a v k x y is h read le =
     let in' = within a v k is h in
     let old = spare_is a v k x is in' read in
     let new = own_spare a k y in' in
     omega arith
 
-pub reserve_ok : (a : Inside) (v : BusValue) (k n : ℕ) (y : SeatBook) (r : Result (Unit {0}) BusError) → view_of a ≡ v → k < length v.traffic.seats
-    → OnOk r (n ≤ y.spare) → OnOk r (n ≤ spare_at (view_of (placed a k y)) k)
+pub reserve_ok : (a : Inside) (v : BusValue) (k n : ℕ) (y : SeatBook) (r : Result (Unit {0}) BusError) → bus_value_of a ≡ v → k < length v.traffic.seats
+    → OnOk r (n ≤ y.spare) → OnOk r (n ≤ spare_at (bus_value_of (placed a k y)) k)
 reserve_ok a v k n y (Ok u) is h ok = let new = own_spare a k y (within a v k is h) in omega arith
 reserve_ok a v k n y (Err e) is h ok = tt
 
-pub reserve_err : (a : Inside) (v : BusValue) (k n : ℕ) (x : SeatBook) (r : Result (Unit {0}) BusError) → view_of a ≡ v → k < length v.traffic.seats → x ≡ get_or a.seats.items k x
+pub reserve_err : (a : Inside) (v : BusValue) (k n : ℕ) (x : SeatBook) (r : Result (Unit {0}) BusError) → bus_value_of a ≡ v → k < length v.traffic.seats → x ≡ get_or a.seats.items k x
     → IfErr r (λ e. (e ≡ OutOfMemory) × (x.spare < n)) → IfErr r (λ e. (e ≡ OutOfMemory) × (spare_at v k < n))
 reserve_err a v k n x (Ok u) is h read err = tt
 reserve_err a v k n x (Err e) is h read err = (err.0, let old = spare_is a v k x is (within a v k is h) read in let l = err.1 in omega arith)
 
 -- the counts of a withdrawal
-pub withdraw_count : (a : Inside) (v : BusValue) (k n : ℕ) (which : Which) (x y : SeatBook) → view_of a ≡ v → k < length v.traffic.seats → x ≡ get_or a.seats.items k x
+pub withdraw_count : (a : Inside) (v : BusValue) (k n : ℕ) (which : Which) (x y : SeatBook) → bus_value_of a ≡ v → k < length v.traffic.seats → x ≡ get_or a.seats.items k x
     → n + length y.seat.queue ≡ length x.seat.queue → n + length (seat_at (traffic_of (placed a k y)) k).queue ≡ length (seat_at v.traffic k).queue
 withdraw_count a v k n which x y is h read e =
     let in' = within a v k is h in
@@ -261,9 +249,9 @@ withdraw_count a v k n which x y is h read e =
     omega arith
 
 -- a reading passes over no more frames than are unread
-gap_or : (n m unread : ℕ) (r : Reading) (b : Bool) → n ≤ unread → passes r ≤ unread → passes (if b then Gap n else r) ≤ unread
-gap_or n m unread r true g h = g
-gap_or n m unread r false g h = h
+gap_or : (n m not_yet_read : ℕ) (r : Reading) (b : Bool) → n ≤ not_yet_read → passes r ≤ not_yet_read → passes (if b then Gap n else r) ≤ not_yet_read
+gap_or n m not_yet_read r true g h = g
+gap_or n m not_yet_read r false g h = h
 
 given : (xs : List SeatValue) (k : ℕ) → (get_or xs k nobody).live ≡ true → k < length xs
 given [] k e = absurd cc
@@ -273,23 +261,23 @@ given (x ∷ xs) (suc k) e = let r = given xs k e in omega arith
 pub station_given : (t : Traffic) → IsSound t → 0 < length t.seats
 station_given t s = given t.seats 0 s.station
 
-reading_within : (unread window : ℕ) (l : List CarriedFrame) → length l ≡ unread → passes (if nat_lt 0 (unread - window) then Gap (unread - window) else first_reading l) ≤ unread
-reading_within unread window [] e = gap_or (unread - window) 0 unread Empty (nat_lt 0 (unread - window)) (omega arith) (omega arith)
-reading_within unread window (c ∷ cs) e = gap_or (unread - window) 1 unread (Frame c.frame) (nat_lt 0 (unread - window)) (omega arith) (omega arith)
+reading_within : (not_yet_read window : ℕ) (l : List CarriedFrame) → length l ≡ not_yet_read → passes (if nat_lt 0 (not_yet_read - window) then Gap (not_yet_read - window) else first_reading l) ≤ not_yet_read
+reading_within not_yet_read window [] e = gap_or (not_yet_read - window) 0 not_yet_read Empty (nat_lt 0 (not_yet_read - window)) (omega arith) (omega arith)
+reading_within not_yet_read window (c ∷ cs) e = gap_or (not_yet_read - window) 1 not_yet_read (Frame c.frame) (nat_lt 0 (not_yet_read - window)) (omega arith) (omega arith)
 
 pub passes_within : (t : Traffic) → IsSound t → (seat_at t 0).heard + passes (next_reading t) ≤ length t.wire
 passes_within t s =
     let zero_in = station_given t s in
     let h = (s.seats 0 zero_in).heard in
-    let n : length (unread t) ≡ length t.wire - (seat_at t 0).heard = length-drop (seat_at t 0).heard t.wire in
-    let r = reading_within (length (unread t)) t.window (unread t) refl in
+    let n : length (not_yet_read t) ≡ length t.wire - (seat_at t 0).heard = length-drop (seat_at t 0).heard t.wire in
+    let r = reading_within (length (not_yet_read t)) t.window (not_yet_read t) refl in
     omega arith
 
 -- a bus of which the station has taken a reading
 abbrev pub tapped : Inside → SeatBook → WindowValue → Inside
 tapped a y w = record { wire = a.wire; seats = with_item a.seats 0 y; live = a.live; tap = w }
 
-pub tapped_traffic : (a : Inside) (v : BusValue) (n : ℕ) (x y : SeatBook) (w : WindowValue) → view_of a ≡ v → IsKept a → x ≡ get_or a.seats.items 0 x → w ≡ rest_of a.tap
+pub tapped_traffic : (a : Inside) (v : BusValue) (n : ℕ) (x y : SeatBook) (w : WindowValue) → bus_value_of a ≡ v → IsKept a → x ≡ get_or a.seats.items 0 x → w ≡ rest_of a.tap
     → y.seat ≡ hearing n x.seat → traffic_of (tapped a y w) ≡ heard_more 0 n v.traffic
 tapped_traffic a v n x y w is kept read rest e =
     let sound : IsSound v.traffic = subst (λ (b : BusValue). IsSound b.traffic) is kept.sound in
@@ -297,7 +285,7 @@ tapped_traffic a v n x y w is kept read rest e =
     ap (λ (m : ℕ). let t : Traffic = record { wire = a.wire.items; seats = map seat_of (set a.seats.items 0 y); window = m } in t) size
     ∙ changed_traffic (hearing n) a v 0 x y is (station_given v.traffic sound) read e
 
-pub read_kept : (a : Inside) (v : BusValue) (n : ℕ) (x y : SeatBook) (w : WindowValue) → view_of a ≡ v → IsKept a → x ≡ get_or a.seats.items 0 x → n ≡ passes (next_reading v.traffic) → w ≡ rest_of a.tap
+pub read_kept : (a : Inside) (v : BusValue) (n : ℕ) (x y : SeatBook) (w : WindowValue) → bus_value_of a ≡ v → IsKept a → x ≡ get_or a.seats.items 0 x → n ≡ passes (next_reading v.traffic) → w ≡ rest_of a.tap
     → y.seat ≡ hearing n x.seat → IsKept (tapped a y w)
 read_kept a v n x y w is kept read passed rest e =
     let sound : IsSound v.traffic = subst (λ (b : BusValue). IsSound b.traffic) is kept.sound in

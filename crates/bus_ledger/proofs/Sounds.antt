@@ -7,7 +7,7 @@ use Rattle.std.proofs.lemmas.List.Elements.{All-push, All-nil, All-head, All-tai
 use Rattle.std.proofs.lemmas.List.Sums.{sum_by_push, sum_by-cons}
 use Rattle.bus_ledger.specs.BusValue.{SeatValue, Traffic, nobody, seat_at}
 use Rattle.can_frame.specs.FrameValue.{FrameValue}
-use Rattle.bus_ledger.specs.Changes.{newcomer, joined, sending, carried_frame, carried_from, stray_frame, injected}
+use Rattle.bus_ledger.specs.Changes.{newcomer, with_newcomer, sending, carried_frame, carried_from, stray_frame, injected}
 use Rattle.bus_ledger.specs.Carrying.{offered, offer}
 use Rattle.bus_ledger.specs.Ledger.{IsBalanced, IsGiven, IsSound, is_from, is_seat}
 use Rattle.bus_ledger.specs.declared.traffic.QueuedFrame.{QueuedFrame}
@@ -117,10 +117,10 @@ live_within [] k e = absurd cc
 live_within (x ∷ xs) zero e = omega arith
 live_within (x ∷ xs) (suc k) e = let r = live_within xs k e in omega arith
 
-first_stays : (t : Traffic) (name : ℕ) → IsSound t → (seat_at (joined name t) 0).live ≡ true
+first_stays : (t : Traffic) (name : ℕ) → IsSound t → (seat_at (with_newcomer name t) 0).live ≡ true
 first_stays t name s = let h : 0 < length t.seats = live_within t.seats 0 s.station in rw get_or_append_left s.station
 
-pub sound_joined : (t : Traffic) (name : ℕ) → IsSound t → IsSound (joined name t)
+pub sound_joined : (t : Traffic) (name : ℕ) → IsSound t → IsSound (with_newcomer name t)
 sound_joined t name s =
     let y = newcomer name (length t.wire) in
     let longer = length_push t.seats y in

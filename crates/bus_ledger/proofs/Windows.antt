@@ -8,7 +8,7 @@ use Rattle.can_frame.specs.declared.reading.Reading.{Reading}
 use Rattle.can_frame.specs.declared.reading.Reading.TheVariants.{Gap}
 use Rattle.bus_ledger.specs.BusValue.{SeatValue, Traffic, nobody, seat_at}
 use Rattle.bus_ledger.specs.Changes.{with_seat, hearing, heard_more, sending, carried_frame, carried_from, injected, stray_frame}
-use Rattle.bus_ledger.specs.Reception.{unread, first_reading, next_reading, after_reading, passes}
+use Rattle.bus_ledger.specs.Reception.{not_yet_read, first_reading, next_reading, reading_taken, passes}
 use Rattle.bus_ledger.specs.Window.{WindowValue, window, pushed, taken_in, first_of, reading_of, rest_of, seen_through, frame_of, window_of}
 use Rattle.bus_ledger.specs.declared.traffic.QueuedFrame.{QueuedFrame}
 use Rattle.bus_ledger.specs.declared.traffic.CarriedFrame.{CarriedFrame}
@@ -95,16 +95,16 @@ window_set t k y in' same = window_same t (with_seat t k y) refl refl (heard_set
 
 -- the reading is that of the window
 pub window_reading : (t : Traffic) → reading_of (window_of t) ≡ next_reading t
-window_reading t = seen_reading t.window (unread t)
+window_reading t = seen_reading t.window (not_yet_read t)
 
 -- after the reading
-pub window_rest : (t : Traffic) → 0 < length t.seats → rest_of (window_of t) ≡ window_of (after_reading (next_reading t) t)
+pub window_rest : (t : Traffic) → 0 < length t.seats → rest_of (window_of t) ≡ window_of (reading_taken (next_reading t) t)
 window_rest t in' =
     let n = passes (next_reading t) in
     let heard : (seat_at (heard_more 0 n t) 0).heard ≡ (seat_at t 0).heard + n = ap (λ (s : SeatValue). s.heard) (get_or-set_same t.seats 0 (hearing n (seat_at t 0)) nobody in') in
-    let left : drop n (unread t) ≡ unread (heard_more 0 n t) = drop-drop n (seat_at t 0).heard t.wire ∙ ap (λ (m : ℕ). drop m t.wire) (sym heard) in
-    seen_rest t.window (map frame_of (unread t))
-    ∙ ap (seen_through t.window) (ap (λ (r : Reading). drop (passes r) (map frame_of (unread t))) (window_reading t) ∙ (drop-map frame_of n (unread t) ∙ ap (map frame_of) left))
+    let left : drop n (not_yet_read t) ≡ not_yet_read (heard_more 0 n t) = drop-drop n (seat_at t 0).heard t.wire ∙ ap (λ (m : ℕ). drop m t.wire) (sym heard) in
+    seen_rest t.window (map frame_of (not_yet_read t))
+    ∙ ap (seen_through t.window) (ap (λ (r : Reading). drop (passes r) (map frame_of (not_yet_read t))) (window_reading t) ∙ (drop-map frame_of n (not_yet_read t) ∙ ap (map frame_of) left))
 
 -- a reading leaves the window's size
 pub rest_size : (w : WindowValue) → (rest_of w).size ≡ w.size
@@ -120,8 +120,8 @@ own_carried t q in' heard =
     let t' = carried_from 0 q t in
     let longer = length_push t.wire (carried_frame 0 q) in
     let one : (seat_at t' 0).heard ≡ (seat_at t 0).heard + 1 = ap (λ (s : SeatValue). s.heard) (get_or-set_same t.seats 0 (sending (seat_at t 0)) nobody in') in
-    let before : unread t ≡ [] = drop_all (seat_at t 0).heard t.wire (omega arith) in
-    let after : unread t' ≡ [] = drop_all (seat_at t' 0).heard t'.wire (omega arith) in
+    let before : not_yet_read t ≡ [] = drop_all (seat_at t 0).heard t.wire (omega arith) in
+    let after : not_yet_read t' ≡ [] = drop_all (seat_at t' 0).heard t'.wire (omega arith) in
     ap (λ (us : List CarriedFrame). seen_through t.window (map frame_of us)) (before ∙ sym after)
 
 -- a frame of another seat comes in
@@ -129,9 +129,9 @@ other_carried : (t : Traffic) (k : ℕ) (q : QueuedFrame) → k ≢ 0 → (seat_
 other_carried t k q n within =
     let t' = carried_from k q t in
     let same : (seat_at t' 0).heard ≡ (seat_at t 0).heard = ap (λ (s : SeatValue). s.heard) (get_or-set_other t.seats k 0 (sending (seat_at t k)) nobody (λ e. n (sym e))) in
-    let more : unread t' ≡ unread t ++ carried_frame k q ∷ [] = ap (λ (m : ℕ). drop m t'.wire) same ∙ drop-append-le (seat_at t 0).heard t.wire (carried_frame k q ∷ []) within in
-    seen_push t.window (map frame_of (unread t)) q.frame
-    ∙ ap (seen_through t.window) (sym (ap (map frame_of) more ∙ map_push frame_of (unread t) (carried_frame k q)))
+    let more : not_yet_read t' ≡ not_yet_read t ++ carried_frame k q ∷ [] = ap (λ (m : ℕ). drop m t'.wire) same ∙ drop-append-le (seat_at t 0).heard t.wire (carried_frame k q ∷ []) within in
+    seen_push t.window (map frame_of (not_yet_read t)) q.frame
+    ∙ ap (seen_through t.window) (sym (ap (map frame_of) more ∙ map_push frame_of (not_yet_read t) (carried_frame k q)))
 
 -- after a carry from that seat
 pub window_carried : (t : Traffic) (k : ℕ) (q : QueuedFrame) → k < length t.seats → (seat_at t k).heard ≡ length t.wire → (seat_at t 0).heard ≤ length t.wire → taken_in k q.frame (window_of t) ≡ window_of (carried_from k q t)
@@ -150,6 +150,6 @@ window_carried t k q in' heard within =
 -- after a frame from outside
 pub window_injected : (t : Traffic) (f : FrameValue) → (seat_at t 0).heard ≤ length t.wire → pushed f (window_of t) ≡ window_of (injected f t)
 window_injected t f within =
-    let more : unread (injected f t) ≡ unread t ++ stray_frame f ∷ [] = drop-append-le (seat_at t 0).heard t.wire (stray_frame f ∷ []) within in
-    seen_push t.window (map frame_of (unread t)) f
-    ∙ ap (seen_through t.window) (sym (ap (map frame_of) more ∙ map_push frame_of (unread t) (stray_frame f)))
+    let more : not_yet_read (injected f t) ≡ not_yet_read t ++ stray_frame f ∷ [] = drop-append-le (seat_at t 0).heard t.wire (stray_frame f ∷ []) within in
+    seen_push t.window (map frame_of (not_yet_read t)) f
+    ∙ ap (seen_through t.window) (sym (ap (map frame_of) more ∙ map_push frame_of (not_yet_read t) (stray_frame f)))

@@ -18,13 +18,13 @@ abbrev pub Wins : ℕ → QueuedFrame → ℕ → QueuedFrame → Type 0
 Wins k q j r = (q.frame.id < r.frame.id) ⊎ ((q.frame.id ≡ r.frame.id) × (k ≤ j))
 
 -- the frame that is carried next, and its seat
-pub record IsNext (t : Traffic) (k : ℕ) (q : QueuedFrame) : Type 0 where
+pub record IsCarriedNext (t : Traffic) (k : ℕ) (q : QueuedFrame) : Type 0 where
   pub offers : offer t k ≡ Some q
   pub wins : (j : ℕ) (r : QueuedFrame) → offer t j ≡ Some r → Wins k q j r
 
 -- some seat has a frame to carry, and has heard the whole wire
 abbrev pub CanCarry : Traffic → Type 0
-CanCarry t = (k : ℕ) × (q : QueuedFrame) × IsNext t k q
+CanCarry t = (k : ℕ) × (q : QueuedFrame) × IsCarriedNext t k q
 
 -- no seat wants a frame carried
 abbrev pub IsIdle : Traffic → Type 0
@@ -36,12 +36,12 @@ IsWaiting t = ((k : ℕ) × (0 < length (seat_at t k).queue)) × ((k : ℕ) → 
 
 -- what is carried
 abbrev pub IsChoice : Traffic → Carried → Type 0
-IsChoice t (Frame seat frame) = (q : QueuedFrame) × IsNext t seat q × (q.frame ≡ frame)
+IsChoice t (Frame seat frame) = (q : QueuedFrame) × IsCarriedNext t seat q × (q.frame ≡ frame)
 IsChoice t Idle = IsIdle t
 IsChoice t Waiting = IsWaiting t
 
 -- what a carry with this answer does
 abbrev pub Carries : Traffic → Carried → Traffic → Type 0
-Carries old (Frame seat frame) new = (q : QueuedFrame) × IsNext old seat q × (q.frame ≡ frame) × (new ≡ carried_from seat q old)
+Carries old (Frame seat frame) new = (q : QueuedFrame) × IsCarriedNext old seat q × (q.frame ≡ frame) × (new ≡ carried_from seat q old)
 Carries old Idle new = IsIdle old × (new ≡ old)
 Carries old Waiting new = IsWaiting old × (new ≡ old)

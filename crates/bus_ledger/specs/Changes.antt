@@ -26,8 +26,8 @@ abbrev pub with_seat : Traffic → ℕ → SeatValue → Traffic
 with_seat t k seat = record t { seats = slice_set t.seats k seat }
 
 -- the next number goes to this NAME
-abbrev pub joined : ℕ → Traffic → Traffic
-joined name t = record t { seats = t.seats ++ newcomer name (length t.wire) ∷ [] }
+abbrev pub with_newcomer : ℕ → Traffic → Traffic
+with_newcomer name t = record t { seats = t.seats ++ newcomer name (length t.wire) ∷ [] }
 
 -- so many frames more count as heard
 abbrev pub hearing : ℕ → SeatValue → SeatValue

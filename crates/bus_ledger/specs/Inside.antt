@@ -14,8 +14,8 @@ spare_of b = b.spare
 abbrev pub traffic_of : Inside → Traffic
 traffic_of b = record { wire = b.wire.items; seats = map seat_of b.seats.items; window = b.tap.size }
 
-abbrev pub view_of : Inside → BusValue
-view_of b = record { traffic = traffic_of b; spares = map spare_of b.seats.items }
+abbrev pub bus_value_of : Inside → BusValue
+bus_value_of b = record { traffic = traffic_of b; spares = map spare_of b.seats.items }
 
 -- the numbers of the live seats, counted from the first number
 abbrev pub live_numbers : ℕ → List SeatBook → List ℕ

@@ -1,7 +1,7 @@
 pub mod BusValue
 pub mod Changes
 pub mod Places
-pub mod Joining
+pub mod Newcomers
 pub mod Carrying
 pub mod Reception
 pub mod Window

@@ -20,6 +20,6 @@ abbrev pub IsFilled : Queued → Type 0
 IsFilled place = 0 < length (frames_at place)
 
 -- whether the frames of a place are tagged as part of a session
-abbrev pub is_of_session : Queued → Bool
-is_of_session (One q) = is_in_session q
-is_of_session (Many run message session) = session
+abbrev pub is_session_place : Queued → Bool
+is_session_place (One q) = is_in_session q
+is_session_place (Many run message session) = session

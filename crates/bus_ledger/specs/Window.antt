@@ -6,7 +6,7 @@ use Rattle.can_frame.specs.declared.reading.Reading.{Reading}
 use Rattle.can_frame.specs.declared.reading.Reading.TheVariants.{Frame, Gap, Empty}
 use Rattle.bus_ledger.specs.declared.traffic.CarriedFrame.{CarriedFrame}
 use Rattle.bus_ledger.specs.BusValue.{Traffic}
-use Rattle.bus_ledger.specs.Reception.{unread}
+use Rattle.bus_ledger.specs.Reception.{not_yet_read}
 
 -- how many frames it holds at most, those that it holds, the oldest first, and how many went out of it unread
 pub record WindowValue : Type 0 where
@@ -15,7 +15,7 @@ pub record WindowValue : Type 0 where
   pub missed : ℕ
 
 abbrev pub window : ℕ → List FrameValue → ℕ → WindowValue
-window size unread missed = record { size = size; unread = unread; missed = missed }
+window size not_yet_read missed = record { size = size; unread = not_yet_read; missed = missed }
 
 -- one frame more; the oldest goes out of a full window, and counts as missed
 abbrev pub pushed : FrameValue → WindowValue → WindowValue
@@ -46,4 +46,4 @@ frame_of c = c.frame
 
 -- the window as the traffic leaves it
 abbrev pub window_of : Traffic → WindowValue
-window_of t = seen_through t.window (map frame_of (unread t))
+window_of t = seen_through t.window (map frame_of (not_yet_read t))

@@ -32,9 +32,9 @@ impl Model for Bus {
 
     ghost Value = { BusValue };
 
-    ghost use Rattle.bus_ledger.specs.Inside.{view_of, IsKept};
+    ghost use Rattle.bus_ledger.specs.Inside.{bus_value_of, IsKept};
 
-    ghost view = { view_of };
+    ghost view = { bus_value_of };
 
     ghost invariant = { IsKept };
 }
@@ -45,10 +45,10 @@ impl Bus {
     ghost use Rattle.std.specs.Option.{option_map, SomeIff};
     ghost use Rattle.std.specs.Result.{result_err};
     ghost use Rattle.bus_ledger.specs.BusValue.{IsLive, IsUnit, KeepsSpares, seat_at, spare_at};
-    ghost use Rattle.bus_ledger.specs.Changes.{carried_from, heard_more, injected, joined, kept, left, new_traffic, queued, queued_frame, withdrawn, queued_all, run_frames};
-    ghost use Rattle.bus_ledger.specs.Joining.{join_refusal};
-    ghost use Rattle.bus_ledger.specs.Carrying.{CanCarry, Carries, IsChoice, IsNext, offer};
-    ghost use Rattle.bus_ledger.specs.Reception.{after_reading, next_reading, unread};
+    ghost use Rattle.bus_ledger.specs.Changes.{carried_from, heard_more, injected, with_newcomer, kept, left, new_traffic, queued, queued_frame, withdrawn, queued_all, run_frames};
+    ghost use Rattle.bus_ledger.specs.Newcomers.{join_refusal};
+    ghost use Rattle.bus_ledger.specs.Carrying.{CanCarry, Carries, IsChoice, IsCarriedNext, offer};
+    ghost use Rattle.bus_ledger.specs.Reception.{reading_taken, next_reading, not_yet_read};
     ghost use Rattle.bus_ledger.specs.Ledger.{IsSound, counts_of, is_from};
 
     /// A bus with the station alone, on seat 0, whose window has room for `window` unread frames, 1 to 4,096; their memory
@@ -80,7 +80,7 @@ impl Bus {
     /// Refused, in this order, where a live seat has the NAME, where 64 units are live, and where there is no memory.
     pub fn join(&mut self, name: Name) -> Result<u32, BusError>
         requires { length self.old.traffic.seats + 1 < 2 ^ 32 }
-        ensures ok { IfOk result (λ k. (k ≡ length self.old.traffic.seats) × (join_refusal name self.old.traffic ≡ None) × (self.new.traffic ≡ joined name self.old.traffic)) }
+        ensures ok { IfOk result (λ k. (k ≡ length self.old.traffic.seats) × (join_refusal name self.old.traffic ≡ None) × (self.new.traffic ≡ with_newcomer name self.old.traffic)) }
         ensures err { IfErr result (λ e. (join_refusal name self.old.traffic ≡ Some e) ⊎ ((join_refusal name self.old.traffic ≡ None) × (e ≡ BusError.OutOfMemory))) }
         ensures same { OnErr result (self.new.traffic ≡ self.old.traffic) }
         ensures spares { KeepsSpares self.old self.new }
@@ -160,8 +160,8 @@ impl Bus {
         place.reserve(count)
     }
 
-    /// Puts a frame at the end of the seat's queue. It cannot fail where the seat's spare is at least 1, and lowers the
-    /// spare by at most 1.
+    /// Puts a frame at the end of the seat's queue, and takes the room for it. It cannot fail where the seat's spare is at
+    /// least 1, and lowers the spare by at most 1.
     ///
     /// Refused where there is no memory; then nothing was queued.
     pub fn queue(&mut self, seat: u32, frame: Frame, tag: Option<Tag>) -> Result<(), BusError>
@@ -172,13 +172,29 @@ impl Bus {
         ensures spare { spare_at self.old seat ≤ spare_at self.new seat + 1 }
         ensures spares { (k : ℕ) → k ≢ seat → spare_at self.old k ≤ spare_at self.new k }
     {
-        let place = &mut self.seats[seat as usize];
-        place.put(QueuedFrame { frame, tag })
+        self.reserve(seat, 1)?;
+        self.queue_reserved(seat, frame, tag);
+        Ok(())
     }
 
-    /// Puts the frames that are left of a run at the end of the seat's queue, in one place of it: parts of the message of
-    /// this number, in a session or not. It cannot fail where the seat's spare is at least 1, and lowers the spare by at
-    /// most 1. The queue is seen as with each frame queued by itself; a frame is made when it is looked at or carried.
+    /// Puts a frame at the end of the seat's queue, which has room for it. Lowers the seat's spare by at most 1. Takes no
+    /// memory.
+    pub fn queue_reserved(&mut self, seat: u32, frame: Frame, tag: Option<Tag>)
+        requires live { IsLive self.old.traffic seat }
+        requires spare { 0 < spare_at self.old seat }
+        requires few { (seat_at self.old.traffic seat).queued + 1 < 2 ^ 32 }
+        ensures traffic { self.new.traffic ≡ queued seat (queued_frame frame tag) self.old.traffic }
+        ensures spare { spare_at self.old seat ≤ spare_at self.new seat + 1 }
+        ensures spares { (k : ℕ) → k ≢ seat → spare_at self.old k ≤ spare_at self.new k }
+    {
+        let place = &mut self.seats[seat as usize];
+        place.put_reserved(QueuedFrame { frame, tag });
+    }
+
+    /// Puts the frames that are left of a run at the end of the seat's queue, in one place of it, and takes the room for it:
+    /// parts of the message of this number, in a session or not. It cannot fail where the seat's spare is at least 1, and
+    /// lowers the spare by at most 1. The queue is seen as with each frame queued by itself; a frame is made when it is
+    /// looked at or carried.
     ///
     /// Refused where there is no memory; then nothing was queued, and the run is dropped.
     pub fn queue_run(
@@ -195,8 +211,23 @@ impl Bus {
         ensures spare { spare_at self.old seat ≤ spare_at self.new seat + 1 }
         ensures spares { (k : ℕ) → k ≢ seat → spare_at self.old k ≤ spare_at self.new k }
     {
+        self.reserve(seat, 1)?;
+        self.queue_run_reserved(seat, run, message, session);
+        Ok(())
+    }
+
+    /// Puts the frames that are left of a run at the end of the seat's queue, which has room for it, as `queue_run` does.
+    /// Lowers the seat's spare by at most 1. Takes no memory.
+    pub fn queue_run_reserved(&mut self, seat: u32, run: Run, message: u32, session: bool)
+        requires live { IsLive self.old.traffic seat }
+        requires spare { 0 < spare_at self.old seat }
+        requires few { (seat_at self.old.traffic seat).queued + length run < 2 ^ 32 }
+        ensures traffic { self.new.traffic ≡ queued_all seat (run_frames message session run) self.old.traffic }
+        ensures spare { spare_at self.old seat ≤ spare_at self.new seat + 1 }
+        ensures spares { (k : ℕ) → k ≢ seat → spare_at self.old k ≤ spare_at self.new k }
+    {
         let place = &mut self.seats[seat as usize];
-        place.put_run(run, message, session)
+        place.put_run_reserved(run, message, session);
     }
 
     /// Withdraws frames of the seat's queue, and answers how many: all of them, or those that are part of a session.
@@ -288,7 +319,7 @@ impl Bus {
 
     /// The seat that carries next, and its frame.
     fn next_sender(&self) -> Option<(u32, QueuedFrame)>
-        ensures { MatchOption result ((k : ℕ) → offer self.now.traffic k ≡ None) (λ b. IsNext self.now.traffic b.0 b.1) }
+        ensures { MatchOption result ((k : ℕ) → offer self.now.traffic k ≡ None) (λ b. IsCarriedNext self.now.traffic b.0 b.1) }
     {
         let wire_len = self.wire.len() as u32;
         best_offer(self.seats.as_slice(), self.live.as_slice(), wire_len)
@@ -311,7 +342,7 @@ impl Bus {
     /// the oldest unread frame, or that there is none. The station's own frames are no readings.
     pub fn tap_peek(&self) -> Reading
         ensures reading { result ≡ next_reading self.now.traffic }
-        ensures others { All (λ c. c.seat ≢ Some 0) (unread self.now.traffic) }
+        ensures others { All (λ c. c.seat ≢ Some 0) (not_yet_read self.now.traffic) }
         ensures sound { IsSound self.now.traffic }
     {
         self.tap.peek()
@@ -320,8 +351,8 @@ impl Bus {
     /// Takes the station's next reading. The frames of a gap are passed over.
     pub fn tap_next(&mut self) -> Reading
         ensures reading { result ≡ next_reading self.old.traffic }
-        ensures others { All (λ c. c.seat ≢ Some 0) (unread self.old.traffic) }
-        ensures traffic { self.new.traffic ≡ after_reading result self.old.traffic }
+        ensures others { All (λ c. c.seat ≢ Some 0) (not_yet_read self.old.traffic) }
+        ensures traffic { self.new.traffic ≡ reading_taken result self.old.traffic }
         ensures spares { KeepsSpares self.old self.new }
     {
         let reading = self.tap.next();

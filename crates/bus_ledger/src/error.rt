@@ -18,11 +18,11 @@ pub enum BusError {
 }
 
 impl BusError {
-    ghost use Rattle.bus_ledger.specs.Refusals.{number_of};
+    ghost use Rattle.bus_ledger.specs.Refusals.{bus_error_number};
 
     /// The refusal's number: 0, 19 or 20.
     pub fn number(self) -> u8
-        ensures { result ≡ number_of self }
+        ensures { result ≡ bus_error_number self }
     {
         match self {
             BusError::OutOfMemory => 0,

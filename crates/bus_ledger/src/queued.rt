@@ -2,7 +2,7 @@ ghost use Rattle.std.specs.Prelude.{◌≡◌, ◌<◌, ◌≤◌, ◌^◌, drop
 ghost use Rattle.std.specs.List.{All};
 ghost use Rattle.std.specs.VecDeque.{deque_capacity, deque_len};
 ghost use Rattle.bus_ledger.specs.Changes.{kept, run_frames};
-ghost use Rattle.bus_ledger.specs.Places.{IsFilled, frames_at, frames_in, is_of_session};
+ghost use Rattle.bus_ledger.specs.Places.{IsFilled, frames_at, frames_in, is_session_place};
 ghost use Rattle.bus_ledger.specs.declared.traffic.Which.TheVariants.{Session};
 
 use crate::traffic::{QueuedFrame, Tag, Which};
@@ -49,7 +49,7 @@ impl Queued {
 
     /// Whether its frames are parts of a session.
     pub(crate) fn is_in_session(&self) -> bool
-        ensures { result ≡ is_of_session self.now }
+        ensures { result ≡ is_session_place self.now }
     {
         match self {
             Queued::One(queued) => queued.is_in_session(),

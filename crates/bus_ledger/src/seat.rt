@@ -126,36 +126,34 @@ impl Seat {
         Ok(())
     }
 
-    /// Puts a frame at the end of the queue.
-    pub(crate) fn put(&mut self, queued: QueuedFrame) -> Result<(), BusError>
-        requires { self.old.seat.queued + 1 < 2 ^ 32 }
-        ensures ok { OnOk result (self.new.seat ≡ queueing queued self.old.seat) }
+    /// Puts a frame at the end of the queue, which has room for it.
+    pub(crate) fn put_reserved(&mut self, queued: QueuedFrame)
+        requires spare { 0 < self.old.spare }
+        requires few { self.old.seat.queued + 1 < 2 ^ 32 }
+        ensures seat { self.new.seat ≡ queueing queued self.old.seat }
         ensures spare { self.old.spare ≤ self.new.spare + 1 }
-        ensures err { IfErr result (λ e. (e ≡ BusError.OutOfMemory) × (self.old.spare ≡ 0) × (self.new.seat ≡ self.old.seat)) }
     {
-        self.queue.push_back(Queued::One(queued))?;
+        self.queue.push_back_reserved(Queued::One(queued));
         self.queued += 1;
-        Ok(())
     }
 
-    /// Puts the frames of a run at the end of the queue, in one place; none where the run has none left.
-    pub(crate) fn put_run(&mut self, run: Run, message: u32, session: bool) -> Result<(), BusError>
-        requires { self.old.seat.queued + length run < 2 ^ 32 }
-        ensures ok { OnOk result (self.new.seat ≡ queueing_all (run_frames message session run) self.old.seat) }
+    /// Puts the frames of a run at the end of the queue, which has room for it, in one place; none where the run has none left.
+    pub(crate) fn put_run_reserved(&mut self, run: Run, message: u32, session: bool)
+        requires spare { 0 < self.old.spare }
+        requires few { self.old.seat.queued + length run < 2 ^ 32 }
+        ensures seat { self.new.seat ≡ queueing_all (run_frames message session run) self.old.seat }
         ensures spare { self.old.spare ≤ self.new.spare + 1 }
-        ensures err { IfErr result (λ e. (e ≡ BusError.OutOfMemory) × (self.old.spare ≡ 0) × (self.new.seat ≡ self.old.seat)) }
     {
         let count = u32::from(run.left());
         if count == 0 {
-            return Ok(());
+            return;
         }
-        self.queue.push_back(Queued::Many {
+        self.queue.push_back_reserved(Queued::Many {
             run,
             message,
             session,
-        })?;
+        });
         self.queued += count;
-        Ok(())
     }
 
     /// Withdraws frames of the queue, and says how many.

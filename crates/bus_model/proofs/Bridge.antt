@@ -6,7 +6,7 @@ use Rattle.std.proofs.lemmas.Nat.{from_le_bytes-to_le_bytes_8}
 use Rattle.std.proofs.lemmas.Bool.{lt-ltb, le-leb}
 use Rattle.std.proofs.lemmas.List.Quantifiers.{position-Some}
 use Rattle.dm_messages.specs.Laws.{decoding-encoding_of_view, IsShowable-view, length-encoding}
-use Rattle.address_claim.specs.Claiming.{ClaimerValue, after_claim, free_address, held_after, is_free, is_held, move_step, next_address, noted_after}
+use Rattle.address_claim.specs.Claiming.{ClaimerValue, after_claim, free_address, held_after, is_free, is_held, move_step, next_address, noted_after, CanHold}
 use Rattle.address_claim.specs.Frames.{claim_frame_value}
 use Rattle.address_claim.specs.declared.claimer.ClaimStep.TheVariants.{Defend, Nothing}
 use Rattle.can_frame.specs.Fields.{pdu1_number, pdu2_number, pdu_specific_of, pgn_of, source_of}
@@ -24,9 +24,10 @@ use Rattle.transport.specs.Messages.{control_frame, packet_frame}
 use Rattle.transport.specs.Pieces.{is_message_size, joined, packet, packet_count, pieces}
 use Rattle.transport.specs.declared.control.Control.{Control}
 use Rattle.transport.specs.declared.control.Control.TheVariants.{Bam, Rts}
-use Rattle.bus_model.specs.Heard.{Settings, address_heard, claimer_after, claimer_heard, is_contest, kind_of}
-use Rattle.bus_model.specs.Machine.{CanHold, IsFit}
-use Rattle.bus_model.specs.Messages.{Broadcast, IsProper, Message, One, Session, frame_of_part, last_part_of, payload_of, way_of}
+use Rattle.parameter_group.specs.Calm.{is_contest}
+use Rattle.bus_model.specs.Heard.{StationSettings, address_heard, claimer_after, claimer_heard, kind_of}
+use Rattle.bus_model.specs.Machine.{IsFit}
+use Rattle.bus_model.specs.Messages.{Broadcast, IsProper, Message, One, Session, frame_of_part, last_part_of, payload_sent, way_of}
 use Rattle.bus_model.proofs.Cuts.{joined_back, length_packet, length_pieces, next_true, one_more, piece_of_packet}
 use Rattle.bus_model.proofs.Lawful.{group_at}
 
@@ -92,13 +93,13 @@ rts_back size pgn l k =
     let f : pgn % 256 + 256 * (pgn / 256 % 256) + 65536 * (pgn / 65536) ≡ pgn = omega arith in
     rw (e, f, sized size l k) refl
 
-pub payload_size : (m : Message) → IsProper m → (length (payload_of m) ≡ 8) ⊎ ((9 ≤ length (payload_of m)) × (length (payload_of m) ≤ 1785))
-unfolding payload_of
+pub payload_size : (m : Message) → IsProper m → (length (payload_sent m) ≡ 8) ⊎ ((9 ≤ length (payload_sent m)) × (length (payload_sent m) ≤ 1785))
+unfolding payload_sent
 payload_size m proper = length-encoding (view m.kind m.memory) (IsShowable-view m.kind m.memory proper.memory)
 
-pub long_size : (m : Message) → IsProper m → (length (payload_of m) == 8) ≡ false → (9 ≤ length (payload_of m)) × (length (payload_of m) ≤ 1785)
+pub long_size : (m : Message) → IsProper m → (length (payload_sent m) == 8) ≡ false → (9 ≤ length (payload_sent m)) × (length (payload_sent m) ≤ 1785)
 long_size m proper h = elim (payload_size m proper) [
-  | inl e ↦ absurd (let i : (length (payload_of m) == 8) ≡ true = rw e refl in cc)
+  | inl e ↦ absurd (let i : (length (payload_sent m) == 8) ≡ true = rw e refl in cc)
   | inr w ↦ w
 ]
 
@@ -107,38 +108,38 @@ destination_le m proper = elim (proper.destination) [ inl e ↦ omega arith | in
 
 -- the number of packets
 abbrev pub count_of : Message → ℕ
-count_of m = packet_count (length (payload_of m))
+count_of m = packet_count (length (payload_sent m))
 
 -- what the frame of a part says
 pub says_part : (m : Message) (j : ℕ) → IsProper m → j ≤ last_part_of m → group_of (frame_of_part m j) ≡ group_at (way_of m) m j
 unfolding frame_of_part way_of last_part_of
-says_part m zero proper le = go (length (payload_of m) == 8) refl (m.destination == 255) refl
+says_part m zero proper le = go (length (payload_sent m) == 8) refl (m.destination == 255) refl
   where
-    go : (b : Bool) → (length (payload_of m) == 8) ≡ b → (c : Bool) → (m.destination == 255) ≡ c
-        → group_of (if b then frame (pdu2_number 6 (pgn_of_kind m.kind) m.source) (payload_of m) else control_frame (if c then Bam (length (payload_of m)) (count_of m) (pgn_of_kind m.kind) else Rts (length (payload_of m)) (count_of m) 255 (pgn_of_kind m.kind)) m.source m.destination)
+    go : (b : Bool) → (length (payload_sent m) == 8) ≡ b → (c : Bool) → (m.destination == 255) ≡ c
+        → group_of (if b then frame (pdu2_number 6 (pgn_of_kind m.kind) m.source) (payload_sent m) else control_frame (if c then Bam (length (payload_sent m)) (count_of m) (pgn_of_kind m.kind) else Rts (length (payload_sent m)) (count_of m) 255 (pgn_of_kind m.kind)) m.source m.destination)
         ≡ group_at (if b then One else (if c then Broadcast else Session m.destination)) m 0
-    go true i c k = says_single m.kind (payload_of m) m.source proper.source
+    go true i c k = says_single m.kind (payload_sent m) m.source proper.source
     go false i true k =
         let size = long_size m proper i in
         let small : m.source ≤ 255 = (let l = proper.source in omega arith) in
-        says_control (Bam (length (payload_of m)) (count_of m) (pgn_of_kind m.kind)) m.source m.destination (destination_le m proper) small (bam_back (length (payload_of m)) (pgn_of_kind m.kind) size.0 size.1)
-        ∙ ap (λ (d : ℕ). ConnectionManagement m.source d (Bam (length (payload_of m)) (count_of m) (pgn_of_kind m.kind))) (truth m.destination 255 k)
+        says_control (Bam (length (payload_sent m)) (count_of m) (pgn_of_kind m.kind)) m.source m.destination (destination_le m proper) small (bam_back (length (payload_sent m)) (pgn_of_kind m.kind) size.0 size.1)
+        ∙ ap (λ (d : ℕ). ConnectionManagement m.source d (Bam (length (payload_sent m)) (count_of m) (pgn_of_kind m.kind))) (truth m.destination 255 k)
     go false i false k =
         let size = long_size m proper i in
         let small : m.source ≤ 255 = (let l = proper.source in omega arith) in
-        says_control (Rts (length (payload_of m)) (count_of m) 255 (pgn_of_kind m.kind)) m.source m.destination (destination_le m proper) small (rts_back (length (payload_of m)) (pgn_of_kind m.kind) size.0 size.1)
-says_part m (suc j) proper le = go (length (payload_of m) == 8) refl (m.destination == 255) refl le
+        says_control (Rts (length (payload_sent m)) (count_of m) 255 (pgn_of_kind m.kind)) m.source m.destination (destination_le m proper) small (rts_back (length (payload_sent m)) (pgn_of_kind m.kind) size.0 size.1)
+says_part m (suc j) proper le = go (length (payload_sent m) == 8) refl (m.destination == 255) refl le
   where
     small : m.source ≤ 255
     small = (let l = proper.source in omega arith)
 
-    go : (b : Bool) → (length (payload_of m) == 8) ≡ b → (c : Bool) → (m.destination == 255) ≡ c → suc j ≤ (if b then 0 else count_of m)
-        → group_of (packet_frame (packet (payload_of m) (suc j)) m.source m.destination) ≡ group_at (if b then One else (if c then Broadcast else Session m.destination)) m (suc j)
+    go : (b : Bool) → (length (payload_sent m) == 8) ≡ b → (c : Bool) → (m.destination == 255) ≡ c → suc j ≤ (if b then 0 else count_of m)
+        → group_of (packet_frame (packet (payload_sent m) (suc j)) m.source m.destination) ≡ group_at (if b then One else (if c then Broadcast else Session m.destination)) m (suc j)
     go true i c k l = absurd (omega arith)
     go false i true k l =
-        says_packet (packet (payload_of m) (suc j)) m.source m.destination (destination_le m proper) small
-        ∙ ap (λ (d : ℕ). DataTransfer m.source d (packet (payload_of m) (suc j))) (truth m.destination 255 k)
-    go false i false k l = says_packet (packet (payload_of m) (suc j)) m.source m.destination (destination_le m proper) small
+        says_packet (packet (payload_sent m) (suc j)) m.source m.destination (destination_le m proper) small
+        ∙ ap (λ (d : ℕ). DataTransfer m.source d (packet (payload_sent m) (suc j))) (truth m.destination 255 k)
+    go false i false k l = says_packet (packet (payload_sent m) (suc j)) m.source m.destination (destination_le m proper) small
 
 -- what the frame of a claim says
 pub says_claim : (n : ℕ) (o : Option ℕ) → n < 2 ^ 64 → CanHold o → group_of (claim_frame_value n o) ≡ claim_group n o
@@ -151,18 +152,18 @@ says_claim n (Some a) small hold =
 
 pub one_last : (m : Message) → way_of m ≡ One → last_part_of m ≡ 0
 unfolding way_of last_part_of
-one_last m w = go (length (payload_of m) == 8) (m.destination == 255) w
+one_last m w = go (length (payload_sent m) == 8) (m.destination == 255) w
   where
     go : (b c : Bool) → (if b then One else (if c then Broadcast else Session m.destination)) ≡ One → (if b then 0 else count_of m) ≡ 0
     go true c h = refl
     go false true h = cc
     go false false h = cc
 
-pub long_way : (m : Message) → way_of m ≢ One → (length (payload_of m) == 8) ≡ false
+pub long_way : (m : Message) → way_of m ≢ One → (length (payload_sent m) == 8) ≡ false
 unfolding way_of
-long_way m w = go (length (payload_of m) == 8) refl w
+long_way m w = go (length (payload_sent m) == 8) refl w
   where
-    go : (b : Bool) → (length (payload_of m) == 8) ≡ b → (if b then One else (if m.destination == 255 then Broadcast else Session m.destination)) ≢ One → (length (payload_of m) == 8) ≡ false
+    go : (b : Bool) → (length (payload_sent m) == 8) ≡ b → (if b then One else (if m.destination == 255 then Broadcast else Session m.destination)) ≢ One → (length (payload_sent m) == 8) ≡ false
     go true i h = absurd (h refl)
     go false i h = i
 
@@ -175,7 +176,7 @@ many_last m proper w =
 
 pub session_destination : (m : Message) (d : ℕ) → way_of m ≡ Session d → (m.destination ≡ d) × (d ≢ 255)
 unfolding way_of
-session_destination m d w = go (length (payload_of m) == 8) (m.destination == 255) refl w
+session_destination m d w = go (length (payload_sent m) == 8) (m.destination == 255) refl w
   where
     go : (b c : Bool) → (m.destination == 255) ≡ c → (if b then One else (if c then Broadcast else Session m.destination)) ≡ Session d → (m.destination ≡ d) × (d ≢ 255)
     go true c i h = cc
@@ -187,46 +188,46 @@ session_to m d proper w =
     let q = session_destination m d w in
     elim (proper.destination) [ inl e ↦ absurd (q.1 (sym q.0 ∙ e)) | inr l ↦ subst (λ (v : ℕ). v ≤ 253) q.0 l.0 ]
 
-pub count_taken : (m : Message) (j : ℕ) → j ≤ count_of m → length (take j (pieces (payload_of m))) ≡ j
-count_taken m j le = length-take-le j (pieces (payload_of m)) (rw (length_pieces (count_of m) (payload_of m)) le)
+pub count_taken : (m : Message) (j : ℕ) → j ≤ count_of m → length (take j (pieces (payload_sent m))) ≡ j
+count_taken m j le = length-take-le j (pieces (payload_sent m)) (rw (length_pieces (count_of m) (payload_sent m)) le)
 
-pub next_is : (m : Message) (j : ℕ) → j < count_of m → is_next (length (payload_of m)) (take j (pieces (payload_of m))) (packet (payload_of m) (suc j)) ≡ true
+pub next_is : (m : Message) (j : ℕ) → j < count_of m → is_next (length (payload_sent m)) (take j (pieces (payload_sent m))) (packet (payload_sent m) (suc j)) ≡ true
 next_is m j le =
     let c = count_taken m j (omega arith) in
-    next_true (length (packet (payload_of m) (suc j))) (suc j) (length (take j (pieces (payload_of m)))) (count_of m) (length_packet (payload_of m) j) (omega arith) (omega arith)
+    next_true (length (packet (payload_sent m) (suc j))) (suc j) (length (take j (pieces (payload_sent m)))) (count_of m) (length_packet (payload_sent m) j) (omega arith) (omega arith)
 
-pub next_pieces : (m : Message) (j : ℕ) → j < count_of m → take (suc j) (pieces (payload_of m)) ≡ take j (pieces (payload_of m)) ++ drop 1 (packet (payload_of m) (suc j)) ∷ []
+pub next_pieces : (m : Message) (j : ℕ) → j < count_of m → take (suc j) (pieces (payload_sent m)) ≡ take j (pieces (payload_sent m)) ++ drop 1 (packet (payload_sent m) (suc j)) ∷ []
 next_pieces m j le =
-    one_more (count_of m) j (payload_of m) le
-    ∙ ap (λ (v : List ℕ). take j (pieces (payload_of m)) ++ v ∷ []) (sym (piece_of_packet (payload_of m) j))
+    one_more (count_of m) j (payload_sent m) le
+    ∙ ap (λ (v : List ℕ). take j (pieces (payload_sent m)) ++ v ∷ []) (sym (piece_of_packet (payload_sent m) j))
 
-pub all_pieces : (m : Message) → joined (length (payload_of m)) (take (count_of m) (pieces (payload_of m))) ≡ payload_of m
+pub all_pieces : (m : Message) → joined (length (payload_sent m)) (take (count_of m) (pieces (payload_sent m))) ≡ payload_sent m
 all_pieces m =
-    let l : length (pieces (payload_of m)) ≤ count_of m = rw (length_pieces (count_of m) (payload_of m)) (le_refl (count_of m)) in
-    let e : take (count_of m) (pieces (payload_of m)) ≡ pieces (payload_of m) = take_all (count_of m) (pieces (payload_of m)) l in
-    ap (joined (length (payload_of m))) e ∙ joined_back (count_of m) (payload_of m) (omega arith)
+    let l : length (pieces (payload_sent m)) ≤ count_of m = rw (length_pieces (count_of m) (payload_sent m)) (le_refl (count_of m)) in
+    let e : take (count_of m) (pieces (payload_sent m)) ≡ pieces (payload_sent m) = take_all (count_of m) (pieces (payload_sent m)) l in
+    ap (joined (length (payload_sent m))) e ∙ joined_back (count_of m) (payload_sent m) (omega arith)
 
 pub kind_back : (k : Kind) → kind_of (pgn_of_kind k) ≡ Some k
 kind_back Dm1 = refl
 kind_back Dm2 = refl
 
-pub reads_back : (m : Message) → IsProper m → decoding (payload_of m) ≡ Some (view m.kind m.memory)
-unfolding payload_of
+pub reads_back : (m : Message) → IsProper m → decoding (payload_sent m) ≡ Some (view m.kind m.memory)
+unfolding payload_sent
 reads_back m proper = decoding-encoding_of_view m.kind m.memory proper.memory
 
-pub address_first : (r : Settings) → address_heard r [] ≡ Some r.address
+pub address_first : (r : StationSettings) → address_heard r [] ≡ Some r.address
 unfolding address_heard
 address_first r = refl
 
-pub address_gap : (r : Settings) (n : ℕ) (rs : List Reading) → address_heard r (Gap n ∷ rs) ≡ address_heard r rs
+pub address_gap : (r : StationSettings) (n : ℕ) (rs : List Reading) → address_heard r (Gap n ∷ rs) ≡ address_heard r rs
 unfolding address_heard
 address_gap r n rs = refl
 
-pub address_empty : (r : Settings) (rs : List Reading) → address_heard r (Empty ∷ rs) ≡ address_heard r rs
+pub address_empty : (r : StationSettings) (rs : List Reading) → address_heard r (Empty ∷ rs) ≡ address_heard r rs
 unfolding address_heard
 address_empty r rs = refl
 
-pub claimer_name : (r : Settings) (rs : List Reading) → (claimer_heard r rs).name ≡ r.name
+pub claimer_name : (r : StationSettings) (rs : List Reading) → (claimer_heard r rs).name ≡ r.name
 claimer_name r [] = refl
 claimer_name r (Gap n ∷ rs) = claimer_name r rs
 claimer_name r (Empty ∷ rs) = claimer_name r rs
@@ -245,7 +246,7 @@ calm_claim me s n c e h = go (is_held c.held s) (n == c.name) (rw (← e) at h)
     go true true h = refl
     go true false h = cc
 
-pub address_read : (r : Settings) (f : FrameValue) (rs : List Reading) → is_contest r.name (address_heard r rs) (group_of f) ≡ false → address_heard r (Frame f ∷ rs) ≡ address_heard r rs
+pub address_read : (r : StationSettings) (f : FrameValue) (rs : List Reading) → is_contest r.name (address_heard r rs) (group_of f) ≡ false → address_heard r (Frame f ∷ rs) ≡ address_heard r rs
 unfolding address_heard
 address_read r f rs calm = go (group_of f) calm
   where
@@ -282,7 +283,7 @@ claim_holds s n c h = go (not (is_held c.held s) || (n == c.name)) (nat_lt c.nam
     go false false true = moved (free_address c.name (noted_after s n c.noted)) (free_holds c.name (noted_after s n c.noted))
     go false false false = tt
 
-pub address_hold : (r : Settings) (rs : List Reading) → IsFit r → CanHold (address_heard r rs)
+pub address_hold : (r : StationSettings) (rs : List Reading) → IsFit r → CanHold (address_heard r rs)
 unfolding address_heard
 address_hold r [] fit = fit.address
 address_hold r (Gap n ∷ rs) fit = address_hold r rs fit

@@ -9,7 +9,7 @@ use Rattle.bus_model.proofs.Lawful.{Follows, Lawful, is_of, last_of, tag_of}
 use Rattle.bus_model.proofs.Lookback.{EachTag, Every, HasTag, and_parts, every_rest, lawful_rest, pick_cases, same_kind_self, same_test, true_test}
 use Rattle.bus_model.proofs.Order.{all_before}
 use Rattle.bus_model.proofs.Path.{Marked, later_part, same_message}
-use Rattle.bus_model.proofs.Units.{IsBooked, Numbered}
+use Rattle.bus_model.proofs.SeatLaw.{IsBooked, Numbered}
 
 pub record Anchor (a : ℕ) (path : List Reception) : Type 0 where
   pub lower : List Reception

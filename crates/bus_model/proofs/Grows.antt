@@ -1,12 +1,12 @@
 -- Each list of entries only grows, and each entry can be read.
 use Rattle.std.proofs.Common.{◌≡◌, ℕ, Bool, true, false, ◌&&◌, ◌==◌, List, [], ◌∷◌, ◌++◌, Option, Some, None, if◌then◌else◌, sym, refl, ap, ◌∙◌, subst}
 use Rattle.can_frame.specs.declared.reading.Reading.TheVariants.{Frame}
-use Rattle.dm_messages.specs.View.{decoding}
+use Rattle.dm_messages.specs.View.{decoding, same_kind}
 use Rattle.dm_messages.specs.declared.kind.Kind.{Kind}
 use Rattle.dm_messages.specs.declared.shown.Shown.{Shown}
 use Rattle.bus_model.specs.Expected.{Missed, Own, Received, Reception, is_unbroken, passed, readings}
-use Rattle.bus_model.specs.Heard.{Entry, Settings, ended, entries_heard, is_unreadable, put, put_read, same_kind, unread_count}
-use Rattle.bus_model.specs.Machine.{Answer, Ask, Begin, Begins, Carry, Carry_station, Ends, Event, Grants, Hear, Join, Leave, Miss, Quiet, Read, Replies, Run, Seat, Step, Turned, World, Yields, answered}
+use Rattle.bus_model.specs.Heard.{Entry, StationSettings, ended, entries_heard, is_unreadable, put, put_read, unread_count}
+use Rattle.bus_model.specs.Machine.{Answer, Ask, Begin, Begins, Carry, Carry_station, EndsSession, Event, Sends, Hear, Join, Leave, Miss, Nothing, Read, Replies, Run, Seat, Step, Turned, World, Claims, answered}
 use Rattle.bus_model.specs.Messages.{IsProper, Message, last_part_of, way_of}
 use Rattle.bus_model.specs.Traffic.{Item, Tag, says}
 use Rattle.bus_model.proofs.Bridge.{reads_back}
@@ -16,21 +16,21 @@ use Rattle.bus_model.proofs.Path.{Marked}
 use Rattle.bus_model.proofs.Sessions.{SessionsLaw}
 use Rattle.bus_model.proofs.Shows.{ended_at, ended_plain, entry, gained}
 use Rattle.bus_model.proofs.Tells.{AllProper}
-use Rattle.bus_model.proofs.Units.{IsBooked, Numbered, next_heard}
+use Rattle.bus_model.proofs.SeatLaw.{IsBooked, Numbered, next_heard}
 use Rattle.bus_model.proofs.Worlds.{WorldLaw, law_step, settings_step}
 
 pub path_answered : (w : World) (x : ℕ) (s : Seat) (a : Answer) → (answered w x s a).path ≡ w.path
-path_answered w x s Quiet = refl
+path_answered w x s Nothing = refl
 path_answered w x s (Replies f) = refl
 path_answered w x s (Begins kind memory source destination) = refl
-path_answered w x s (Grants n) = refl
-path_answered w x s Ends = refl
-path_answered w x s (Yields o) = refl
+path_answered w x s (Sends n) = refl
+path_answered w x s EndsSession = refl
+path_answered w x s (Claims o) = refl
 
 -- what a step does to the path
 pub data PathStep (old new : World) : Type 0 where
   Stays : new.path ≡ old.path → PathStep old new
-  Sends : (e : Item) → new.path ≡ Own e ∷ old.path → PathStep old new
+  Passes : (e : Item) → new.path ≡ Own e ∷ old.path → PathStep old new
   Reads : (e : Item) (ahead : List Item) → old.wire ≡ ahead ++ e ∷ passed old.path → new.path ≡ Received e ∷ old.path → PathStep old new
   Misses : (es : List Item) → new.path ≡ Missed es ∷ old.path → PathStep old new
 
@@ -43,7 +43,7 @@ path_step old (Hear x answer) new (s, e, ahead, at, i, may, is) = Stays (path_of
 path_step old (Begin x kind memory source) new (s, at, held, fit, none, is) = Stays (path_of new _ is)
 path_step old (Turned x) new h = Stays (path_of new _ h)
 path_step old (Carry x) new (s, e, rest, at, q, i, is) = Stays (path_of new _ is)
-path_step old Carry_station new (e, rest, q, i, is) = Sends e (path_of new _ is)
+path_step old Carry_station new (e, rest, q, i, is) = Passes e (path_of new _ is)
 path_step old (Ask frames) new (may, is) = Stays (path_of new _ is)
 path_step old (Read frames) new (e, ahead, i, may, is) = Reads e ahead i (path_of new _ is)
 path_step old (Miss n frames) new (es, ahead, len, i, may, is) = Misses es (path_of new _ is)
@@ -62,12 +62,12 @@ put_grows n k (Some e) l = go (e.name == n && same_kind e.kind k) (decoding e.by
     go true None = ([], refl)
     go true (Some v) = (v ∷ [], refl)
 
-pub grows : (old : World) (event : Event) (new : World) (r : Settings) (n : ℕ) (k : Kind) → Step old event new → IsGrown (entries_heard r n k (readings old.path)) (entries_heard r n k (readings new.path))
+pub grows : (old : World) (event : Event) (new : World) (r : StationSettings) (n : ℕ) (k : Kind) → Step old event new → IsGrown (entries_heard r n k (readings old.path)) (entries_heard r n k (readings new.path))
 grows old event new r n k step = go (path_step old event new step)
   where
     go : PathStep old new → IsGrown (entries_heard r n k (readings old.path)) (entries_heard r n k (readings new.path))
     go (Stays e) = ([], ap (λ (p : List Reception). entries_heard r n k (readings p)) e)
-    go (Sends x e) = ([], ap (λ (p : List Reception). entries_heard r n k (readings p)) e)
+    go (Passes x e) = ([], ap (λ (p : List Reception). entries_heard r n k (readings p)) e)
     go (Misses es e) = ([], ap (λ (p : List Reception). entries_heard r n k (readings p)) e)
     go (Reads x ahead i e) =
         let g = put_grows n k (ended r (Frame x.frame) (readings old.path)) (entries_heard r n k (readings old.path)) in
@@ -81,7 +81,7 @@ gained_readable m j b ok = go (j == last_part_of m && b)
     go false = refl
     go true = rw (reads_back m ok) refl
 
-pub reads_readable : (r : Settings) (begun : List Message) (e : Item) (path : List Reception) → Numbered begun → AllProper begun → Lawful r.name (e ∷ passed path) → Marked r.name (Received e ∷ path) → Every (IsBooked begun) (e ∷ passed path) → SessionsLaw r path → is_unreadable (ended r (Frame e.frame) (readings path)) ≡ false
+pub reads_readable : (r : StationSettings) (begun : List Message) (e : Item) (path : List Reception) → Numbered begun → AllProper begun → Lawful r.name (e ∷ passed path) → Marked r.name (Received e ∷ path) → Every (IsBooked begun) (e ∷ passed path) → SessionsLaw r path → is_unreadable (ended r (Frame e.frame) (readings path)) ≡ false
 reads_readable r begun e path num ok law mk booked sl = go e.tag refl
   where
     go : (o : Option Tag) → e.tag ≡ o → is_unreadable (ended r (Frame e.frame) (readings path)) ≡ false
@@ -94,12 +94,12 @@ reads_readable r begun e path num ok law mk booked sl = go e.tag refl
 pub readable_step : (old : World) (event : Event) (new : World) → WorldLaw old → Step old event new → unread_count old.settings (readings old.path) ≡ 0 → unread_count old.settings (readings new.path) ≡ 0
 readable_step old event new law step zero' = go (path_step old event new step)
   where
-    r : Settings
+    r : StationSettings
     r = old.settings
 
     go : PathStep old new → unread_count old.settings (readings new.path) ≡ 0
     go (Stays e) = ap (λ (p : List Reception). unread_count old.settings (readings p)) e ∙ zero'
-    go (Sends x e) = ap (λ (p : List Reception). unread_count old.settings (readings p)) e ∙ zero'
+    go (Passes x e) = ap (λ (p : List Reception). unread_count old.settings (readings p)) e ∙ zero'
     go (Misses es e) = ap (λ (p : List Reception). unread_count old.settings (readings p)) e ∙ zero'
     go (Reads x ahead i e) =
         let next = next_heard r.name old.wire (passed old.path) law.station.ahead ahead x law.station.reach law.station.foreign i in
@@ -112,5 +112,5 @@ pub readable_run : (old : World) (events : List Event) (new : World) → WorldLa
 readable_run old [] new law h z = ap (λ (w : World). unread_count old.settings (readings w.path)) h ∙ z
 readable_run old (e ∷ es) new law (mid, step, rest) z =
     let s = settings_step old e mid step in
-    let m : unread_count mid.settings (readings mid.path) ≡ 0 = subst (λ (r : Settings). unread_count r (readings mid.path) ≡ 0) (sym s) (readable_step old e mid law step z) in
-    subst (λ (r : Settings). unread_count r (readings new.path) ≡ 0) s (readable_run mid es new (law_step old e mid law step) rest m)
+    let m : unread_count mid.settings (readings mid.path) ≡ 0 = subst (λ (r : StationSettings). unread_count r (readings mid.path) ≡ 0) (sym s) (readable_step old e mid law step z) in
+    subst (λ (r : StationSettings). unread_count r (readings new.path) ≡ 0) s (readable_run mid es new (law_step old e mid law step) rest m)

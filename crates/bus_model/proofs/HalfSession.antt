@@ -8,8 +8,11 @@ use Rattle.dm_messages.specs.declared.kind.Kind.{Kind}
 use Rattle.parameter_group.specs.Group.{Acknowledgment, AddressClaimed, CannotClaim, ConnectionManagement, DataTransfer, Diagnostic, Group, Other, Request, group_of}
 use Rattle.transport.specs.Pieces.{packet_count}
 use Rattle.transport.specs.declared.control.Control.TheVariants.{Abort, Bam, Cts, EndAck, Rts}
-use Rattle.bus_model.specs.Heard.{Joining, Settings, address_heard, is_contest, is_kind, kept_under, kind_of, or_else, owner_heard, same_kind, session_after, session_heard, started, unfinished, with_packet, without_kind}
-use Rattle.bus_model.specs.LookBack.{AreNumbered, IsSessionQuiet, IsSessionQuietGroup, packet_before, packets_from, pieces_of}
+use Rattle.reassembly.specs.Partials.{unfinished, with_packet}
+use Rattle.dm_messages.specs.View.{same_kind}
+use Rattle.parameter_group.specs.Calm.{is_contest}
+use Rattle.bus_model.specs.Heard.{Joining, StationSettings, address_heard, is_kind, kept_by_owner, kind_of, or_else, owner_heard, session_after, session_heard, started, without_kind}
+use Rattle.bus_model.specs.LookBack.{AreNumbered, IsSessionQuiet, IsSessionQuietGroup, packet_before, packets_heard, pieces_of}
 use Rattle.bus_model.specs.Machine.{start}
 use Rattle.bus_model.proofs.Bridge.{address_empty, address_read}
 use Rattle.bus_model.proofs.Half.{IsNext, add_packet, joining, length_pieces_of, open_of, still_open, taken_of}
@@ -18,7 +21,7 @@ use Rattle.bus_model.proofs.Seats.{swap_test}
 use Rattle.bus_model.proofs.Sessions.{session_owned}
 
 -- half joined from the address by a session with the station
-pub record HalfSession (r : Settings) (a : ℕ) (j : Joining) (rs : List Reading) : Type 0 where
+pub record HalfSession (r : StationSettings) (a : ℕ) (j : Joining) (rs : List Reading) : Type 0 where
   pub to : ℕ
   pub count : ℕ
   pub most : ℕ
@@ -28,19 +31,19 @@ pub record HalfSession (r : Settings) (a : ℕ) (j : Joining) (rs : List Reading
   pub before : List Reading
   pub split : rs ≡ since ++ Frame start ∷ before
   pub starts : group_of start ≡ ConnectionManagement a to (Rts j.size count most pgn)
-  pub kind : kind_of pgn ≡ Some j.kind
-  pub owned : owner_heard a before ≡ Some j.owner
+  pub kind : kind_of pgn ≡ Some j.tag.kind
+  pub owned : owner_heard a before ≡ Some j.tag.owner
   pub held : address_heard r before ≡ Some to
   pub now : address_heard r rs ≡ Some to
-  pub quiet : IsSessionQuiet r.name a to j.owner j.kind since
-  pub numbered : AreNumbered (packets_from a to since)
-  pub pieces : j.pieces ≡ pieces_of (packets_from a to since)
+  pub quiet : IsSessionQuiet r.name a to j.tag.owner j.tag.kind since
+  pub numbered : AreNumbered (packets_heard a to since)
+  pub pieces : j.pieces ≡ pieces_of (packets_heard a to since)
 
-pub session_empty : (r : Settings) (a : ℕ) (j : Joining) (rs : List Reading) → HalfSession r a j rs → HalfSession r a j (Empty ∷ rs)
+pub session_empty : (r : StationSettings) (a : ℕ) (j : Joining) (rs : List Reading) → HalfSession r a j rs → HalfSession r a j (Empty ∷ rs)
 session_empty r a j rs h = record { to = h.to; count = h.count; most = h.most; pgn = h.pgn; since = Empty ∷ h.since; start = h.start; before = h.before; split = ap (λ (v : List Reading). Empty ∷ v) h.split; starts = h.starts; kind = h.kind; owned = h.owned; held = h.held; now = address_empty r rs ∙ h.now; quiet = h.quiet; numbered = h.numbered; pieces = h.pieces }
 
 -- a frame that leaves it as it is
-pub session_more : (r : Settings) (a : ℕ) (j : Joining) (f : FrameValue) (rs : List Reading) → (h : HalfSession r a j rs) → is_contest r.name (Some h.to) (group_of f) ≡ false → IsSessionQuietGroup r.name a h.to j.owner j.kind (group_of f) → ((l : List (List ℕ)) → packet_before a h.to (group_of f) l ≡ l) → HalfSession r a j (Frame f ∷ rs)
+pub session_more : (r : StationSettings) (a : ℕ) (j : Joining) (f : FrameValue) (rs : List Reading) → (h : HalfSession r a j rs) → is_contest r.name (Some h.to) (group_of f) ≡ false → IsSessionQuietGroup r.name a h.to j.tag.owner j.tag.kind (group_of f) → ((l : List (List ℕ)) → packet_before a h.to (group_of f) l ≡ l) → HalfSession r a j (Frame f ∷ rs)
 session_more r a j f rs h calm q p = record {
   to = h.to;
   count = h.count;
@@ -56,16 +59,16 @@ session_more r a j f rs h calm q p = record {
   held = h.held;
   now = address_read r f rs (ap (λ (v : Option ℕ). is_contest r.name v (group_of f)) h.now ∙ calm) ∙ h.now;
   quiet = (q, h.quiet);
-  numbered = subst AreNumbered (sym (p (packets_from a h.to h.since))) h.numbered;
-  pieces = h.pieces ∙ ap pieces_of (sym (p (packets_from a h.to h.since)));
+  numbered = subst AreNumbered (sym (p (packets_heard a h.to h.since))) h.numbered;
+  pieces = h.pieces ∙ ap pieces_of (sym (p (packets_heard a h.to h.since)));
 }
 
 -- the next packet is taken
-pub session_taken : (r : Settings) (a : ℕ) (b : Joining) (f : FrameValue) (q : List ℕ) (rs : List Reading) → (h : HalfSession r a b rs) → group_of f ≡ DataTransfer a h.to q → IsNext b.size b.pieces q → HalfSession r a (record b { pieces = b.pieces ++ drop 1 q ∷ [] }) (Frame f ∷ rs)
+pub session_taken : (r : StationSettings) (a : ℕ) (b : Joining) (f : FrameValue) (q : List ℕ) (rs : List Reading) → (h : HalfSession r a b rs) → group_of f ≡ DataTransfer a h.to q → IsNext b.size b.pieces q → HalfSession r a (record b { pieces = b.pieces ++ drop 1 q ∷ [] }) (Frame f ∷ rs)
 session_taken r a b f q rs h e next =
-    let ps : packets_from a h.to (Frame f ∷ h.since) ≡ q ∷ packets_from a h.to h.since = rw (e, same_test a, same_test h.to) refl in
-    let len : length b.pieces ≡ length (packets_from a h.to h.since) = ap (λ (v : List (List ℕ)). length v) h.pieces ∙ length_pieces_of (packets_from a h.to h.since) in
-    let number : slice_index q 0 ≡ suc (length (packets_from a h.to h.since)) = next.number ∙ ap suc len in
+    let ps : packets_heard a h.to (Frame f ∷ h.since) ≡ q ∷ packets_heard a h.to h.since = rw (e, same_test a, same_test h.to) refl in
+    let len : length b.pieces ≡ length (packets_heard a h.to h.since) = ap (λ (v : List (List ℕ)). length v) h.pieces ∙ length_pieces_of (packets_heard a h.to h.since) in
+    let number : slice_index q 0 ≡ suc (length (packets_heard a h.to h.since)) = next.number ∙ ap suc len in
     record {
       to = h.to;
       count = h.count;
@@ -80,7 +83,7 @@ session_taken r a b f q rs h e next =
       owned = h.owned;
       held = h.held;
       now = address_read r f rs (rw e refl) ∙ h.now;
-      quiet = (subst (IsSessionQuietGroup r.name a h.to b.owner b.kind) (sym e) tt, h.quiet);
+      quiet = (subst (IsSessionQuietGroup r.name a h.to b.tag.owner b.tag.kind) (sym e) tt, h.quiet);
       numbered = subst AreNumbered (sym ps) (next.len, number, h.numbered);
       pieces = ap (λ (v : List (List ℕ)). v ++ drop 1 q ∷ []) h.pieces ∙ ap pieces_of (sym ps);
     }
@@ -103,7 +106,7 @@ kind_apart k (Some l) h = go (same_kind k l) refl
     go true i = absurd (h (ap Some (sym (kind_same k l i))))
     go false i = i
 
-pub session_step : (r : Settings) (a : ℕ) (j : Joining) (f : FrameValue) (rs : List Reading) → ((i : Joining) → session_heard r a rs ≡ Some i → HalfSession r a i rs) → (g : Group) → group_of f ≡ g → session_after r.name a g (address_heard r rs) (owner_heard a rs) (session_heard r a rs) ≡ Some j → HalfSession r a j (Frame f ∷ rs)
+pub session_step : (r : StationSettings) (a : ℕ) (j : Joining) (f : FrameValue) (rs : List Reading) → ((i : Joining) → session_heard r a rs ≡ Some i → HalfSession r a i rs) → (g : Group) → group_of f ≡ g → session_after r.name a g (address_heard r rs) (owner_heard a rs) (session_heard r a rs) ≡ Some j → HalfSession r a j (Frame f ∷ rs)
 session_step r a j f rs ih (ConnectionManagement s d (Rts x y z p)) e h =
     elim (pick_cases (s == a && is_held (address_heard r rs) d) (or_else (started (kind_of p) x (owner_heard a rs)) (session_heard r a rs)) (session_heard r a rs) (Some j) h) [
       | inl w ↦ (let t = and_parts (s == a) (is_held (address_heard r rs) d) w.0 in begin (kind_of p) (owner_heard a rs) refl refl w.1 (true_test s a t.0) (held_is (address_heard r rs) d t.1))
@@ -114,7 +117,7 @@ session_step r a j f rs ih (ConnectionManagement s d (Rts x y z p)) e h =
     calm k = rw e refl
 
     stays : (k : HalfSession r a j rs) → (s ≡ a → d ≡ k.to → kind_of p ≡ None) → HalfSession r a j (Frame f ∷ rs)
-    stays k q = session_more r a j f rs k (calm k) (subst (IsSessionQuietGroup r.name a k.to j.owner j.kind) (sym e) q) (λ l. rw e refl)
+    stays k q = session_more r a j f rs k (calm k) (subst (IsSessionQuietGroup r.name a k.to j.tag.owner j.tag.kind) (sym e) q) (λ l. rw e refl)
 
     away : HalfSession r a j rs → (s == a && is_held (address_heard r rs) d) ≡ false → HalfSession r a j (Frame f ∷ rs)
     away k w = stays k (λ u v. let y : (s == a && is_held (address_heard r rs) d) ≡ true = rw (k.now, u, v, same_test a) (same_test k.to) in cc)
@@ -123,7 +126,7 @@ session_step r a j f rs ih (ConnectionManagement s d (Rts x y z p)) e h =
     begin None o i m g u at = stays (ih j g) (λ v v2. i)
     begin (Some k) None i m g u at = (let c = session_owned r a rs j g in absurd cc)
     begin (Some k) (Some n) i m g u at =
-        let q : ◌≡◌ {A = Joining} (record { owner = n; kind = k; size = x; pieces = [] }) j = cc in
+        let q : ◌≡◌ {A = Joining} (record { tag = record { owner = n; kind = k }; size = x; pieces = [] }) j = cc in
         subst (λ (v : Joining). HalfSession r a v (Frame f ∷ rs)) q (record {
           to = d;
           count = y;
@@ -148,8 +151,8 @@ session_step r a j f rs ih (ConnectionManagement s d (Abort x p)) e h =
       | inr w ↦ away (ih j w.1) w.0
     ]
   where
-    stays : (k : HalfSession r a j rs) → (s ≡ a → d ≡ k.to → kind_of p ≢ Some j.kind) → HalfSession r a j (Frame f ∷ rs)
-    stays k q = session_more r a j f rs k (rw e refl) (subst (IsSessionQuietGroup r.name a k.to j.owner j.kind) (sym e) q) (λ l. rw e refl)
+    stays : (k : HalfSession r a j rs) → (s ≡ a → d ≡ k.to → kind_of p ≢ Some j.tag.kind) → HalfSession r a j (Frame f ∷ rs)
+    stays k q = session_more r a j f rs k (rw e refl) (subst (IsSessionQuietGroup r.name a k.to j.tag.owner j.tag.kind) (sym e) q) (λ l. rw e refl)
 
     away : HalfSession r a j rs → (s == a && is_held (address_heard r rs) d) ≡ false → HalfSession r a j (Frame f ∷ rs)
     away k w = stays k (λ u v. let y : (s == a && is_held (address_heard r rs) d) ≡ true = rw (k.now, u, v, same_test a) (same_test k.to) in absurd cc)
@@ -157,9 +160,9 @@ session_step r a j f rs ih (ConnectionManagement s d (Abort x p)) e h =
     drops : (o : Option Joining) → session_heard r a rs ≡ o → without_kind (kind_of p) o ≡ Some j → HalfSession r a j (Frame f ∷ rs)
     drops None i g = cc
     drops (Some b) i g =
-        elim (pick_cases (is_kind b.kind (kind_of p)) None (Some b) (Some j) g) [
+        elim (pick_cases (is_kind b.tag.kind (kind_of p)) None (Some b) (Some j) g) [
           | inl w ↦ cc w.1
-          | inr w ↦ (let q : b ≡ j = cc in stays (ih j (i ∙ w.1)) (λ u v. subst (λ (z : Joining). kind_of p ≢ Some z.kind) q (is_kind_self b.kind (kind_of p) w.0)))
+          | inr w ↦ (let q : b ≡ j = cc in stays (ih j (i ∙ w.1)) (λ u v. subst (λ (z : Joining). kind_of p ≢ Some z.tag.kind) q (is_kind_self b.tag.kind (kind_of p) w.0)))
         ]
 session_step r a j f rs ih (DataTransfer s d q) e h =
     elim (pick_cases (s == a && is_held (address_heard r rs) d) (unfinished (with_packet q (session_heard r a rs))) (session_heard r a rs) (Some j) h) [
@@ -175,46 +178,46 @@ session_step r a j f rs ih (DataTransfer s d q) e h =
     away : HalfSession r a j rs → (s == a && is_held (address_heard r rs) d) ≡ false → HalfSession r a j (Frame f ∷ rs)
     away k w =
         let test : (s == a && d == k.to) ≡ false = (let g : (s == a && k.to == d) ≡ false = rw k.now at w in rw (swap_test d k.to) g) in
-        session_more r a j f rs k (rw e refl) (subst (IsSessionQuietGroup r.name a k.to j.owner j.kind) (sym e) tt) (λ l. rw (e, test) refl)
+        session_more r a j f rs k (rw e refl) (subst (IsSessionQuietGroup r.name a k.to j.tag.owner j.tag.kind) (sym e) tt) (λ l. rw (e, test) refl)
 session_step r a j f rs ih (AddressClaimed s n) e h =
-    elim (pick_cases (is_contest r.name (address_heard r rs) (AddressClaimed s n)) None (if s == a then kept_under n (session_heard r a rs) else session_heard r a rs) (Some j) h) [
+    elim (pick_cases (is_contest r.name (address_heard r rs) (AddressClaimed s n)) None (if s == a then kept_by_owner n (session_heard r a rs) else session_heard r a rs) (Some j) h) [
       | inl v ↦ cc v.1
       | inr v ↦
-          elim (pick_cases (s == a) (kept_under n (session_heard r a rs)) (session_heard r a rs) (Some j) v.1) [
+          elim (pick_cases (s == a) (kept_by_owner n (session_heard r a rs)) (session_heard r a rs) (Some j) v.1) [
             | inl w ↦ keep (session_heard r a rs) refl w.1 v.0
             | inr w ↦ stays j (ih j w.1) v.0 (λ u. let y : (s == a) ≡ true = rw u (same_test a) in absurd cc)
           ]
     ]
   where
-    stays : (i : Joining) (k : HalfSession r a i rs) → is_contest r.name (address_heard r rs) (AddressClaimed s n) ≡ false → (s ≡ a → n ≡ i.owner) → HalfSession r a i (Frame f ∷ rs)
+    stays : (i : Joining) (k : HalfSession r a i rs) → is_contest r.name (address_heard r rs) (AddressClaimed s n) ≡ false → (s ≡ a → n ≡ i.tag.owner) → HalfSession r a i (Frame f ∷ rs)
     stays i k c q =
         let calm : is_contest r.name (Some k.to) (AddressClaimed s n) ≡ false = ap (λ (v : Option ℕ). is_contest r.name v (AddressClaimed s n)) (sym k.now) ∙ c in
-        session_more r a i f rs k (ap (is_contest r.name (Some k.to)) e ∙ calm) (subst (IsSessionQuietGroup r.name a k.to i.owner i.kind) (sym e) (calm, q)) (λ l. rw e refl)
+        session_more r a i f rs k (ap (is_contest r.name (Some k.to)) e ∙ calm) (subst (IsSessionQuietGroup r.name a k.to i.tag.owner i.tag.kind) (sym e) (calm, q)) (λ l. rw e refl)
 
-    keep : (o : Option Joining) → session_heard r a rs ≡ o → kept_under n o ≡ Some j → is_contest r.name (address_heard r rs) (AddressClaimed s n) ≡ false → HalfSession r a j (Frame f ∷ rs)
+    keep : (o : Option Joining) → session_heard r a rs ≡ o → kept_by_owner n o ≡ Some j → is_contest r.name (address_heard r rs) (AddressClaimed s n) ≡ false → HalfSession r a j (Frame f ∷ rs)
     keep None i g c = cc
     keep (Some b) i g c =
-        elim (pick_cases (n == b.owner) (Some b) None (Some j) g) [
-          | inl w ↦ (let q : b ≡ j = cc in subst (λ (z : Joining). HalfSession r a z (Frame f ∷ rs)) q (stays b (ih b i) c (λ u. true_test n b.owner w.0)))
+        elim (pick_cases (n == b.tag.owner) (Some b) None (Some j) g) [
+          | inl w ↦ (let q : b ≡ j = cc in subst (λ (z : Joining). HalfSession r a z (Frame f ∷ rs)) q (stays b (ih b i) c (λ u. true_test n b.tag.owner w.0)))
           | inr w ↦ cc w.1
         ]
-session_step r a j f rs ih (ConnectionManagement s d (Bam x y p)) e h = (let k = ih j h in session_more r a j f rs k (rw e refl) (subst (IsSessionQuietGroup r.name a k.to j.owner j.kind) (sym e) tt) (λ l. rw e refl))
-session_step r a j f rs ih (ConnectionManagement s d (Cts x y p)) e h = (let k = ih j h in session_more r a j f rs k (rw e refl) (subst (IsSessionQuietGroup r.name a k.to j.owner j.kind) (sym e) tt) (λ l. rw e refl))
-session_step r a j f rs ih (ConnectionManagement s d (EndAck x y p)) e h = (let k = ih j h in session_more r a j f rs k (rw e refl) (subst (IsSessionQuietGroup r.name a k.to j.owner j.kind) (sym e) tt) (λ l. rw e refl))
-session_step r a j f rs ih (CannotClaim m) e h = (let k = ih j h in session_more r a j f rs k (rw e refl) (subst (IsSessionQuietGroup r.name a k.to j.owner j.kind) (sym e) tt) (λ l. rw e refl))
-session_step r a j f rs ih (Request p d s) e h = (let k = ih j h in session_more r a j f rs k (rw e refl) (subst (IsSessionQuietGroup r.name a k.to j.owner j.kind) (sym e) tt) (λ l. rw e refl))
-session_step r a j f rs ih (Acknowledgment c q p d s) e h = (let k = ih j h in session_more r a j f rs k (rw e refl) (subst (IsSessionQuietGroup r.name a k.to j.owner j.kind) (sym e) tt) (λ l. rw e refl))
-session_step r a j f rs ih (Diagnostic x s q) e h = (let k = ih j h in session_more r a j f rs k (rw e refl) (subst (IsSessionQuietGroup r.name a k.to j.owner j.kind) (sym e) tt) (λ l. rw e refl))
-session_step r a j f rs ih Other e h = (let k = ih j h in session_more r a j f rs k (rw e refl) (subst (IsSessionQuietGroup r.name a k.to j.owner j.kind) (sym e) tt) (λ l. rw e refl))
+session_step r a j f rs ih (ConnectionManagement s d (Bam x y p)) e h = (let k = ih j h in session_more r a j f rs k (rw e refl) (subst (IsSessionQuietGroup r.name a k.to j.tag.owner j.tag.kind) (sym e) tt) (λ l. rw e refl))
+session_step r a j f rs ih (ConnectionManagement s d (Cts x y p)) e h = (let k = ih j h in session_more r a j f rs k (rw e refl) (subst (IsSessionQuietGroup r.name a k.to j.tag.owner j.tag.kind) (sym e) tt) (λ l. rw e refl))
+session_step r a j f rs ih (ConnectionManagement s d (EndAck x y p)) e h = (let k = ih j h in session_more r a j f rs k (rw e refl) (subst (IsSessionQuietGroup r.name a k.to j.tag.owner j.tag.kind) (sym e) tt) (λ l. rw e refl))
+session_step r a j f rs ih (CannotClaim m) e h = (let k = ih j h in session_more r a j f rs k (rw e refl) (subst (IsSessionQuietGroup r.name a k.to j.tag.owner j.tag.kind) (sym e) tt) (λ l. rw e refl))
+session_step r a j f rs ih (Request p d s) e h = (let k = ih j h in session_more r a j f rs k (rw e refl) (subst (IsSessionQuietGroup r.name a k.to j.tag.owner j.tag.kind) (sym e) tt) (λ l. rw e refl))
+session_step r a j f rs ih (Acknowledgment c q p d s) e h = (let k = ih j h in session_more r a j f rs k (rw e refl) (subst (IsSessionQuietGroup r.name a k.to j.tag.owner j.tag.kind) (sym e) tt) (λ l. rw e refl))
+session_step r a j f rs ih (Diagnostic x s q) e h = (let k = ih j h in session_more r a j f rs k (rw e refl) (subst (IsSessionQuietGroup r.name a k.to j.tag.owner j.tag.kind) (sym e) tt) (λ l. rw e refl))
+session_step r a j f rs ih Other e h = (let k = ih j h in session_more r a j f rs k (rw e refl) (subst (IsSessionQuietGroup r.name a k.to j.tag.owner j.tag.kind) (sym e) tt) (λ l. rw e refl))
 
-pub session_back : (r : Settings) (a : ℕ) (rs : List Reading) (j : Joining) → session_heard r a rs ≡ Some j → HalfSession r a j rs
+pub session_back : (r : StationSettings) (a : ℕ) (rs : List Reading) (j : Joining) → session_heard r a rs ≡ Some j → HalfSession r a j rs
 session_back r a [] j h = cc
 session_back r a (Gap n ∷ rs) j h = cc
 session_back r a (Empty ∷ rs) j h = session_empty r a j rs (session_back r a rs j h)
 session_back r a (Frame f ∷ rs) j h = session_step r a j f rs (session_back r a rs) (group_of f) refl h
 
 -- while a session is quiet the station keeps its address, and the source its owner
-pub quiet_address : (r : Settings) (a to n : ℕ) (k : Kind) (since : List Reading) (start : FrameValue) (before : List Reading) (size count most pgn : ℕ) → group_of start ≡ ConnectionManagement a to (Rts size count most pgn) → address_heard r before ≡ Some to → IsSessionQuiet r.name a to n k since → address_heard r (since ++ Frame start ∷ before) ≡ Some to
+pub quiet_address : (r : StationSettings) (a to n : ℕ) (k : Kind) (since : List Reading) (start : FrameValue) (before : List Reading) (size count most pgn : ℕ) → group_of start ≡ ConnectionManagement a to (Rts size count most pgn) → address_heard r before ≡ Some to → IsSessionQuiet r.name a to n k since → address_heard r (since ++ Frame start ∷ before) ≡ Some to
 quiet_address r a to n k [] start before x y z p e h q = address_read r start before (rw e refl) ∙ h
 quiet_address r a to n k (Gap m ∷ since) start before x y z p e h q = absurd q
 quiet_address r a to n k (Empty ∷ since) start before x y z p e h q = address_empty r (since ++ Frame start ∷ before) ∙ quiet_address r a to n k since start before x y z p e h q
@@ -226,7 +229,7 @@ quiet_address r a to n k (Frame f ∷ since) start before x y z p e h q =
     go (AddressClaimed s m) i = i.0
     go _ i = refl
 
-pub session_from : (r : Settings) (a to n : ℕ) (k : Kind) (size count most pgn : ℕ) (start : FrameValue) (since before : List Reading) → group_of start ≡ ConnectionManagement a to (Rts size count most pgn) → kind_of pgn ≡ Some k → owner_heard a before ≡ Some n → address_heard r before ≡ Some to → IsSessionQuiet r.name a to n k since → AreNumbered (packets_from a to since) → length (packets_from a to since) < packet_count size → session_heard r a (since ++ Frame start ∷ before) ≡ Some (joining n k size (packets_from a to since))
+pub session_from : (r : StationSettings) (a to n : ℕ) (k : Kind) (size count most pgn : ℕ) (start : FrameValue) (since before : List Reading) → group_of start ≡ ConnectionManagement a to (Rts size count most pgn) → kind_of pgn ≡ Some k → owner_heard a before ≡ Some n → address_heard r before ≡ Some to → IsSessionQuiet r.name a to n k since → AreNumbered (packets_heard a to since) → length (packets_heard a to since) < packet_count size → session_heard r a (since ++ Frame start ∷ before) ≡ Some (joining n k size (packets_heard a to since))
 session_from r a to n k size count most pgn start [] before s kd own held quiet num l = rw (s, held, same_test a, same_test to, kd, own) refl
 session_from r a to n k size count most pgn start (Gap m ∷ since) before s kd own held quiet num l = absurd quiet
 session_from r a to n k size count most pgn start (Empty ∷ since) before s kd own held quiet num l = session_from r a to n k size count most pgn start since before s kd own held quiet num l
@@ -237,7 +240,7 @@ session_from r a to n k size count most pgn start (Frame f ∷ since) before st 
     rs = since ++ Frame start ∷ before
 
     ps : List (List ℕ)
-    ps = packets_from a to since
+    ps = packets_heard a to since
 
     quiet_at : (g : Group) → group_of f ≡ g → IsSessionQuietGroup r.name a to n k g
     quiet_at g e = subst (IsSessionQuietGroup r.name a to n k) e quiet.0
@@ -269,7 +272,7 @@ session_from r a to n k size count most pgn start (Frame f ∷ since) before st 
         swapped u v i nm len = rw (← i) (test (s == a && u) nm len)
     go (AddressClaimed s m) e at ih = rw (e, at, ih (num_at (AddressClaimed s m) e) (len_at (AddressClaimed s m) e), (quiet_at (AddressClaimed s m) e).0) (test (s == a) refl)
       where
-        test : (t : Bool) → (s == a) ≡ t → (if t then kept_under m (Some (joining n k size ps)) else Some (joining n k size ps)) ≡ Some (joining n k size ps)
+        test : (t : Bool) → (s == a) ≡ t → (if t then kept_by_owner m (Some (joining n k size ps)) else Some (joining n k size ps)) ≡ Some (joining n k size ps)
         test false i = refl
         test true i = rw ((quiet_at (AddressClaimed s m) e).1 (true_test s a i), same_test n) refl
     go (ConnectionManagement s d (Bam x y p)) e at ih = rw e (ih (num_at (ConnectionManagement s d (Bam x y p)) e) (len_at (ConnectionManagement s d (Bam x y p)) e))

@@ -1,12 +1,11 @@
 -- What the older part of a list of frames allows the next one to be.
 use Rattle.std.specs.Prelude.{◌≡◌, ◌≢◌, ◌⊎◌, ℕ, zero, suc, ◌<◌, ◌≤◌, Bool, false, not, ◌&&◌, ◌||◌, ◌==◌, List, [], ◌∷◌, length, Option, Some, None, if◌then◌else◌}
-use Rattle.dm_messages.specs.View.{pgn_of_kind}
+use Rattle.dm_messages.specs.View.{pgn_of_kind, same_kind}
 use Rattle.dm_messages.specs.declared.kind.Kind.{Kind}
 use Rattle.parameter_group.specs.Group.{AddressClaimed, ConnectionManagement, DataTransfer, Diagnostic, Group, Request}
 use Rattle.transport.specs.Pieces.{packet, packet_count}
 use Rattle.transport.specs.declared.control.Control.TheVariants.{Abort, Bam, Rts}
-use Rattle.bus_model.specs.Heard.{same_kind}
-use Rattle.bus_model.specs.Messages.{Broadcast, IsProper, Message, One, Session, Way, frame_of_part, is_broadcast, is_session, last_part_of, payload_of, way_of}
+use Rattle.bus_model.specs.Messages.{Broadcast, IsProper, Message, One, Session, Way, frame_of_part, is_broadcast, is_session, last_part_of, payload_sent, way_of}
 use Rattle.bus_model.specs.Traffic.{Item, Tag, claimed_by, says}
 
 abbrev pub tag_of : Message → ℕ → Tag
@@ -14,11 +13,11 @@ tag_of m j = record { message = m; part = j }
 
 -- what the frame of a part says
 abbrev pub group_at : Way → Message → ℕ → Group
-group_at One m j = Diagnostic m.kind m.source (payload_of m)
-group_at Broadcast m zero = ConnectionManagement m.source 255 (Bam (length (payload_of m)) (packet_count (length (payload_of m))) (pgn_of_kind m.kind))
-group_at Broadcast m (suc j) = DataTransfer m.source 255 (packet (payload_of m) (suc j))
-group_at (Session d) m zero = ConnectionManagement m.source d (Rts (length (payload_of m)) (packet_count (length (payload_of m))) 255 (pgn_of_kind m.kind))
-group_at (Session d) m (suc j) = DataTransfer m.source d (packet (payload_of m) (suc j))
+group_at One m j = Diagnostic m.kind m.source (payload_sent m)
+group_at Broadcast m zero = ConnectionManagement m.source 255 (Bam (length (payload_sent m)) (packet_count (length (payload_sent m))) (pgn_of_kind m.kind))
+group_at Broadcast m (suc j) = DataTransfer m.source 255 (packet (payload_sent m) (suc j))
+group_at (Session d) m zero = ConnectionManagement m.source d (Rts (length (payload_sent m)) (packet_count (length (payload_sent m))) 255 (pgn_of_kind m.kind))
+group_at (Session d) m (suc j) = DataTransfer m.source d (packet (payload_sent m) (suc j))
 
 abbrev pub is_of : ℕ → Kind → Option Tag → Bool
 is_of n k None = false

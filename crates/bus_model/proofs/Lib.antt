@@ -4,7 +4,10 @@ pub mod Bridge
 pub mod Lookback
 pub mod Order
 pub mod Seats
+pub mod SeatLaw
 pub mod Units
+pub mod Begins
+pub mod Replying
 pub mod Path
 pub mod Sessions
 pub mod Shows

@@ -5,7 +5,7 @@ use Rattle.dm_messages.specs.declared.kind.Kind.TheVariants.{Dm1, Dm2}
 use Rattle.parameter_group.specs.Group.{AddressClaimed, ConnectionManagement, Group, Request}
 use Rattle.transport.specs.declared.control.Control.TheVariants.{Abort}
 use Rattle.bus_model.specs.Expected.{is_claim}
-use Rattle.bus_model.specs.Heard.{same_kind}
+use Rattle.dm_messages.specs.View.{same_kind}
 use Rattle.bus_model.specs.Messages.{Broadcast, Message, One, Session, Way, way_of}
 use Rattle.bus_model.specs.Traffic.{Item, Tag, claimed_by, owner_after, says}
 use Rattle.bus_model.proofs.Lawful.{Allowed, Continues, Follows, IsVoiced, Lawful, PartLaw, breaks, cast, is_cast, is_foreign, is_of, is_sess, last_of, sess, tag_of}

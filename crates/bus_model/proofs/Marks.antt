@@ -8,7 +8,7 @@ use Rattle.bus_model.specs.Marks.{IsMarkedBy, marked, marked_count, positions, r
 use Rattle.bus_model.specs.Traffic.{Item}
 use Rattle.bus_model.proofs.Lookback.{Every, every_front, every_rest}
 use Rattle.bus_model.proofs.Path.{Marked}
-use Rattle.bus_model.proofs.Units.{IsNotNamed}
+use Rattle.bus_model.proofs.SeatLaw.{IsNotNamed}
 use Rattle.bus_model.proofs.Whose.{IsFrom, MissedForeign, NumbersLaw, WorldNumbers}
 use Rattle.bus_model.proofs.Worlds.{WorldLaw}
 

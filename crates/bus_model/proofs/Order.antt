@@ -1,6 +1,6 @@
 -- Older parts of one NAME and kind are of earlier messages, or earlier parts.
 use Rattle.std.proofs.Common.{◌≡◌, ℕ, Bool, true, false, ◌==◌, List, [], ◌∷◌, Option, Some, None, if◌then◌else◌, sym, refl, ap, ◌∙◌, subst, inl, inr, arith}
-use Rattle.bus_model.specs.Heard.{same_kind}
+use Rattle.dm_messages.specs.View.{same_kind}
 use Rattle.bus_model.specs.Messages.{Message}
 use Rattle.bus_model.specs.Order.{IsBefore}
 use Rattle.bus_model.specs.Traffic.{Item, Tag}

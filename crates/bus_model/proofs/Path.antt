@@ -5,14 +5,15 @@ use Rattle.parameter_group.specs.Group.{AddressClaimed, ConnectionManagement, Da
 use Rattle.transport.specs.Pieces.{packet, pieces}
 use Rattle.transport.specs.declared.control.Control.TheVariants.{Bam}
 use Rattle.bus_model.specs.Expected.{Missed, Own, Received, Reception, is_anchored, is_claim, is_part, is_unbroken, passed, readings}
-use Rattle.bus_model.specs.Heard.{Joining, broadcast_after, broadcast_heard, is_whole, kept_under, kind_of, owner_heard, started, unfinished, with_packet}
-use Rattle.bus_model.specs.Messages.{Broadcast, IsAmong, IsProper, Message, One, Session, Way, payload_of, way_of}
+use Rattle.reassembly.specs.Partials.{is_whole, unfinished, with_packet}
+use Rattle.bus_model.specs.Heard.{Joining, broadcast_after, broadcast_heard, kept_by_owner, kind_of, owner_heard, started}
+use Rattle.bus_model.specs.Messages.{Broadcast, IsAmong, IsProper, Message, One, Session, Way, payload_sent, way_of}
 use Rattle.bus_model.specs.Traffic.{Item, Tag, claimed_by, owner_after, says}
 use Rattle.bus_model.proofs.Bridge.{count_of, count_taken, kind_back, many_last, next_is, next_pieces, session_to}
 use Rattle.bus_model.proofs.Lawful.{Allowed, Continues, IsHonest, IsPlain, Lawful, PartLaw, cast, group_at, is_cast, is_foreign, tag_of}
 use Rattle.bus_model.proofs.Lookback.{Every, and_parts, ne_test, pick_cases, same_test, true_test}
 use Rattle.bus_model.proofs.Seats.{part_says}
-use Rattle.bus_model.proofs.Units.{IsBooked, Numbered, number_below}
+use Rattle.bus_model.proofs.SeatLaw.{IsBooked, Numbered, number_below}
 
 -- a frame of the station: untagged
 pub record IsStations (st : ℕ) (e : Item) : Type 0 where
@@ -97,7 +98,7 @@ same_message x y (z ∷ begun) num i j e =
 
 -- what its packets up to the j-th give
 abbrev pub so_far : Message → ℕ → Joining
-so_far m j = record { owner = m.name; kind = m.kind; size = length (payload_of m); pieces = take j (pieces (payload_of m)) }
+so_far m j = record { tag = record { owner = m.name; kind = m.kind }; size = length (payload_sent m); pieces = take j (pieces (payload_sent m)) }
 
 abbrev pub grown : Message → ℕ → Bool → Option Joining
 grown m j whole = if whole then Some (so_far m j) else None
@@ -112,16 +113,16 @@ whole_is m j le = rw (count_taken m j le) refl
 pub half_open : (m : Message) (j : ℕ) → j < count_of m → half m j true ≡ Some (so_far m j)
 half_open m j l = rw (whole_is m j (omega arith), ne_test j (count_of m) (omega arith)) refl
 
-pub half_kept : (m : Message) (j n : ℕ) (b : Bool) → (n == m.name) ≡ true → kept_under n (half m j b) ≡ half m j b
+pub half_kept : (m : Message) (j n : ℕ) (b : Bool) → (n == m.name) ≡ true → kept_by_owner n (half m j b) ≡ half m j b
 half_kept m j n false i = refl
 half_kept m j n true i = go (is_whole (so_far m j))
   where
-    go : (t : Bool) → kept_under n (if t then None else Some (so_far m j)) ≡ (if t then None else Some (so_far m j))
+    go : (t : Bool) → kept_by_owner n (if t then None else Some (so_far m j)) ≡ (if t then None else Some (so_far m j))
     go true = refl
     go false = rw i refl
 
 -- a claim that is not foreign keeps what is half joined
-pub kept : (m : Message) (j n : ℕ) (b t u : Bool) → (n == m.name) ≡ u → t && not u ≡ false → (if t then kept_under n (half m j b) else half m j b) ≡ half m j b
+pub kept : (m : Message) (j n : ℕ) (b t u : Bool) → (n == m.name) ≡ u → t && not u ≡ false → (if t then kept_by_owner n (half m j b) else half m j b) ≡ half m j b
 kept m j n b false u i h = refl
 kept m j n b true false i h = cc
 kept m j n b true true i h = half_kept m j n b i
@@ -183,11 +184,11 @@ skip_frame st m j e xs o b allowed law unit c foreign notcast = by_frame (says e
     by_frame _ g = refl
 
 -- the next packet
-pub next_piece : (m : Message) (j : ℕ) (b : Bool) → IsProper m → way_of m ≢ One → j < count_of m → with_packet (packet (payload_of m) (suc j)) (half m j b) ≡ grown m (suc j) b
+pub next_piece : (m : Message) (j : ℕ) (b : Bool) → IsProper m → way_of m ≢ One → j < count_of m → with_packet (packet (payload_sent m) (suc j)) (half m j b) ≡ grown m (suc j) b
 next_piece m j false ok w l = refl
 next_piece m j true ok w l = rw (half_open m j l, next_is m j l, next_pieces m j l) refl
 
-pub started_half : (m : Message) (b : Bool) → 0 < count_of m → started (kind_of (pgn_of_kind m.kind)) (length (payload_of m)) (if b then Some m.name else None) ≡ half m 0 b
+pub started_half : (m : Message) (b : Bool) → 0 < count_of m → started (kind_of (pgn_of_kind m.kind)) (length (payload_sent m)) (if b then Some m.name else None) ≡ half m 0 b
 started_half m true l = rw (kind_back m.kind) (sym (half_open m 0 l))
 started_half m false l = rw (kind_back m.kind) refl
 
@@ -203,11 +204,11 @@ later_part m i o tag = rw (tag, same_test m.number, ne_test (suc i) 0 (omega ari
 -- part j with the path before it gives the half joined message with j pieces
 pub joined_part : (st : ℕ) (m : Message) (j : ℕ) (e : Item) (path : List Reception) → Marked st path → e.name ≢ st → way_of m ≡ Broadcast → j ≤ count_of m → PartLaw st e (tag_of m j) (passed path) → e.tag ≡ Some (tag_of m j) → ((i : ℕ) → suc i ≡ j → broadcast_heard m.source (readings path) ≡ half m i (is_unbroken m path)) → broadcast_after m.source (says e) (owner_heard m.source (readings path)) (broadcast_heard m.source (readings path)) ≡ half m j (if is_part m 0 e.tag then is_anchored m.source path else is_unbroken m path)
 joined_part st m zero e path mk ne w le law tag ih =
-    let f : says e ≡ ConnectionManagement m.source 255 (Bam (length (payload_of m)) (count_of m) (pgn_of_kind m.kind)) = part_says st e (tag_of m 0) (passed path) law ∙ ap (λ (v : Way). group_at v m 0) w in
+    let f : says e ≡ ConnectionManagement m.source 255 (Bam (length (payload_sent m)) (count_of m) (pgn_of_kind m.kind)) = part_says st e (tag_of m 0) (passed path) law ∙ ap (λ (v : Way). group_at v m 0) w in
     let o = owner_anchored st m.source m.name path mk (λ g. ne (law.name ∙ g)) law.owned in
     rw (f, same_test m.source, first_is_part m e.tag tag, o) (started_half m (is_anchored m.source path) (many_last m law.proper (not_one m w)).1)
 joined_part st m (suc i) e path mk ne w le law tag ih =
-    let f : says e ≡ DataTransfer m.source 255 (packet (payload_of m) (suc i)) = part_says st e (tag_of m (suc i)) (passed path) law ∙ ap (λ (v : Way). group_at v m (suc i)) w in
+    let f : says e ≡ DataTransfer m.source 255 (packet (payload_sent m) (suc i)) = part_says st e (tag_of m (suc i)) (passed path) law ∙ ap (λ (v : Way). group_at v m (suc i)) w in
     rw (f, same_test m.source, later_part m i e.tag tag, ih i refl) (ap unfinished (next_piece m i (is_unbroken m path) law.proper (not_one m w) (omega arith)))
 
 pub continues_is : (st : ℕ) (w : Way) (older : List Item) (m : Message) (i : ℕ) → w ≡ Broadcast → Continues st w older m (suc i) → cast m.name m.source older ≡ Some (tag_of m i)

@@ -10,7 +10,7 @@ use Rattle.bus_model.proofs.Clear.{part_is}
 use Rattle.bus_model.proofs.Lawful.{Lawful, is_of, last_of, tag_of}
 use Rattle.bus_model.proofs.Lookback.{Every, claimed_by_skip, pick_cases, same_kind_self, same_test}
 use Rattle.bus_model.proofs.Path.{Marked, first_is_part, later_part, not_first, own_no_claim, own_skip}
-use Rattle.bus_model.proofs.Units.{IsBooked, Numbered}
+use Rattle.bus_model.proofs.SeatLaw.{IsBooked, Numbered}
 use Rattle.bus_model.proofs.Wire.{follows_last}
 
 pub anchored_whole : (st a n : ℕ) (path : List Reception) → NoneMissed path → Marked st path → n ≢ st → claimed_by a (passed path) ≡ Some n → is_anchored a path ≡ true

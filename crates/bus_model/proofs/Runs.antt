@@ -13,8 +13,8 @@ use Rattle.transport.specs.declared.control.Control.TheVariants.{Cts}
 use Rattle.trouble_code.specs.Code.{code}
 use Rattle.bus_model.specs.Example.{ShowsAfterTakeover, ShowsEachWay, example_settings, faulty_memory}
 use Rattle.bus_model.specs.Heard.{address_heard}
-use Rattle.bus_model.specs.Machine.{Ask, Begin, Begins, Carry, Carry_station, Event, Grants, Hear, Join, Miss, Quiet, Read, Run, Seat, World, Yields, start}
-use Rattle.bus_model.specs.Messages.{IsProper, frame_of_part, last_part_of, payload_of, way_of}
+use Rattle.bus_model.specs.Machine.{Ask, Begin, Begins, Carry, Carry_station, Event, Sends, Hear, Join, Miss, Nothing, Read, Run, Seat, World, Claims, start}
+use Rattle.bus_model.specs.Messages.{IsProper, frame_of_part, last_part_of, payload_sent, way_of}
 
 abbrev pub ask_dm2 : FrameValue
 ask_dm2 = frame (pdu1_number 6 59904 0 249) (203 ∷ 254 ∷ 0 ∷ [])
@@ -23,10 +23,10 @@ abbrev pub clear_to_send : FrameValue
 clear_to_send = control_frame (Cts 2 1 65227) 249 0
 
 abbrev pub each_way : List Event
-each_way = Join 5 0 ∷ Carry 0 ∷ Read [] ∷ Carry_station ∷ Hear 0 Quiet ∷ Begin 0 Dm1 new_memory 0 ∷ Carry 0 ∷ Read [] ∷ Begin 0 Dm1 faulty_memory 0 ∷ Carry 0 ∷ Read [] ∷ Carry 0 ∷ Read [] ∷ Carry 0 ∷ Read [] ∷ Ask (ask_dm2 ∷ []) ∷ Carry_station ∷ Hear 0 (Begins Dm2 faulty_memory 0 249) ∷ Carry 0 ∷ Read (clear_to_send ∷ []) ∷ Carry_station ∷ Hear 0 (Grants 2) ∷ Carry 0 ∷ Read [] ∷ Carry 0 ∷ Read [] ∷ []
+each_way = Join 5 0 ∷ Carry 0 ∷ Read [] ∷ Carry_station ∷ Hear 0 Nothing ∷ Begin 0 Dm1 new_memory 0 ∷ Carry 0 ∷ Read [] ∷ Begin 0 Dm1 faulty_memory 0 ∷ Carry 0 ∷ Read [] ∷ Carry 0 ∷ Read [] ∷ Carry 0 ∷ Read [] ∷ Ask (ask_dm2 ∷ []) ∷ Carry_station ∷ Hear 0 (Begins Dm2 faulty_memory 0 249) ∷ Carry 0 ∷ Read (clear_to_send ∷ []) ∷ Carry_station ∷ Hear 0 (Sends 2) ∷ Carry 0 ∷ Read [] ∷ Carry 0 ∷ Read [] ∷ []
 
 abbrev pub after_takeover : List Event
-after_takeover = Join 5 0 ∷ Carry 0 ∷ Read [] ∷ Carry_station ∷ Hear 0 Quiet ∷ Begin 0 Dm1 faulty_memory 0 ∷ Carry 0 ∷ Read [] ∷ Carry 0 ∷ Miss 1 [] ∷ Carry 0 ∷ Read [] ∷ Join 4 0 ∷ Carry 1 ∷ Read [] ∷ Hear 0 (Yields None) ∷ Begin 1 Dm1 new_memory 0 ∷ Carry 1 ∷ Read [] ∷ []
+after_takeover = Join 5 0 ∷ Carry 0 ∷ Read [] ∷ Carry_station ∷ Hear 0 Nothing ∷ Begin 0 Dm1 faulty_memory 0 ∷ Carry 0 ∷ Read [] ∷ Carry 0 ∷ Miss 1 [] ∷ Carry 0 ∷ Read [] ∷ Join 4 0 ∷ Carry 1 ∷ Read [] ∷ Hear 0 (Claims None) ∷ Begin 1 Dm1 new_memory 0 ∷ Carry 1 ∷ Read [] ∷ []
 
 -- the memories of the run are lawful
 pub kept_code : (spn fmi : ℕ) → spn < 1000 → fmi < 32 → IsKeptCode (code spn fmi 1)
@@ -59,7 +59,7 @@ pub proper_faulty_memory : (number seat name : ℕ) (k : Kind) → IsProper (rec
 proper_faulty_memory number seat name k = record { memory = faulty_lawful; source = omega arith; destination = inl refl }
 
 pub proper_session : (number seat name : ℕ) → IsProper (record { number = number; seat = seat; name = name; kind = Dm2; memory = faulty_memory; source = 0; destination = 249 })
-unfolding payload_of
+unfolding payload_sent
 proper_session number seat name = record { memory = faulty_lawful; source = omega arith; destination = inr (omega arith, λ e. cc) }
 
 -- the small facts of its steps
@@ -93,7 +93,7 @@ other zero v s h e f = let g : v ≡ s = cc in let k : s.name ≡ 5 = subst (λ 
 other (suc x) v s h e f = cc
 
 pub each_way_run : (w : World) × Run (start example_settings) each_way w × ShowsEachWay w
-unfolding group_of way_of payload_of frame_of_part last_part_of address_heard
+unfolding group_of way_of payload_sent frame_of_part last_part_of address_heard
 each_way_run = (
   _,
   ((
@@ -205,7 +205,7 @@ each_way_run = (
 )
 
 pub takeover_run : (w : World) × Run (start example_settings) after_takeover w × ShowsAfterTakeover w
-unfolding group_of way_of payload_of frame_of_part last_part_of address_heard
+unfolding group_of way_of payload_sent frame_of_part last_part_of address_heard
 takeover_run = (
   _,
   ((

@@ -7,8 +7,9 @@ use Rattle.dm_messages.specs.declared.kind.Kind.TheVariants.{Dm1, Dm2}
 use Rattle.parameter_group.specs.Group.{Acknowledgment, AddressClaimed, CannotClaim, ConnectionManagement, DataTransfer, Diagnostic, Group, Other, Request, group_of}
 use Rattle.transport.specs.declared.control.Control.TheVariants.{Abort, Bam, Cts, EndAck, Rts}
 use Rattle.bus_model.specs.Expected.{is_claim}
-use Rattle.bus_model.specs.Heard.{is_contest, same_kind}
-use Rattle.bus_model.specs.Machine.{Seat, cuts, is_destination, is_of_session, is_to, item_of_part, parts_upto, plain, without_session}
+use Rattle.dm_messages.specs.View.{same_kind}
+use Rattle.parameter_group.specs.Calm.{is_contest, cuts}
+use Rattle.bus_model.specs.Machine.{Seat, is_of_session, session_address, way_address, item_of_part, parts_upto, plain_item, without_session}
 use Rattle.bus_model.specs.Messages.{Broadcast, IsProper, Message, One, Session, Way, is_broadcast, is_session, last_part_of, way_of}
 use Rattle.bus_model.specs.Order.{IsBefore}
 use Rattle.bus_model.specs.Traffic.{Item, Tag, claimed_by, owner_after, says}
@@ -166,7 +167,7 @@ pub plain_no_start : (f : Group) → IsPlain f → IsNoStart f
 plain_no_start (ConnectionManagement s d (Rts a b c k)) h = h
 plain_no_start _ h = tt
 
-pub sent_allowed : (st x n : ℕ) (f : FrameValue) (g : Group) (older : List Item) → group_of f ≡ g → IsPlain g → IsHonest n g → IsVoiced n g older → Allowed st (plain x n f) older
+pub sent_allowed : (st x n : ℕ) (f : FrameValue) (g : Group) (older : List Item) → group_of f ≡ g → IsPlain g → IsHonest n g → IsVoiced n g older → Allowed st (plain_item x n f) older
 sent_allowed st x n f g older e p h v = record {
   tagged = λ t i. cc;
   plain = λ t i. subst IsPlain (sym e) p;
@@ -199,7 +200,7 @@ claim_owns n (Some b) a d e = let i : b ≡ a = cc in rw (i, same_test a) refl
 abbrev pub IsReply : Seat → Group → Type 0
 IsReply s (AddressClaimed a m) = (s.held ≡ Some a) × (m ≡ s.name)
 IsReply s (CannotClaim m) = Unit {0}
-IsReply s (ConnectionManagement a d (Abort k p)) = (s.held ≡ Some a) × (is_destination s.session d ≡ false)
+IsReply s (ConnectionManagement a d (Abort k p)) = (s.held ≡ Some a) × (is_held (session_address s.session) d ≡ false)
 IsReply s (ConnectionManagement a d (Cts k n p)) = Unit {0}
 IsReply s (ConnectionManagement a d (EndAck k n p)) = Unit {0}
 IsReply s (Acknowledgment c r p d a) = Unit {0}
@@ -255,7 +256,7 @@ reply_breaks_none s (AddressClaimed b m) t d h o w held ne n =
     let k = ne_test t.message.source d (λ g. ne (sym g)) in
     rw (i, j, same_test t.message.source, same_test t.message.name, k) refl
 reply_breaks_none s (ConnectionManagement a b (Abort k p)) t d h o w held ne n =
-    let g : is_to (way_of t.message) b ≡ false = rw o at h.1 in
+    let g : is_held (way_address (way_of t.message)) b ≡ false = rw o at h.1 in
     let i : (d == b) ≡ false = rw w at g in
     let j : (b == d) ≡ false = swap_test b d ∙ i in
     rw (j, and_false (a == t.message.source), and_false (s.name == t.message.name)) refl
@@ -274,9 +275,9 @@ uncontested n m held (AddressClaimed b l) a c h ne e =
     flip false u h e = sym e
 uncontested n m held _ a c h ne e = refl
 
-pub uncut_is : (o : Option Tag) (f : Group) (t : Tag) (d : ℕ) → cuts o f ≡ false → o ≡ Some t → (way_of t.message) ≡ Session d → is_claim d f ≡ false
+pub uncut_is : (o : Option Tag) (f : Group) (t : Tag) (d : ℕ) → cuts (session_address o) f ≡ false → o ≡ Some t → (way_of t.message) ≡ Session d → is_claim d f ≡ false
 uncut_is o (AddressClaimed b l) t d c e w =
-    let g : is_to (way_of t.message) b ≡ false = rw e at c in
+    let g : is_held (way_address (way_of t.message)) b ≡ false = rw e at c in
     let i : (d == b) ≡ false = rw w at g in
     swap_test b d ∙ i
 uncut_is o _ t d c e w = refl

@@ -1,6 +1,6 @@
 -- What the station has half joined of sessions, reading by reading.
 use Rattle.std.proofs.Common.{◌≡◌, ◌≢◌, ℕ, suc, zero, ◌<◌, ◌≤◌, Bool, true, false, not, ◌&&◌, ◌==◌, List, [], ◌∷◌, ◌++◌, length, drop, Option, Some, None, if◌then◌else◌, sym, refl, ap, ◌∙◌, subst, inl, inr, arith}
-use Rattle.address_claim.specs.Claiming.{is_held}
+use Rattle.address_claim.specs.Claiming.{is_held, CanHold}
 use Rattle.can_frame.specs.declared.reading.Reading.{Reading}
 use Rattle.can_frame.specs.declared.reading.Reading.TheVariants.{Empty, Frame, Gap}
 use Rattle.dm_messages.specs.View.{pgn_of_kind}
@@ -10,16 +10,18 @@ use Rattle.transport.specs.Assembling.{is_next}
 use Rattle.transport.specs.Pieces.{packet}
 use Rattle.transport.specs.declared.control.Control.TheVariants.{Abort, Bam, Cts, EndAck, Rts}
 use Rattle.bus_model.specs.Expected.{Missed, Own, Received, Reception, is_anchored, is_unbroken, passed, readings}
-use Rattle.bus_model.specs.Heard.{Joining, Settings, address_heard, is_contest, is_kind, is_whole, kept_under, kind_of, or_else, owner_heard, session_after, session_heard, started, unfinished, with_packet, without_kind}
-use Rattle.bus_model.specs.Machine.{CanHold, IsFit}
-use Rattle.bus_model.specs.Messages.{Broadcast, IsAmong, IsProper, Message, One, Session, Way, is_session, last_part_of, payload_of, way_of}
+use Rattle.reassembly.specs.Partials.{is_whole, unfinished, with_packet}
+use Rattle.parameter_group.specs.Calm.{is_contest}
+use Rattle.bus_model.specs.Heard.{Joining, StationSettings, address_heard, is_kind, kept_by_owner, kind_of, or_else, owner_heard, session_after, session_heard, started, without_kind}
+use Rattle.bus_model.specs.Machine.{IsFit}
+use Rattle.bus_model.specs.Messages.{Broadcast, IsAmong, IsProper, Message, One, Session, Way, is_session, last_part_of, payload_sent, way_of}
 use Rattle.bus_model.specs.Traffic.{Item, Tag, claimed_by, owner_after, says}
 use Rattle.bus_model.proofs.Bridge.{address_hold, address_read, count_of, many_last}
 use Rattle.bus_model.proofs.Lawful.{Allowed, Continues, IsPlain, IsVoiced, Lawful, PartLaw, breaks, group_at, is_foreign, is_sess, sess, tag_of}
 use Rattle.bus_model.proofs.Lookback.{Every, and_parts, or_parts, pick_cases, same_test, true_test}
 use Rattle.bus_model.proofs.Path.{IsStations, Marked, claim_keeps, first_is_part, half, half_open, kept, later_part, next_piece, not_first, owner_anchored, started_half}
 use Rattle.bus_model.proofs.Seats.{part_says, swap_test}
-use Rattle.bus_model.proofs.Units.{IsBooked, Numbered}
+use Rattle.bus_model.proofs.SeatLaw.{IsBooked, Numbered}
 
 pub break_foreign : (n a d by : ℕ) (f : Group) → breaks n a d by f ≡ false → is_foreign n a f ≡ false
 break_foreign n a d by (AddressClaimed s m) h = (or_parts (s == a && not (m == n)) (s == d) h).0
@@ -65,19 +67,19 @@ pack_way (Session e) x (suc p) s d q le h = (refl, cc)
 
 -- a session's part that may go on, and the path back to it: where that is unbroken, the station has the
 -- destination's address, and it has joined just the parts so far
-pub record SessionAt (r : Settings) (path : List Reception) (m : Message) (d j : ℕ) : Type 0 where
+pub record SessionAt (r : StationSettings) (path : List Reception) (m : Message) (d j : ℕ) : Type 0 where
   pub held : is_unbroken m path ≡ true → address_heard r (readings path) ≡ Some d
   pub joined : session_heard r m.source (readings path) ≡ half m j (is_unbroken m path)
 
-abbrev pub SessionsLaw : Settings → List Reception → Type 0
+abbrev pub SessionsLaw : StationSettings → List Reception → Type 0
 SessionsLaw r path = (m : Message) (d j : ℕ) → (way_of m) ≡ Session d → sess m.name m.source d (passed path) ≡ Some (tag_of m j) → SessionAt r path m d j
 
 -- the station's address is the one that it claimed last
-abbrev pub OnlyHeld : Settings → List Reception → Type 0
+abbrev pub OnlyHeld : StationSettings → List Reception → Type 0
 OnlyHeld r path = (d : ℕ) → claimed_by d (passed path) ≡ Some r.name → address_heard r (readings path) ≡ Some d
 
 -- the frame of another neither starts nor goes on nor drops the session
-pub skip_session : (r : Settings) (m : Message) (d j : ℕ) (e : Item) (xs : List Item) (held own : Option ℕ) (b : Bool) → CanHold held → Allowed r.name e xs → Lawful r.name xs → e.name ≢ r.name → sess m.name m.source d xs ≡ Some (tag_of m j) → (b ≡ true → held ≡ Some d) → breaks m.name m.source d e.name (says e) ≡ false → is_sess m.name e.tag ≡ false → session_after r.name m.source (says e) held own (half m j b) ≡ half m j b
+pub skip_session : (r : StationSettings) (m : Message) (d j : ℕ) (e : Item) (xs : List Item) (held own : Option ℕ) (b : Bool) → CanHold held → Allowed r.name e xs → Lawful r.name xs → e.name ≢ r.name → sess m.name m.source d xs ≡ Some (tag_of m j) → (b ≡ true → held ≡ Some d) → breaks m.name m.source d e.name (says e) ≡ false → is_sess m.name e.tag ≡ false → session_after r.name m.source (says e) held own (half m j b) ≡ half m j b
 skip_session r m d j e xs held own b can allowed law unit c at unbroke notsess = by_frame (says e) refl
   where
     mine : claimed_by m.source xs ≡ Some m.name
@@ -116,7 +118,7 @@ skip_session r m d j e xs held own b can allowed law unit c at unbroke notsess =
             rw i (kept m j n true (s == m.source) (n == m.name) refl p.0)
         go false at = none (is_contest r.name held (AddressClaimed s n)) (s == m.source)
           where
-            none : (t u : Bool) → (if t then None else (if u then kept_under n None else None)) ≡ half m j false
+            none : (t u : Bool) → (if t then None else (if u then kept_by_owner n None else None)) ≡ half m j false
             none true u = refl
             none false true = refl
             none false false = refl
@@ -190,16 +192,16 @@ part_uncontested me held (Session d) m zero = refl
 part_uncontested me held (Session d) m (suc j) = refl
 
 -- so the station stays at its address
-pub address_part : (r : Settings) (e : Item) (m : Message) (j : ℕ) (path : List Reception) → PartLaw r.name e (tag_of m j) (passed path) → address_heard r (readings (Received e ∷ path)) ≡ address_heard r (readings path)
+pub address_part : (r : StationSettings) (e : Item) (m : Message) (j : ℕ) (path : List Reception) → PartLaw r.name e (tag_of m j) (passed path) → address_heard r (readings (Received e ∷ path)) ≡ address_heard r (readings path)
 address_part r e m j path p =
     address_read r e.frame (readings path) (ap (is_contest r.name (address_heard r (readings path))) (part_says r.name e (tag_of m j) (passed path) p) ∙ part_uncontested r.name (address_heard r (readings path)) (way_of m) m j)
 
 -- a piece of the session
-pub piece_joined : (m : Message) (d i : ℕ) (held : Option ℕ) (b : Bool) → IsProper m → way_of m ≢ One → i < count_of m → (b ≡ true → held ≡ Some d) → (if true && is_held held d then unfinished (with_packet (packet (payload_of m) (suc i)) (half m i b)) else half m i b) ≡ half m (suc i) b
+pub piece_joined : (m : Message) (d i : ℕ) (held : Option ℕ) (b : Bool) → IsProper m → way_of m ≢ One → i < count_of m → (b ≡ true → held ≡ Some d) → (if true && is_held held d then unfinished (with_packet (packet (payload_sent m) (suc i)) (half m i b)) else half m i b) ≡ half m (suc i) b
 piece_joined m d i held true ok w l at = let q = at refl in rw (q, same_test d) (ap unfinished (next_piece m i true ok w l))
 piece_joined m d i held false ok w l at = none (is_held held d)
   where
-    none : (t : Bool) → (if true && t then unfinished (with_packet (packet (payload_of m) (suc i)) None) else None) ≡ half m (suc i) false
+    none : (t : Bool) → (if true && t then unfinished (with_packet (packet (payload_sent m) (suc i)) None) else None) ≡ half m (suc i) false
     none true = refl
     none false = refl
 
@@ -211,22 +213,22 @@ or_started m true before l none = rw (half_open m 0 l) refl
 or_started m false before l none = none refl
 
 -- what is half joined from an address belongs to its owner
-pub session_after_owned : (me a : ℕ) (g : Group) (held own : Option ℕ) (before : Option Joining) → ((j : Joining) → before ≡ Some j → own ≡ Some j.owner) → (j : Joining) → session_after me a g held own before ≡ Some j → owner_after a g own ≡ Some j.owner
+pub session_after_owned : (me a : ℕ) (g : Group) (held own : Option ℕ) (before : Option Joining) → ((j : Joining) → before ≡ Some j → own ≡ Some j.tag.owner) → (j : Joining) → session_after me a g held own before ≡ Some j → owner_after a g own ≡ Some j.tag.owner
 session_after_owned me a (AddressClaimed s n) held own before ih j h =
-    elim (pick_cases (is_contest me held (AddressClaimed s n)) None (if s == a then kept_under n before else before) (Some j) h) [
+    elim (pick_cases (is_contest me held (AddressClaimed s n)) None (if s == a then kept_by_owner n before else before) (Some j) h) [
       | inl v ↦ cc v.1
       | inr v ↦
-          elim (pick_cases (s == a) (kept_under n before) before (Some j) v.1) [
+          elim (pick_cases (s == a) (kept_by_owner n before) before (Some j) v.1) [
             | inl u ↦ rw (u.0) (keep before u.1)
             | inr u ↦ rw (u.0) (ih j u.1)
           ]
     ]
   where
-    keep : (o : Option Joining) → kept_under n o ≡ Some j → Some n ≡ Some j.owner
+    keep : (o : Option Joining) → kept_by_owner n o ≡ Some j → Some n ≡ Some j.tag.owner
     keep None e = cc
     keep (Some b) e =
-        elim (pick_cases (n == b.owner) (Some b) None (Some j) e) [
-          | inl w ↦ (let q : b ≡ j = cc in ap Some (true_test n b.owner w.0 ∙ ap (λ (v : Joining). v.owner) q))
+        elim (pick_cases (n == b.tag.owner) (Some b) None (Some j) e) [
+          | inl w ↦ (let q : b ≡ j = cc in ap Some (true_test n b.tag.owner w.0 ∙ ap (λ (v : Joining). v.tag.owner) q))
           | inr w ↦ cc w.1
         ]
 session_after_owned me a (ConnectionManagement s d (Rts x y z p)) held own before ih j h =
@@ -235,22 +237,22 @@ session_after_owned me a (ConnectionManagement s d (Rts x y z p)) held own befor
       | inr v ↦ ih j v.1
     ]
   where
-    start : (k : Option Kind) (o : Option ℕ) → own ≡ o → or_else (started k x o) before ≡ Some j → own ≡ Some j.owner
+    start : (k : Option Kind) (o : Option ℕ) → own ≡ o → or_else (started k x o) before ≡ Some j → own ≡ Some j.tag.owner
     start None o e g = ih j g
     start (Some k) None e g = ih j g
     start (Some k) (Some n) e g =
-        let q : ◌≡◌ {A = Joining} (record { owner = n; kind = k; size = x; pieces = [] }) j = cc in
-        e ∙ ap (λ (v : Joining). Some v.owner) q
+        let q : ◌≡◌ {A = Joining} (record { tag = record { owner = n; kind = k }; size = x; pieces = [] }) j = cc in
+        e ∙ ap (λ (v : Joining). Some v.tag.owner) q
 session_after_owned me a (ConnectionManagement s d (Abort x p)) held own before ih j h =
     elim (pick_cases (s == a && is_held held d) (without_kind (kind_of p) before) before (Some j) h) [
       | inl v ↦ drops before refl v.1
       | inr v ↦ ih j v.1
     ]
   where
-    drops : (o : Option Joining) → before ≡ o → without_kind (kind_of p) o ≡ Some j → own ≡ Some j.owner
+    drops : (o : Option Joining) → before ≡ o → without_kind (kind_of p) o ≡ Some j → own ≡ Some j.tag.owner
     drops None i e = cc
     drops (Some b) i e =
-        elim (pick_cases (is_kind b.kind (kind_of p)) None (Some b) (Some j) e) [
+        elim (pick_cases (is_kind b.tag.kind (kind_of p)) None (Some b) (Some j) e) [
           | inl w ↦ cc w.1
           | inr w ↦ ih j (i ∙ w.1)
         ]
@@ -260,19 +262,19 @@ session_after_owned me a (DataTransfer s d q) held own before ih j h =
       | inr v ↦ ih j v.1
     ]
   where
-    more : (o : Option Joining) → before ≡ o → unfinished (with_packet q o) ≡ Some j → own ≡ Some j.owner
+    more : (o : Option Joining) → before ≡ o → unfinished (with_packet q o) ≡ Some j → own ≡ Some j.tag.owner
     more None i e = cc
     more (Some b) i e = next (is_next b.size b.pieces q) e
       where
         grew : Joining
         grew = record b { pieces = b.pieces ++ drop 1 q ∷ [] }
 
-        next : (t : Bool) → unfinished (if t then Some (record b { pieces = b.pieces ++ drop 1 q ∷ [] }) else None) ≡ Some j → own ≡ Some j.owner
+        next : (t : Bool) → unfinished (if t then Some (record b { pieces = b.pieces ++ drop 1 q ∷ [] }) else None) ≡ Some j → own ≡ Some j.tag.owner
         next false e = cc
         next true e =
             elim (pick_cases (is_whole (record b { pieces = b.pieces ++ drop 1 q ∷ [] })) None (Some (record b { pieces = b.pieces ++ drop 1 q ∷ [] })) (Some j) e) [
               | inl w ↦ cc w.1
-              | inr w ↦ (let g : ◌≡◌ {A = Joining} (record b { pieces = b.pieces ++ drop 1 q ∷ [] }) j = cc in ih b i ∙ ap (λ (v : Joining). Some v.owner) g)
+              | inr w ↦ (let g : ◌≡◌ {A = Joining} (record b { pieces = b.pieces ++ drop 1 q ∷ [] }) j = cc in ih b i ∙ ap (λ (v : Joining). Some v.tag.owner) g)
             ]
 session_after_owned me a (ConnectionManagement s d (Bam x y p)) held own before ih j h = ih j h
 session_after_owned me a (ConnectionManagement s d (Cts x y p)) held own before ih j h = ih j h
@@ -283,16 +285,16 @@ session_after_owned me a (Acknowledgment c q p d s) held own before ih j h = ih 
 session_after_owned me a (Diagnostic k s q) held own before ih j h = ih j h
 session_after_owned me a Other held own before ih j h = ih j h
 
-pub session_owned : (r : Settings) (a : ℕ) (rs : List Reading) (j : Joining) → session_heard r a rs ≡ Some j → owner_heard a rs ≡ Some j.owner
+pub session_owned : (r : StationSettings) (a : ℕ) (rs : List Reading) (j : Joining) → session_heard r a rs ≡ Some j → owner_heard a rs ≡ Some j.tag.owner
 session_owned r a [] j h = cc
 session_owned r a (Gap n ∷ rs) j h = cc
 session_owned r a (Empty ∷ rs) j h = session_owned r a rs j h
 session_owned r a (Frame f ∷ rs) j h = session_after_owned r.name a (group_of f) (address_heard r rs) (owner_heard a rs) (session_heard r a rs) (session_owned r a rs) j h
 
 -- a part of the session is read
-pub session_part : (r : Settings) (m : Message) (d j : ℕ) (e : Item) (path : List Reception) → Marked r.name path → e.name ≢ r.name → way_of m ≡ Session d → PartLaw r.name e (tag_of m j) (passed path) → e.tag ≡ Some (tag_of m j) → OnlyHeld r path → SessionsLaw r path → SessionAt r (Received e ∷ path) m d j
+pub session_part : (r : StationSettings) (m : Message) (d j : ℕ) (e : Item) (path : List Reception) → Marked r.name path → e.name ≢ r.name → way_of m ≡ Session d → PartLaw r.name e (tag_of m j) (passed path) → e.tag ≡ Some (tag_of m j) → OnlyHeld r path → SessionsLaw r path → SessionAt r (Received e ∷ path) m d j
 session_part r m d zero e path mk ne w p tag only law =
-    let f : says e ≡ ConnectionManagement m.source d (Rts (length (payload_of m)) (count_of m) 255 (pgn_of_kind m.kind)) = part_says r.name e (tag_of m 0) (passed path) p ∙ ap (λ (v : Way). group_at v m 0) w in
+    let f : says e ≡ ConnectionManagement m.source d (Rts (length (payload_sent m)) (count_of m) 255 (pgn_of_kind m.kind)) = part_says r.name e (tag_of m 0) (passed path) p ∙ ap (λ (v : Way). group_at v m 0) w in
     let o = owner_anchored r.name m.source m.name path mk (λ g. ne (p.name ∙ g)) p.owned in
     let at : address_heard r (readings path) ≡ Some d = only d (continues_start r.name (way_of m) (passed path) m d w p.joined) in
     let l = (many_last m p.proper (no_one m d w)).1 in
@@ -310,7 +312,7 @@ session_part r m d zero e path mk ne w p tag only law =
         let b : owner_heard m.source (readings path) ≡ None = o ∙ rw u refl in
         cc
 session_part r m d (suc i) e path mk ne w p tag only law =
-    let f : says e ≡ DataTransfer m.source d (packet (payload_of m) (suc i)) = part_says r.name e (tag_of m (suc i)) (passed path) p ∙ ap (λ (v : Way). group_at v m (suc i)) w in
+    let f : says e ≡ DataTransfer m.source d (packet (payload_sent m) (suc i)) = part_says r.name e (tag_of m (suc i)) (passed path) p ∙ ap (λ (v : Way). group_at v m (suc i)) w in
     let before = law m d i w (continues_session r.name (way_of m) (passed path) m d i w p.joined) in
     let le = (many_last m p.proper (no_one m d w)).0 in
     let place : suc i ≤ last_part_of m = p.upto in
@@ -321,7 +323,7 @@ session_part r m d (suc i) e path mk ne w p tag only law =
     }
 
 -- a frame is read
-pub sessions_read : (r : Settings) → IsFit r → (begun : List Message) (e : Item) (path : List Reception) → Numbered begun → Lawful r.name (e ∷ passed path) → Marked r.name (Received e ∷ path) → Every (IsBooked begun) (e ∷ passed path) → OnlyHeld r path → SessionsLaw r path → SessionsLaw r (Received e ∷ path)
+pub sessions_read : (r : StationSettings) → IsFit r → (begun : List Message) (e : Item) (path : List Reception) → Numbered begun → Lawful r.name (e ∷ passed path) → Marked r.name (Received e ∷ path) → Every (IsBooked begun) (e ∷ passed path) → OnlyHeld r path → SessionsLaw r path → SessionsLaw r (Received e ∷ path)
 sessions_read r fit begun e path num law mk booked only before m d j w c =
     elim (pick_cases (breaks m.name m.source d e.name (says e)) None (if is_sess m.name e.tag then e.tag else sess m.name m.source d (passed path)) (Some (tag_of m j)) c) [
       | inl v ↦ cc v.1
@@ -356,7 +358,7 @@ sessions_read r fit begun e path num law mk booked only before m d j w c =
         }
 
 -- a frame of the station's own passes
-pub sessions_own : (r : Settings) (e : Item) (path : List Reception) → IsStations r.name e → SessionsLaw r path → SessionsLaw r (Own e ∷ path)
+pub sessions_own : (r : StationSettings) (e : Item) (path : List Reception) → IsStations r.name e → SessionsLaw r path → SessionsLaw r (Own e ∷ path)
 sessions_own r e path own before m d j w c =
     elim (pick_cases (breaks m.name m.source d e.name (says e)) None (if is_sess m.name e.tag then e.tag else sess m.name m.source d (passed path)) (Some (tag_of m j)) c) [
       | inl v ↦ cc v.1
@@ -366,5 +368,5 @@ sessions_own r e path own before m d j w c =
     ]
 
 -- frames are missed
-pub sessions_missed : (r : Settings) (es : List Item) (path : List Reception) → SessionsLaw r (Missed es ∷ path)
+pub sessions_missed : (r : StationSettings) (es : List Item) (path : List Reception) → SessionsLaw r (Missed es ∷ path)
 sessions_missed r es path m d j w c = record { held = λ h. cc; joined = refl }

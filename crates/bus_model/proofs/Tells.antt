@@ -1,10 +1,10 @@
 -- What is expected gains the message whose last part is received, and nothing else.
 use Rattle.std.proofs.Common.{◌≡◌, ◌≢◌, ℕ, ◌<◌, ◌≤◌, Bool, true, false, ◌&&◌, ◌==◌, List, [], ◌∷◌, length, Option, Some, None, if◌then◌else◌, sym, refl, ap, ◌∙◌, subst, inl, inr, arith}
-use Rattle.dm_messages.specs.View.{view}
+use Rattle.dm_messages.specs.View.{view, same_kind}
 use Rattle.dm_messages.specs.declared.kind.Kind.{Kind}
 use Rattle.dm_messages.specs.declared.shown.Shown.{Shown}
 use Rattle.bus_model.specs.Expected.{Missed, Own, Received, Reception, expected, is_clear, is_part, is_unbroken, passed, readings}
-use Rattle.bus_model.specs.Heard.{Settings, entries_heard, put, same_kind}
+use Rattle.bus_model.specs.Heard.{StationSettings, entries_heard, put}
 use Rattle.bus_model.specs.Messages.{IsAmong, IsProper, Message, last_part_of, way_of}
 use Rattle.bus_model.specs.Order.{IsBefore}
 use Rattle.bus_model.specs.Traffic.{Item, Tag, says}
@@ -15,7 +15,7 @@ use Rattle.bus_model.proofs.Order.{all_before}
 use Rattle.bus_model.proofs.Path.{Marked, same_message}
 use Rattle.bus_model.proofs.Sessions.{SessionsLaw}
 use Rattle.bus_model.proofs.Shows.{ended_at, ended_plain, entry, gained}
-use Rattle.bus_model.proofs.Units.{IsBooked, Numbered, number_below}
+use Rattle.bus_model.proofs.SeatLaw.{IsBooked, Numbered, number_below}
 
 -- what the message shows
 abbrev pub shown_by : Message → Shown
@@ -178,7 +178,7 @@ part_expected st begun e path t n k num law booked tag = by_last (t.part == last
                 (λ w. absurd (omega arith))
 
 -- a frame is read: what is heard and what is expected stay one
-pub reads : (r : Settings) → (begun : List Message) (e : Item) (path : List Reception) → Numbered begun → AllProper begun → Lawful r.name (e ∷ passed path) → Marked r.name (Received e ∷ path) → Every (IsBooked begun) (e ∷ passed path) → SessionsLaw r path → ((n : ℕ) (k : Kind) → entries_heard r n k (readings path) ≡ expected n k begun path) → (n : ℕ) (k : Kind) → entries_heard r n k (readings (Received e ∷ path)) ≡ expected n k begun (Received e ∷ path)
+pub reads : (r : StationSettings) → (begun : List Message) (e : Item) (path : List Reception) → Numbered begun → AllProper begun → Lawful r.name (e ∷ passed path) → Marked r.name (Received e ∷ path) → Every (IsBooked begun) (e ∷ passed path) → SessionsLaw r path → ((n : ℕ) (k : Kind) → entries_heard r n k (readings path) ≡ expected n k begun path) → (n : ℕ) (k : Kind) → entries_heard r n k (readings (Received e ∷ path)) ≡ expected n k begun (Received e ∷ path)
 reads r begun e path num fit law mk booked sl same n k = go e.tag refl
   where
     go : (o : Option Tag) → e.tag ≡ o → entries_heard r n k (readings (Received e ∷ path)) ≡ expected n k begun (Received e ∷ path)

@@ -2,15 +2,16 @@
 use Rattle.std.proofs.Common.{◌≡◌, ◌≢◌, ◌⊎◌, ℕ, suc, zero, Bool, true, false, List, [], ◌∷◌, ◌++◌, length, set, slice_get, Option, Some, None, if◌then◌else◌, sym, refl, ap, ◌∙◌, subst, inl, inr, arith}
 use Rattle.can_frame.specs.FrameValue.{FrameValue}
 use Rattle.bus_model.specs.Expected.{Missed, Own, Received, Reception, passed, readings}
-use Rattle.bus_model.specs.Heard.{Settings, address_heard, is_contest}
-use Rattle.bus_model.specs.Machine.{Answer, Ask, Begin, Begins, Carry, Carry_station, Ends, Event, Grants, Hear, IsFit, Join, Leave, Miss, Quiet, Read, Replies, Run, Seat, Step, Turned, World, Yields, all_plain, answered, claim_alone, granted, granted_one, joined_seat, message_at, parts_upto, session_ended, start, station_address, station_seat, with_heard, with_message, without_session, yielded}
+use Rattle.parameter_group.specs.Calm.{is_contest}
+use Rattle.bus_model.specs.Heard.{StationSettings, address_heard}
+use Rattle.bus_model.specs.Machine.{Answer, Ask, Begin, Begins, Carry, Carry_station, EndsSession, Event, Sends, Hear, IsFit, Join, Leave, Miss, Nothing, Read, Replies, Run, Seat, Step, Turned, World, Claims, all_plain, answered, claim_alone, granted, granted_one, joined_seat, message_at, parts_upto, session_ended, start, station_address, station_seat, with_heard, with_message, without_session, yielded}
 use Rattle.bus_model.specs.Messages.{Message}
 use Rattle.bus_model.specs.Traffic.{Item, Tag, says}
 use Rattle.bus_model.specs.Whose.{IsFromItsSeat}
 use Rattle.bus_model.proofs.Lookback.{Every, every_append, every_front, every_rest, every_weaker}
 use Rattle.bus_model.proofs.Path.{IsStations}
 use Rattle.bus_model.proofs.Seats.{kept_each}
-use Rattle.bus_model.proofs.Units.{IsNotNamed}
+use Rattle.bus_model.proofs.SeatLaw.{IsNotNamed}
 use Rattle.bus_model.proofs.Lookback.{IsMine}
 use Rattle.bus_model.proofs.Worlds.{WorldLaw, law_start, law_step, missed_ahead, slice_get_push, slice_get_set}
 
@@ -57,7 +58,7 @@ pub record IsAnswered (w : World) (x : ℕ) (s : Seat) (new : World) : Type 0 wh
   pub path : new.path ≡ w.path
 
 answered_same : (w : World) (x : ℕ) (s : Seat) (a : Answer) → OwnQueue s → IsAnswered w x s (answered w x s a)
-answered_same w x s Quiet own = record { seat = s; same = record { number = refl; name = refl; queue = own }; seats = refl; wire = refl; asked = refl; settings = refl; path = refl }
+answered_same w x s Nothing own = record { seat = s; same = record { number = refl; name = refl; queue = own }; seats = refl; wire = refl; asked = refl; settings = refl; path = refl }
 answered_same w x s (Replies f) own = record { seat = _; same = record { number = refl; name = refl; queue = (refl, own) }; seats = refl; wire = refl; asked = refl; settings = refl; path = refl }
 answered_same w x s (Begins kind memory source destination) own =
     let m = message_at w s kind memory source destination in
@@ -70,9 +71,9 @@ answered_same w x s (Begins kind memory source destination) own =
       settings = refl;
       path = refl;
     }
-answered_same w x s (Grants n) own = record { seat = granted s n; same = granted_same n s own; seats = refl; wire = refl; asked = refl; settings = refl; path = refl }
-answered_same w x s Ends own = record { seat = session_ended s; same = record { number = refl; name = refl; queue = kept_each (IsOfNumber s.number) s.queue own }; seats = refl; wire = refl; asked = refl; settings = refl; path = refl }
-answered_same w x s (Yields to) own = record { seat = yielded s to; same = record { number = refl; name = refl; queue = (refl, tt) }; seats = refl; wire = refl; asked = refl; settings = refl; path = refl }
+answered_same w x s (Sends n) own = record { seat = granted s n; same = granted_same n s own; seats = refl; wire = refl; asked = refl; settings = refl; path = refl }
+answered_same w x s EndsSession own = record { seat = session_ended s; same = record { number = refl; name = refl; queue = kept_each (IsOfNumber s.number) s.queue own }; seats = refl; wire = refl; asked = refl; settings = refl; path = refl }
+answered_same w x s (Claims to) own = record { seat = yielded s to; same = record { number = refl; name = refl; queue = (refl, tt) }; seats = refl; wire = refl; asked = refl; settings = refl; path = refl }
 
 -- what was missed is not the station's
 abbrev pub MissedForeign : ℕ → List Reception → Type 0
@@ -172,7 +173,7 @@ asked_own : (b : Bool) (n : ℕ) (held : Option ℕ) (asked : List Item) → Eve
 asked_own true n held asked own = (refl, tt)
 asked_own false n held asked own = own
 
-pub numbers_start : (r : Settings) → WorldNumbers (start r)
+pub numbers_start : (r : StationSettings) → WorldNumbers (start r)
 numbers_start r = record { numbers = λ x s h. cc; names = λ x s h. cc; queues = λ x s h. cc; asked' = (refl, tt); wire' = tt; missed = tt }
 
 -- the wire behind the path is the path's, and what is ahead is foreign

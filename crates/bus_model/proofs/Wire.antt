@@ -8,7 +8,7 @@ use Rattle.bus_model.proofs.Lawful.{Allowed, Continues, Follows, Lawful, cast, i
 use Rattle.bus_model.proofs.Lookback.{Every, HasTag, every_rest, lawful_rest, pick_cases, same_kind_self, same_test}
 use Rattle.bus_model.proofs.Order.{all_before}
 use Rattle.bus_model.proofs.Path.{continues_is}
-use Rattle.bus_model.proofs.Units.{IsBooked}
+use Rattle.bus_model.proofs.SeatLaw.{IsBooked}
 
 -- back to the last part of the NAME and kind
 pub last_of_split : (m : Message) (j : ℕ) (xs : List Item) → last_of m.name m.kind xs ≡ Some (tag_of m j) → WasLast (IsAlike m) m j xs

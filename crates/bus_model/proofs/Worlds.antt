@@ -1,7 +1,7 @@
 -- Each event keeps the law of the world.
 use Rattle.std.proofs.Common.{◌≡◌, ◌≢◌, ◌⊎◌, ℕ, suc, zero, ◌<◌, ◌≤◌, ◌^◌, Bool, true, false, ◌&&◌, ◌==◌, List, [], ◌∷◌, ◌++◌, length, set, slice_get, Option, Some, None, if◌then◌else◌, sym, refl, ap, ◌∙◌, subst, inl, inr, arith, append_assoc}
 use Rattle.std.proofs.lemmas.List.{append_cancel_right}
-use Rattle.address_claim.specs.Claiming.{is_held}
+use Rattle.address_claim.specs.Claiming.{is_held, CanHold}
 use Rattle.address_claim.specs.Frames.{claim_frame_value}
 use Rattle.can_frame.specs.FrameValue.{FrameValue}
 use Rattle.dm_messages.specs.View.{view}
@@ -9,8 +9,9 @@ use Rattle.dm_messages.specs.declared.kind.Kind.{Kind}
 use Rattle.parameter_group.specs.Group.{AddressClaimed, ConnectionManagement, Group, Request, group_of}
 use Rattle.transport.specs.declared.control.Control.TheVariants.{Abort, Rts}
 use Rattle.bus_model.specs.Expected.{Missed, Own, Received, Reception, expected, is_claim, is_clear, passed, readings}
-use Rattle.bus_model.specs.Heard.{Settings, address_heard, entries_heard, is_contest}
-use Rattle.bus_model.specs.Machine.{AllMaySend, Answer, Ask, Begin, Begins, CanAsk, CanHold, Carry, Carry_station, Ends, Event, Grants, Hear, IsFit, IsFree, IsLive, IsNotOpen, Join, Leave, MayAnswer, MayOpen, MaySend, Miss, Quiet, Read, Replies, Run, Seat, Step, Turned, World, Yields, all_plain, answered, asking, claim_alone, granted, granted_one, joined_seat, message_at, missed, received, start, station_seat, with_begun, with_heard, with_seat}
+use Rattle.parameter_group.specs.Calm.{is_contest}
+use Rattle.bus_model.specs.Heard.{StationSettings, address_heard, entries_heard}
+use Rattle.bus_model.specs.Machine.{AllMaySend, Answer, Ask, Begin, Begins, CanAsk, Carry, Carry_station, EndsSession, Event, Sends, Hear, IsFit, IsFree, IsLiveSeat, IsNotOpen, Join, Leave, MayAnswer, MayOpen, MaySend, Miss, Nothing, Read, Replies, Run, Seat, Step, Turned, World, Claims, all_plain, answered, with_asked, claim_alone, granted, granted_one, joined_seat, message_at, missed, received, start, station_seat, with_begun, with_heard, world_with_seat}
 use Rattle.bus_model.specs.Messages.{Broadcast, IsProper, Message, One, Session, Way, last_part_of, way_of}
 use Rattle.bus_model.specs.Traffic.{Item, Tag, claimed_by, owner_after, says}
 use Rattle.bus_model.proofs.Bridge.{address_first, address_gap, address_hold, address_read, claim_group, says_claim, session_destination, session_to}
@@ -20,7 +21,10 @@ use Rattle.bus_model.proofs.Path.{IsStations, Marked}
 use Rattle.bus_model.proofs.Seats.{claim_from, claim_honest, claim_owns, claim_plain, claim_voiced, sent_allowed, swap_test, uncontested}
 use Rattle.bus_model.proofs.Sessions.{OnlyHeld, SessionsLaw, sessions_missed, sessions_own, sessions_read}
 use Rattle.bus_model.proofs.Tells.{AllProper, is_listed, not_clear, reads, told_same}
-use Rattle.bus_model.proofs.Units.{IsBooked, IsNotNamed, Numbered, OpensAt, SeatLaw, asked_for, begins, booked_more, carries, grants, heard_ends, heard_quiet, heard_yields, joins, may_reply, next_heard, not_of, number_below, others_carry, replied, seat_more}
+use Rattle.bus_model.proofs.Begins.{OpensAt, begins, booked_more, grants, seat_more}
+use Rattle.bus_model.proofs.Replying.{asked_for, may_reply}
+use Rattle.bus_model.proofs.SeatLaw.{IsBooked, IsNotNamed, Numbered, SeatLaw, next_heard, not_of, number_below}
+use Rattle.bus_model.proofs.Units.{carries, heard_ends, heard_quiet, heard_yields, joins, others_carry, replied}
 
 pub slice_get_set : {A : Type 0} (xs : List A) (i y : ℕ) (v t : A) → slice_get (set xs i v) y ≡ Some t → ((y ≡ i) × (t ≡ v)) ⊎ ((y ≢ i) × (slice_get xs y ≡ Some t))
 slice_get_set [] zero y v t h = cc
@@ -89,7 +93,7 @@ apart_push seats v apart free y z t u h g e =
     ]
 
 -- what holds of the station
-pub record StationLaw (r : Settings) (wire asked : List Item) (path : List Reception) : Type 0 where
+pub record StationLaw (r : StationSettings) (wire asked : List Item) (path : List Reception) : Type 0 where
   pub ahead : List Item
   pub reach : wire ≡ ahead ++ passed path
   pub foreign : Every (IsNotNamed r.name) ahead
@@ -113,7 +117,7 @@ uncontested_other me d (AddressClaimed b m) held h e =
     rw i refl
 uncontested_other me d _ held h e = refl
 
-pub only_read : (r : Settings) (e : Item) (path : List Reception) → Allowed r.name e (passed path) → e.name ≢ r.name → OnlyHeld r path → OnlyHeld r (Received e ∷ path)
+pub only_read : (r : StationSettings) (e : Item) (path : List Reception) → Allowed r.name e (passed path) → e.name ≢ r.name → OnlyHeld r path → OnlyHeld r (Received e ∷ path)
 only_read r e path allowed ne only d h =
     let q = unit_claim r.name d e (claimed_by d (passed path)) allowed.honest ne h in
     let at = only d q.0 in
@@ -124,7 +128,7 @@ claimed_missed st d [] xs law ne h = h
 claimed_missed st d (e ∷ es) xs law ne h = claimed_missed st d es xs law.1 ne.1 (unit_claim st d e (claimed_by d (es ++ xs)) law.0.honest ne.0 h).0
 
 -- the station's queue is its claim alone
-pub claims_alone : (r : Settings) (wire ahead : List Item) (path : List Reception) (o : Option ℕ) → IsFit r → address_heard r (readings path) ≡ o → wire ≡ ahead ++ passed path → Every (IsNotNamed r.name) ahead → Lawful r.name (passed path) → OnlyHeld r path → StationLaw r wire (claim_alone station_seat r.name o) path
+pub claims_alone : (r : StationSettings) (wire ahead : List Item) (path : List Reception) (o : Option ℕ) → IsFit r → address_heard r (readings path) ≡ o → wire ≡ ahead ++ passed path → Every (IsNotNamed r.name) ahead → Lawful r.name (passed path) → OnlyHeld r path → StationLaw r wire (claim_alone station_seat r.name o) path
 claims_alone r wire ahead path o fit at reach foreign lawful only =
     let c = says_claim r.name o fit.name (subst CanHold at (address_hold r (readings path) fit)) in
     record {
@@ -142,7 +146,7 @@ claims_alone r wire ahead path o fit at reach foreign lawful only =
 pub station_reads : (w : World) (e : Item) (ahead : List Item) → IsFit w.settings → Lawful w.settings.name w.wire → StationLaw w.settings w.wire w.asked w.path → w.wire ≡ ahead ++ e ∷ passed w.path → StationLaw w.settings w.wire (received w e).asked (Received e ∷ w.path)
 station_reads w e ahead fit lawful law i = go (is_contest r.name held (says e)) refl
   where
-    r : Settings
+    r : StationSettings
     r = w.settings
 
     held : Option ℕ
@@ -212,7 +216,7 @@ station_carries w e rest law q h =
       only = λ d i. own_claim r d (says e) o (claimed_by d (passed w.path)) voice (law.only d) i;
     }
   where
-    own_claim : (r : Settings) (d : ℕ) (f : Group) (o before : Option ℕ) → IsFrom o f → (before ≡ Some r.name → o ≡ Some d) → owner_after d f before ≡ Some r.name → o ≡ Some d
+    own_claim : (r : StationSettings) (d : ℕ) (f : Group) (o before : Option ℕ) → IsFrom o f → (before ≡ Some r.name → o ≡ Some d) → owner_after d f before ≡ Some r.name → o ≡ Some d
     own_claim r d (AddressClaimed b m) o before from only h =
         elim (pick_cases (b == d) (Some m) before (Some r.name) h) [ inl w ↦ from ∙ ap Some (true_test b d w.0) | inr w ↦ only w.1 ]
     own_claim r d _ o before from only h = only h
@@ -244,7 +248,7 @@ may_own n held (AddressClaimed s m) a d h e = rw h.1 (same (s == a))
     same false = e
 may_own n held _ a d h e = e
 
-pub station_asks : (r : Settings) (wire asked : List Item) (path : List Reception) (fs : List FrameValue) → StationLaw r wire asked path → AllMaySend r.name (address_heard r (readings path)) fs → StationLaw r wire (all_plain station_seat r.name fs ++ asked) path
+pub station_asks : (r : StationSettings) (wire asked : List Item) (path : List Reception) (fs : List FrameValue) → StationLaw r wire asked path → AllMaySend r.name (address_heard r (readings path)) fs → StationLaw r wire (all_plain station_seat r.name fs ++ asked) path
 station_asks r wire asked path [] law may = law
 station_asks r wire asked path (f ∷ fs) law may =
     let ih = station_asks r wire asked path fs law may.1 in
@@ -275,7 +279,7 @@ pub record WorldLaw (w : World) : Type 0 where
   pub sessions : SessionsLaw w.settings w.path
   pub same : (n : ℕ) (k : Kind) → entries_heard w.settings n k (readings w.path) ≡ expected n k w.begun w.path
 
-pub law_start : (r : Settings) → IsFit r → WorldLaw (start r)
+pub law_start : (r : StationSettings) → IsFit r → WorldLaw (start r)
 law_start r fit = record {
   settings = fit;
   wire = tt;
@@ -292,7 +296,7 @@ law_start r fit = record {
 }
 
 -- a seat changes, and nothing else
-pub law_seat : (w : World) (x : ℕ) (s v : Seat) → WorldLaw w → IsLive w x s → v.name ≡ s.name → (v.live ≡ true → SeatLaw w.settings.name w.wire w.begun v) → WorldLaw (with_seat w x v)
+pub law_seat : (w : World) (x : ℕ) (s v : Seat) → WorldLaw w → IsLiveSeat w x s → v.name ≡ s.name → (v.live ≡ true → SeatLaw w.settings.name w.wire w.begun v) → WorldLaw (world_with_seat w x v)
 law_seat w x s v law at name new = record {
   settings = law.settings;
   wire = law.wire;
@@ -321,7 +325,7 @@ told_new begun p m n k number num booked =
 pub passed_booked : (w : World) → WorldLaw w → Every (IsBooked w.begun) (passed w.path)
 passed_booked w law = every_rest (IsBooked w.begun) law.station.ahead (passed w.path) (subst (Every (IsBooked w.begun)) law.station.reach law.booked)
 
-pub law_begun : (w : World) (x : ℕ) (s v : Seat) (m : Message) → WorldLaw w → IsLive w x s → v.name ≡ s.name → SeatLaw w.settings.name w.wire w.begun v → m.number ≡ length w.begun → m.seat ≡ v.number → m.name ≡ v.name → v.held ≡ Some m.source → IsProper m → IsNotOpen v.session m.kind → ((d : ℕ) → (way_of m) ≡ Session d → OpensAt w.settings.name v m d) → WorldLaw (with_begun w x v m)
+pub law_begun : (w : World) (x : ℕ) (s v : Seat) (m : Message) → WorldLaw w → IsLiveSeat w x s → v.name ≡ s.name → SeatLaw w.settings.name w.wire w.begun v → m.number ≡ length w.begun → m.seat ≡ v.number → m.name ≡ v.name → v.held ≡ Some m.source → IsProper m → IsNotOpen v.session m.kind → ((d : ℕ) → (way_of m) ≡ Session d → OpensAt w.settings.name v m d) → WorldLaw (with_begun w x v m)
 law_begun w x s v m law at name seat number mseat mname held fit none opens = record {
   settings = law.settings;
   wire = law.wire;
@@ -337,7 +341,7 @@ law_begun w x s v m law at name seat number mseat mname held fit none opens = re
   same = λ n k. law.same n k ∙ sym (told_new w.begun w.path m n k number law.numbered (passed_booked w law));
 }
 
-pub station_more : (r : Settings) (wire asked : List Item) (path : List Reception) (e : Item) → StationLaw r wire asked path → e.name ≢ r.name → StationLaw r (e ∷ wire) asked path
+pub station_more : (r : StationSettings) (wire asked : List Item) (path : List Reception) (e : Item) → StationLaw r wire asked path → e.name ≢ r.name → StationLaw r (e ∷ wire) asked path
 station_more r wire asked path e law ne = record {
   ahead = e ∷ law.ahead;
   reach = ap (λ (v : List Item). e ∷ v) law.reach;
@@ -349,7 +353,7 @@ station_more r wire asked path e law ne = record {
   only = law.only;
 }
 
-pub law_carry : (w : World) (x : ℕ) (s : Seat) (e : Item) (rest : List Item) → WorldLaw w → IsLive w x s → s.queue ≡ rest ++ e ∷ [] → s.heard ≡ w.wire → WorldLaw (record w { wire = e ∷ w.wire; seats = set w.seats x (record s { queue = rest; heard = e ∷ w.wire }) })
+pub law_carry : (w : World) (x : ℕ) (s : Seat) (e : Item) (rest : List Item) → WorldLaw w → IsLiveSeat w x s → s.queue ≡ rest ++ e ∷ [] → s.heard ≡ w.wire → WorldLaw (record w { wire = e ∷ w.wire; seats = set w.seats x (record s { queue = rest; heard = e ∷ w.wire }) })
 law_carry w x s e rest law at q h =
     let seat = law.seats x s at in
     let new = carries w.settings.name w.wire w.begun s e rest seat q h in
@@ -449,8 +453,8 @@ opens_of st s e m (Session b) d ok allowed mine held may w i =
     let g : b ≡ d = cc in
     subst (λ (v : ℕ). OpensAt st (with_heard s e) m v) g (asked_for st s e m b (session_to m b ok w) allowed mine may.0 held may.1 may.2)
 
-pub law_hear : (w : World) (x : ℕ) (s : Seat) (e : Item) (ahead : List Item) (a : Answer) → WorldLaw w → IsLive w x s → w.wire ≡ ahead ++ e ∷ s.heard → MayAnswer w (with_heard s e) (says e) a → WorldLaw (answered w x (with_heard s e) a)
-law_hear w x s e ahead Quiet law at h may =
+pub law_hear : (w : World) (x : ℕ) (s : Seat) (e : Item) (ahead : List Item) (a : Answer) → WorldLaw w → IsLiveSeat w x s → w.wire ≡ ahead ++ e ∷ s.heard → MayAnswer w (with_heard s e) (says e) a → WorldLaw (answered w x (with_heard s e) a)
+law_hear w x s e ahead Nothing law at h may =
     law_seat w x s (with_heard s e) law at refl (λ l. heard_quiet w.settings.name w.wire w.begun s ahead e law.wire (law.seats x s at) h (record { uncontested = may.uncontested; uncut = may.uncut }))
 law_hear w x s e ahead (Replies f) law at h may =
     let quiet = heard_quiet w.settings.name w.wire w.begun s ahead e law.wire (law.seats x s at) h (record { uncontested = may.0.uncontested; uncut = may.0.uncut }) in
@@ -462,7 +466,7 @@ law_hear w x s e ahead (Begins kind memory source destination) law at h may =
     let rest = lawful_rest w.settings.name ahead (e ∷ s.heard) (subst (Lawful w.settings.name) h law.wire) in
     let m = message_at w (with_heard s e) kind memory source destination in
     law_begun w x s (with_heard s e) m law at refl quiet refl refl refl may.1 may.2 may.3 (λ d i. opens_of w.settings.name s e m (way_of m) d may.2 rest.0 seat.mine may.1 may.4 refl i)
-law_hear w x s e ahead (Grants n) law at h may =
+law_hear w x s e ahead (Sends n) law at h may =
     let quiet = heard_quiet w.settings.name w.wire w.begun s ahead e law.wire (law.seats x s at) h (record { uncontested = may.0.uncontested; uncut = may.0.uncut }) in
     law_seat w x s (granted (with_heard s e) n) law at (granted_name n (with_heard s e)) (λ l. grants w.settings.name w.wire w.begun n (with_heard s e) may.1.0 quiet may.1.1 may.1.2)
   where
@@ -473,15 +477,15 @@ law_hear w x s e ahead (Grants n) law at h may =
     granted_name : (n : ℕ) (s : Seat) → (granted s n).name ≡ s.name
     granted_name zero s = refl
     granted_name (suc n) s = granted_name n _ ∙ one_name s s.session
-law_hear w x s e ahead Ends law at h may =
+law_hear w x s e ahead EndsSession law at h may =
     law_seat w x s _ law at refl (λ l. heard_ends w.settings.name w.wire w.begun s ahead e law.wire (law.seats x s at) h may)
-law_hear w x s e ahead (Yields o) law at h may =
+law_hear w x s e ahead (Claims o) law at h may =
     law_seat w x s _ law at refl (λ l. heard_yields w.settings.name w.wire w.begun s ahead e o may law.wire (law.seats x s at) h)
 
 pub no_session : (st : ℕ) (s : Seat) (m : Message) (d : ℕ) → m.destination ≡ 255 → way_of m ≡ Session d → OpensAt st s m d
 no_session st s m d to w = let q = session_destination m d w in absurd (q.1 (sym q.0 ∙ to))
 
-pub law_ask : (w : World) (frames : List FrameValue) → WorldLaw w → CanAsk w frames → WorldLaw (asking w frames)
+pub law_ask : (w : World) (frames : List FrameValue) → WorldLaw w → CanAsk w frames → WorldLaw (with_asked w frames)
 law_ask w frames law may = record {
   settings = law.settings;
   wire = law.wire;
@@ -516,12 +520,12 @@ law_run old (e ∷ es) new law (mid, step, rest) = law_run mid es new (law_step 
 
 -- the settings stay
 pub settings_answered : (w : World) (x : ℕ) (s : Seat) (a : Answer) → (answered w x s a).settings ≡ w.settings
-settings_answered w x s Quiet = refl
+settings_answered w x s Nothing = refl
 settings_answered w x s (Replies f) = refl
 settings_answered w x s (Begins kind memory source destination) = refl
-settings_answered w x s (Grants n) = refl
-settings_answered w x s Ends = refl
-settings_answered w x s (Yields o) = refl
+settings_answered w x s (Sends n) = refl
+settings_answered w x s EndsSession = refl
+settings_answered w x s (Claims o) = refl
 
 pub settings_of : (v w : World) → v ≡ w → v.settings ≡ w.settings
 settings_of v w e = ap (λ (u : World). u.settings) e

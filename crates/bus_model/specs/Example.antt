@@ -5,12 +5,12 @@ use Rattle.trouble_code.specs.LampBytes.{lamps_off}
 use Rattle.fault_memory.specs.Memory.{MemoryValue, new_memory}
 use Rattle.dm_messages.specs.declared.kind.Kind.TheVariants.{Dm1, Dm2}
 use Rattle.dm_messages.specs.View.{view}
-use Rattle.bus_model.specs.Heard.{Settings, entries_heard}
+use Rattle.bus_model.specs.Heard.{StationSettings, entries_heard}
 use Rattle.bus_model.specs.Expected.{readings}
 use Rattle.bus_model.specs.Machine.{World}
 
 -- a station with NAME 1 that claims address 249
-abbrev pub example_settings : Settings
+abbrev pub example_settings : StationSettings
 example_settings = record { name = 1; address = 249 }
 
 -- two active codes and two previous ones, so each of its views takes two packets

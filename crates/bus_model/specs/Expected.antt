@@ -2,13 +2,12 @@
 use Rattle.std.specs.Prelude.{ℕ, Bool, true, false, ◌&&◌, ◌==◌, List, [], ◌∷◌, ◌++◌, length, Option, Some, None, if◌then◌else◌}
 use Rattle.can_frame.specs.declared.reading.Reading.{Reading}
 use Rattle.can_frame.specs.declared.reading.Reading.TheVariants.{Frame, Gap}
-use Rattle.dm_messages.specs.View.{view}
+use Rattle.dm_messages.specs.View.{view, same_kind}
 use Rattle.dm_messages.specs.declared.kind.Kind.{Kind}
 use Rattle.dm_messages.specs.declared.shown.Shown.{Shown}
 use Rattle.parameter_group.specs.Group.{Group, AddressClaimed}
 use Rattle.bus_model.specs.Messages.{Message, last_part_of}
 use Rattle.bus_model.specs.Traffic.{Tag, Item, says}
-use Rattle.bus_model.specs.Heard.{same_kind}
 
 -- what became of carried frames at the station: its own, one that it received, or some that one gap told of;
 -- frames carried later are pending

@@ -2,6 +2,7 @@
 -- It leaves free whatever the law does not need, so the exact tables of units and station are special cases of it.
 use Rattle.std.specs.Prelude.{◌≡◌, ◌≢◌, ℕ, zero, suc, ◌+◌, ◌^◌, ◌<◌, ◌≤◌, Bool, true, false, ◌==◌, List, [], ◌∷◌, ◌++◌, length, set, slice_get, Option, Some, None, if◌then◌else◌}
 use Rattle.can_frame.specs.FrameValue.{FrameValue}
+use Rattle.can_frame.specs.declared.address.TheConstants.{GREATEST_ADDRESS, GLOBAL_ADDRESS}
 use Rattle.address_claim.specs.Frames.{claim_frame_value}
 use Rattle.dm_messages.specs.declared.kind.Kind.{Kind}
 use Rattle.fault_memory.specs.Memory.{MemoryValue}
@@ -9,8 +10,10 @@ use Rattle.parameter_group.specs.Group.{Group, AddressClaimed, CannotClaim, Requ
 use Rattle.transport.specs.declared.control.Control.TheVariants.{Rts, Cts, EndAck, Abort}
 use Rattle.bus_model.specs.Messages.{Message, Way, One, Broadcast, Session, IsProper, frame_of_part, last_part_of, way_of, is_session}
 use Rattle.bus_model.specs.Traffic.{Tag, Item, says}
-use Rattle.bus_model.specs.Heard.{Settings, is_contest, address_heard}
+use Rattle.parameter_group.specs.Calm.{is_contest, IsCalm}
+use Rattle.bus_model.specs.Heard.{StationSettings, address_heard}
 use Rattle.bus_model.specs.Expected.{Reception, Own, Received, Missed, readings, passed}
+use Rattle.address_claim.specs.Claiming.{CanHold}
 
 -- the number of the station's seat
 abbrev pub station_seat : ℕ
@@ -29,7 +32,7 @@ pub record Seat : Type 0 where
 
 -- the whole state
 pub record World : Type 0 where
-  pub settings : Settings
+  pub settings : StationSettings
   pub wire : List Item  -- the frames carried
   pub seats : List Seat
   pub asked : List Item  -- the station's queue
@@ -38,12 +41,12 @@ pub record World : Type 0 where
 
 -- what a unit does with a frame that it hears
 pub data Answer : Type 0 where
-  Quiet : Answer
+  Nothing : Answer
   Replies : FrameValue → Answer
   Begins : (kind : Kind) (memory : MemoryValue) (source destination : ℕ) → Answer
-  Grants : ℕ → Answer  -- queues that many further packets of its session
-  Ends : Answer  -- ends its session and withdraws what is left of it
-  Yields : Option ℕ → Answer  -- withdraws all, holds that address or none from now on, and says so
+  Sends : ℕ → Answer  -- queues that many further packets of its session
+  EndsSession : Answer  -- ends its session and withdraws what is left of it
+  Claims : Option ℕ → Answer  -- withdraws all, holds that address or none from now on, and says so
 
 pub data Event : Type 0 where
   Join : (name address : ℕ) → Event
@@ -58,13 +61,13 @@ pub data Event : Type 0 where
   Leave : (seat : ℕ) → Event
 
 -- a frame of the seat x under NAME n that is no part of a message
-abbrev pub plain : ℕ → ℕ → FrameValue → Item
-plain x n f = record { seat = x; name = n; frame = f; tag = None }
+abbrev pub plain_item : ℕ → ℕ → FrameValue → Item
+plain_item x n f = record { seat = x; name = n; frame = f; tag = None }
 
 -- each of these frames so
 abbrev pub all_plain : ℕ → ℕ → List FrameValue → List Item
 all_plain x n [] = []
-all_plain x n (f ∷ fs) = plain x n f ∷ all_plain x n fs
+all_plain x n (f ∷ fs) = plain_item x n f ∷ all_plain x n fs
 
 -- the frame of a part, queued by the seat x, with its tag
 abbrev pub item_of_part : ℕ → Message → ℕ → Item
@@ -76,10 +79,10 @@ parts_upto x m zero = item_of_part x m 0 ∷ []
 parts_upto x m (suc j) = item_of_part x m (suc j) ∷ parts_upto x m j
 
 -- what is queued at the beginning: all parts, but of a session the first alone
-abbrev pub first_parts : Way → Message → ℕ
-first_parts One m = last_part_of m
-first_parts Broadcast m = last_part_of m
-first_parts (Session d) m = 0
+abbrev pub last_part_at_first : Way → Message → ℕ
+last_part_at_first One m = last_part_of m
+last_part_at_first Broadcast m = last_part_of m
+last_part_at_first (Session d) m = 0
 
 -- the open session after a beginning
 abbrev pub session_opened : Way → Message → Option Tag → Option Tag
@@ -87,26 +90,20 @@ session_opened One m before = before
 session_opened Broadcast m before = before
 session_opened (Session d) m before = Some (record { message = m; part = 0 })
 
--- a session with the address
-abbrev pub is_to : Way → ℕ → Bool
-is_to One a = false
-is_to Broadcast a = false
-is_to (Session d) a = d == a
+-- the address of a session
+abbrev pub way_address : Way → Option ℕ
+way_address One = None
+way_address Broadcast = None
+way_address (Session d) = Some d
 
--- the open session is with the address
-abbrev pub is_destination : Option Tag → ℕ → Bool
-is_destination None a = false
-is_destination (Some t) a = is_to (way_of t.message) a
-
--- a claim of the open session's destination
-abbrev pub cuts : Option Tag → Group → Bool
-cuts o (AddressClaimed a m) = is_destination o a
-cuts o _ = false
+-- the address with which the open session is
+abbrev pub session_address : Option Tag → Option ℕ
+session_address None = None
+session_address (Some t) = way_address (way_of t.message)
 
 -- nothing in the group makes the unit yield or end its session
-pub record IsCalm (s : Seat) (g : Group) : Type 0 where
-  pub uncontested : is_contest s.name s.held g ≡ false
-  pub uncut : cuts s.session g ≡ false
+abbrev pub IsCalmAt : Seat → Group → Type 0
+IsCalmAt s g = IsCalm s.name s.held (session_address s.session) g
 
 -- a request to send, from that address
 abbrev pub IsRtsFrom : ℕ → Group → Type 0
@@ -146,25 +143,20 @@ abbrev pub message_at : World → Seat → Kind → MemoryValue → ℕ → ℕ 
 message_at w s kind memory source destination =
     record { number = length w.begun; seat = s.number; name = s.name; kind = kind; memory = memory; source = source; destination = destination }
 
--- an address that can be held
-abbrev pub CanHold : Option ℕ → Type 0
-CanHold None = Unit {0}
-CanHold (Some a) = a ≤ 253
-
 -- what a unit that heard g may do
 abbrev pub MayAnswer : World → Seat → Group → Answer → Type 0
-MayAnswer w s g Quiet = IsCalm s g
-MayAnswer w s g (Replies f) = IsCalm s g × MayReply s g (group_of f)
+MayAnswer w s g Nothing = IsCalmAt s g
+MayAnswer w s g (Replies f) = IsCalmAt s g × MayReply s g (group_of f)
 MayAnswer w s g (Begins kind memory source destination) =
-    IsCalm s g × (s.held ≡ Some source) × IsProper (message_at w s kind memory source destination) × IsNotOpen s.session kind
+    IsCalmAt s g × (s.held ≡ Some source) × IsProper (message_at w s kind memory source destination) × IsNotOpen s.session kind
     × MayOpen s g (way_of (message_at w s kind memory source destination)) source
-MayAnswer w s g (Grants n) = IsCalm s g × ((t : Tag) × (s.session ≡ Some t) × (n + t.part ≤ last_part_of t.message))
-MayAnswer w s g Ends = is_contest s.name s.held g ≡ false
-MayAnswer w s g (Yields to) = CanHold to
+MayAnswer w s g (Sends n) = IsCalmAt s g × ((t : Tag) × (s.session ≡ Some t) × (n + t.part ≤ last_part_of t.message))
+MayAnswer w s g EndsSession = is_contest s.name s.held g ≡ false
+MayAnswer w s g (Claims to) = CanHold to
 
 -- the world with that seat at x
-abbrev pub with_seat : World → ℕ → Seat → World
-with_seat w x s = record w { seats = set w.seats x s }
+abbrev pub world_with_seat : World → ℕ → Seat → World
+world_with_seat w x s = record w { seats = set w.seats x s }
 
 -- the seat has heard one frame more
 abbrev pub with_heard : Seat → Item → Seat
@@ -173,7 +165,7 @@ with_heard s e = record s { heard = e ∷ s.heard }
 -- the seat begins the message: its first parts are queued
 abbrev pub with_message : Seat → Message → Seat
 with_message s m =
-    record s { queue = parts_upto s.number m (first_parts (way_of m) m) ++ s.queue; session = session_opened (way_of m) m s.session }
+    record s { queue = parts_upto s.number m (last_part_at_first (way_of m) m) ++ s.queue; session = session_opened (way_of m) m s.session }
 
 -- the world after that
 abbrev pub with_begun : World → ℕ → Seat → Message → World
@@ -181,7 +173,7 @@ with_begun w x s m = record w { seats = set w.seats x (with_message s m); begun 
 
 -- a claim, or where there is no address a cannot claim, alone in the queue
 abbrev pub claim_alone : ℕ → ℕ → Option ℕ → List Item
-claim_alone x n held = plain x n (claim_frame_value n held) ∷ []
+claim_alone x n held = plain_item x n (claim_frame_value n held) ∷ []
 
 -- the seat gives up or takes an address: all is withdrawn but the claim of it
 abbrev pub yielded : Seat → Option ℕ → Seat
@@ -214,20 +206,20 @@ session_ended s = record s { queue = without_session s.queue; session = None }
 
 -- the world after a unit's answer
 abbrev pub answered : World → ℕ → Seat → Answer → World
-answered w x s Quiet = with_seat w x s
-answered w x s (Replies f) = with_seat w x (record s { queue = plain s.number s.name f ∷ s.queue })
+answered w x s Nothing = world_with_seat w x s
+answered w x s (Replies f) = world_with_seat w x (record s { queue = plain_item s.number s.name f ∷ s.queue })
 answered w x s (Begins kind memory source destination) = with_begun w x s (message_at w s kind memory source destination)
-answered w x s (Grants n) = with_seat w x (granted s n)
-answered w x s Ends = with_seat w x (session_ended s)
-answered w x s (Yields to) = with_seat w x (yielded s to)
+answered w x s (Sends n) = world_with_seat w x (granted s n)
+answered w x s EndsSession = world_with_seat w x (session_ended s)
+answered w x s (Claims to) = world_with_seat w x (yielded s to)
 
 -- the seat is there and live
-abbrev pub IsLive : World → ℕ → Seat → Type 0
-IsLive w x s = (slice_get w.seats x ≡ Some s) × (s.live ≡ true)
+abbrev pub IsLiveSeat : World → ℕ → Seat → Type 0
+IsLiveSeat w x s = (slice_get w.seats x ≡ Some s) × (s.live ≡ true)
 
 -- neither a live seat nor the station has the NAME
 abbrev pub IsFree : World → ℕ → Type 0
-IsFree w n = (n ≢ w.settings.name) × ((x : ℕ) (s : Seat) → IsLive w x s → s.name ≢ n)
+IsFree w n = (n ≢ w.settings.name) × ((x : ℕ) (s : Seat) → IsLiveSeat w x s → s.name ≢ n)
 
 -- a unit that joins gets the next number, counts the whole wire as heard, and claims its address; numbers are given in
 -- order of joining, from 1 on, and none is used again, since seats stay in the list
@@ -243,7 +235,7 @@ station_address w = address_heard w.settings (readings w.path)
 -- and starts no session; its other frames are free
 abbrev pub MaySend : ℕ → Option ℕ → Group → Type 0
 MaySend n held (AddressClaimed s m) = (held ≡ Some s) × (m ≡ n)
-MaySend n held (Request pgn d s) = s ≤ 253 → held ≡ Some s
+MaySend n held (Request pgn d s) = s ≤ GREATEST_ADDRESS → held ≡ Some s
 MaySend n held (ConnectionManagement s d (Abort reason pgn)) = held ≡ Some s
 MaySend n held (ConnectionManagement s d (Rts size packets most pgn)) = ⊥
 MaySend n held _ = Unit {0}
@@ -267,8 +259,8 @@ abbrev pub missed : World → List Item → World
 missed w es = record w { path = Missed es ∷ w.path; asked = claim_alone station_seat w.settings.name (station_address w) }
 
 -- the station queues these frames
-abbrev pub asking : World → List FrameValue → World
-asking w frames = record w { asked = all_plain station_seat w.settings.name frames ++ w.asked }
+abbrev pub with_asked : World → List FrameValue → World
+with_asked w frames = record w { asked = all_plain station_seat w.settings.name frames ++ w.asked }
 
 -- the station may send these frames now
 abbrev pub CanAsk : World → List FrameValue → Type 0
@@ -276,28 +268,28 @@ CanAsk w frames = AllMaySend w.settings.name (station_address w) frames
 
 -- the event leads from one world to the other
 abbrev pub Step : World → Event → World → Type 0
-Step old (Join n a) new = IsFree old n × (n < 2 ^ 64) × (a ≤ 253) × (new ≡ record old { seats = old.seats ++ joined_seat old n a ∷ [] })
+Step old (Join n a) new = IsFree old n × (n < 2 ^ 64) × (a ≤ GREATEST_ADDRESS) × (new ≡ record old { seats = old.seats ++ joined_seat old n a ∷ [] })
 Step old (Hear x answer) new =
-    (s : Seat) × (e : Item) × (ahead : List Item) × IsLive old x s × (old.wire ≡ ahead ++ e ∷ s.heard)
+    (s : Seat) × (e : Item) × (ahead : List Item) × IsLiveSeat old x s × (old.wire ≡ ahead ++ e ∷ s.heard)
     × MayAnswer old (with_heard s e) (says e) answer × (new ≡ answered old x (with_heard s e) answer)
 Step old (Begin x kind memory source) new =
-    (s : Seat) × IsLive old x s × (s.held ≡ Some source) × IsProper (message_at old s kind memory source 255) × IsNotOpen s.session kind
-    × (new ≡ with_begun old x s (message_at old s kind memory source 255))
+    (s : Seat) × IsLiveSeat old x s × (s.held ≡ Some source) × IsProper (message_at old s kind memory source GLOBAL_ADDRESS) × IsNotOpen s.session kind
+    × (new ≡ with_begun old x s (message_at old s kind memory source GLOBAL_ADDRESS))
 Step old (Turned x) new = new ≡ old
 Step old (Carry x) new =
-    (s : Seat) × (e : Item) × (rest : List Item) × IsLive old x s × (s.queue ≡ rest ++ e ∷ []) × (s.heard ≡ old.wire)
+    (s : Seat) × (e : Item) × (rest : List Item) × IsLiveSeat old x s × (s.queue ≡ rest ++ e ∷ []) × (s.heard ≡ old.wire)
     × (new ≡ record old { wire = e ∷ old.wire; seats = set old.seats x (record s { queue = rest; heard = e ∷ old.wire }) })
 Step old Carry_station new =
     (e : Item) × (rest : List Item) × (old.asked ≡ rest ++ e ∷ []) × (old.wire ≡ passed old.path)
     × (new ≡ record old { wire = e ∷ old.wire; asked = rest; path = Own e ∷ old.path })
-Step old (Ask frames) new = CanAsk old frames × (new ≡ asking old frames)
+Step old (Ask frames) new = CanAsk old frames × (new ≡ with_asked old frames)
 Step old (Read frames) new =
     (e : Item) × (ahead : List Item) × (old.wire ≡ ahead ++ e ∷ passed old.path)
-    × CanAsk (received old e) frames × (new ≡ asking (received old e) frames)
+    × CanAsk (received old e) frames × (new ≡ with_asked (received old e) frames)
 Step old (Miss n frames) new =
     (es : List Item) × (ahead : List Item) × (length es ≡ n) × (old.wire ≡ ahead ++ (es ++ passed old.path))
-    × CanAsk (missed old es) frames × (new ≡ asking (missed old es) frames)
-Step old (Leave x) new = (s : Seat) × IsLive old x s × (new ≡ with_seat old x (record s { live = false; queue = [] }))
+    × CanAsk (missed old es) frames × (new ≡ with_asked (missed old es) frames)
+Step old (Leave x) new = (s : Seat) × IsLiveSeat old x s × (new ≡ world_with_seat old x (record s { live = false; queue = [] }))
 
 -- a whole run
 abbrev pub Run : World → List Event → World → Type 0
@@ -305,11 +297,11 @@ Run old [] new = new ≡ old
 Run old (e ∷ es) new = (mid : World) × Step old e mid × Run mid es new
 
 -- nothing has happened yet; the station's claim is queued
-abbrev pub start : Settings → World
+abbrev pub start : StationSettings → World
 start r =
     record { settings = r; wire = []; seats = []; asked = claim_alone station_seat r.name (Some r.address); begun = []; path = [] }
 
 -- settings with a NAME of 64 bits and an address that can be held
-pub record IsFit (r : Settings) : Type 0 where
+pub record IsFit (r : StationSettings) : Type 0 where
   pub name : r.name < 2 ^ 64
-  pub address : r.address ≤ 253
+  pub address : r.address ≤ GREATEST_ADDRESS

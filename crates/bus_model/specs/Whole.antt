@@ -2,9 +2,8 @@
 use Rattle.std.specs.Prelude.{ℕ, Bool, true, false, ◌&&◌, ◌==◌, List, [], ◌∷◌, if◌then◌else◌}
 use Rattle.dm_messages.specs.declared.kind.Kind.{Kind}
 use Rattle.dm_messages.specs.declared.shown.Shown.{Shown}
-use Rattle.dm_messages.specs.View.{view}
+use Rattle.dm_messages.specs.View.{view, same_kind}
 use Rattle.bus_model.specs.Messages.{Message, last_part_of}
-use Rattle.bus_model.specs.Heard.{same_kind}
 use Rattle.bus_model.specs.Expected.{Reception, Own, Received, Missed, is_part}
 
 -- the message's last part was received

@@ -8,7 +8,7 @@ ghost use Rattle.bus_model.specs.Messages.{Message, IsAmong};
 ghost use Rattle.bus_model.specs.Traffic.{Tag, Item, claimed_by};
 ghost use Rattle.bus_model.specs.LawfulTraffic.{IsLawfulTraffic};
 ghost use Rattle.can_frame.specs.declared.reading.Reading.{Reading};
-ghost use Rattle.bus_model.specs.Heard.{Settings, Entry, AckHeard, ack_of, address_known, counted, ended, entries_heard, is_unreadable, missed_count, names_heard, owner_heard, row_heard, unread_count};
+ghost use Rattle.bus_model.specs.Heard.{StationSettings, Entry, AckHeard, ack_in_row, address_known, counted, ended, entries_heard, is_unreadable, missed_count, names_heard, owner_heard, row_heard, unread_count};
 ghost use Rattle.bus_model.specs.RowsLookBack.{AreNames, IsKnownAt, IsLastAnswer, WasNamed, gap_of, moments};
 ghost use Rattle.std.specs.List.{count_by, sum_by};
 ghost use Rattle.bus_model.specs.LookBack.{IsOwner, EndsMessage};
@@ -22,55 +22,55 @@ ghost use Rattle.bus_model.specs.Whose.{IsFromItsSeat};
 
 /// The lists are exact: after every list of events, under each NAME and kind, the entries heard are the entries expected.
 pub fn lists_are_exact()
-    ensures { (settings : Settings) → IsFit settings → (events : List Event) (w : World) → Run (start settings) events w → (n : ℕ) (k : Kind) → entries_heard settings n k (readings w.path) ≡ expected n k w.begun w.path }
+    ensures { (settings : StationSettings) → IsFit settings → (events : List Event) (w : World) → Run (start settings) events w → (n : ℕ) (k : Kind) → entries_heard settings n k (readings w.path) ≡ expected n k w.begun w.path }
 {}
 
 /// Who sends holds the address: before each frame of a message the last claim of its source bears the NAME of its seat.
 pub fn who_sends_holds_the_address()
-    ensures { (settings : Settings) → IsFit settings → (events : List Event) (w : World) → Run (start settings) events w → (after before : List Item) (e : Item) (t : Tag) → w.wire ≡ after ++ e ∷ before → e.tag ≡ Some t → claimed_by t.message.source before ≡ Some e.name }
+    ensures { (settings : StationSettings) → IsFit settings → (events : List Event) (w : World) → Run (start settings) events w → (after before : List Item) (e : Item) (t : Tag) → w.wire ≡ after ++ e ∷ before → e.tag ≡ Some t → claimed_by t.message.source before ≡ Some e.name }
 {}
 
 /// Lawful traffic: each frame of a message is that part of it and comes from its seat, and parts stand in their order.
 pub fn traffic_is_lawful()
-    ensures { (settings : Settings) → IsFit settings → (events : List Event) (w : World) → Run (start settings) events w → IsLawfulTraffic w.begun w.wire }
+    ensures { (settings : StationSettings) → IsFit settings → (events : List Event) (w : World) → Run (start settings) events w → IsLawfulTraffic w.begun w.wire }
 {}
 
 /// Seats have numbers, given in order of joining from 1 on and never again: the seat in place x has number x + 1.
 pub fn seats_are_numbered()
-    ensures { (settings : Settings) → IsFit settings → (events : List Event) (w : World) → Run (start settings) events w → (x : ℕ) (s : Seat) → slice_get w.seats x ≡ Some s → s.number ≡ x + 1 }
+    ensures { (settings : StationSettings) → IsFit settings → (events : List Event) (w : World) → Run (start settings) events w → (x : ℕ) (s : Seat) → slice_get w.seats x ≡ Some s → s.number ≡ x + 1 }
 {}
 
 /// Each frame on the wire comes from the station or from a seat that joined, and bears that seat's number and NAME.
 pub fn frames_come_from_their_seats()
-    ensures { (settings : Settings) → IsFit settings → (events : List Event) (w : World) → Run (start settings) events w → (after before : List Item) (e : Item) → w.wire ≡ after ++ e ∷ before → IsFromItsSeat w e }
+    ensures { (settings : StationSettings) → IsFit settings → (events : List Event) (w : World) → Run (start settings) events w → (after before : List Item) (e : Item) → w.wire ≡ after ++ e ∷ before → IsFromItsSeat w e }
 {}
 
 /// The path is the wire as its readings mark it: the frames that are not the station's own, in order, where a frame marks the
 /// next one as received and a gap of n the next n as missed; later ones have no mark.
 pub fn path_is_marked()
-    ensures { (settings : Settings) → IsFit settings → (events : List Event) (w : World) → Run (start settings) events w → IsMarkedBy (readings w.path) w.wire w.path }
+    ensures { (settings : StationSettings) → IsFit settings → (events : List Event) (w : World) → Run (start settings) events w → IsMarkedBy (readings w.path) w.wire w.path }
 {}
 
 /// Nothing unreadable: each message of a unit that ends can be read.
 pub fn nothing_is_unreadable()
-    ensures { (settings : Settings) → IsFit settings → (events : List Event) (w : World) → Run (start settings) events w → unread_count settings (readings w.path) ≡ 0 }
+    ensures { (settings : StationSettings) → IsFit settings → (events : List Event) (w : World) → Run (start settings) events w → unread_count settings (readings w.path) ≡ 0 }
 {}
 
 /// A list only grows: at every step each list of entries, newest first, keeps its entries and gets new ones in front.
 pub fn lists_only_grow()
-    ensures { (old new : World) (event : Event) → Step old event new → (settings : Settings) (n : ℕ) (k : Kind) → (more : List Shown) × (entries_heard settings n k (readings new.path) ≡ more ++ entries_heard settings n k (readings old.path)) }
+    ensures { (old new : World) (event : Event) → Step old event new → (settings : StationSettings) (n : ℕ) (k : Kind) → (more : List Shown) × (entries_heard settings n k (readings new.path) ≡ more ++ entries_heard settings n k (readings old.path)) }
 {}
 
 /// Quiet addresses: where nothing was missed, the entries heard are the views of all messages whose last part was
 /// received, in the order begun. That each address is claimed under one NAME only need not be said: a unit that loses
 /// its address sends no further part, so such a message has no last part.
 pub fn nothing_missed_shows_all()
-    ensures { (settings : Settings) → IsFit settings → (events : List Event) (w : World) → Run (start settings) events w → NoneMissed w.path → (n : ℕ) (k : Kind) → entries_heard settings n k (readings w.path) ≡ received_whole n k w.begun w.path }
+    ensures { (settings : StationSettings) → IsFit settings → (events : List Event) (w : World) → Run (start settings) events w → NoneMissed w.path → (n : ℕ) (k : Kind) → entries_heard settings n k (readings w.path) ≡ received_whole n k w.begun w.path }
 {}
 
 /// Clear path: for the messages begun, the walk back along what was received is the clear path said by looking back.
 pub fn clear_path_looks_back()
-    ensures { (settings : Settings) → IsFit settings → (events : List Event) (w : World) → Run (start settings) events w → (m : Message) → IsAmong m w.begun → (is_clear m w.path ≡ true) ↔ IsOnClearPath m w.path }
+    ensures { (settings : StationSettings) → IsFit settings → (events : List Event) (w : World) → Run (start settings) events w → (m : Message) → IsAmong m w.begun → (is_clear m w.path ≡ true) ↔ IsOnClearPath m w.path }
 {}
 
 /// Look-back form of an owner: over any list of readings it is the NAME in the address's last claim, with no gap since.
@@ -80,15 +80,15 @@ pub fn owner_looks_back()
 
 /// Look-back form of the messages that end, over any list of readings: in one frame, by broadcast and by session.
 pub fn messages_look_back()
-    ensures { (settings : Settings) → IsFit settings → (reading : Reading) (older : List Reading) (entry : Entry) → (ended settings reading older ≡ Some entry) ↔ EndsMessage settings reading older entry }
+    ensures { (settings : StationSettings) → IsFit settings → (reading : Reading) (older : List Reading) (entry : Entry) → (ended settings reading older ≡ Some entry) ↔ EndsMessage settings reading older entry }
 {}
 
 /// Look-back form of a row, over any list of readings: there is one once a claim or cannot claim of the NAME was read; its
 /// address is the one that the NAME claimed, where nothing took it since; its acknowledgment is the last to the station.
 pub fn rows_look_back()
-    ensures there { (settings : Settings) (n : ℕ) (readings : List Reading) → IsSome (row_heard settings n readings) ↔ WasNamed n readings }
-    ensures address { (settings : Settings) (n a : ℕ) (readings : List Reading) → (address_known settings n readings ≡ Some a) ↔ IsKnownAt n a readings }
-    ensures ack { (settings : Settings) (n : ℕ) (ack : AckHeard) (readings : List Reading) → (ack_of (row_heard settings n readings) ≡ Some ack) ↔ IsLastAnswer settings n ack readings }
+    ensures there { (settings : StationSettings) (n : ℕ) (readings : List Reading) → IsSome (row_heard settings n readings) ↔ WasNamed n readings }
+    ensures address { (settings : StationSettings) (n a : ℕ) (readings : List Reading) → (address_known settings n readings ≡ Some a) ↔ IsKnownAt n a readings }
+    ensures ack { (settings : StationSettings) (n : ℕ) (ack : AckHeard) (readings : List Reading) → (ack_in_row (row_heard settings n readings) ≡ Some ack) ↔ IsLastAnswer settings n ack readings }
 {}
 
 /// Look-back form of the NAMEs, over any list of readings: those of the claims and cannot claims read, in the order of their
@@ -101,7 +101,7 @@ pub fn names_look_back()
 /// message ended that cannot be read, each at most the greatest 64-bit number.
 pub fn counts_look_back()
     ensures missed { (readings : List Reading) → missed_count readings ≡ counted (sum_by gap_of readings) }
-    ensures unread { (settings : Settings) (readings : List Reading) → unread_count settings readings ≡ counted (count_by (λ (m : Reading × List Reading). is_unreadable (ended settings m.0 m.1)) (moments readings)) }
+    ensures unread { (settings : StationSettings) (readings : List Reading) → unread_count settings readings ≡ counted (count_by (λ (m : Reading × List Reading). is_unreadable (ended settings m.0 m.1)) (moments readings)) }
 {}
 
 /// The machine is not empty: one run shows an entry by a single frame, one by a broadcast of two packets and one by a

@@ -1,1 +1,4 @@
-pub mod Readings
+pub mod Transfers
+pub mod Followed
+pub mod WatchValue
+pub mod Told

@@ -1,5 +1,5 @@
-ghost use Rattle.std.specs.Prelude.{◌≡◌, ◌≤◌, ℕ, [], IfOk};
-ghost use Rattle.station_table.specs.StandsFor.{StandsFor};
+ghost use Rattle.std.specs.Prelude.{◌≤◌, [], IfOk, option_map};
+ghost use Rattle.bus_watch.specs.Told.{StandsForAll};
 
 use crate::counts::Counts;
 use crate::owners::Owners;
@@ -44,13 +44,23 @@ pub struct Watch {
     now: Option<Time>,
 }
 
-/// Seen as its station.
+/// Seen as its station, and what it knows of the bus that it follows.
 impl Model for Watch {
-    ghost use Rattle.station_table.specs.StationValue.{StationValue};
+    ghost use Rattle.std.specs.Prelude.{option_map, string_bytes};
+    ghost use Rattle.bus_watch.specs.WatchValue.{WatchValue};
 
-    ghost Value = { StationValue };
+    ghost Value = { WatchValue };
 
-    ghost view = { λ w. w.station };
+    ghost view = { λ w. record {
+      station = w.station;
+      followed = record {
+        skips_bad = w.settings.skips_bad;
+        silence = w.settings.silence;
+        bus = option_map string_bytes w.bus;
+        broadcasts = w.broadcasts;
+        sessions = w.sessions;
+      };
+    } };
 }
 
 /// The most packets that the station grants at once.
@@ -59,7 +69,12 @@ const GRANT: u8 = 255;
 impl Watch {
     /// A watch that has read nothing, of the bus of this name, or of the first that a line names.
     pub fn new(alloc: Global, settings: Settings, bus: Option<&str>) -> Result<Watch, AllocError>
-        ensures stands { IfOk result (λ w. StandsFor (record { name = settings.name; address = settings.address }) 255 w []) }
+        ensures { IfOk result (λ w. StandsForAll (record {
+          station = record { name = settings.name; address = settings.address };
+          skips_bad = settings.skips_bad;
+          silence = settings.silence;
+          bus = option_map (λ name. name.now) bus.entry;
+        }) [] w) }
     {
         let bus = match bus {
             Some(bus) => Some(String::from_str(alloc, bus)?),

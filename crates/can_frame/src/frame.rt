@@ -16,11 +16,11 @@ pub enum FrameError {
 }
 
 impl FrameError {
-    ghost use Rattle.can_frame.specs.Refusals.{number_of};
+    ghost use Rattle.can_frame.specs.Refusals.{frame_error_number};
 
     /// The refusal's number: 1 or 2.
     pub fn number(self) -> u8
-        ensures { result ≡ number_of self }
+        ensures { result ≡ frame_error_number self }
     {
         match self {
             FrameError::IdTooLarge => 1,

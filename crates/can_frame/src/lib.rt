@@ -5,6 +5,7 @@ mod address;
 mod display;
 mod frame;
 mod frames;
+pub mod group_numbers;
 mod id;
 mod pgn;
 mod reading;

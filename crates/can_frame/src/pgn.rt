@@ -1,6 +1,7 @@
 ghost use Rattle.std.specs.Prelude.{◌≡◌, ℕ, ◌^◌, ◌<◌, ◌≤◌, ◌↔◌, ◌∷◌, [], IfOk, IsErr, slice_index};
 ghost use Rattle.can_frame.specs.Fields.{pgn_bytes, pgn_of_bytes};
 
+use crate::group_numbers;
 use std::marker::Model;
 use thiserror::Error;
 
@@ -40,25 +41,45 @@ impl Model for Pgn {
 
 impl Pgn {
     /// Acknowledgment.
-    pub const ACKNOWLEDGMENT: Pgn = Pgn { number: 59392 };
+    pub const ACKNOWLEDGMENT: Pgn = Pgn {
+        number: group_numbers::ACKNOWLEDGMENT,
+    };
     /// Request.
-    pub const REQUEST: Pgn = Pgn { number: 59904 };
+    pub const REQUEST: Pgn = Pgn {
+        number: group_numbers::REQUEST,
+    };
     /// Transport protocol, data transfer (TP.DT).
-    pub const DATA_TRANSFER: Pgn = Pgn { number: 60160 };
+    pub const DATA_TRANSFER: Pgn = Pgn {
+        number: group_numbers::DATA_TRANSFER,
+    };
     /// Transport protocol, connection management (TP.CM).
-    pub const CONNECTION_MANAGEMENT: Pgn = Pgn { number: 60416 };
+    pub const CONNECTION_MANAGEMENT: Pgn = Pgn {
+        number: group_numbers::CONNECTION_MANAGEMENT,
+    };
     /// Address claimed, and cannot claim.
-    pub const ADDRESS_CLAIMED: Pgn = Pgn { number: 60928 };
+    pub const ADDRESS_CLAIMED: Pgn = Pgn {
+        number: group_numbers::ADDRESS_CLAIMED,
+    };
     /// Active trouble codes (DM1).
-    pub const DM1: Pgn = Pgn { number: 65226 };
+    pub const DM1: Pgn = Pgn {
+        number: group_numbers::DM1,
+    };
     /// Previously active trouble codes (DM2).
-    pub const DM2: Pgn = Pgn { number: 65227 };
+    pub const DM2: Pgn = Pgn {
+        number: group_numbers::DM2,
+    };
     /// Clear the previously active trouble codes (DM3).
-    pub const DM3: Pgn = Pgn { number: 65228 };
+    pub const DM3: Pgn = Pgn {
+        number: group_numbers::DM3,
+    };
     /// Clear the active trouble codes (DM11).
-    pub const DM11: Pgn = Pgn { number: 65235 };
+    pub const DM11: Pgn = Pgn {
+        number: group_numbers::DM11,
+    };
     /// Commanded address.
-    pub const COMMANDED_ADDRESS: Pgn = Pgn { number: 65240 };
+    pub const COMMANDED_ADDRESS: Pgn = Pgn {
+        number: group_numbers::COMMANDED_ADDRESS,
+    };
 
     /// The parameter group of this number; refused where it is 2^24 or more.
     pub fn new(number: u32) -> Result<Pgn, PgnTooLarge>

@@ -2,6 +2,7 @@ use Rattle.std.proofs.Common.{◌≡◌, ◌≢◌, ℕ, zero, suc, ◌+◌, ◌
 use Rattle.std.specs.Prelude.{All}
 use Rattle.std.specs.Char.{IsAsciiHexdigit}
 use Rattle.std.specs.Fmt.{padded_integral, format_spec, digits, decimal}
+use Rattle.std.specs.Int.{from_be_bytes, to_be_bytes, w32}
 use Rattle.std.specs.Io.KnownBytes.{Appends}
 use Rattle.std.specs.List.{flat_map}
 use Rattle.std.specs.Option.{MatchOption}
@@ -13,6 +14,7 @@ use Rattle.std.specs.Str.Pattern.{FindsCharPrefix}
 use Rattle.std.proofs.lemmas.Bool.Decides.{nat_tests}
 use Rattle.std.proofs.lemmas.Fmt.{decimal_is_IsNumeral, length-decimal-le}
 use Rattle.std.proofs.lemmas.List.{length-append}
+use Rattle.std.proofs.lemmas.Nat.{from_be_bytes-to_be_bytes_4}
 use Rattle.std.proofs.lemmas.List.Elements.{All-cons, All-nil, All-append, All-head, All-tail, All-get_or, All-weaker, All-from_get_or}
 use Rattle.std.proofs.lemmas.Str.Parse.{digit_at}
 use Rattle.std.proofs.lemmas.Str.Pattern.{IsSplitOnceResult, split_after, strip_prefix_char}
@@ -36,6 +38,31 @@ padded_byte n h = padded_hex 2 n (lit< tt) (lit≤ tt) (omega arith)
 pub id_reads : (id : List ℕ) (n : ℕ) → id ≡ id_text n → id ≡ hex_digits 8 n []
 unfolding id_text
 id_reads id n e = e
+
+-- and those of its four bytes
+pub bytes_of_id : (n : ℕ) → hex_digits 8 n [] ≡ flat_map byte_digits (to_be_bytes w32 n)
+unfolding byte_digits
+bytes_of_id n =
+    let e7 : n / 256 ^ 3 % 256 / 16 % 16 ≡ n / 16 / 16 / 16 / 16 / 16 / 16 / 16 % 16 = omega arith in
+    let e6 : n / 256 ^ 3 % 256 % 16 ≡ n / 16 / 16 / 16 / 16 / 16 / 16 % 16 = omega arith in
+    let e5 : n / 256 ^ 2 % 256 / 16 % 16 ≡ n / 16 / 16 / 16 / 16 / 16 % 16 = omega arith in
+    let e4 : n / 256 ^ 2 % 256 % 16 ≡ n / 16 / 16 / 16 / 16 % 16 = omega arith in
+    let e3 : n / 256 ^ 1 % 256 / 16 % 16 ≡ n / 16 / 16 / 16 % 16 = omega arith in
+    let e2 : n / 256 ^ 1 % 256 % 16 ≡ n / 16 / 16 % 16 = omega arith in
+    let e1 : n % 256 / 16 % 16 ≡ n / 16 % 16 = omega arith in
+    let e0 : n % 256 % 16 ≡ n % 16 = omega arith in
+    rw (e7, e6, e5, e4, e3, e2, e1, e0) refl
+
+pub small_bytes : (n : ℕ) → All (λ b. b < 256) (to_be_bytes w32 n)
+small_bytes n =
+    let one = All-cons (λ b. b < 256) (n % 256) [] (omega arith) (All-nil (λ b. b < 256)) in
+    let two = All-cons (λ b. b < 256) (n / 256 ^ 1 % 256) ((n % 256) ∷ []) (omega arith) one in
+    let three = All-cons (λ b. b < 256) (n / 256 ^ 2 % 256) ((n / 256 ^ 1 % 256) ∷ (n % 256) ∷ []) (omega arith) two in
+    All-cons (λ b. b < 256) (n / 256 ^ 3 % 256) ((n / 256 ^ 2 % 256) ∷ (n / 256 ^ 1 % 256) ∷ (n % 256) ∷ []) (omega arith) three
+
+-- and the number of these bytes is the identifier
+pub some_of : (n : ℕ) (out : List ℕ) (m : ℕ) → n < 2 ^ 32 → out ≡ to_be_bytes w32 n → m ≡ from_be_bytes w32 out → Some m ≡ Some n
+some_of n out m small e h = ap Some (h ∙ ap (from_be_bytes w32) e ∙ from_be_bytes-to_be_bytes_4 n small)
 
 -- two digits for each byte
 pub length-data : (bs : List ℕ) → length (flat_map byte_digits bs) ≡ 2 * length bs

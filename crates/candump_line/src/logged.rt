@@ -8,7 +8,6 @@ ghost use Rattle.can_frame.specs.FrameValue.{FrameValue, frame};
 
 use crate::time::Time;
 use can_frame::Frame;
-use hex_text::read_hex;
 use std::io::Write;
 use std::{fmt, io};
 
@@ -41,7 +40,7 @@ pub(crate) fn read_logged(text: &str) -> Option<Logged<'_>>
 fn read_frame(id: &str, digits: &str) -> Option<Frame>
     ensures reads_back { (f : FrameValue) → IsDataFrame f → id.now ≡ id_text f.id → digits.now ≡ flat_map byte_digits f.bytes → result ≡ Some f }
 {
-    let number = read_hex(id, 8)?;
+    let number = read_number(id)?;
     let len = digits.len() / 2;
     if len > 8 {
         return None;
@@ -51,11 +50,19 @@ fn read_frame(id: &str, digits: &str) -> Option<Frame>
     data_frame(number, &room[..len])
 }
 
+/// The number that eight hexadecimal digits spell.
+fn read_number(digits: &str) -> Option<u32>
+    ensures reads_back { (n : ℕ) → n < 2 ^ 32 → digits.now ≡ id_text n → result ≡ Some n }
+{
+    let mut bytes = [0; 4];
+    hex::decode_to_slice(digits, &mut bytes).ok()?;
+    Some(u32::from_be_bytes(bytes))
+}
+
 /// The frame of this identifier and these bytes, where it is one.
-fn data_frame(number: u64, bytes: &[u8]) -> Option<Frame>
+fn data_frame(number: u32, bytes: &[u8]) -> Option<Frame>
     ensures { number < 2 ^ 29 → length bytes.now ≤ 8 → result ≡ Some (frame number bytes.now) }
 {
-    let number = u32::try_from(number).ok()?;
     Frame::new(number, bytes).ok()
 }
 

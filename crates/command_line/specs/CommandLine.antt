@@ -95,9 +95,9 @@ abbrev pub IsCount : ℕ → Type 0
 IsCount n = (1 ≤ n) × (n ≤ 100000)
 
 -- the numbers of a job are such numbers
-abbrev pub IsInRange : Job → Type 0
-IsInRange (Threads turns reads report) = IsCount turns × IsCount reads
-IsInRange _ = Unit {0}
+abbrev pub HasCounts : Job → Type 0
+HasCounts (Threads turns reads report) = IsCount turns × IsCount reads
+HasCounts _ = Unit {0}
 
 -- a run of threads, with such numbers
 abbrev pub IsThreads : Job → Type 0

@@ -1,6 +1,6 @@
 ghost use Rattle.std.specs.Prelude.{◌≡◌, ◌⊎◌, ◌↔◌, [], IfErr, IfOk, OnOk, codes, map, string_bytes};
 ghost use Rattle.clap.specs.Words.{app_of, subcommand_name_of, IsAmong};
-ghost use Rattle.command_line.specs.CommandLine.{AsksForHelp, AsksForScript, IsInRange, bench_app, faults_in, garage_app, wire_app};
+ghost use Rattle.command_line.specs.CommandLine.{AsksForHelp, AsksForScript, HasCounts, bench_app, faults_in, garage_app, wire_app};
 
 use crate::fault::LineFault;
 use crate::{Job, script, threads, tools, watch};
@@ -15,7 +15,7 @@ use std::alloc::{AllocError, Global};
 /// - `Refused`: the words are none of the program's, or a number is not 1 to 100,000.
 /// - `Memory`: memory ran out.
 pub fn read_line(alloc: Global, words: &[String]) -> Result<Job, LineFault>
-    ensures range { IfOk result IsInRange }
+    ensures range { IfOk result HasCounts }
     ensures taken { OnOk result (faults_in (map string_bytes words.now) ≡ []) }
     ensures help { result ≡ Err LineFault.Help → AsksForHelp (map string_bytes words.now) }
     ensures script { AsksForScript (map string_bytes words.now) → (result ≡ Ok Job.Script) ⊎ (result ≡ Err LineFault.Memory) }
@@ -46,7 +46,7 @@ pub fn page(alloc: Global, words: &[String]) -> Result<Option<String>, AllocErro
 
 /// The job of the subcommand that was met.
 fn job_of(matches: &ArgMatches<'_>) -> Result<Job, LineFault>
-    ensures range { IfOk result IsInRange }
+    ensures range { IfOk result HasCounts }
     ensures script { (result ≡ Ok Job.Script) ↔ (subcommand_name_of matches.now ≡ Some (codes "script")) }
     ensures refused { IfErr result (λ fault. fault ≡ LineFault.Refused) }
 {

@@ -4,6 +4,7 @@ ghost use Rattle.clap.specs.Simple.{shape_of};
 ghost use Rattle.command_line.specs.CommandLine.{check_shape, decode_shape, faults_in, log_shape};
 
 use crate::args::value_arg;
+use crate::counts::in_range;
 use crate::fault::LineFault;
 use crate::reading::matches_of;
 use crate::watch::read_bus;
@@ -134,8 +135,8 @@ fn read_period(word: Option<&str>) -> Result<u64, LineFault>
         return Ok(540);
     };
     match word.parse::<u64>() {
-        Ok(period) if period >= 1 && period <= LONGEST_PERIOD => Ok(period),
-        _ => Err(LineFault::Refused),
+        Ok(period) => in_range(period, 1, LONGEST_PERIOD),
+        Err(_) => Err(LineFault::Refused),
     }
 }
 

@@ -1,11 +1,14 @@
 ghost use Rattle.std.specs.Prelude.{◌≡◌, ◌≤◌, [], IfOk, OnOk, false, map, string_bytes};
+ghost use Rattle.can_frame.specs.declared.address.TheConstants.{GREATEST_ADDRESS};
 ghost use Rattle.clap.specs.declared.builder.command.Command.TheViews.{out-Command as fields_of};
 ghost use Rattle.clap.specs.Simple.{shape_of};
 ghost use Rattle.command_line.specs.CommandLine.{faults_in, watch_lines_shape, watch_shape, watch_station_shape};
 
 use crate::args::{flag_arg, list_arg, value_arg};
+use crate::counts::in_range;
 use crate::fault::LineFault;
 use crate::reading::matches_of;
+use can_frame::GREATEST_ADDRESS;
 use clap::{ArgMatches, Command};
 use name_field::Name;
 use std::alloc::{AllocError, Global};
@@ -27,7 +30,7 @@ pub struct Assumed {
     /// 0 to 253.
     pub address: u8,
     pub name: Name,
-    ghost address_fits: { address ≤ 253 },
+    ghost address_fits: { address ≤ GREATEST_ADDRESS },
 }
 
 /// What the words after `watch` ask for.
@@ -49,14 +52,11 @@ pub struct WatchWords<'a> {
     pub form: Form,
     /// Whether the first bad line ends the run.
     pub strict: bool,
-    ghost address_fits: { address ≤ 253 },
+    ghost address_fits: { address ≤ GREATEST_ADDRESS },
 }
 
 /// The station's address where none is given: one that diagnostic tools seldom take.
 const ADDRESS: u8 = 248;
-
-/// The highest address that a unit can hold.
-const LAST_ADDRESS: u8 = 253;
 
 /// T1 of the transport protocol in milliseconds (SAE J1939-21): how late a packet may come.
 const SILENCE: u64 = 750;
@@ -70,7 +70,8 @@ Input: what candump -L writes, plain candump, log2long, a file of candump -l. Li
 
 A line for each change: a unit that claims or loses an address, a DM1 or DM2 that differs from the one before it (lamps; then
 SPN/FMI/COUNT), missed frames, an acknowledgment. At the end, also of an input that breaks off, a line for each NAME: its address,
-how many DM1 and DM2 stand under it, the lamps and the number of codes of the newest DM1.
+how many DM1 and DM2 stand under it, the lamps and the number of codes of the newest DM1. As csv: a row for each code of each run
+of equal entries, with the times of the first and the last, and whether they are contested.
 
 Limits: on a real bus the last claim is not always the holder (an entry within 250 ms of a claim that displaced another NAME is
 marked contested); frames lost without notice can mix two messages (a packet after --silence is withheld); a log without claims
@@ -199,12 +200,13 @@ fn read_name(word: &str) -> Result<Name, LineFault> {
 
 /// An address that can be held.
 fn read_address(word: &str) -> Result<u8, LineFault>
-    ensures { IfOk result (λ address. address ≤ 253) }
+    ensures { IfOk result (λ address. address ≤ GREATEST_ADDRESS) }
 {
-    match word.parse::<u8>() {
-        Ok(address) if address <= LAST_ADDRESS => Ok(address),
-        _ => Err(LineFault::Refused),
-    }
+    let Ok(number) = word.parse::<u64>() else {
+        return Err(LineFault::Refused);
+    };
+    let address = in_range(number, 0, u64::from(GREATEST_ADDRESS))?;
+    Ok(address as u8)
 }
 
 /// A bus: a word that may stand in a line.
@@ -252,8 +254,8 @@ fn read_silence(word: Option<&str>) -> Result<Option<u64>, LineFault> {
     };
     match word.parse::<u64>() {
         Ok(0) => Ok(None),
-        Ok(silence) if silence <= LONGEST_SILENCE => Ok(Some(silence * 1000)),
-        _ => Err(LineFault::Refused),
+        Ok(silence) => Ok(Some(in_range(silence, 1, LONGEST_SILENCE)? * 1000)),
+        Err(_) => Err(LineFault::Refused),
     }
 }
 

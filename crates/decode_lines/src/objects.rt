@@ -1,6 +1,6 @@
 use crate::run::shown_by;
 use crate::texts::Texts;
-use can_frame::Frame;
+use can_frame::{Frame, GLOBAL_ADDRESS};
 use candump_line::Line;
 use dm_messages::Shown;
 use dm_words::{put_code, put_lamps, put_number};
@@ -64,7 +64,11 @@ fn put_frame(
     let id = frame.id();
     put_number(json, "priority", u64::from(id.priority()))?;
     put_number(json, "source", u64::from(id.source()))?;
-    put_number(json, "destination", u64::from(id.dest().unwrap_or(255)))?;
+    put_number(
+        json,
+        "destination",
+        u64::from(id.dest().unwrap_or(GLOBAL_ADDRESS)),
+    )?;
     put_number(json, "pgn", u64::from(id.pgn().number()))?;
     let mut digits = String::new(alloc);
     for byte in frame.bytes() {

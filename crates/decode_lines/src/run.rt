@@ -4,7 +4,7 @@ use can_frame::Frame;
 use candump_line::{Line, read_line};
 use dm_messages::{Shown, read};
 use frame_words::write_line_words;
-use log_lines::{Ended, LogFault, ROOM, may_wait, next_line};
+use log_lines::{Ended, LogFault, ROOM, next_line};
 use parameter_group::ParameterGroup;
 use std::alloc::Global;
 use std::io::{BufReader, BufWriter, Read, Write};
@@ -35,47 +35,43 @@ pub fn decode<R: Read + Drop, W: Write + Drop, E: Write>(
     ) else {
         return Ended::failed(LogFault::Memory);
     };
+    let ended = answer_lines(alloc, &mut reader, &mut writer, errors, form, texts);
+    match writer.flush() {
+        Ok(()) => ended,
+        Err(_) => Ended {
+            fault: Some(LogFault::Write),
+            ..ended
+        },
+    }
+}
+
+/// Answers all lines.
+fn answer_lines<R: Read + Drop, W: Write + Drop, E: Write>(
+    alloc: Global,
+    reader: &mut BufReader<R>,
+    writer: &mut BufWriter<W>,
+    errors: &mut E,
+    form: Form,
+    texts: &Texts,
+) -> Ended {
     let mut line = Vec::new(alloc);
-    let mut ended = Ended {
-        bad: 0,
-        fault: None,
-    };
+    let mut bad = 0u64;
     for number in 1..u64::MAX {
-        if may_wait(&reader) && writer.flush().is_err() {
-            return Ended {
-                fault: Some(LogFault::Write),
-                ..ended
-            };
-        }
-        match next_line(&mut reader, &mut line) {
-            Ok(true) => {}
+        let answered = match next_line(reader, writer, &mut line) {
+            Ok(true) => answer(alloc, writer, errors, form, texts, line.as_slice(), number),
             Ok(false) => break,
-            Err(fault) => {
-                ended.fault = Some(fault);
-                break;
-            }
-        }
-        match answer(
-            alloc,
-            &mut writer,
-            errors,
-            form,
-            texts,
-            line.as_slice(),
-            number,
-        ) {
+            Err(fault) => Err(fault),
+        };
+        match answered {
             Ok(false) => {}
-            Ok(true) => ended.bad = ended.bad.saturating_add(1),
-            Err(fault) => {
-                ended.fault = Some(fault);
-                break;
-            }
+            Ok(true) => bad = bad.saturating_add(1),
+            Err(fault) => return Ended {
+                bad,
+                fault: Some(fault),
+            },
         }
     }
-    if writer.flush().is_err() {
-        ended.fault = Some(LogFault::Write);
-    }
-    ended
+    Ended { bad, fault: None }
 }
 
 /// Answers a line. Tells whether it is bad.

@@ -1,5 +1,6 @@
-use Rattle.std.specs.Prelude.{◌≡◌, ℕ, Bool, ◌+◌, ◌*◌, ◌/◌, ◌%◌, ◌≤◌, ◌⊎◌, ◌&&◌, ◌||◌, ◌==◌, nat_le, nat_lt, List, [], ◌∷◌, ◌++◌, length, take, drop, if◌then◌else◌, Option, Some, None}
+use Rattle.std.specs.Prelude.{◌≡◌, ℕ, Bool, true, false, ◌+◌, ◌*◌, ◌/◌, ◌%◌, ◌≤◌, ◌⊎◌, ◌&&◌, ◌||◌, ◌==◌, nat_le, nat_lt, List, [], ◌∷◌, ◌++◌, length, take, drop, if◌then◌else◌, Option, Some, None}
 use Rattle.std.specs.List.{All, list_all}
+use Rattle.can_frame.specs.declared.group_numbers.TheConstants.{DM1, DM2}
 use Rattle.trouble_code.specs.Code.{Code, code, IsCode, EncodesCode, code_bytes}
 use Rattle.trouble_code.specs.LampBytes.{LampsValue, lamps_value, lamps_bytes, IsLamps}
 use Rattle.fault_memory.specs.Memory.{MemoryValue}
@@ -9,8 +10,14 @@ use Rattle.dm_messages.specs.declared.shown.Shown.{Shown}
 
 -- the parameter group number of each kind of message
 abbrev pub pgn_of_kind : Kind → ℕ
-pgn_of_kind Dm1 = 65226
-pgn_of_kind Dm2 = 65227
+pgn_of_kind Dm1 = DM1
+pgn_of_kind Dm2 = DM2
+
+-- whether two kinds are one
+abbrev pub same_kind : Kind → Kind → Bool
+same_kind Dm1 Dm1 = true
+same_kind Dm2 Dm2 = true
+same_kind _ _ = false
 
 -- the list of codes that a kind of message shows
 abbrev pub codes_of_kind : Kind → MemoryValue → List Code
@@ -56,6 +63,10 @@ written_codes (c ∷ d ∷ cs) = codes_bytes (c ∷ d ∷ cs)
 -- the one encoding that is written
 abbrev pub encoding : Shown → List ℕ
 encoding v = lamps_bytes v.lamps ++ written_codes v.codes
+
+-- the payload of a message of that kind: the encoding of the view of the memory
+abbrev pub payload_of : Kind → MemoryValue → List ℕ
+payload_of kind memory = encoding (view kind memory)
 
 -- the code that four bytes encode, if they encode one
 abbrev pub code_of_bytes : ℕ → ℕ → ℕ → ℕ → Option Code

@@ -1,4 +1,4 @@
-ghost use Rattle.std.specs.Prelude.{◌≡◌, ◌⊎◌, Result, Ok, Err, OnOk, OnErr, IfOk, IfErr};
+ghost use Rattle.std.specs.Prelude.{◌≡◌, ◌⊎◌, ◌↔◌, Result, Ok, Err, OnOk, OnErr, IfOk, IfErr, IsTrue};
 ghost use Rattle.std.specs.List.{position};
 ghost use Rattle.trouble_code.specs.Code.{code};
 ghost use Rattle.fault_memory.specs.Memory.{MemoryValue, new_memory, IsKeptCode, IsLawfulMemory};
@@ -154,6 +154,17 @@ impl FaultMemory {
         self.previous.clear();
     }
 
+    /// Whether the other memory has the same lamps and, in the same order, the same codes. It takes no memory.
+    pub fn is_same(&self, other: &FaultMemory) -> bool
+        ensures same { IsTrue result ↔ (self.now ≡ other.now) }
+        ensures lawful { IsLawfulMemory self.now }
+    {
+        if self.lamps != other.lamps || !same_codes(&self.active, &other.active) {
+            return false;
+        }
+        same_codes(&self.previous, &other.previous)
+    }
+
     /// The same lamps and codes, in memory of their own.
     #[tactic(auto, using(crate::proofs::Lawful::copy_is_lawful))]
     pub fn copy(&self) -> Result<FaultMemory, AllocError>
@@ -182,6 +193,13 @@ fn first_occurrence(spn: u32, fmi: u8) -> Result<Dtc, FaultError>
         Err(DtcError::FmiTooLarge) => Err(FaultError::FmiTooLarge),
         Err(_) => unreachable!(),
     }
+}
+
+/// Whether these are the same codes in the same order.
+fn same_codes(one: &[Dtc], other: &[Dtc]) -> bool
+    ensures { IsTrue result ↔ (one.now ≡ other.now) }
+{
+    one == other
 }
 
 /// The place of the code with this SPN and FMI.

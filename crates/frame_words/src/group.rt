@@ -1,4 +1,4 @@
-use can_frame::Pgn;
+use can_frame::{GLOBAL_ADDRESS, Pgn};
 use std::fmt;
 
 /// The name of a parameter group, or `-` where it has none here.
@@ -41,7 +41,7 @@ pub(crate) struct AddressWords(pub u8);
 impl fmt::Display for AddressWords {
     fn fmt<W: fmt::Write>(&self, f: &mut fmt::Formatter<W>) -> fmt::Result {
         let address = self.0;
-        if address == 255 {
+        if address == GLOBAL_ADDRESS {
             write!(f, "all")
         } else {
             write!(f, "{address:02X}")

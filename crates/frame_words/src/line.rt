@@ -1,6 +1,6 @@
 use crate::group::AddressWords;
 use crate::message::write_message;
-use can_frame::Frame;
+use can_frame::{Frame, GLOBAL_ADDRESS};
 use candump_line::{Foreign, Line};
 use std::alloc::Global;
 use std::io;
@@ -42,7 +42,7 @@ fn write_frame<W: Write>(writer: &mut W, alloc: Global, frame: &Frame) -> io::Re
     let id = frame.id();
     let priority = id.priority();
     let source = id.source();
-    let dest = AddressWords(id.dest().unwrap_or(255));
+    let dest = AddressWords(id.dest().unwrap_or(GLOBAL_ADDRESS));
     let number = id.pgn().number();
     write!(writer, "p{priority} {source:02X}>{dest} {number} ")?;
     write_message(writer, alloc, frame)

@@ -3,37 +3,37 @@ use Rattle.std.proofs.Common.{◌≡◌, ◌+◌, ◌<◌, List, length, reverse
 use Rattle.std.specs.Prelude.{◌↔◌}
 use Rattle.std.proofs.lemmas.List.{length-reverse}
 use Rattle.bus_ledger.specs.Carrying.{CanCarry}
-use Rattle.bus_ledger.specs.Joining.{live_units}
+use Rattle.bus_ledger.specs.Newcomers.{live_units}
 use Rattle.bus_ledger.specs.declared.traffic.Carried.{Carried}
 use Rattle.journal.specs.Journal.{GarageValue, state_of}
 use Rattle.journal.specs.State.{Settings}
 use Rattle.journal.specs.declared.event.Event.{Event}
-use Rattle.garage.specs.Inside.{settings_of, view_of, Stands}
+use Rattle.garage.specs.Inside.{settings_of, garage_value_of, Stands}
 use Rattle.garage.specs.Room.{IsFull}
 use Rattle.garage.specs.declared.error.GarageError.{GarageError}
 use Rattle.garage.specs.declared.error.GarageError.TheVariants.{BookFull}
 use Rattle.garage.specs.declared.garage.Garage.TheInside.{Inside}
 
 -- what a garage without room for its next event is to its callers
-full_of : (a : Inside) (v : GarageValue) → view_of a ≡ v → Stands a → a.limit < length a.journal.items + (a.live + 1) → IsFull v
+full_of : (a : Inside) (v : GarageValue) → garage_value_of a ≡ v → Stands a → a.limit < length a.journal.items + (a.live + 1) → IsFull v
 full_of a v is stands h =
     let lives = ap live_units stands.traffic in
     let live = stands.live in
-    let now : IsFull (view_of a) = omega (arith, length-reverse a.journal.items) in
+    let now : IsFull (garage_value_of a) = omega (arith, length-reverse a.journal.items) in
     subst IsFull is now
 
-full_back : (a : Inside) (v : GarageValue) → view_of a ≡ v → Stands a → IsFull v → a.limit < length a.journal.items + (a.live + 1)
+full_back : (a : Inside) (v : GarageValue) → garage_value_of a ≡ v → Stands a → IsFull v → a.limit < length a.journal.items + (a.live + 1)
 full_back a v is stands full =
     let lives = ap live_units stands.traffic in
     let live = stands.live in
-    let now : IsFull (view_of a) = subst IsFull (sym is) full in
+    let now : IsFull (garage_value_of a) = subst IsFull (sym is) full in
     omega (arith, length-reverse a.journal.items)
 
-view_same : (a : Inside) (v : GarageValue) (r : Settings) (events : List Event) → view_of a ≡ v → r ≡ settings_of a → events ≡ a.journal.items
+view_same : (a : Inside) (v : GarageValue) (r : Settings) (events : List Event) → garage_value_of a ≡ v → r ≡ settings_of a → events ≡ a.journal.items
     → ◌≡◌ {A = GarageValue} (record { settings = r; journal = reverse events }) v
-view_same a v r events is settings journal = (let h = ap reverse journal in let same : ◌≡◌ {A = GarageValue} (record { settings = r; journal = reverse events }) (view_of a) = cc in same ∙ is)
+view_same a v r events is settings journal = (let h = ap reverse journal in let same : ◌≡◌ {A = GarageValue} (record { settings = r; journal = reverse events }) (garage_value_of a) = cc in same ∙ is)
 
-pub uncarried_full : {T : Type 0} (a : Inside) (v : GarageValue) (r : Settings) (events : List Event) (y : Result T GarageError) (x : Result Carried GarageError) (refusal : GarageError) → view_of a ≡ v → Stands a
+pub uncarried_full : {T : Type 0} (a : Inside) (v : GarageValue) (r : Settings) (events : List Event) (y : Result T GarageError) (x : Result Carried GarageError) (refusal : GarageError) → garage_value_of a ≡ v → Stands a
     → r ≡ settings_of a → events ≡ a.journal.items → y ≡ Err refusal → (IsErrOf y BookFull ↔ (a.limit < length a.journal.items + (a.live + 1)))
     → ((x ≡ Err refusal) ↔ CanCarry (state_of (record { settings = r; journal = reverse events })).traffic) → IfErr x (λ e. e ≡ refusal)
     → IsErrOf x BookFull ↔ (CanCarry (state_of v).traffic × IsFull v)

@@ -20,14 +20,14 @@ use Rattle.journal.specs.Promises.{IsFromOwner, wire_of}
 use Rattle.journal.specs.Worlds.{station_of}
 use Rattle.journal.proofs.Lifted.{from_owner, lawful_wire, looks_back, quiet}
 use Rattle.journal.proofs.Headline.{exact, readable, station}
-use Rattle.garage.specs.Inside.{settings_of, view_of, Stands}
+use Rattle.garage.specs.Inside.{settings_of, garage_value_of, Stands}
 use Rattle.garage.specs.declared.garage.Garage.TheInside.{Inside}
 
 -- its tables stand for the readings in the journal
-pub tables : (a : Inside) → Stands a → StandsFor (station_of (settings_of a)) a.grant (state_of (view_of a)).station (readings_of (reverse a.journal.items))
+pub tables : (a : Inside) → Stands a → StandsFor (station_of (settings_of a)) a.grant (state_of (garage_value_of a)).station (readings_of (reverse a.journal.items))
 tables a stands = station (settings_of a) (reverse a.journal.items) stands.fits
 
-pub shown_expected : (a : Inside) (n : ℕ) (k : Kind) (l : List Shown) → l ≡ entries_under a.station.rows n k → Stands a → injected_of (reverse a.journal.items) ≡ 0 → l ≡ shown_of (view_of a) n k
+pub shown_expected : (a : Inside) (n : ℕ) (k : Kind) (l : List Shown) → l ≡ entries_under a.station.rows n k → Stands a → injected_of (reverse a.journal.items) ≡ 0 → l ≡ shown_of (garage_value_of a) n k
 shown_expected a n k l e stands none =
     e ∙ (ap (λ (s : StationValue). entries_under s.rows n k) stands.station ∙ exact (settings_of a) (reverse a.journal.items) stands.fits none n k)
 
@@ -44,26 +44,26 @@ none_unread a n e stands none = e ∙ (ap (λ (s : StationValue). s.unread) stan
 pub row_known_heard : (a : Inside) (n : ℕ) (o : Option Row) → o ≡ row_of a.station.owners n (kept_under a.station.rows n) → Stands a
     → option_map row_heard_as o ≡ row_heard (station_of (settings_of a)) n (readings_of (reverse a.journal.items))
 row_known_heard a n o e stands =
-    row_as_heard (station_of (settings_of a)) a.grant (state_of (view_of a)).station (readings_of (reverse a.journal.items)) n o
+    row_as_heard (station_of (settings_of a)) a.grant (state_of (garage_value_of a)).station (readings_of (reverse a.journal.items)) n o
     (e ∙ ap (λ (s : StationValue). row_of s.owners n (kept_under s.rows n)) stands.station) (tables a stands)
 
 -- as the garage keeps them
 pub kept_tables : (a : Inside) → Stands a → StandsFor (station_of (settings_of a)) a.grant a.station (readings_of (reverse a.journal.items))
 kept_tables a stands = subst (λ (s : StationValue). StandsFor (station_of (settings_of a)) a.grant s (readings_of (reverse a.journal.items))) (sym stands.station) (tables a stands)
 
-pub shown_quiet : (a : Inside) (n : ℕ) (k : Kind) (l : List Shown) → l ≡ entries_under a.station.rows n k → Stands a → injected_of (reverse a.journal.items) ≡ 0 → NoneMissed (state_of (view_of a)).path
-    → l ≡ reverse (received_whole n k (state_of (view_of a)).begun (state_of (view_of a)).path)
-shown_quiet a n k l e stands none whole = shown_expected a n k l e stands none ∙ quiet (view_of a) stands.fits none whole n k
+pub shown_quiet : (a : Inside) (n : ℕ) (k : Kind) (l : List Shown) → l ≡ entries_under a.station.rows n k → Stands a → injected_of (reverse a.journal.items) ≡ 0 → NoneMissed (state_of (garage_value_of a)).path
+    → l ≡ reverse (received_whole n k (state_of (garage_value_of a)).begun (state_of (garage_value_of a)).path)
+shown_quiet a n k l e stands none whole = shown_expected a n k l e stands none ∙ quiet (garage_value_of a) stands.fits none whole n k
 
-pub path_looks_back : (a : Inside) (m : Message) → Stands a → injected_of (reverse a.journal.items) ≡ 0 → IsAmong m (state_of (view_of a)).begun
-    → (is_clear m (state_of (view_of a)).path ≡ true) ↔ IsOnClearPath m (state_of (view_of a)).path
-path_looks_back a m stands none among = looks_back (view_of a) stands.fits none m among
+pub path_looks_back : (a : Inside) (m : Message) → Stands a → injected_of (reverse a.journal.items) ≡ 0 → IsAmong m (state_of (garage_value_of a)).begun
+    → (is_clear m (state_of (garage_value_of a)).path ≡ true) ↔ IsOnClearPath m (state_of (garage_value_of a)).path
+path_looks_back a m stands none among = looks_back (garage_value_of a) stands.fits none m among
 
 pub unread_heard : (a : Inside) (n : ℕ) → n ≡ a.station.unread → Stands a → n ≡ unread_count (station_of (settings_of a)) (readings_of (reverse a.journal.items))
 unread_heard a n e stands = e ∙ (ap (λ (s : StationValue). s.unread) stands.station ∙ (tables a stands).unread)
 
-pub wire_lawful : (a : Inside) → Stands a → injected_of (reverse a.journal.items) ≡ 0 → IsLawfulTraffic (state_of (view_of a)).begun (wire_of (state_of (view_of a)))
-wire_lawful a stands none = lawful_wire (view_of a) stands.fits none
+pub wire_lawful : (a : Inside) → Stands a → injected_of (reverse a.journal.items) ≡ 0 → IsLawfulTraffic (state_of (garage_value_of a)).begun (wire_of (state_of (garage_value_of a)))
+wire_lawful a stands none = lawful_wire (garage_value_of a) stands.fits none
 
-pub frame_from_owner : (a : Inside) (i : ℕ) → Stands a → injected_of (reverse a.journal.items) ≡ 0 → IsFromOwner (state_of (view_of a)) i
-frame_from_owner a i stands none = from_owner (view_of a) stands.fits none i
+pub frame_from_owner : (a : Inside) (i : ℕ) → Stands a → injected_of (reverse a.journal.items) ≡ 0 → IsFromOwner (state_of (garage_value_of a)) i
+frame_from_owner a i stands none = from_owner (garage_value_of a) stands.fits none i

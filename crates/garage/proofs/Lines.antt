@@ -4,36 +4,36 @@ use Rattle.std.proofs.lemmas.List.{map-append, take_more}
 use Rattle.std.proofs.lemmas.Option.{slice_get-get_or, slice_get_within}
 use Rattle.std.specs.Prelude.{slice_get}
 use Rattle.std.specs.Option.{option_map}
-use Rattle.bus_model.specs.Heard.{RowHeard, names_heard}
+use Rattle.bus_model.specs.Heard.{RowHeard, names_heard, address_in_row}
 use Rattle.station_table.specs.StationValue.{StationValue}
 use Rattle.station_table.specs.StandsFor.{row_heard_as}
 use Rattle.station_table.specs.declared.row.Row.{Row}
 use Rattle.station_table.proofs.Queries.{name_as_heard, names_as_heard}
 use Rattle.journal.specs.Journal.{GarageValue, readings_of, state_of}
 use Rattle.journal.specs.Worlds.{station_of}
-use Rattle.garage.specs.Inside.{settings_of, view_of, Stands}
-use Rattle.garage.specs.Snapshots.{address_in, line_of}
+use Rattle.garage.specs.Inside.{settings_of, garage_value_of, Stands}
+use Rattle.garage.specs.Snapshots.{line_of}
 use Rattle.garage.specs.declared.garage.Garage.TheInside.{Inside}
 use Rattle.garage.specs.declared.snapshot.RowLine.{RowLine}
 use Rattle.garage.proofs.Headline.{tables}
 
-pub names_heard_of : (a : Inside) (n : ℕ) → n ≡ length a.station.rows → Stands a → n ≡ length (names_heard (readings_of (view_of a).journal))
+pub names_heard_of : (a : Inside) (n : ℕ) → n ≡ length a.station.rows → Stands a → n ≡ length (names_heard (readings_of (garage_value_of a).journal))
 names_heard_of a n e stands =
-    names_as_heard (station_of (settings_of a)) a.grant (state_of (view_of a)).station (readings_of (view_of a).journal) n
+    names_as_heard (station_of (settings_of a)) a.grant (state_of (garage_value_of a)).station (readings_of (garage_value_of a).journal) n
     (e ∙ ap (λ (s : StationValue). length s.rows) stands.station) (tables a stands)
 
 pub name_heard_at : (a : Inside) (place : ℕ) (o : Option ℕ) → o ≡ slice_get (map (λ e. e.0) a.station.rows) place → Stands a
-    → o ≡ slice_get (names_heard (readings_of (view_of a).journal)) place
+    → o ≡ slice_get (names_heard (readings_of (garage_value_of a).journal)) place
 name_heard_at a place o e stands =
-    name_as_heard (station_of (settings_of a)) a.grant (state_of (view_of a)).station (readings_of (view_of a).journal) place o
+    name_as_heard (station_of (settings_of a)) a.grant (state_of (garage_value_of a)).station (readings_of (garage_value_of a).journal) place o
     (e ∙ ap (λ (s : StationValue). slice_get (map (λ e. e.0) s.rows) place) stands.station) (tables a stands)
 
 -- a row's address is the one that was heard
-pub address_in_row : (row : Row) (h : Option RowHeard) → option_map row_heard_as (Some row) ≡ h → row.address ≡ address_in h
-address_in_row row h e = ap address_in e
+pub row_address_heard : (row : Row) (h : Option RowHeard) → option_map row_heard_as (Some row) ≡ h → row.address ≡ address_in_row h
+row_address_heard row h e = ap address_in_row e
 
-pub no_address : (h : Option RowHeard) → None ≡ h → None ≡ address_in h
-no_address h e = ap address_in e
+pub no_address : (h : Option RowHeard) → None ≡ h → None ≡ address_in_row h
+no_address h e = ap address_in_row e
 
 some_same : {A : Type 0} (x y : A) → Some x ≡ Some y → x ≡ y
 some_same x y e = cc

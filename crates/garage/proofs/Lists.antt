@@ -10,7 +10,7 @@ use Rattle.journal.specs.declared.event.Event.{Event}
 use Rattle.journal.specs.declared.event.Event.TheVariants as event
 use Rattle.journal.proofs.Lifted.{keeps_adds, keeps_same}
 use Rattle.garage.specs.Answers.{Hears, Begins}
-use Rattle.garage.specs.Inside.{settings_of, view_of, Stands}
+use Rattle.garage.specs.Inside.{settings_of, garage_value_of, Stands}
 use Rattle.garage.specs.declared.garage.Garage.TheInside.{Inside}
 use Rattle.garage.proofs.Standing.{newest}
 use Rattle.garage.specs.declared.steps.HeardOne.{HeardOne}
@@ -23,15 +23,15 @@ pub lists_same : (old new : GarageValue) → new ≡ old → KeepsLists old new
 lists_same old new e = keeps_same old new e
 
 -- one event more
-pub lists_added : (a : Inside) (old new : GarageValue) (e : Event) → view_of a ≡ old → Stands a → Adds old e new → KeepsLists old new
+pub lists_added : (a : Inside) (old new : GarageValue) (e : Event) → garage_value_of a ≡ old → Stands a → Adds old e new → KeepsLists old new
 lists_added a old new e is stands adds = keeps_adds old new e adds
 
-pub lists_pushed : (a : Inside) (old : GarageValue) (r : Settings) (events : List Event) (e : Event) → view_of a ≡ old → Stands a → r ≡ settings_of a → events ≡ a.journal.items ++ e ∷ []
-    → Fits (state_of (view_of a)) e → KeepsLists old (record { settings = r; journal = reverse events })
+pub lists_pushed : (a : Inside) (old : GarageValue) (r : Settings) (events : List Event) (e : Event) → garage_value_of a ≡ old → Stands a → r ≡ settings_of a → events ≡ a.journal.items ++ e ∷ []
+    → Fits (state_of (garage_value_of a)) e → KeepsLists old (record { settings = r; journal = reverse events })
 lists_pushed a old r events e is stands settings journal fits =
     let v : GarageValue = record { settings = r; journal = reverse events } in
     let history : reverse events ≡ e ∷ reverse a.journal.items = ap reverse journal ∙ newest a.journal.items e in
-    let next : v ≡ with_event e (view_of a) = cc in
+    let next : v ≡ with_event e (garage_value_of a) = cc in
     lists_added a old v e is stands (record { adds = next ∙ ap (with_event e) is; fits = subst (λ (g : GarageValue). Fits (state_of g) e) is fits })
 
 pub lists_of_event : (old new : GarageValue) (e : Event) → Adds old e new → KeepsLists old new

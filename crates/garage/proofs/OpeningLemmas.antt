@@ -1,16 +1,16 @@
 -- A garage that was just opened stands for an empty journal.
-use Rattle.std.proofs.Common.{ℕ, suc, zero, ◌≡◌, ◌≤◌, ◌^◌, List, [], map, reverse, length, vec_len, vec_capacity, refl, sym, ap, ◌∙◌, subst, arith}
+use Rattle.std.proofs.Common.{ℕ, suc, zero, ◌≡◌, ◌≤◌, ◌^◌, List, [], map, reverse, length, refl, sym, ap, ◌∙◌, subst, arith}
 use Rattle.bus_ledger.specs.BusValue.{Traffic, seat_at}
-use Rattle.bus_ledger.specs.Joining.{live_units}
+use Rattle.bus_ledger.specs.Newcomers.{live_units}
 use Rattle.bus_model.specs.Machine.{IsFit}
 use Rattle.journal.specs.Worlds.{station_of}
-use Rattle.journal.specs.State.{Settings, State, start}
+use Rattle.journal.specs.State.{Settings, State, new_state}
 use Rattle.journal.specs.Journal.{tally_of, state_after, state_of, AllFit, injected_of, joins}
 use Rattle.journal.specs.declared.event.Event.{Event}
-use Rattle.garage.specs.Inside.{no_tally, settings_of, view_of, unit_of, Stands}
+use Rattle.garage.specs.Inside.{no_tally, settings_of, garage_value_of, unit_of, Stands}
 use Rattle.garage.specs.declared.garage.Garage.TheInside.{Inside}
 
-opened_is : (r : Settings) → state_after r [] ≡ start r
+opened_is : (r : Settings) → state_after r [] ≡ new_state r
 unfolding state_after
 opened_is r = refl
 
@@ -27,23 +27,23 @@ unfolding AllFit
 none_fit r fit = fit
 
 -- the station's claim alone is queued
-first_queued : (r : Settings) (k : ℕ) → (seat_at (start r).traffic k).queued ≤ 1
+first_queued : (r : Settings) (k : ℕ) → (seat_at (new_state r).traffic k).queued ≤ 1
 first_queued r zero = omega arith
 first_queued r (suc k) = omega arith
 
-one_seat : (r : Settings) → length (start r).traffic.seats ≡ 1
+one_seat : (r : Settings) → length (new_state r).traffic.seats ≡ 1
 one_seat r = refl
 
 no_tallies : (k : ℕ) → tally_of k [] ≡ no_tally
 unfolding tally_of
 no_tallies k = refl
 
-pub opened_stands : (g : Inside) → IsFit (station_of (settings_of g)) → g.journal.items ≡ [] → g.places.items ≡ [] → g.begun ≡ 0 → g.live ≡ 0 → g.injected ≡ 0 → vec_len g.journal ≡ 0 → g.limit ≤ 2 ^ 24
-    → g.bus.traffic ≡ (start (settings_of g)).traffic → g.station ≡ (start (settings_of g)).station → Stands g
-opened_stands g fit empty none begun live injected len few traffic station =
+pub opened_stands : (g : Inside) → IsFit (station_of (settings_of g)) → g.journal.items ≡ [] → g.places.items ≡ [] → g.begun ≡ 0 → g.live ≡ 0 → g.injected ≡ 0 → g.limit ≤ 2 ^ 24
+    → g.bus.traffic ≡ (new_state (settings_of g)).traffic → g.station ≡ (new_state (settings_of g)).station → Stands g
+opened_stands g fit empty none begun live injected few traffic station =
     let r : Settings = settings_of g in
     let history : reverse g.journal.items ≡ [] = ap reverse empty in
-    let is : state_of (view_of g) ≡ start r = ap (λ (es : List Event). state_after r es) history ∙ opened_is r in
+    let is : state_of (garage_value_of g) ≡ new_state r = ap (λ (es : List Event). state_after r es) history ∙ opened_is r in
     let many : length g.bus.traffic.seats ≡ 1 = ap (λ (t : Traffic). length t.seats) traffic ∙ one_seat r in
     let places : length g.places.items ≡ 0 = ap length none in
     let events : length g.journal.items ≡ 0 = ap length empty in
@@ -63,12 +63,9 @@ opened_stands g fit empty none begun live injected len few traffic station =
       seats = omega arith;
       live = live ∙ sym lives;
       within = omega arith;
-      room = (let c = vec_room g in omega arith);
+      room = omega arith;
       wire = omega arith;
       queued = λ k. (let q = first_queued r k in let e = ap (λ (t : Traffic). (seat_at t k).queued) traffic in omega arith);
       messages = omega arith;
       places = omega arith;
     }
-  where
-    vec_room : (g : Inside) → 0 ≤ vec_capacity g.journal
-    vec_room g = omega arith

@@ -15,7 +15,7 @@ use Rattle.journal.specs.Steps.{order_answer}
 use Rattle.journal.specs.declared.order.Order.TheVariants as order
 use Rattle.bus_ledger.specs.BusValue.{Traffic, seat_at}
 use Rattle.bus_ledger.specs.Changes.{withdrawn}
-use Rattle.bus_ledger.specs.Joining.{live_units}
+use Rattle.bus_ledger.specs.Newcomers.{live_units}
 use Rattle.bus_ledger.specs.declared.traffic.QueuedFrame.{QueuedFrame}
 use Rattle.bus_ledger.specs.declared.traffic.Which.TheVariants as which
 use Rattle.std.proofs.lemmas.List.{length-map}

@@ -21,7 +21,7 @@ use Rattle.node_core.specs.declared.heard.Started.TheVariants as started
 use Rattle.node_core.specs.declared.heard.Withdraw.{Withdraw}
 use Rattle.node_core.specs.declared.heard.Withdraw.TheVariants as withdraw
 use Rattle.journal.specs.State.{State, unit_at}
-use Rattle.journal.specs.Steps.{put_all, withdrawn_by, after_hearing, after_hear_of, after_starting, after_begin_of, next_for, tagged, is_session, session_message_after}
+use Rattle.journal.specs.Steps.{put_all, withdrawn_by, after_hearing, after_hear_of, after_starting, after_begin_of, next_for, tagged, begins_session, session_message_after}
 use Rattle.journal.specs.Journal.{GarageValue, Adds, IsSeated, joins, state_after, state_of, tallied, tally_of, with_event}
 use Rattle.journal.specs.declared.event.Event.{Event}
 use Rattle.journal.specs.declared.tally.Tally.{Tally}
@@ -84,7 +84,7 @@ keeps_heard k w qs t h =
 keeps_hearing : (k : ℕ) (memory : MemoryValue) (h : Heard) (node : NodeValue) (s : State) → k < length s.traffic.seats
     → KeepsSeat k s.traffic (after_hearing k memory h node s).traffic
 keeps_hearing k memory h node s there =
-    keeps_heard k h.withdraw (map (tagged (length s.begun) (is_session h.begun) (session_message_after (unit_at s k).session_message (length s.begun) h.begun)) h.put) s.traffic there
+    keeps_heard k h.withdraw (map (tagged (length s.begun) (begins_session h.begun) (session_message_after (unit_at s k).session_message (length s.begun) h.begun)) h.put) s.traffic there
 
 keeps_hear : (o : Option FrameValue) (k : ℕ) (memory : MemoryValue) (answered : UnitAnswer) (s : State) → k < length s.traffic.seats
     → KeepsSeat k s.traffic (after_hear_of o k memory answered s).traffic

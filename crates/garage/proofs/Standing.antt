@@ -1,10 +1,10 @@
 -- A garage that stands for its journal stands for it with one event more.
-use Rattle.std.proofs.Common.{ℕ, suc, zero, ◌≡◌, ◌+◌, ◌-◌, ◌*◌, ◌<◌, ◌≤◌, List, [], ◌∷◌, ◌++◌, map, reverse, length, get_or, set, Bool, true, false, cond, ◌==◌, nat_eq, eq-eqb, Option, Some, None, slice_get, is_some, IfSome, vec_len, vec_capacity, refl, sym, ap, ◌∙◌, subst, arith, inl, inr, if◌then◌else◌}
+use Rattle.std.proofs.Common.{ℕ, suc, zero, ◌≡◌, ◌+◌, ◌-◌, ◌*◌, ◌<◌, ◌≤◌, List, [], ◌∷◌, ◌++◌, map, reverse, length, get_or, set, Bool, true, false, cond, ◌==◌, nat_eq, eq-eqb, Option, Some, None, slice_get, refl, sym, ap, ◌∙◌, subst, arith, inl, inr, if◌then◌else◌}
 use Rattle.std.proofs.lemmas.Bool.{ne_eqb}
 use Rattle.std.proofs.lemmas.List.{reverse-append, length-reverse, length-set, length_push, map-set, get_or_read, get_or-set_same, get_or-set_other, set-get_or}
 use Rattle.bus_ledger.specs.BusValue.{SeatValue, Traffic, nobody, seat_at, IsUnit}
-use Rattle.bus_ledger.specs.Joining.{live_units}
-use Rattle.bus_ledger.specs.Changes.{leaving, left, sending, carried_from, carried_frame, queued, joined, injected}
+use Rattle.bus_ledger.specs.Newcomers.{live_units}
+use Rattle.bus_ledger.specs.Changes.{leaving, left, sending, carried_from, carried_frame, queued, with_newcomer, injected}
 use Rattle.bus_ledger.specs.declared.traffic.QueuedFrame.{QueuedFrame}
 use Rattle.bus_model.specs.Expected.{Own}
 use Rattle.std.specs.List.{count_by}
@@ -14,8 +14,8 @@ use Rattle.fault_memory.specs.Memory.{MemoryValue, IsLawfulMemory}
 use Rattle.can_frame.specs.declared.reading.Reading.{Reading}
 use Rattle.journal.specs.State.{Settings, State, UnitState, unit_at}
 use Rattle.journal.specs.Steps.{after, after_leave, after_carry_of, item_of, reacted, after_read, path_after, after_join, after_inject, untagged}
-use Rattle.bus_ledger.specs.Reception.{after_reading}
-use Rattle.station_table.specs.Reactions.{reaction}
+use Rattle.bus_ledger.specs.Reception.{reading_taken}
+use Rattle.station_table.specs.Reactions.{station_reaction}
 use Rattle.station_table.specs.Steps.{after_reading as station_after}
 use Rattle.address_claim.specs.Frames.{claim_frame_value}
 use Rattle.journal.specs.State.{new_unit}
@@ -38,22 +38,23 @@ use Rattle.node_core.specs.declared.heard.Heard.{Heard}
 use Rattle.node_core.specs.declared.heard.Begun.{Begun}
 use Rattle.bus_model.specs.Messages.{Message}
 use Rattle.bus_ledger.specs.declared.traffic.CarriedFrame.{CarriedFrame}
+use Rattle.bus_ledger.proofs.Numbers.{same_or_not}
 use Rattle.std.specs.Option.{option_map}
-use Rattle.garage.specs.Answers.{with_begun, Hears}
+use Rattle.garage.specs.Answers.{count_with_begun, Hears}
 use Rattle.garage.specs.declared.steps.HeardOne.TheVariants as heard
 use Rattle.journal.specs.Fits.{IsAnswered, Fits}
 use Rattle.journal.specs.Journal.{GarageValue, state_after, state_of, AllFit, injected_of, joins, tallied, tally_of}
 use Rattle.journal.specs.declared.event.Event.{Event}
 use Rattle.journal.specs.declared.event.Event.TheVariants.{Join, Hear, Begin, Turned, Carry, Read, Ordered, Leave, Inject}
 use Rattle.journal.specs.declared.tally.Tally.{Tally}
-use Rattle.garage.specs.Inside.{settings_of, view_of, unit_of, no_place, no_tally, place_at, Stands}
+use Rattle.garage.specs.Inside.{settings_of, garage_value_of, unit_of, no_place, no_tally, place_at, Stands}
 use Rattle.garage.specs.declared.garage.Place.{Place}
 use Rattle.garage.specs.declared.garage.Garage.TheInside.{Inside}
-use Rattle.garage.proofs.Traffics.{same_or_not, within_or_past, IsLive-queued, joined_live, joined_name}
+use Rattle.garage.proofs.Traffics.{within_or_past, IsLive-queued, joined_live, joined_name}
 
 -- the state that the fields of a garage stand for
 abbrev pub state : Inside → State
-state g = state_of (view_of g)
+state g = state_of (garage_value_of g)
 
 pub state_more : (r : Settings) (e : Event) (older : List Event) → state_after r (e ∷ older) ≡ after e (state_after r older)
 unfolding state_after
@@ -183,7 +184,7 @@ pub record More (a b : Inside) (e : Event) : Type 0 where
   pub seats : length b.bus.traffic.seats ≡ length b.places.items + 1
   pub live : b.live ≡ live_units b.bus.traffic
   pub within : length a.journal.items + 1 + b.live ≤ b.limit
-  pub room : vec_len b.journal + b.live ≤ vec_capacity b.journal
+  pub room : b.live ≤ b.journal.room
   pub wire : length b.bus.traffic.wire ≤ length a.journal.items + 1
   pub queued : (k : ℕ) → (seat_at b.bus.traffic k).queued ≤ 256 * (length a.journal.items + 1) + 1
   pub messages : b.begun ≤ length a.journal.items + 1
@@ -218,7 +219,7 @@ stands_more a b e stands m =
       places = (let w = m.places in omega arith);
     }
 
-pub unit_now : (a : Inside) (v : GarageValue) (k : ℕ) → view_of a ≡ v → IsUnit (state_of v).traffic k → IsUnit (state a).traffic k
+pub unit_now : (a : Inside) (v : GarageValue) (k : ℕ) → garage_value_of a ≡ v → IsUnit (state_of v).traffic k → IsUnit (state a).traffic k
 unit_now a v k is u = subst (λ (g : GarageValue). IsUnit (state_of g).traffic k) (sym is) u
 
 -- a place that keeps its unit
@@ -306,7 +307,7 @@ pub tallies_still : (xs : List Place) (es : List Event) (e : Event) → ((j : �
 tallies_still xs es e old rule j h = old j h ∙ sym (tally_more (suc j) e es ∙ rule (suc j) (tally_of (suc j) es))
 
 pub read_is : (r : Reading) (s : State) → after (Read r) s ≡ record s {
-  traffic = reacted (reaction s.station r) (after_reading r s.traffic);
+  traffic = reacted (station_reaction s.station r) (reading_taken r s.traffic);
   station = station_after s.station r;
   path = path_after r s;
 }
@@ -314,7 +315,7 @@ unfolding after_read
 read_is r s = refl
 
 pub join_is : (name address : ℕ) (s : State) → after (Join name address) s ≡ record s {
-  traffic = queued (length s.traffic.seats) (untagged (claim_frame_value name (Some address))) (joined name s.traffic);
+  traffic = queued (length s.traffic.seats) (untagged (claim_frame_value name (Some address))) (with_newcomer name s.traffic);
   units = s.units ++ new_unit name address ∷ [];
 }
 unfolding after_join
@@ -329,20 +330,20 @@ unfolding joins
 joins_inject f es = refl
 
 -- a call that added this event
-pub added : (a b : Inside) (v : GarageValue) (e : Event) → view_of a ≡ v → settings_of b ≡ settings_of a → b.journal.items ≡ a.journal.items ++ e ∷ [] → Fits (state a) e → Adds v e (view_of b)
+pub added : (a b : Inside) (v : GarageValue) (e : Event) → garage_value_of a ≡ v → settings_of b ≡ settings_of a → b.journal.items ≡ a.journal.items ++ e ∷ [] → Fits (state a) e → Adds v e (garage_value_of b)
 added a b v e is settings journal fits = record {
   adds =
       let history : reverse b.journal.items ≡ e ∷ reverse a.journal.items = ap reverse journal ∙ newest a.journal.items e in
-      let pair : view_of b ≡ with_event e (view_of a) = cc in
+      let pair : garage_value_of b ≡ with_event e (garage_value_of a) = cc in
       pair ∙ ap (with_event e) is;
   fits = subst (λ (g : GarageValue). Fits (state_of g) e) is fits;
 }
 
 -- a garage stays as it stood where nothing that counts has changed
 pub still : (a b : Inside) → Stands a → settings_of b ≡ settings_of a → b.bus.traffic ≡ a.bus.traffic → b.station ≡ a.station → b.places.items ≡ a.places.items → b.begun ≡ a.begun → b.live ≡ a.live
-    → b.injected ≡ a.injected → b.journal.items ≡ a.journal.items → vec_len b.journal + b.live ≤ vec_capacity b.journal → Stands b
+    → b.injected ≡ a.injected → b.journal.items ≡ a.journal.items → b.live ≤ b.journal.room → Stands b
 still a b stands settings traffic station places begun live injected journal room =
-    let same : state b ≡ state a = (let v : view_of b ≡ view_of a = cc in ap state_of v) in
+    let same : state b ≡ state a = (let v : garage_value_of b ≡ garage_value_of a = cc in ap state_of v) in
     let limit : b.limit ≡ a.limit = ap (λ (r : Settings). r.limit) settings in
     let n : length b.journal.items ≡ length a.journal.items = ap length journal in
     let m : length b.places.items ≡ length a.places.items = ap length places in
@@ -395,11 +396,11 @@ hear_did k memory f s node h node' e n heard_is node_is =
     ∙ (ap (λ (m : NodeValue). after_hearing k memory (heard_of h.answer (node_reaction m memory h.answer f)) (node_after m memory h.answer f) s) n
     ∙ (ap (λ (g : Heard). after_hearing k memory g (node_after node memory h.answer f) s) (sym heard_is) ∙ ap (λ (m : NodeValue). after_hearing k memory h m s) (sym node_is)))
 
-pub begun_length : (ms : List Message) (seat name : ℕ) (memory : MemoryValue) (b : Option Begun) → length (begun_after ms seat name memory b) ≡ with_begun (length ms) b
+pub begun_length : (ms : List Message) (seat name : ℕ) (memory : MemoryValue) (b : Option Begun) → length (begun_after ms seat name memory b) ≡ count_with_begun (length ms) b
 begun_length ms seat name memory None = refl
 begun_length ms seat name memory (Some b) = omega arith
 
-pub begun_few : (n : ℕ) (b : Option Begun) → with_begun n b ≤ n + 1
+pub begun_few : (n : ℕ) (b : Option Begun) → count_with_begun n b ≤ n + 1
 begun_few n None = omega arith
 begun_few n (Some b) = omega arith
 
@@ -449,12 +450,12 @@ is_answered n m o f answered en eo h =
     subst (λ (x : Option FrameValue). IsAnswered n x answered) (sym eo) (subst (λ (x : NodeValue). IsAnswerTo (question x f) answered) (sym en) h)
 
 -- what a frame heard comes to, at what callers see
-pub hears_of : {X : Type 0} (a b : Inside) (v : GarageValue) (seat : ℕ) (node : NodeValue) (f : FrameValue) (answered : UnitAnswer) (memory : MemoryValue) (given : MemoryValue) (after' : MemoryValue) (answers : Question → Bool → X → Type 0) (unit' unit'' : X) → view_of a ≡ v → settings_of b ≡ settings_of a
+pub hears_of : {X : Type 0} (a b : Inside) (v : GarageValue) (seat : ℕ) (node : NodeValue) (f : FrameValue) (answered : UnitAnswer) (memory : MemoryValue) (given : MemoryValue) (after' : MemoryValue) (answers : Question → Bool → X → Type 0) (unit' unit'' : X) → garage_value_of a ≡ v → settings_of b ≡ settings_of a
     → b.journal.items ≡ a.journal.items ++ Hear seat memory answered ∷ [] → memory ≡ given → next_for (state a) seat ≡ Some f → Fits (state a) (Hear seat given answered) → (unit_at (state a) seat).node ≡ node
-    → after' ≡ memory_after node given answered f → IsAsked answers (question node f) answered unit' unit'' → Hears v seat given answers unit' (heard.Frame f) (view_of b) after' unit''
+    → after' ≡ memory_after node given answered f → IsAsked answers (question node f) answered unit' unit'' → Hears v seat given answers unit' (heard.Frame f) (garage_value_of b) after' unit''
 hears_of a b v seat node f answered memory given after' answers unit' unit'' is settings journal mem next fits unit reacts asks =
     let seen : next_for (state_of v) seat ≡ Some f = ap (λ (w : GarageValue). next_for (state_of w) seat) (sym is) ∙ next in
-    let adds : Adds v (Hear seat given answered) (view_of b) = added a b v (Hear seat given answered) is settings (journal ∙ ap (λ (m : MemoryValue). a.journal.items ++ Hear seat m answered ∷ []) mem) fits in
+    let adds : Adds v (Hear seat given answered) (garage_value_of b) = added a b v (Hear seat given answered) is settings (journal ∙ ap (λ (m : MemoryValue). a.journal.items ++ Hear seat m answered ∷ []) mem) fits in
     let kept : after' ≡ memory_after (unit_at (state_of v) seat).node given answered f =
     reacts ∙ (ap (λ (n : NodeValue). memory_after n given answered f) (sym unit) ∙ ap (λ (w : GarageValue). memory_after (unit_at (state_of w) seat).node given answered f) is) in
     let asked : IsAsked answers (question (unit_at (state_of v) seat).node f) answered unit' unit'' =
@@ -468,16 +469,16 @@ state_next a b e settings journal =
     ∙ (ap (λ (r : Settings). state_after r (e ∷ reverse a.journal.items)) settings ∙ state_more (settings_of a) e (reverse a.journal.items))
 
 -- a unit that has just joined is seated with one event of its own
-pub seated_join : (a b : Inside) (name want k : ℕ) → Stands a → settings_of b ≡ settings_of a → b.journal.items ≡ a.journal.items ++ Join name want ∷ [] → k ≡ length (state a).traffic.seats → IsSeated (view_of b) k name 1
+pub seated_join : (a b : Inside) (name want k : ℕ) → Stands a → settings_of b ≡ settings_of a → b.journal.items ≡ a.journal.items ++ Join name want ∷ [] → k ≡ length (state a).traffic.seats → IsSeated (garage_value_of b) k name 1
 seated_join a b name want k stands settings journal at =
     let t = (state a).traffic in
     let q = untagged (claim_frame_value name (Some want)) in
     let n = length t.seats in
-    let now : (state b).traffic ≡ queued n q (joined name t) = ap (λ (s : State). s.traffic) (state_next a b (Join name want) settings journal ∙ join_is name want (state a)) in
-    let l = IsLive-queued (joined name t) n n q (joined_live t name) in
+    let now : (state b).traffic ≡ queued n q (with_newcomer name t) = ap (λ (s : State). s.traffic) (state_next a b (Join name want) settings journal ∙ join_is name want (state a)) in
+    let l = IsLive-queued (with_newcomer name t) n n q (joined_live t name) in
     let many : length a.bus.traffic.seats ≡ n = ap (λ (u : Traffic). length u.seats) stands.traffic in
     let seats = stands.seats in
-    let u : IsUnit (queued n q (joined name t)) n = (omega arith, l.0, l.1) in
+    let u : IsUnit (queued n q (with_newcomer name t)) n = (omega arith, l.0, l.1) in
     let history : reverse b.journal.items ≡ Join name want ∷ reverse a.journal.items = ap reverse journal ∙ newest a.journal.items (Join name want) in
     let last : nat_eq (joins (reverse a.journal.items) + 1) k ≡ true = (let j = stands.joined in eq-eqb (joins (reverse a.journal.items) + 1) k (omega arith)) in
     let none = stands.fresh k (omega arith) in
@@ -497,16 +498,6 @@ begin_did k memory s node source b put n held did =
     let e : (unit_at s k).node.claimer.held ≡ Some source = ap (λ (v : NodeValue). v.claimer.held) n ∙ held in
     rw e (ap (λ (v : NodeValue). after_starting k memory (begins v.session Dm1 memory source) s) n ∙ ap (λ (st : Started). after_starting k memory st s) (sym did))
 
--- an address that is held
-pub record Source (o : Option ℕ) (P : ℕ → Type 0) : Type 1 where
-  pub address : ℕ
-  pub held : o ≡ Some address
-  pub says : P address
-
-pub source_of : (o : Option ℕ) (P : ℕ → Type 0) → is_some o ≡ true → IfSome o P → Source o P
-source_of None P e h = absurd cc
-source_of (Some a) P e h = record { address = a; held = refl; says = h }
-
 pub begin_fits : (k : ℕ) (memory : MemoryValue) (s : State) (node : NodeValue) (source : ℕ) (b : Begun) (put : List Out) → IsUnit s.traffic k → IsLawfulMemory memory → (unit_at s k).node ≡ node → node.claimer.held ≡ Some source
     → started.Begun b put ≡ begins node.session Dm1 memory source → Fits s (Begin k memory)
 begin_fits k memory s node source b put u lawful n held did =
@@ -514,7 +505,7 @@ begin_fits k memory s node source b put u lawful n held did =
     let not_held : begins (unit_at s k).node.session Dm1 memory source ≡ started.Held → ⊥ = (λ e. let clash : started.Begun b put ≡ started.Held = here ∙ e in cc) in
     (u, (source, ap (λ (v : NodeValue). v.claimer.held) n ∙ held, not_held), lawful)
 
-pub begins_of : (a b : Inside) (v : GarageValue) (seat : ℕ) (memory given : MemoryValue) → view_of a ≡ v → settings_of b ≡ settings_of a → b.journal.items ≡ a.journal.items ++ Begin seat memory ∷ []
-    → memory ≡ given → Fits (state a) (Begin seat memory) → Adds v (Begin seat given) (view_of b)
+pub begins_of : (a b : Inside) (v : GarageValue) (seat : ℕ) (memory given : MemoryValue) → garage_value_of a ≡ v → settings_of b ≡ settings_of a → b.journal.items ≡ a.journal.items ++ Begin seat memory ∷ []
+    → memory ≡ given → Fits (state a) (Begin seat memory) → Adds v (Begin seat given) (garage_value_of b)
 begins_of a b v seat memory given is settings journal mem fits =
-    subst (λ (m : MemoryValue). Adds v (Begin seat m) (view_of b)) mem (added a b v (Begin seat memory) is settings journal fits)
+    subst (λ (m : MemoryValue). Adds v (Begin seat m) (garage_value_of b)) mem (added a b v (Begin seat memory) is settings journal fits)

@@ -1,27 +1,21 @@
 -- What the changes of the bus leave as it was.
-use Rattle.std.proofs.Common.{ℕ, suc, zero, ◌≡◌, ◌≢◌, ◌+◌, ◌-◌, ◌<◌, ◌≤◌, List, [], ◌∷◌, ◌++◌, map, length, get_or, set, take, Bool, true, false, cond, ◌&&◌, ◌==◌, Option, Some, None, slice_get, Result, Ok, Err, OnOk, is_err, refl, sym, ap, ◌∙◌, subst, arith, ◌⊎◌, inl, inr, if◌then◌else◌}
+use Rattle.std.proofs.Common.{ℕ, suc, zero, ◌≡◌, ◌≢◌, ◌+◌, ◌-◌, ◌<◌, ◌≤◌, List, [], ◌∷◌, ◌++◌, map, length, get_or, set, take, Bool, true, false, cond, ◌&&◌, ◌==◌, Option, Some, None, slice_get, refl, sym, ap, ◌∙◌, subst, arith, ◌⊎◌, inl, inr, if◌then◌else◌}
 use Rattle.std.specs.List.{count_by}
 use Rattle.std.proofs.lemmas.List.{length-set, length-map, length_push, get_or-set_same, get_or-set_other, take_more, map-append, set_past, get_or_push}
 use Rattle.std.proofs.lemmas.List.Sums.{sum_by-set, sum_by_push}
 use Rattle.bus_ledger.specs.BusValue.{SeatValue, Traffic, nobody, seat_at, IsLive, IsUnit}
-use Rattle.bus_ledger.specs.Changes.{newcomer, joined, queueing, queued, leaving, left, with_seat, hearing, heard_more, withdrawn}
-use Rattle.bus_ledger.specs.Reception.{after_reading, passes}
+use Rattle.bus_ledger.specs.Changes.{newcomer, with_newcomer, queueing, queued, leaving, left, with_seat, hearing, heard_more, withdrawn}
+use Rattle.bus_ledger.specs.Reception.{reading_taken, passes}
 use Rattle.can_frame.specs.declared.reading.Reading.{Reading}
 use Rattle.bus_ledger.specs.declared.traffic.Which.{Which}
 use Rattle.bus_ledger.specs.declared.traffic.Which.TheVariants as which
 use Rattle.node_core.specs.declared.heard.Withdraw.{Withdraw}
 use Rattle.node_core.specs.declared.heard.Withdraw.TheVariants as withdraw
-use Rattle.bus_ledger.specs.Joining.{live_units}
+use Rattle.bus_ledger.specs.Newcomers.{live_units}
 use Rattle.bus_ledger.specs.Carrying.{offer}
 use Rattle.bus_ledger.specs.declared.traffic.QueuedFrame.{QueuedFrame}
 use Rattle.journal.specs.Steps.{put_all, withdrawn_by, reacted, untagged}
 use Rattle.station_table.specs.declared.reaction.Reaction.{Reaction}
-
-pub same_or_not : (k j : ℕ) → (k ≡ j) ⊎ (k ≢ j)
-same_or_not zero zero = inl refl
-same_or_not zero (suc j) = inr (λ e. omega arith)
-same_or_not (suc k) zero = inr (λ e. omega arith)
-same_or_not (suc k) (suc j) = elim (same_or_not k j) [ inl e ↦ inl (ap suc e) | inr n ↦ inr (λ e. n (omega arith)) ]
 
 pub within_or_past : (k n : ℕ) → (k < n) ⊎ (n ≤ k)
 within_or_past k zero = inr (omega arith)
@@ -99,20 +93,6 @@ live_left t k station u =
     let o = some_live t k station u in
     omega arith
 
--- what an offer says of its seat
-offer_says_at : (b c : Bool) (o : Option QueuedFrame) (q : QueuedFrame) → cond (b && c) o None ≡ Some q → (b ≡ true) × (o ≡ Some q)
-offer_says_at true true o q e = (refl, e)
-offer_says_at true false o q e = absurd cc
-offer_says_at false c o q e = absurd cc
-
-pub offer_says : (t : Traffic) (k : ℕ) (q : QueuedFrame) → offer t k ≡ Some q → ((seat_at t k).live ≡ true) × (slice_get (seat_at t k).queue 0 ≡ Some q)
-offer_says t k q e = offer_says_at (seat_at t k).live ((seat_at t k).heard == length t.wire) (slice_get (seat_at t k).queue 0) q e
-
--- what a call that is not an error promises
-pub ok_of : {E : Type 0} (r : Result (Unit {0}) E) (P : Type 0) → is_err r ≡ false → OnOk r P → P
-ok_of (Ok u) P e h = h
-ok_of (Err x) P e h = absurd cc
-
 -- the next element of a list was queued
 pub put_more : {A : Type 0} (f : A → QueuedFrame) (k : ℕ) (xs : List A) (i : ℕ) (x : A) (t0 t t' : Traffic) → i < length xs → x ≡ get_or xs i x
     → t ≡ put_all k (map f (take i xs)) t0 → t' ≡ queued k (f x) t → t' ≡ put_all k (map f (take (i + 1) xs)) t0
@@ -185,7 +165,7 @@ pub keeps_withdrawn_if : (b : Bool) (t : Traffic) → Keeps t (if b then withdra
 keeps_withdrawn_if true t = keeps_withdrawn t 0 which.All
 keeps_withdrawn_if false t = keeps_refl t
 
-pub keeps_read : (r : Reading) (t : Traffic) → Keeps t (after_reading r t)
+pub keeps_read : (r : Reading) (t : Traffic) → Keeps t (reading_taken r t)
 keeps_read r t = keeps_heard t 0 (passes r)
 
 pub live_kept : (t u : Traffic) (k : ℕ) → Keeps t u → IsLive t k → IsLive u k
@@ -241,14 +221,14 @@ puts_reacted r t v keeps =
 pub station_live : (t : Traffic) → (seat_at t 0).live ≡ true → IsLive t 0
 station_live t live = (given t.seats 0 live, live)
 
-pub live_read : (t : Traffic) (r : Reading) → IsLive t 0 → IsLive (after_reading r t) 0
+pub live_read : (t : Traffic) (r : Reading) → IsLive t 0 → IsLive (reading_taken r t) 0
 live_read t r h = (
   omega (arith, length-set t.seats 0 (hearing (passes r) (seat_at t 0))),
   ap (λ (s : SeatValue). s.live) (get_or-set_same t.seats 0 (hearing (passes r) (seat_at t 0)) nobody h.0) ∙ h.1,
 )
 
 -- one unit more is live
-pub joined_units : (t : Traffic) (name : ℕ) → (seat_at t 0).live ≡ true → live_units (joined name t) ≡ live_units t + 1
+pub joined_units : (t : Traffic) (name : ℕ) → (seat_at t 0).live ≡ true → live_units (with_newcomer name t) ≡ live_units t + 1
 joined_units t name station =
     let s = sum_by_push weight t.seats (newcomer name (length t.wire)) in
     let one = count_live t.seats 0 (given t.seats 0 station) station in
@@ -260,17 +240,17 @@ joined_at [] y (suc j) e = omega arith
 joined_at (x ∷ xs) y zero e = omega arith
 joined_at (x ∷ xs) y (suc j) e = joined_at xs y j e
 
-pub joined_queued : (t : Traffic) (name j : ℕ) → (seat_at (joined name t) j).queued ≤ (seat_at t j).queued
+pub joined_queued : (t : Traffic) (name j : ℕ) → (seat_at (with_newcomer name t) j).queued ≤ (seat_at t j).queued
 joined_queued t name j = joined_at t.seats (newcomer name (length t.wire)) j refl
 
-pub joined_name : (t : Traffic) (name : ℕ) (q : QueuedFrame) → (seat_at (queued (length t.seats) q (joined name t)) (length t.seats)).name ≡ name
+pub joined_name : (t : Traffic) (name : ℕ) (q : QueuedFrame) → (seat_at (queued (length t.seats) q (with_newcomer name t)) (length t.seats)).name ≡ name
 joined_name t name q =
     let k = length t.seats in
     let y = newcomer name (length t.wire) in
     let long : k < length (t.seats ++ y ∷ []) = omega (arith, length_push t.seats y) in
     ap (λ (s : SeatValue). s.name) (get_or-set_same (t.seats ++ y ∷ []) k (queueing q (get_or (t.seats ++ y ∷ []) k nobody)) nobody long) ∙ ap (λ (s : SeatValue). s.name) (get_or_push t.seats y nobody k refl)
 
-pub joined_live : (t : Traffic) (name : ℕ) → IsLive (joined name t) (length t.seats)
+pub joined_live : (t : Traffic) (name : ℕ) → IsLive (with_newcomer name t) (length t.seats)
 joined_live t name =
     let y = newcomer name (length t.wire) in
     (omega (arith, length_push t.seats y), ap (λ (s : SeatValue). s.live) (get_or_push t.seats y nobody (length t.seats) refl))

@@ -51,6 +51,6 @@ counted_beginning n begin.Begun = n + 1
 counted_beginning n begin.Held = n
 
 -- how many messages have begun, with this one
-abbrev pub with_begun : ℕ → Option Begun → ℕ
-with_begun n None = n
-with_begun n (Some b) = n + 1
+abbrev pub count_with_begun : ℕ → Option Begun → ℕ
+count_with_begun n None = n
+count_with_begun n (Some b) = n + 1

@@ -7,7 +7,7 @@ use Rattle.journal.specs.declared.event.Event.TheVariants.{Carry}
 use Rattle.journal.specs.Journal.{GarageValue, Adds, state_of}
 
 -- a frame adds the event; where no queue has a frame, or no seat among them has heard the whole wire, nothing changes
-abbrev pub Carries : GarageValue → Carried → GarageValue → Type 0
-Carries old (Frame seat frame) new = IsChoice (state_of old).traffic (Frame seat frame) × Adds old (Carry seat) new
-Carries old Idle new = IsIdle (state_of old).traffic × (new ≡ old)
-Carries old Waiting new = IsWaiting (state_of old).traffic × (new ≡ old)
+abbrev pub AddsCarry : GarageValue → Carried → GarageValue → Type 0
+AddsCarry old (Frame seat frame) new = IsChoice (state_of old).traffic (Frame seat frame) × Adds old (Carry seat) new
+AddsCarry old Idle new = IsIdle (state_of old).traffic × (new ≡ old)
+AddsCarry old Waiting new = IsWaiting (state_of old).traffic × (new ≡ old)

@@ -1,7 +1,7 @@
 -- How the fields of a garage stand for its journal.
-use Rattle.std.specs.Prelude.{ℕ, suc, ◌≡◌, ◌+◌, ◌*◌, ◌<◌, ◌≤◌, ◌^◌, List, map, reverse, length, slice_index_or, vec_len, vec_capacity}
+use Rattle.std.specs.Prelude.{ℕ, suc, ◌≡◌, ◌+◌, ◌*◌, ◌<◌, ◌≤◌, ◌^◌, List, map, reverse, length, slice_index_or}
 use Rattle.bus_ledger.specs.BusValue.{seat_at}
-use Rattle.bus_ledger.specs.Joining.{live_units}
+use Rattle.bus_ledger.specs.Newcomers.{live_units}
 use Rattle.journal.specs.State.{Settings, UnitState}
 use Rattle.journal.specs.Journal.{GarageValue, state_of, AllFit, injected_of, joins, tally_of}
 use Rattle.journal.specs.declared.tally.Tally.{Tally}
@@ -12,8 +12,8 @@ use Rattle.garage.specs.declared.garage.Garage.TheInside.{Inside}
 abbrev pub settings_of : Inside → Settings
 settings_of g = record { name = g.name; address = g.address; window = g.window; grant = g.grant; limit = g.limit }
 
-abbrev pub view_of : Inside → GarageValue
-view_of g = record { settings = settings_of g; journal = reverse g.journal.items }
+abbrev pub garage_value_of : Inside → GarageValue
+garage_value_of g = record { settings = settings_of g; journal = reverse g.journal.items }
 
 abbrev pub unit_of : Place → UnitState
 unit_of p = record { node = p.node; session_message = p.session_message }
@@ -30,10 +30,10 @@ place_at places k = slice_index_or places k no_place
 -- bus, station and units are as the journal leads to, and the counts are those of the journal
 pub record Stands (g : Inside) : Type 0 where
   pub few : g.limit ≤ 2 ^ 24
-  pub traffic : g.bus.traffic ≡ (state_of (view_of g)).traffic
-  pub station : g.station ≡ (state_of (view_of g)).station
-  pub units : map unit_of g.places.items ≡ (state_of (view_of g)).units
-  pub begun : g.begun ≡ length (state_of (view_of g)).begun
+  pub traffic : g.bus.traffic ≡ (state_of (garage_value_of g)).traffic
+  pub station : g.station ≡ (state_of (garage_value_of g)).station
+  pub units : map unit_of g.places.items ≡ (state_of (garage_value_of g)).units
+  pub begun : g.begun ≡ length (state_of (garage_value_of g)).begun
   pub fits : AllFit (settings_of g) (reverse g.journal.items)
   pub injected : g.injected ≡ injected_of (reverse g.journal.items)
   pub joined : joins (reverse g.journal.items) ≡ length g.places.items
@@ -42,7 +42,7 @@ pub record Stands (g : Inside) : Type 0 where
   pub seats : length g.bus.traffic.seats ≡ length g.places.items + 1
   pub live : g.live ≡ live_units g.bus.traffic
   pub within : length g.journal.items + g.live ≤ g.limit
-  pub room : vec_len g.journal + g.live ≤ vec_capacity g.journal
+  pub room : g.live ≤ g.journal.room
   pub wire : length g.bus.traffic.wire ≤ length g.journal.items
   pub queued : (k : ℕ) → (seat_at g.bus.traffic k).queued ≤ 256 * length g.journal.items + 1
   pub messages : g.begun ≤ length g.journal.items

@@ -1,12 +1,13 @@
 -- The settings with which a garage is opened.
 use Rattle.std.specs.Prelude.{◌≤◌, []}
+use Rattle.can_frame.specs.declared.address.TheConstants.{GREATEST_ADDRESS}
 use Rattle.journal.specs.State.{Settings}
 use Rattle.journal.specs.Journal.{GarageValue}
 use Rattle.journal.specs.declared.tally.Tally.{Tally}
 
 -- an address that can be held, a window of 1 to 4,096 frames, a grant of at least one packet, a journal of 1 to 2^24 events
 pub record IsSetting (r : Settings) : Type 0 where
-  pub address : r.address ≤ 253
+  pub address : r.address ≤ GREATEST_ADDRESS
   pub some_window : 1 ≤ r.window
   pub window : r.window ≤ 4096
   pub some_grant : 1 ≤ r.grant
@@ -14,8 +15,8 @@ pub record IsSetting (r : Settings) : Type 0 where
   pub limit : r.limit ≤ 16777216
 
 -- nothing has happened
-abbrev pub opened : Settings → GarageValue
-opened r = record { settings = r; journal = [] }
+abbrev pub new_garage : Settings → GarageValue
+new_garage r = record { settings = r; journal = [] }
 
 -- what the journal tells of a seat that no unit was given
 abbrev pub no_events : Tally

@@ -9,17 +9,17 @@ use Rattle.station_table.specs.declared.error.StationError.{StationError}
 use Rattle.station_table.specs.declared.error.StationError.TheVariants as station
 
 -- the number that a refusal is written with
-abbrev pub number_of : GarageError → ℕ
-number_of OutOfMemory = 0
-number_of NotAnAddress = 7
-number_of NameInUse = 19
-number_of TooManySeats = 20
-number_of BookFull = 21
-number_of NoAddress = 22
-number_of NotHeld = 23
-number_of BadSetting = 24
-number_of Stranger = 25
-number_of Unclaimed = 26
+abbrev pub garage_error_number : GarageError → ℕ
+garage_error_number OutOfMemory = 0
+garage_error_number NotAnAddress = 7
+garage_error_number NameInUse = 19
+garage_error_number TooManySeats = 20
+garage_error_number BookFull = 21
+garage_error_number NoAddress = 22
+garage_error_number NotHeld = 23
+garage_error_number BadSetting = 24
+garage_error_number Stranger = 25
+garage_error_number Unclaimed = 26
 
 -- the bus's refusals under the garage's names
 abbrev pub of_bus : BusError → GarageError

@@ -1,6 +1,6 @@
 -- Where the journal is full.
 use Rattle.std.specs.Prelude.{◌+◌, ◌<◌, length}
-use Rattle.bus_ledger.specs.Joining.{live_units}
+use Rattle.bus_ledger.specs.Newcomers.{live_units}
 use Rattle.journal.specs.Journal.{GarageValue, state_of}
 
 -- one event more, and a leave of each live unit, would be more than the limit

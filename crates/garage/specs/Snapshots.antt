@@ -3,7 +3,7 @@ use Rattle.std.specs.Prelude.{ℕ, ◌-◌, List, Option, Some, None, length, sl
 use Rattle.std.specs.Option.{option_map}
 use Rattle.dm_messages.specs.declared.kind.Kind.TheVariants.{Dm1, Dm2}
 use Rattle.dm_messages.specs.declared.shown.Shown.{Shown}
-use Rattle.bus_model.specs.Heard.{RowHeard, row_heard}
+use Rattle.bus_model.specs.Heard.{RowHeard, row_heard, address_in_row}
 use Rattle.journal.specs.Journal.{GarageValue, readings_of, listed_of}
 use Rattle.journal.specs.Worlds.{station_of}
 use Rattle.garage.specs.declared.snapshot.Newest.{Newest}
@@ -17,16 +17,11 @@ told entry = record { lamps = entry.lamps; codes = length entry.codes }
 abbrev pub newest_of : List Shown → Option Newest
 newest_of entries = option_map told (slice_get entries (length entries - 1))
 
--- the address of a NAME's row
-abbrev pub address_in : Option RowHeard → Option ℕ
-address_in None = None
-address_in (Some row) = row.address
-
 -- the address that was heard of the NAME, the entries that the station lists under it, and the newest of its DM1 entries
 abbrev pub line_of : GarageValue → ℕ → RowLine
 line_of g name = record {
   name = name;
-  address = address_in (row_heard (station_of g.settings) name (readings_of g.journal));
+  address = address_in_row (row_heard (station_of g.settings) name (readings_of g.journal));
   dm1 = length (listed_of g name Dm1);
   dm2 = length (listed_of g name Dm2);
   newest = newest_of (listed_of g name Dm1);

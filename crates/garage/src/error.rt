@@ -42,11 +42,11 @@ pub enum GarageError {
 }
 
 impl GarageError {
-    ghost use Rattle.garage.specs.Refusals.{number_of};
+    ghost use Rattle.garage.specs.Refusals.{garage_error_number};
 
     /// The refusal's number.
     pub fn number(self) -> u8
-        ensures { result ≡ number_of self }
+        ensures { result ≡ garage_error_number self }
     {
         match self {
             GarageError::OutOfMemory => 0,

@@ -5,7 +5,7 @@ use crate::room::make_room;
 use bus_ledger::{Bus, Carried, Counts};
 use can_frame::{Frame, Reading};
 use dm_messages::{Kind, Shown};
-use journal::{Event, Tally};
+use journal::{Journal, Tally};
 use name_field::Name;
 use node_core::Node;
 use station_table::Station;
@@ -40,7 +40,7 @@ pub struct Garage {
     pub(crate) live: u32,
     // how many frames came from outside
     pub(crate) injected: u32,
-    pub(crate) journal: Vec<Event>,
+    pub(crate) journal: Journal,
 }
 
 impl Model for Garage {
@@ -48,9 +48,9 @@ impl Model for Garage {
 
     ghost Value = { GarageValue };
 
-    ghost use Rattle.garage.specs.Inside.{view_of, Stands};
+    ghost use Rattle.garage.specs.Inside.{garage_value_of, Stands};
 
-    ghost view = { view_of };
+    ghost view = { garage_value_of };
 
     ghost invariant = { Stands };
 }
@@ -62,7 +62,7 @@ impl Garage {
     ghost use Rattle.bus_ledger.specs.BusValue.{seat_at};
     ghost use Rattle.bus_ledger.specs.Ledger.{counts_of, is_from};
     ghost use Rattle.std.specs.List.{count_by};
-    ghost use Rattle.bus_ledger.specs.Joining.{live_units};
+    ghost use Rattle.bus_ledger.specs.Newcomers.{live_units};
     ghost use Rattle.bus_ledger.specs.Reception.{next_reading};
     ghost use Rattle.station_table.specs.KeptValue.{entries_under};
     ghost use Rattle.bus_model.specs.Heard.{entries_heard, missed_count, unread_count};
@@ -75,7 +75,7 @@ impl Garage {
     ghost use Rattle.journal.specs.Promises.{IsFromOwner, IsLawful, KeepsLists, wire_of};
     ghost use Rattle.journal.specs.Worlds.{station_of};
     ghost use Rattle.journal.specs.declared.event.Event.TheVariants.{Carry, Read};
-    ghost use Rattle.garage.specs.Carrying.{Carries};
+    ghost use Rattle.garage.specs.Carrying.{AddsCarry};
     ghost use Rattle.garage.specs.Room.{IsFull};
 
     /// Carries one frame; nothing changes where the answer is `Idle` or `Waiting`.
@@ -83,7 +83,7 @@ impl Garage {
     /// Refused, where a frame could be carried, where the journal has no room, then where there is no memory; then nothing changed.
     #[tactic(auto, using(crate::proofs::Lists::lists_same, crate::proofs::Lists::lists_added))]
     pub fn carry(&mut self) -> Result<Carried, GarageError>
-        ensures ok { IfOk result (λ c. Carries self.old c self.new) }
+        ensures ok { IfOk result (λ c. AddsCarry self.old c self.new) }
         ensures idle { (result ≡ Ok Carried.Idle) ↔ IsIdle (state_of self.old).traffic }
         ensures waiting { (result ≡ Ok Carried.Waiting) ↔ IsWaiting (state_of self.old).traffic }
         ensures full { IsErrOf result GarageError.BookFull ↔ (CanCarry (state_of self.old).traffic × IsFull self.old) }
@@ -98,13 +98,13 @@ impl Garage {
         let Carried::Frame { seat, frame: _ } = carried else {
             return Ok(carried);
         };
-        self.journal.push_reserved(Event::Carry { seat });
+        self.journal.note_carry(seat);
         Ok(carried)
     }
 
     /// What a carry answers for which there is no room: the refusal where a frame could be carried.
     fn uncarried(&self, refusal: GarageError) -> Result<Carried, GarageError>
-        ensures ok { IfOk result (λ c. Carries self.now c self.now) }
+        ensures ok { IfOk result (λ c. AddsCarry self.now c self.now) }
         ensures idle { (result ≡ Ok Carried.Idle) ↔ IsIdle (state_of self.now).traffic }
         ensures waiting { (result ≡ Ok Carried.Waiting) ↔ IsWaiting (state_of self.now).traffic }
         ensures err { (result ≡ Err refusal) ↔ CanCarry (state_of self.now).traffic }

@@ -1,10 +1,11 @@
 ghost use Rattle.std.specs.Prelude.{◌≡◌, ◌≤◌, ◌↔◌, ◌⊎◌, IfOk, IfErr, IsErrOf, IsTrue};
-ghost use Rattle.garage.specs.Opening.{opened, IsSetting};
+ghost use Rattle.garage.specs.Opening.{new_garage, IsSetting};
 
 use crate::error::GarageError;
 use crate::garage::{Garage, MOST_EVENTS};
 use crate::queueing::queue_frames;
 use bus_ledger::Bus;
+use journal::Journal;
 use name_field::Name;
 use station_table::Station;
 use std::alloc::Global;
@@ -33,11 +34,10 @@ impl Garage {
         grant: u8,
         limit: u32,
     ) -> Result<Garage, GarageError>
-        ensures ok { IfOk result (λ g. g ≡ opened (record { name = name; address = address; window = window; grant = grant; limit = limit })) }
+        ensures ok { IfOk result (λ g. g ≡ new_garage (record { name = name; address = address; window = window; grant = grant; limit = limit })) }
         ensures bad_setting { IsErrOf result GarageError.BadSetting ↔ (¬ IsSetting (record { name = name; address = address; window = window; grant = grant; limit = limit })) }
         ensures only { IfErr result (λ e. (e ≡ GarageError.BadSetting) ⊎ (e ≡ GarageError.OutOfMemory)) }
     {
-        let _number = name.number();
         if !is_setting(address, window, grant, limit) {
             return Err(GarageError::BadSetting);
         }
@@ -57,7 +57,7 @@ impl Garage {
             begun: 0,
             live: 0,
             injected: 0,
-            journal: Vec::new(alloc),
+            journal: Journal::new(alloc),
         })
     }
 }

@@ -7,7 +7,7 @@ use crate::error::GarageError;
 use crate::garage::Garage;
 use crate::queueing::react;
 use crate::room::make_room;
-use journal::{Event, Order};
+use journal::Order;
 use name_field::Name;
 use station_table::{Ask, Reaction, StationError};
 use std::alloc::Global;
@@ -103,7 +103,7 @@ impl Garage {
         make_room(&mut self.journal, self.live + 1, self.limit)?;
         self.bus.reserve(0, MOST_ORDERED)?;
         react(&mut self.bus, &reaction);
-        self.journal.push_reserved(Event::Ordered { order });
+        self.journal.note_order(order);
         Ok(())
     }
 }

@@ -8,7 +8,6 @@ use crate::error::GarageError;
 use crate::garage::Garage;
 use crate::room::make_room;
 use can_frame::Frame;
-use journal::Event;
 
 impl Garage {
     /// Puts a frame that no seat sent at the end of the wire at once. Every seat hears it, and the station reads it; no seat
@@ -28,7 +27,7 @@ impl Garage {
         make_room(&mut self.journal, self.live + 1, self.limit)?;
         self.bus.inject(frame)?;
         self.injected += 1;
-        self.journal.push_reserved(Event::Inject { frame });
+        self.journal.note_inject(frame);
         Ok(())
     }
 

@@ -1,7 +1,7 @@
 ghost use Rattle.std.specs.Prelude.{◌≡◌, ◌<◌, ◌≤◌, ◌+◌, ◌↔◌, ◌⊎◌, false, true, IfOk, IfErr, IsErr, IsErrOf, IsNone, IsSome, IsTrue, None, OnErr, OnOk, Some, length};
 ghost use Rattle.std.specs.Borrow.{sem, RestsIfErr};
 ghost use Rattle.bus_ledger.specs.BusValue.{IsUnit};
-ghost use Rattle.bus_ledger.specs.Joining.{join_refusal};
+ghost use Rattle.bus_ledger.specs.Newcomers.{join_refusal};
 ghost use Rattle.bus_ledger.specs.declared.error.BusError.TheVariants as bus;
 ghost use Rattle.fault_memory.specs.Changes.{changed, Grows};
 ghost use Rattle.fault_memory.specs.declared.error.FaultError.{FaultError as AnyFault};

@@ -50,38 +50,12 @@ fn queue_piece(
     match piece {
         Piece::One(out) => {
             let tag = tag_of(number, session, session_number, out.part);
-            queue_one(bus, seat, out.frame, tag);
+            bus.queue_reserved(seat, out.frame, tag);
         }
         Piece::Many { run, part } => match part {
-            Part::Begun(_) => queue_parts(bus, seat, run, number, session),
-            Part::Session(_) => queue_parts(bus, seat, run, session_number, true),
+            Part::Begun(_) => bus.queue_run_reserved(seat, run, number, session),
+            Part::Session(_) => bus.queue_run_reserved(seat, run, session_number, true),
         },
-    }
-}
-
-/// Queues one frame. The room for it is there.
-fn queue_one(bus: &mut Bus, seat: u32, frame: Frame, tag: Option<Tag>)
-    requires live { IsLive bus.old.traffic seat }
-    requires spare { 0 < spare_at bus.old seat }
-    requires few { (seat_at bus.old.traffic seat).queued + 1 < 2 ^ 32 }
-    ensures traffic { bus.new.traffic ≡ queued seat (queued_frame frame tag) bus.old.traffic }
-    ensures spare { spare_at bus.old seat ≤ spare_at bus.new seat + 1 }
-{
-    if bus.queue(seat, frame, tag).is_err() {
-        unreachable!();
-    }
-}
-
-/// Queues parts of a message, in one place of the queue. The room for it is there.
-fn queue_parts(bus: &mut Bus, seat: u32, run: Run, message: u32, session: bool)
-    requires live { IsLive bus.old.traffic seat }
-    requires spare { 0 < spare_at bus.old seat }
-    requires few { (seat_at bus.old.traffic seat).queued + length run < 2 ^ 32 }
-    ensures traffic { bus.new.traffic ≡ queued_all seat (run_frames message session run) bus.old.traffic }
-    ensures spare { spare_at bus.old seat ≤ spare_at bus.new seat + 1 }
-{
-    if bus.queue_run(seat, run, message, session).is_err() {
-        unreachable!();
     }
 }
 
@@ -93,9 +67,7 @@ pub(crate) fn queue_frames(bus: &mut Bus, seat: u32, frames: &[Frame])
     ensures { bus.new.traffic ≡ put_all seat (map untagged frames.now) bus.old.traffic }
 {
     for frame in frames {
-        if bus.queue(seat, *frame, None).is_err() {
-            unreachable!();
-        }
+        bus.queue_reserved(seat, *frame, None);
     }
 }
 

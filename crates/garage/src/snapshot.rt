@@ -45,10 +45,10 @@ pub struct Snapshot {
 
 impl Garage {
     ghost use Rattle.std.specs.Prelude.{◌≡◌, ◌<◌, IfOk, IfErr, length, map, slice_get};
-    ghost use Rattle.bus_model.specs.Heard.{missed_count, names_heard, row_heard, unread_count};
+    ghost use Rattle.bus_model.specs.Heard.{missed_count, names_heard, row_heard, unread_count, address_in_row};
     ghost use Rattle.journal.specs.Worlds.{station_of};
     ghost use Rattle.journal.specs.Journal.{injected_of, readings_of};
-    ghost use Rattle.garage.specs.Snapshots.{address_in, line_of};
+    ghost use Rattle.garage.specs.Snapshots.{line_of};
 
     /// What the station knows now, of every NAME that it read a claim of. Its lines hold what `row` and `shown` answer.
     ///
@@ -98,9 +98,9 @@ impl Garage {
     }
 
     /// The address that a NAME holds, where one is known.
-    #[tactic(auto, using(crate::proofs::Lines::address_in_row, crate::proofs::Lines::no_address))]
+    #[tactic(auto, using(crate::proofs::Lines::row_address_heard, crate::proofs::Lines::no_address))]
     fn address_of(&self, name: Name) -> Option<u8>
-        ensures { result ≡ address_in (row_heard (station_of self.now.settings) name (readings_of self.now.journal)) }
+        ensures { result ≡ address_in_row (row_heard (station_of self.now.settings) name (readings_of self.now.journal)) }
     {
         match self.row(name) {
             Some(row) => row.address,

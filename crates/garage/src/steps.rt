@@ -1,8 +1,8 @@
 ghost use Rattle.std.specs.Prelude.{◌≡◌, ◌≢◌, ◌+◌, ◌<◌, ◌^◌};
 ghost use Rattle.std.specs.Bool.{MatchBool};
 ghost use Rattle.can_frame.specs.declared.reading.Reading.TheVariants.{Empty};
-ghost use Rattle.journal.specs.Steps.{is_session, session_message_after};
-ghost use Rattle.garage.specs.Answers.{with_begun};
+ghost use Rattle.journal.specs.Steps.{begins_session, session_message_after};
+ghost use Rattle.garage.specs.Answers.{count_with_begun};
 
 use crate::error::GarageError;
 use crate::garage::{Garage, Place};
@@ -10,9 +10,9 @@ use crate::queueing::{do_heard, queue_frames, queue_outs, react};
 use crate::room::{make_ready, make_room};
 use can_frame::{Frame, Reading};
 use dm_messages::Kind;
-use journal::{Event, Tally};
+use journal::Tally;
 use name_field::Name;
-use node_core::{Begun, Node, NodeError, Started};
+use node_core::{Begun, Node, NodeError, Outs, Started};
 use std::alloc::Global;
 use unit_trait::Unit;
 
@@ -43,12 +43,13 @@ impl Garage {
     ghost use Rattle.bus_ledger.specs.Reception.{next_reading};
     ghost use Rattle.journal.specs.Journal.{state_of, Adds, IsSeated};
     ghost use Rattle.journal.specs.Promises.{KeepsLists};
+    ghost use Rattle.journal.specs.State.{unit_at};
     ghost use Rattle.journal.specs.Steps.{next_for};
     ghost use Rattle.journal.specs.declared.event.Event.TheVariants.{Join, Hear, Begin, Turned, Read, Leave};
-    ghost use Rattle.bus_ledger.specs.Joining.{join_refusal};
+    ghost use Rattle.bus_ledger.specs.Newcomers.{join_refusal};
     ghost use Rattle.bus_ledger.specs.declared.error.BusError.TheVariants as bus;
     ghost use Rattle.garage.specs.Answers.{Hears, Begins, Reads};
-    ghost use Rattle.garage.specs.Causes.{held_at, has_open_dm1};
+    ghost use Rattle.garage.specs.Causes.{held_at, has_open_dm1, BeginsWith};
     ghost use Rattle.garage.specs.Refusals.{IsJoinRefusal};
     ghost use Rattle.garage.specs.Room.{IsFull, IsFullForJoin};
 
@@ -67,7 +68,6 @@ impl Garage {
         ensures err { OnErr result (self.new ≡ self.old) }
         ensures lists { KeepsLists self.old self.new }
     {
-        let _number = name.number();
         self.bus.may_join(name)?;
         make_room(&mut self.journal, self.live + 2, self.limit)?;
         self.places.reserve(1)?;
@@ -86,10 +86,7 @@ impl Garage {
             },
         });
         self.live += 1;
-        self.journal.push_reserved(Event::Join {
-            name,
-            address: want,
-        });
+        self.journal.note_join(name, want);
         Ok(seat)
     }
 
@@ -140,11 +137,7 @@ impl Garage {
             session_number,
         );
         self.begun = begun;
-        self.journal.push_reserved(Event::Hear {
-            seat,
-            memory,
-            answer,
-        });
+        self.journal.note_hear(seat, memory, answer);
         Ok(HeardOne::Frame(frame))
     }
 
@@ -167,28 +160,28 @@ impl Garage {
         ensures err { OnErr result (self.new ≡ self.old) }
     {
         let place = &self.places[seat as usize - 1];
-        if place.node.held().is_none() {
-            return Err(GarageError::Unclaimed);
-        }
-        if place.node.session() == Some(Kind::Dm1) {
+        let started = match place.node.begin(alloc, Kind::Dm1, unit) {
+            Ok(started) => started,
+            Err(NodeError::OutOfMemory) => {
+                make_room(&mut self.journal, self.live + 1, self.limit)?;
+                return Err(GarageError::OutOfMemory);
+            }
+            Err(refusal) => return Err(GarageError::from(refusal)),
+        };
+        let Started::Begun { begun: _, put } = started else {
             return Ok(Begin::Held);
-        }
-        self.begin_message(alloc, seat, unit)?;
+        };
+        self.begin_message(seat, unit, put)?;
         Ok(Begin::Begun)
     }
 
-    /// The unit on the seat, which holds an address and has no session of a DM1 open, begins a DM1 of its memory.
+    /// The unit on the seat begins a DM1 of its memory, with these frames.
     ///
     /// Refused where the journal has no room, then where there is no memory; then nothing changed.
-    fn begin_message(
-        &mut self,
-        alloc: Global,
-        seat: u32,
-        unit: &dyn Unit,
-    ) -> Result<(), GarageError>
+    fn begin_message(&mut self, seat: u32, unit: &dyn Unit, put: Outs) -> Result<(), GarageError>
         requires unit { IsUnit (state_of self.old).traffic seat }
-        requires held { IsSome (held_at self.old seat) }
-        requires free { has_open_dm1 self.old seat ≡ false }
+        requires begins { BeginsWith (unit_at (state_of self.old) seat).node (memory_of unit.now) put }
+        requires few { length put ≤ 256 }
         ensures ok { OnOk result (Begins self.old seat (memory_of unit.now) Begin.Begun self.new) }
         ensures full { IsErrOf result GarageError.BookFull ↔ IsFull self.old }
         ensures only { IfErr result (λ e. (e ≡ GarageError.BookFull) ⊎ (e ≡ GarageError.OutOfMemory)) }
@@ -202,17 +195,12 @@ impl Garage {
             seat,
             unit,
         )?;
-        let place = &self.places[seat as usize - 1];
-        let started = place.node.begin(alloc, Kind::Dm1, unit)?;
-        let Started::Begun { begun: _, put } = started else {
-            unreachable!();
-        };
         let place = &mut self.places[seat as usize - 1];
         place.tally.events += 1;
         let session_number = place.session_message;
         queue_outs(&mut self.bus, seat, put, self.begun, false, session_number);
         self.begun += 1;
-        self.journal.push_reserved(Event::Begin { seat, memory });
+        self.journal.note_begin(seat, memory);
         Ok(())
     }
 
@@ -230,7 +218,7 @@ impl Garage {
         let place = &mut self.places[seat as usize - 1];
         place.tally.turned += 1;
         place.tally.events += 1;
-        self.journal.push_reserved(Event::Turned { seat });
+        self.journal.note_turned(seat);
         Ok(())
     }
 
@@ -246,7 +234,7 @@ impl Garage {
         place.tally.left += 1;
         place.tally.events += 1;
         self.live -= 1;
-        self.journal.push_reserved(Event::Leave { seat });
+        self.journal.note_leave(seat);
     }
 
     /// The station takes its next reading; there is no event where it is empty.
@@ -270,14 +258,14 @@ impl Garage {
         let reaction = self.station.take(alloc, reading)?;
         let _ = self.bus.tap_next();
         react(&mut self.bus, &reaction);
-        self.journal.push_reserved(Event::Read { reading });
+        self.journal.note_read(reading);
         Ok(reading)
     }
 }
 
 /// Whether a message begins that goes to one address.
 fn begins_session(begun: Option<Begun>) -> bool
-    ensures { result ≡ is_session begun }
+    ensures { result ≡ begins_session begun }
 {
     match begun {
         Some(begun) => begun.dest != 255,
@@ -299,7 +287,7 @@ fn last_session(before: u32, number: u32, begun: Option<Begun>) -> u32
 /// How many messages have begun, with this one.
 fn begun_count(before: u32, begun: Option<Begun>) -> u32
     requires { before + 1 < 2 ^ 32 }
-    ensures { result ≡ with_begun before begun }
+    ensures { result ≡ count_with_begun before begun }
 {
     match begun {
         Some(_) => before + 1,

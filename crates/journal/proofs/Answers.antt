@@ -1,5 +1,5 @@
 -- Each deed of a unit is an answer that the law's machine allows.
-use Rattle.std.proofs.Common.{ℕ, suc, zero, ◌≡◌, ◌≢◌, ◌+◌, ◌*◌, ◌/◌, ◌%◌, ◌<◌, ◌≤◌, ◌^◌, ◌==◌, List, ◌∷◌, length, Bool, true, false, Option, Some, None, IfSome, if◌then◌else◌, refl, sym, ap, ◌∙◌, subst, arith, inl, inr}
+use Rattle.std.proofs.Common.{ℕ, suc, zero, ◌≡◌, ◌≢◌, ◌+◌, ◌*◌, ◌/◌, ◌%◌, ◌<◌, ◌≤◌, ◌^◌, ◌==◌, List, ◌∷◌, length, Bool, true, false, Option, Some, None, if◌then◌else◌, refl, sym, ap, ◌∙◌, subst, arith, inl, inr}
 use Rattle.can_frame.specs.Fields.{pgn_bytes, pdu1_number}
 use Rattle.can_frame.specs.FrameValue.{FrameValue}
 use Rattle.parameter_group.specs.Group.{Acknowledgment, AddressClaimed, Group, group_number, group_of}
@@ -10,18 +10,18 @@ use Rattle.fault_memory.specs.Memory.{MemoryValue, IsLawfulMemory}
 use Rattle.dm_messages.specs.declared.kind.Kind.{Kind}
 use Rattle.dm_messages.specs.declared.kind.Kind.TheVariants.{Dm1, Dm2}
 use Rattle.bus_ledger.specs.BusValue.{SeatValue}
-use Rattle.bus_model.specs.Heard.{is_contest}
-use Rattle.bus_model.specs.Messages.{Broadcast, IsProper, Message, One, Session, Way, last_part_of, payload_of, way_of}
+use Rattle.parameter_group.specs.Calm.{cuts, is_contest}
+use Rattle.bus_model.specs.Messages.{Broadcast, IsProper, Message, One, Session, Way, last_part_of, payload_sent, way_of}
 use Rattle.bus_model.specs.Traffic.{Item, Tag as PartOf}
 use Rattle.bus_model.specs.Machine as machine
-use Rattle.bus_model.specs.Machine.{Answer, CanHold, IsNotOpen, IsRequestFrom, IsRtsFrom, MayAnswer, MayOpen, MayReply, Seat, World, message_at}
+use Rattle.address_claim.specs.Claiming.{CanHold}
+use Rattle.bus_model.specs.Machine.{Answer, IsCalmAt, IsNotOpen, IsRequestFrom, IsRtsFrom, MayAnswer, MayOpen, MayReply, Seat, World, message_at, session_address}
 use Rattle.bus_model.proofs.Bridge.{claim_group, pgn_from, says_by, says_claim, says_control}
-use Rattle.node_core.specs.NodeValue.{NodeValue, is_open, same_kind}
-use Rattle.node_core.specs.NodeValue as node
+use Rattle.dm_messages.specs.View.{same_kind}
+use Rattle.node_core.specs.NodeValue.{NodeValue, is_open, open_address}
 use Rattle.node_core.specs.Deed.{Deed}
 use Rattle.node_core.specs.Deed as deed
-use Rattle.node_core.specs.Laws as laws
-use Rattle.node_core.specs.Laws.{Acknowledges, BeginsLawfully, IsLawfulDeed, IsReply, Opens, Refuses, SendsLawfully, contests}
+use Rattle.node_core.specs.Laws.{Acknowledges, BeginsLawfully, IsCalmTo, IsLawfulDeed, IsReply, Opens, Refuses, SendsLawfully}
 use Rattle.node_core.specs.Requested.{acknowledgment}
 use Rattle.node_core.specs.declared.session.OpenSession.{OpenSession}
 use Rattle.station_table.proofs.Stands.{sender}
@@ -32,34 +32,25 @@ use Rattle.journal.proofs.Deeds.{open_is}
 
 -- none of no packets
 abbrev pub answer_sends : ℕ → Answer
-answer_sends zero = machine.Quiet
-answer_sends (suc n) = machine.Grants (suc n)
+answer_sends zero = machine.Nothing
+answer_sends (suc n) = machine.Sends (suc n)
 
 -- the deed as an answer
 abbrev pub answer_of : Deed → Answer
-answer_of deed.Nothing = machine.Quiet
+answer_of deed.Nothing = machine.Nothing
 answer_of (deed.Replies f) = machine.Replies f
 answer_of (deed.Begins kind memory source destination) = machine.Begins kind memory source destination
 answer_of (deed.Sends o source n) = answer_sends n
-answer_of deed.EndsSession = machine.Ends
-answer_of (deed.Claims name held) = machine.Yields held
-
--- an address that can be held, in both words
-pub can_hold : (o : Option ℕ) → IfSome o (λ a. a ≤ 253) → CanHold o
-can_hold None h = tt
-can_hold (Some a) h = h
-
-pub hold_back : (o : Option ℕ) → CanHold o → IfSome o (λ a. a ≤ 253)
-hold_back None h = tt
-hold_back (Some a) h = h
+answer_of deed.EndsSession = machine.EndsSession
+answer_of (deed.Claims name held) = machine.Claims held
 
 -- ---- the open session
 
-is_destination_is : (begun : List Message) (i n : ℕ) (held : Option ℕ) (o : Option OpenSession) (t : Option PartOf) (a : ℕ) → AreSession begun i n held o t → machine.is_destination t a ≡ node.is_destination o a
-is_destination_is begun i n held None None a h = refl
-is_destination_is begun i n held (Some o) (Some t) a h = rw (h.way, h.destination) refl
-is_destination_is begun i n held None (Some t) a h = absurd h
-is_destination_is begun i n held (Some o) None a h = absurd h
+address_is : (begun : List Message) (i n : ℕ) (held : Option ℕ) (o : Option OpenSession) (t : Option PartOf) → AreSession begun i n held o t → session_address t ≡ open_address o
+address_is begun i n held None None h = refl
+address_is begun i n held (Some o) (Some t) h = rw (h.way, h.destination) refl
+address_is begun i n held None (Some t) h = absurd h
+address_is begun i n held (Some o) None h = absurd h
 
 same_self : (k : Kind) → same_kind k k ≡ true
 same_self Dm1 = refl
@@ -79,18 +70,14 @@ none_open begun i n held (Some o) None h e = absurd h
 
 -- ---- what is calm
 
-contest_is : (begun : List Message) (items : List Item) (v : SeatValue) (u : UnitState) (x : Seat) (g : Group) → IsSeat begun items v u x → is_contest x.name x.held g ≡ contests u.node g
+contest_is : (begun : List Message) (items : List Item) (v : SeatValue) (u : UnitState) (x : Seat) (g : Group) → IsSeat begun items v u x → is_contest x.name x.held g ≡ is_contest u.node.claimer.name u.node.claimer.held g
 contest_is begun items v u x (AddressClaimed source name) s = rw (s.held, s.name, s.own) refl
 contest_is begun items v u x _ s = refl
 
-cuts_is : (begun : List Message) (items : List Item) (v : SeatValue) (u : UnitState) (x : Seat) (g : Group) → IsSeat begun items v u x → machine.cuts x.session g ≡ laws.cuts u.node g
-cuts_is begun items v u x (AddressClaimed source name) s = is_destination_is begun u.session_message v.name u.node.claimer.held u.node.session x.session source s.session
-cuts_is begun items v u x _ s = refl
-
-calm_is : (begun : List Message) (items : List Item) (v : SeatValue) (u : UnitState) (x : Seat) (g : Group) → IsSeat begun items v u x → laws.IsCalm u.node g → machine.IsCalm x g
+calm_is : (begun : List Message) (items : List Item) (v : SeatValue) (u : UnitState) (x : Seat) (g : Group) → IsSeat begun items v u x → IsCalmTo u.node g → IsCalmAt x g
 calm_is begun items v u x g s calm = record {
   uncontested = contest_is begun items v u x g s ∙ calm.uncontested;
-  uncut = cuts_is begun items v u x g s ∙ calm.uncut;
+  uncut = ap (λ o. cuts o g) (address_is begun u.session_message v.name u.node.claimer.held u.node.session x.session s.session) ∙ calm.uncut;
 }
 
 -- ---- replies
@@ -132,7 +119,7 @@ may_reply begun items v u x g f s below reply = elim reply [
 
 may_open_to_all : (x : Seat) (g : Group) (m : Message) (source : ℕ) → (m.destination == 255) ≡ true → MayOpen x g (way_of m) source
 unfolding way_of
-may_open_to_all x g m source e = go (length (payload_of m) == 8) (m.destination == 255) e
+may_open_to_all x g m source e = go (length (payload_sent m) == 8) (m.destination == 255) e
   where
     go : (b c : Bool) → c ≡ true → MayOpen x g (if b then One else (if c then Broadcast else Session m.destination)) source
     go true c h = tt
@@ -145,7 +132,7 @@ not_all d l = grind arith
 may_begin : (w : World) (items : List Item) (v : SeatValue) (u : UnitState) (x : Seat) (g : Group) (memory : MemoryValue) (kind : Kind) (memory' : MemoryValue) (source destination : ℕ) → IsSeat w.begun items v u x → IsLawfulMemory memory
     → BeginsLawfully u.node memory g kind memory' source destination
     → (x.held ≡ Some source) × IsProper (message_at w x kind memory' source destination) × IsNotOpen x.session kind × MayOpen x g (way_of (message_at w x kind memory' source destination)) source
-unfolding payload_of
+unfolding payload_sent
 may_begin w items v u x g memory kind memory' source destination s lawful b =
     let m = message_at w x kind memory' source destination in
     let good : IsLawfulMemory memory' = rw b.same lawful in
@@ -158,7 +145,7 @@ may_begin w items v u x g memory kind memory' source destination s lawful b =
           (held, record { memory = good; source = small; destination = inl e }, closed, may_open_to_all x g m source all))
       | inr o ↦
           (let holdable : destination ≤ 253 = o.holdable in
-          let long : length (payload_of m) ≢ 8 = (λ i. let f : (length (payload_of m) == 8) ≡ true = rw i refl in let k = o.long in cc) in
+          let long : length (payload_sent m) ≢ 8 = (λ i. let f : (length (payload_sent m) == 8) ≡ true = rw i refl in let k = o.long in cc) in
           let one = not_all destination holdable in
           let asked : IsRequestFrom destination g = subst (IsRequestFrom destination) (sym o.asked) refl in
           let free : x.session ≡ None = none_open w.begun u.session_message v.name u.node.claimer.held u.node.session x.session s.session o.free in
@@ -188,4 +175,4 @@ deed_may w items v u x g memory (deed.Begins kind memory' source destination) s 
 deed_may w items v u x g memory (deed.Sends o source zero) s below lawful h = calm_is w.begun items v u x g s h.0
 deed_may w items v u x g memory (deed.Sends o source (suc n)) s below lawful h = (calm_is w.begun items v u x g s h.0, may_grant w items v u x o source n s h.1)
 deed_may w items v u x g memory deed.EndsSession s below lawful h = contest_is w.begun items v u x g s ∙ h
-deed_may w items v u x g memory (deed.Claims name held) s below lawful h = can_hold held h.1
+deed_may w items v u x g memory (deed.Claims name held) s below lawful h = h.1

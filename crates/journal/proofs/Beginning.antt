@@ -3,11 +3,11 @@ use Rattle.std.proofs.Common.{ℕ, suc, zero, ◌≡◌, ◌≢◌, ◌-◌, ◌
 use Rattle.std.proofs.lemmas.List.{set-get_or}
 use Rattle.std.proofs.lemmas.Option.{slice_get-get_or}
 use Rattle.fault_memory.specs.Memory.{MemoryValue, IsLawfulMemory}
-use Rattle.dm_messages.specs.View.{pgn_of_kind}
+use Rattle.dm_messages.specs.View.{pgn_of_kind, payload_of}
 use Rattle.dm_messages.specs.declared.kind.Kind.TheVariants.{Dm1}
 use Rattle.bus_ledger.specs.BusValue.{SeatValue, Traffic, seat_at}
 use Rattle.bus_ledger.specs.declared.traffic.QueuedFrame.{QueuedFrame}
-use Rattle.bus_model.specs.Messages.{Message, payload_of}
+use Rattle.bus_model.specs.Messages.{Message, payload_sent}
 use Rattle.bus_model.specs.Machine as machine
 use Rattle.bus_model.specs.Machine.{IsNotOpen, Seat, Step, World, message_at, with_message}
 use Rattle.node_core.specs.Beginning.{begins}
@@ -47,13 +47,13 @@ state_begun s i memory source =
 closed_is : (o : Option OpenSession) (memory : MemoryValue) (source : ℕ) → begins o Dm1 memory source ≢ started.Held → is_open o Dm1 ≡ false
 closed_is o memory source h = go (is_open o Dm1) h
   where
-    go : (b : Bool) → (if b then started.Held else started.Begun (record { kind = Dm1; source = source; dest = 255 }) (parts_begun (deed.payload_of Dm1 memory) (pgn_of_kind Dm1) source 255)) ≢ started.Held → b ≡ false
+    go : (b : Bool) → (if b then started.Held else started.Begun (record { kind = Dm1; source = source; dest = 255 }) (parts_begun (payload_of Dm1 memory) (pgn_of_kind Dm1) source 255)) ≢ started.Held → b ≡ false
     go true n = absurd (n refl)
     go false n = refl
 
 begins_is : (o : Option OpenSession) (memory : MemoryValue) (source : ℕ) → is_open o Dm1 ≡ false
-    → begins o Dm1 memory source ≡ started.Begun (record { kind = Dm1; source = source; dest = 255 }) (parts_begun (deed.payload_of Dm1 memory) (pgn_of_kind Dm1) source 255)
-begins_is o memory source h = ap (λ (b : Bool). if b then started.Held else started.Begun (record { kind = Dm1; source = source; dest = 255 }) (parts_begun (deed.payload_of Dm1 memory) (pgn_of_kind Dm1) source 255)) h
+    → begins o Dm1 memory source ≡ started.Begun (record { kind = Dm1; source = source; dest = 255 }) (parts_begun (payload_of Dm1 memory) (pgn_of_kind Dm1) source 255)
+begins_is o memory source h = ap (λ (b : Bool). if b then started.Held else started.Begun (record { kind = Dm1; source = source; dest = 255 }) (parts_begun (payload_of Dm1 memory) (pgn_of_kind Dm1) source 255)) h
 
 -- the seat and what the unit keeps, in their places
 placed : (s : State) (i : ℕ) (memory : MemoryValue) (source : ℕ) → suc i < length s.traffic.seats
@@ -80,13 +80,13 @@ starting_is s i memory (started.Begun b put) =
 
 begun_state : (s : State) (i : ℕ) (memory : MemoryValue) (source : ℕ) → suc i < length s.traffic.seats → (get_or s.units i (new_unit 0 0)).node.claimer.held ≡ Some source → is_open (get_or s.units i (new_unit 0 0)).node.session Dm1 ≡ false
     → after (Begin (suc i) memory) s ≡ state_begun s i memory source
-unfolding after_begin_of payload_of
+unfolding after_begin_of payload_sent
 begun_state s i memory source l held closed =
     let one : suc i - 1 ≡ i = omega arith in
     ap (λ (o : Option ℕ). after_begin_of o (suc i) memory s) (ap (λ (n : ℕ). (get_or s.units n (new_unit 0 0)).node.claimer.held) one ∙ held)
     ∙ (ap (λ (n : ℕ). after_starting (suc i) memory (begins (get_or s.units n (new_unit 0 0)).node.session Dm1 memory source) s) one
     ∙ (ap (λ (z : Started). after_starting (suc i) memory z s) (begins_is (get_or s.units i (new_unit 0 0)).node.session memory source closed)
-    ∙ (starting_is s i memory (started.Begun (record { kind = Dm1; source = source; dest = 255 }) (parts_begun (deed.payload_of Dm1 memory) (pgn_of_kind Dm1) source 255))
+    ∙ (starting_is s i memory (started.Begun (record { kind = Dm1; source = source; dest = 255 }) (parts_begun (payload_of Dm1 memory) (pgn_of_kind Dm1) source 255))
     ∙ placed s i memory source l)))
 
 begin_at : (r : Settings) (s : State) (seats : List Seat) (i : ℕ) (memory : MemoryValue) (source : ℕ) → Stands r s seats → suc i < length s.traffic.seats → (seat_at s.traffic (suc i)).live ≡ true → IsLawfulMemory memory

@@ -4,8 +4,9 @@ use Rattle.std.proofs.lemmas.Bool.{eqb-true, ne_eqb}
 use Rattle.std.proofs.lemmas.List.{length-set, length_push, length-map, map-append, reverse-append, set-get_or, take_all, take-append-le, get_or-set_same, get_or-set_other}
 use Rattle.bus_ledger.specs.BusValue.{SeatValue, Traffic, IsUnit, nobody, seat_at}
 use Rattle.bus_ledger.specs.Changes.{carried_frame, carried_from, sending}
-use Rattle.bus_ledger.specs.Carrying.{IsNext, offer, offered}
+use Rattle.bus_ledger.specs.Carrying.{IsCarriedNext, offer, offered}
 use Rattle.bus_ledger.specs.declared.traffic.QueuedFrame.{QueuedFrame}
+use Rattle.bus_ledger.proofs.Sounds.{IsOffer, offer_says}
 use Rattle.bus_model.specs.Messages.{Message}
 use Rattle.bus_model.specs.Traffic.{Item}
 use Rattle.bus_model.specs.Machine.{Carry, Seat, Step}
@@ -17,15 +18,6 @@ use Rattle.journal.proofs.Growth.{carried_push, items_same, numbers_set, seat_ca
 use Rattle.journal.proofs.Changed.{names_changed}
 use Rattle.journal.proofs.Coming.{live_seat, place_within}
 
--- what an offer says of its seat
-pub offer_says : (n : ℕ) (v : SeatValue) (q : QueuedFrame) → offered n v ≡ Some q → (v.live ≡ true) × (v.heard ≡ n) × (slice_get v.queue 0 ≡ Some q)
-offer_says n v q e = go v.live (v.heard == n) refl e
-  where
-    go : (b c : Bool) → (v.heard == n) ≡ c → (if b && c then slice_get v.queue 0 else None) ≡ Some q → (b ≡ true) × (v.heard ≡ n) × (slice_get v.queue 0 ≡ Some q)
-    go true true h e = (refl, eqb-true v.heard n h, e)
-    go true false h e = absurd cc
-    go false c h e = absurd cc
-
 -- a queue with a first frame
 pub first_of : (qs : List QueuedFrame) (q : QueuedFrame) → slice_get qs 0 ≡ Some q → qs ≡ q ∷ drop 1 qs
 first_of [] q e = absurd cc
@@ -36,7 +28,7 @@ first_of (p ∷ qs) q e = go p q e
 
 -- a seat that offers a frame was given
 pub offers_given : (t : Traffic) (k : ℕ) (q : QueuedFrame) → offer t k ≡ Some q → k < length t.seats
-offers_given t k q e = go t.seats k (offer_says (length t.wire) (seat_at t k) q e).0
+offers_given t k q e = go t.seats k (offer_says (length t.wire) (seat_at t k) q e).live
   where
     go : (xs : List SeatValue) (k : ℕ) → (get_or xs k nobody).live ≡ true → k < length xs
     go [] k e = absurd cc
@@ -68,23 +60,23 @@ items_sent r s seats j q st l =
 first_known : (begun : List Message) (qs : List QueuedFrame) (q : QueuedFrame) → qs ≡ q ∷ drop 1 qs → AreKnown begun qs → IsKnown begun q.tag × AreKnown begun (drop 1 qs)
 first_known begun qs q e k = subst (AreKnown begun) e k
 
-pub carry_runs : (r : Settings) (s : State) (seats : List Seat) (j : ℕ) (q : QueuedFrame) → Stands r s seats → IsNext s.traffic (suc j) q
+pub carry_runs : (r : Settings) (s : State) (seats : List Seat) (j : ℕ) (q : QueuedFrame) → Stands r s seats → IsCarriedNext s.traffic (suc j) q
     → (seats' : List Seat) × Step (world_of r s seats) (Carry j) (world_of r (after_carry_of (slice_get (seat_at s.traffic (suc j)).queue 0) (suc j) s) seats')
     × Stands r (after_carry_of (slice_get (seat_at s.traffic (suc j)).queue 0) (suc j) s) seats'
 unfolding sent carried_item
-carry_runs r s seats j q st next = rw ((offer_says (length s.traffic.wire) (seat_at s.traffic (suc j)) q next.offers).2, sent_is j q s) runs
+carry_runs r s seats j q st next = rw ((offer_says (length s.traffic.wire) (seat_at s.traffic (suc j)) q next.offers).first, sent_is j q s) runs
   where
     v : SeatValue
     v = seat_at s.traffic (suc j)
 
-    offers : (v.live ≡ true) × (v.heard ≡ length s.traffic.wire) × (slice_get v.queue 0 ≡ Some q)
+    offers : IsOffer (length s.traffic.wire) v q
     offers = offer_says (length s.traffic.wire) v q next.offers
 
     given : suc j < length s.traffic.seats
     given = offers_given s.traffic (suc j) q next.offers
 
     unit : IsUnit s.traffic (suc j)
-    unit = (omega arith, given, offers.0)
+    unit = (omega arith, given, offers.live)
 
     l : j < length s.units
     l = place_within r s seats j st unit
@@ -102,7 +94,7 @@ carry_runs r s seats j q st next = rw ((offer_says (length s.traffic.wire) (seat
     rest = reverse (map (queued_item s.begun (suc j) v.name) (drop 1 v.queue))
 
     split : v.queue ≡ q ∷ drop 1 v.queue
-    split = first_of v.queue q offers.2
+    split = first_of v.queue q offers.first
 
     queue : x.queue ≡ rest ++ e ∷ []
     queue =
@@ -112,7 +104,7 @@ carry_runs r s seats j q st next = rw ((offer_says (length s.traffic.wire) (seat
         ∙ reverse-append (queued_item s.begun (suc j) v.name q ∷ []) (map (queued_item s.begun (suc j) v.name) (drop 1 v.queue))))
 
     whole : take v.heard (items_of s) ≡ items_of s
-    whole = (let h = offers.1 in let n = length-map s.traffic.wire (item_of s) in take_all v.heard (items_of s) (omega arith))
+    whole = (let h = offers.heard in let n = length-map s.traffic.wire (item_of s) in take_all v.heard (items_of s) (omega arith))
 
     heard : x.heard ≡ reverse (items_of s)
     heard = (st.seated j l).heard ∙ ap reverse whole
@@ -137,7 +129,7 @@ carry_runs r s seats j q st next = rw ((offer_says (length s.traffic.wire) (seat
         let old = st.seated j l in
         let long = length-map s.traffic.wire (item_of s) in
         let more = length_push (items_of s) e in
-        let h = offers.1 in
+        let h = offers.heard in
         record {
           name = old.name;
           own = old.own;

@@ -3,12 +3,13 @@ use Rattle.std.proofs.Common.{ℕ, suc, ◌≡◌, ◌<◌, List, ◌∷◌, len
 use Rattle.std.proofs.lemmas.List.{length-set, get_or-set_same, get_or-set_other}
 use Rattle.bus_ledger.specs.BusValue.{SeatValue, nobody, seat_at}
 use Rattle.bus_ledger.specs.Changes.{with_seat}
+use Rattle.bus_ledger.proofs.Numbers.{same_or_not}
 use Rattle.bus_model.specs.Messages.{Message}
 use Rattle.bus_model.specs.Machine.{Seat, World}
 use Rattle.journal.specs.State.{Settings, State, UnitState, new_unit}
 use Rattle.journal.specs.Worlds.{items_of, world_of}
 use Rattle.journal.proofs.Seated.{IsSeat, Stands, no_seat}
-use Rattle.journal.proofs.Growth.{all_known_still, carried_still, items_same, items_still, numbers_set, queue_still, same_or_not, seat_still, seated_set}
+use Rattle.journal.proofs.Growth.{all_known_still, carried_still, items_same, items_still, numbers_set, queue_still, seat_still, seated_set}
 
 -- unit j with this seat, and this that it keeps, and these messages begun
 abbrev pub changed : State → ℕ → SeatValue → UnitState → List Message → State

@@ -6,21 +6,22 @@ use Rattle.std.proofs.lemmas.Option.{slice_get-get_or, slice_get_within, get_or_
 use Rattle.address_claim.specs.Frames.{claim_frame_value}
 use Rattle.bus_ledger.specs.BusValue.{SeatValue, Traffic, IsUnit, nobody, seat_at}
 use Rattle.bus_ledger.specs.Changes.{leaving, newcomer, queueing}
-use Rattle.bus_ledger.specs.Joining.{is_in_use, join_refusal, live_units}
+use Rattle.bus_ledger.specs.Newcomers.{is_in_use, join_refusal, live_units}
 use Rattle.bus_ledger.specs.declared.error.BusError.TheVariants.{NameInUse, TooManySeats}
-use Rattle.bus_model.specs.Machine.{IsFree, IsLive, Join, Leave, Seat, Step, joined_seat}
+use Rattle.bus_ledger.proofs.Numbers.{same_or_not}
+use Rattle.bus_model.specs.Machine.{IsFree, IsLiveSeat, Join, Leave, Seat, Step, joined_seat}
 use Rattle.journal.specs.State.{Settings, State, UnitState, new_unit}
 use Rattle.journal.specs.Steps.{after_join, after_leave, item_of, untagged}
 use Rattle.journal.specs.Worlds.{items_of, world_of}
 use Rattle.journal.proofs.Seated.{IsSeat, Stands, no_seat}
-use Rattle.journal.proofs.Growth.{carried_more, items_same, same_or_not}
+use Rattle.journal.proofs.Growth.{carried_more, items_same}
 use Rattle.journal.proofs.Changed.{changed, changed_stands, changed_world}
 
 -- a live unit's place among the units, and its seat in the machine
 pub place_within : (r : Settings) (s : State) (seats : List Seat) (j : ℕ) → Stands r s seats → IsUnit s.traffic (suc j) → j < length s.units
 place_within r s seats j st u = let n = st.count in let l = u.1 in omega arith
 
-pub live_seat : (r : Settings) (s : State) (seats : List Seat) (j : ℕ) → Stands r s seats → IsUnit s.traffic (suc j) → IsLive (world_of r s seats) j (get_or seats j no_seat)
+pub live_seat : (r : Settings) (s : State) (seats : List Seat) (j : ℕ) → Stands r s seats → IsUnit s.traffic (suc j) → IsLiveSeat (world_of r s seats) j (get_or seats j no_seat)
 live_seat r s seats j st u =
     let l = place_within r s seats j st u in
     let n = st.places in

@@ -2,7 +2,7 @@
 use Rattle.std.proofs.Common.{ℕ, ◌≡◌, ◌+◌, ◌-◌, ◌==◌, List, [], ◌∷◌, ◌++◌, map, reverse, take, length, Bool, true, false, not, ◌&&◌, ◌||◌, nat_lt, Option, Some, None, if◌then◌else◌, refl, sym, ap, ◌∙◌, subst, arith}
 use Rattle.std.specs.List.{range_with_len}
 use Rattle.can_frame.specs.FrameValue.{FrameValue}
-use Rattle.address_claim.specs.Claiming.{after_claim, held_after, is_held, move_step, next_address, noted_after}
+use Rattle.address_claim.specs.Claiming.{after_claim, held_after, is_held, move_step, next_address, noted_after, CanHold}
 use Rattle.address_claim.specs.Frames.{claim_frame_value}
 use Rattle.address_claim.specs.declared.claimer.ClaimStep.TheVariants.{Defend, Nothing as NoStep}
 use Rattle.parameter_group.specs.Group.{AddressClaimed, ConnectionManagement, DataTransfer, Group}
@@ -11,13 +11,13 @@ use Rattle.bus_ledger.specs.BusValue.{SeatValue}
 use Rattle.bus_ledger.specs.Changes.{kept, queued_frame}
 use Rattle.bus_ledger.specs.declared.traffic.QueuedFrame.{QueuedFrame}
 use Rattle.bus_ledger.specs.declared.traffic.Which.TheVariants as which
-use Rattle.bus_model.specs.Messages.{Message, Session, frame_of_part, payload_of, way_of}
+use Rattle.bus_model.specs.Messages.{Message, Session, frame_of_part, payload_sent, way_of}
 use Rattle.bus_model.specs.Traffic.{Item, Tag as PartOf}
-use Rattle.bus_model.specs.Machine.{CanHold, Seat, first_parts, granted, parts_upto, plain, session_ended, session_opened, with_message, yielded}
+use Rattle.bus_model.specs.Machine.{Seat, last_part_at_first, granted, parts_upto, plain_item, session_ended, session_opened, with_message, yielded}
 use Rattle.node_core.specs.NodeValue.{NodeValue}
 use Rattle.node_core.specs.Deed.{further, marked_part, opened, parts_of_session}
-use Rattle.node_core.specs.Commanding.{is_broadcast}
-use Rattle.node_core.specs.Laws.{contests}
+use Rattle.node_core.specs.Commanding.{is_to_all}
+use Rattle.parameter_group.specs.Calm.{is_contest}
 use Rattle.node_core.specs.Reaction.{noted_from}
 use Rattle.node_core.specs.declared.out.Part.TheVariants as part
 use Rattle.node_core.specs.declared.session.OpenSession.{OpenSession}
@@ -39,7 +39,7 @@ only_noted node node' true h = h
 only_noted node node' false h = (refl, refl)
 
 -- a claim that contests nothing leaves the address
-calm_claim : (node : NodeValue) (source name : ℕ) → contests node (AddressClaimed source name) ≡ false → (after_claim source name node.claimer).held ≡ node.claimer.held
+calm_claim : (node : NodeValue) (source name : ℕ) → is_contest node.claimer.name node.claimer.held (AddressClaimed source name) ≡ false → (after_claim source name node.claimer).held ≡ node.claimer.held
 calm_claim node source name h = go (is_held node.claimer.held source) (name == node.claimer.name) h
   where
     go : (a b : Bool) → a && not b ≡ false
@@ -50,27 +50,27 @@ calm_claim node source name h = go (is_held node.claimer.held source) (name == n
 
 pub noted_name : (node : NodeValue) (g : Group) → (noted_from node g).claimer.name ≡ node.claimer.name
 noted_name node (AddressClaimed source name) = refl
-noted_name node (ConnectionManagement source destination (Bam size packets pgn)) = ap (λ c. c.name) (only_noted node _ (is_broadcast destination source) (refl, refl)).0
-noted_name node (DataTransfer source destination bytes) = ap (λ c. c.name) (only_noted node _ (is_broadcast destination source) (refl, refl)).0
+noted_name node (ConnectionManagement source destination (Bam size packets pgn)) = ap (λ c. c.name) (only_noted node _ (is_to_all destination source) (refl, refl)).0
+noted_name node (DataTransfer source destination bytes) = ap (λ c. c.name) (only_noted node _ (is_to_all destination source) (refl, refl)).0
 noted_name node _ = refl
 
 pub noted_session : (node : NodeValue) (g : Group) → (noted_from node g).session ≡ node.session
 noted_session node (AddressClaimed source name) = refl
-noted_session node (ConnectionManagement source destination (Bam size packets pgn)) = (only_noted node _ (is_broadcast destination source) (refl, refl)).1
-noted_session node (DataTransfer source destination bytes) = (only_noted node _ (is_broadcast destination source) (refl, refl)).1
+noted_session node (ConnectionManagement source destination (Bam size packets pgn)) = (only_noted node _ (is_to_all destination source) (refl, refl)).1
+noted_session node (DataTransfer source destination bytes) = (only_noted node _ (is_to_all destination source) (refl, refl)).1
 noted_session node _ = refl
 
-pub noted_held : (node : NodeValue) (g : Group) → contests node g ≡ false → (noted_from node g).claimer.held ≡ node.claimer.held
+pub noted_held : (node : NodeValue) (g : Group) → is_contest node.claimer.name node.claimer.held g ≡ false → (noted_from node g).claimer.held ≡ node.claimer.held
 noted_held node (AddressClaimed source name) h = calm_claim node source name h
-noted_held node (ConnectionManagement source destination (Bam size packets pgn)) h = ap (λ c. c.held) (only_noted node _ (is_broadcast destination source) (refl, refl)).0
-noted_held node (DataTransfer source destination bytes) h = ap (λ c. c.held) (only_noted node _ (is_broadcast destination source) (refl, refl)).0
+noted_held node (ConnectionManagement source destination (Bam size packets pgn)) h = ap (λ c. c.held) (only_noted node _ (is_to_all destination source) (refl, refl)).0
+noted_held node (DataTransfer source destination bytes) h = ap (λ c. c.held) (only_noted node _ (is_to_all destination source) (refl, refl)).0
 noted_held node _ h = refl
 
 -- the unit that took note of what was said
 abbrev pub noting : UnitState → Group → UnitState
 noting u g = record { node = noted_from u.node g; session_message = u.session_message }
 
-pub same_unit : (u : UnitState) (g : Group) → contests u.node g ≡ false → IsSameUnit u (noting u g)
+pub same_unit : (u : UnitState) (g : Group) → is_contest u.node.claimer.name u.node.claimer.held g ≡ false → IsSameUnit u (noting u g)
 same_unit u g h = record { name = noted_name u.node g; held = noted_held u.node g h; session = noted_session u.node g; message = refl }
 
 -- ---- another session
@@ -96,19 +96,19 @@ seat_session begun items v u u' x t s same h own = record {
 -- ---- a reply
 
 pub seat_replies : (begun : List Message) (items : List Item) (v y : SeatValue) (u : UnitState) (x : Seat) (f : FrameValue) → IsSeat begun items v u x → IsSameSeat v y → y.queue ≡ v.queue ++ queued_frame f None ∷ []
-    → IsSeat begun items y u (record x { queue = plain x.number x.name f ∷ x.queue })
+    → IsSeat begun items y u (record x { queue = plain_item x.number x.name f ∷ x.queue })
 seat_replies begun items v y u x f s same e =
-    subst (λ (n : ℕ). IsSeat begun items y u (record x { queue = plain x.number n f ∷ x.queue })) (sym s.name) (seat_put begun items v y u x (queued_frame f None ∷ []) s same e (tt, tt))
+    subst (λ (n : ℕ). IsSeat begun items y u (record x { queue = plain_item x.number n f ∷ x.queue })) (sym s.name) (seat_put begun items v y u x (queued_frame f None ∷ []) s same e (tt, tt))
 
 -- ---- a message begins
 
 -- its parts are put into the queue
 begins_parts : (begun : List Message) (items : List Item) (v y : SeatValue) (u : UnitState) (x : Seat) (m : Message) (session_number : ℕ) → IsSeat begun items v u x → IsSameSeat v y → m.number ≡ length begun → m.name ≡ v.name → IsLongToOne m
     → y.queue ≡ v.queue ++ parts_put m (length begun) session_number (not (m.destination == 255))
-    → IsSeat (m ∷ begun) items y u (record x { queue = parts_upto x.number m (first_parts (way_of m) m) ++ x.queue })
+    → IsSeat (m ∷ begun) items y u (record x { queue = parts_upto x.number m (last_part_at_first (way_of m) m) ++ x.queue })
 begins_parts begun items v y u x m session_number s same newest own long e =
     let qs : List QueuedFrame = parts_put m (length begun) session_number (not (m.destination == 255)) in
-    let put : items_put (m ∷ begun) x.number v.name qs ≡ parts_upto x.number m (first_parts (way_of m) m) =
+    let put : items_put (m ∷ begun) x.number v.name qs ≡ parts_upto x.number m (last_part_at_first (way_of m) m) =
     ap (λ (n : ℕ). items_put (m ∷ begun) x.number n qs) (sym own) ∙ begun_items begun x.number m session_number newest long in
     subst (λ (l : List Item). IsSeat (m ∷ begun) items y u (record x { queue = l ++ x.queue })) put
     (seat_put (m ∷ begun) items v y u x qs (seat_still m begun items v u x newest s) same e (begun_known begun m session_number newest long))
@@ -118,7 +118,7 @@ pub seat_begins_to_all : (begun : List Message) (items : List Item) (v y : SeatV
     → (m.destination == 255) ≡ true → y.queue ≡ v.queue ++ parts_put m (length begun) session_number false
     → IsSeat (m ∷ begun) items y u (with_message x m)
 seat_begins_to_all begun items v y u x m session_number s same newest own all e =
-    subst (λ (o : Option PartOf). IsSeat (m ∷ begun) items y u (record x { queue = parts_upto x.number m (first_parts (way_of m) m) ++ x.queue; session = o })) (sym (opens_none m x.session all))
+    subst (λ (o : Option PartOf). IsSeat (m ∷ begun) items y u (record x { queue = parts_upto x.number m (last_part_at_first (way_of m) m) ++ x.queue; session = o })) (sym (opens_none m x.session all))
     (begins_parts begun items v y u x m session_number s same newest own (λ one. cc) (e ∙ ap (λ (b : Bool). v.queue ++ parts_put m (length begun) session_number (not b)) (sym all)))
 
 -- to one address
@@ -126,13 +126,13 @@ pub seat_begins_session : (begun : List Message) (items : List Item) (v y : Seat
     → (m.destination == 255) ≡ false → IsLongToOne m → u.node.claimer.held ≡ Some m.source → u'.node.claimer ≡ u.node.claimer → u'.node.session ≡ Some (opened m.kind m.memory m.destination) → u'.session_message ≡ length begun
     → y.queue ≡ v.queue ++ parts_put m (length begun) (length begun) true
     → IsSeat (m ∷ begun) items y u' (with_message x m)
-unfolding payload_of
+unfolding payload_sent
 seat_begins_session begun items v y u u' x m s same newest seat own one long held same' session number e =
     let way : way_of m ≡ Session m.destination = way_session m long one in
     let opens : Some (record { message = m; part = 0 }) ≡ session_opened (way_of m) m x.session = rw way refl in
     let put = begins_parts begun items v y u x m (length begun) s same newest own long (e ∙ ap (λ (b : Bool). v.queue ++ parts_put m (length begun) (length begun) (not b)) (sym one)) in
-    subst (λ (o : Option PartOf). IsSeat (m ∷ begun) items y u' (record x { queue = parts_upto x.number m (first_parts (way_of m) m) ++ x.queue; session = o })) opens
-    (seat_session (m ∷ begun) items y u u' (record x { queue = parts_upto x.number m (first_parts (way_of m) m) ++ x.queue }) (Some (record { message = m; part = 0 })) put same'
+    subst (λ (o : Option PartOf). IsSeat (m ∷ begun) items y u' (record x { queue = parts_upto x.number m (last_part_at_first (way_of m) m) ++ x.queue; session = o })) opens
+    (seat_session (m ∷ begun) items y u u' (record x { queue = parts_upto x.number m (last_part_at_first (way_of m) m) ++ x.queue }) (Some (record { message = m; part = 0 })) put same'
     (rw (session, number) (record {
       found = found_newest m begun newest;
       number = omega arith;

@@ -9,23 +9,23 @@ use Rattle.bus_ledger.specs.BusValue.{SeatValue}
 use Rattle.bus_ledger.specs.Changes.{kept, queued_frame}
 use Rattle.bus_ledger.specs.declared.traffic.QueuedFrame.{QueuedFrame}
 use Rattle.bus_ledger.specs.declared.traffic.Which.TheVariants as which
-use Rattle.bus_model.specs.Messages.{Message, payload_of}
+use Rattle.bus_model.specs.Messages.{Message, payload_sent}
 use Rattle.bus_model.specs.Traffic.{Item, Tag as PartOf}
 use Rattle.bus_model.specs.Machine as machine
-use Rattle.bus_model.specs.Machine.{Answer, Seat, World, answered, granted, granted_one, plain, session_ended, with_message, yielded}
-use Rattle.node_core.specs.Deed.{Deed, after, begun_of, opened, parts_begun, put_of, withdraw_of}
+use Rattle.bus_model.specs.Machine.{Answer, Seat, World, answered, granted, granted_one, plain_item, session_ended, with_message, yielded}
+use Rattle.node_core.specs.Deed.{Deed, after_deed, begun_of, opened, parts_begun, put_of, withdraw_of}
 use Rattle.node_core.specs.Deed as deed
 use Rattle.node_core.specs.Laws.{BeginsLawfully, IsLawfulDeed}
 use Rattle.node_core.specs.Reaction.{noted_from}
 use Rattle.node_core.specs.declared.heard.Withdraw.{Withdraw}
 use Rattle.node_core.specs.declared.heard.Withdraw.TheVariants as withdraw
 use Rattle.journal.specs.State.{UnitState}
-use Rattle.journal.specs.Steps.{begun_after, is_session, session_message_after, tagged}
+use Rattle.journal.specs.Steps.{begun_after, begins_session, session_message_after, tagged}
 use Rattle.journal.proofs.Seated.{IsSeat}
 use Rattle.journal.proofs.Queues.{IsSameSeat, seat_noted, seat_same}
 use Rattle.journal.proofs.Parts.{parts_put}
 use Rattle.journal.proofs.Deeds.{noted_name, noting, open_is, same_unit, seat_begins_session, seat_begins_to_all, seat_claims, seat_ends, seat_replies, seat_sends}
-use Rattle.journal.proofs.Answers.{answer_of, answer_sends, can_hold}
+use Rattle.journal.proofs.Answers.{answer_of, answer_sends}
 
 -- what stays in a queue
 abbrev pub kept_by : Withdraw → List QueuedFrame → List QueuedFrame
@@ -35,28 +35,28 @@ kept_by withdraw.All qs = []
 
 -- what a unit queues in a deed
 abbrev pub puts_of : UnitState → ℕ → Deed → List QueuedFrame
-puts_of u number d = map (tagged number (is_session (begun_of d)) (session_message_after u.session_message number (begun_of d))) (put_of d)
+puts_of u number d = map (tagged number (begins_session (begun_of d)) (session_message_after u.session_message number (begun_of d))) (put_of d)
 
 -- what it keeps afterwards
 abbrev pub unit_after : UnitState → Group → ℕ → Deed → UnitState
-unit_after u g number d = record { node = after (noted_from u.node g) d; session_message = session_message_after u.session_message number (begun_of d) }
+unit_after u g number d = record { node = after_deed (noted_from u.node g) d; session_message = session_message_after u.session_message number (begun_of d) }
 
 -- the seat after an answer
 abbrev pub seat_answered : ℕ → Seat → Answer → Seat
-seat_answered number x machine.Quiet = x
-seat_answered number x (machine.Replies f) = record x { queue = plain x.number x.name f ∷ x.queue }
+seat_answered number x machine.Nothing = x
+seat_answered number x (machine.Replies f) = record x { queue = plain_item x.number x.name f ∷ x.queue }
 seat_answered number x (machine.Begins kind memory source destination) =
     with_message x (record { number = number; seat = x.number; name = x.name; kind = kind; memory = memory; source = source; destination = destination })
-seat_answered number x (machine.Grants n) = granted x n
-seat_answered number x machine.Ends = session_ended x
-seat_answered number x (machine.Yields to) = yielded x to
+seat_answered number x (machine.Sends n) = granted x n
+seat_answered number x machine.EndsSession = session_ended x
+seat_answered number x (machine.Claims to) = yielded x to
 
 -- an answer leaves its number
 pub answered_number : (number : ℕ) (x : Seat) (a : Answer) → (seat_answered number x a).number ≡ x.number
-answered_number number x machine.Quiet = refl
+answered_number number x machine.Nothing = refl
 answered_number number x (machine.Replies f) = refl
 answered_number number x (machine.Begins kind memory source destination) = refl
-answered_number number x (machine.Grants n) = granted_number n x
+answered_number number x (machine.Sends n) = granted_number n x
   where
     one_number : (x : Seat) (o : Option PartOf) → (granted_one x o).number ≡ x.number
     one_number x None = refl
@@ -65,8 +65,8 @@ answered_number number x (machine.Grants n) = granted_number n x
     granted_number : (n : ℕ) (x : Seat) → (granted x n).number ≡ x.number
     granted_number zero x = refl
     granted_number (suc n) x = granted_number n _ ∙ one_number x x.session
-answered_number number x machine.Ends = refl
-answered_number number x (machine.Yields to) = refl
+answered_number number x machine.EndsSession = refl
+answered_number number x (machine.Claims to) = refl
 
 -- the messages begun after it
 abbrev pub begun_answered : List Message → ℕ → ℕ → Answer → List Message
@@ -75,12 +75,12 @@ begun_answered begun seat name (machine.Begins kind memory source destination) =
 begun_answered begun seat name _ = begun
 
 pub answered_is : (w : World) (i : ℕ) (x : Seat) (a : Answer) → answered w i x a ≡ record w { seats = set w.seats i (seat_answered (length w.begun) x a); begun = begun_answered w.begun x.number x.name a }
-answered_is w i x machine.Quiet = refl
+answered_is w i x machine.Nothing = refl
 answered_is w i x (machine.Replies f) = refl
 answered_is w i x (machine.Begins kind memory source destination) = refl
-answered_is w i x (machine.Grants n) = refl
-answered_is w i x machine.Ends = refl
-answered_is w i x (machine.Yields to) = refl
+answered_is w i x (machine.Sends n) = refl
+answered_is w i x machine.EndsSession = refl
+answered_is w i x (machine.Claims to) = refl
 
 pub begun_is : (begun : List Message) (u : UnitState) (g : Group) (seat seat' name name' : ℕ) (memory : MemoryValue) (d : Deed) → IsLawfulDeed u.node memory g d → seat' ≡ seat → name' ≡ name
     → begun_after begun seat name memory (begun_of d) ≡ begun_answered begun seat' name' (answer_of d)
@@ -98,13 +98,13 @@ begins : (begun : List Message) (items : List Item) (v y : SeatValue) (u : UnitS
     → y.queue ≡ v.queue ++ puts_of u (length begun) (deed.Begins kind memory' source destination)
     → IsSeat (record { number = length begun; seat = x.number; name = v.name; kind = kind; memory = memory'; source = source; destination = destination } ∷ begun) items y (unit_after u g (length begun) (deed.Begins kind memory' source destination))
     (with_message x (record { number = length begun; seat = x.number; name = v.name; kind = kind; memory = memory'; source = source; destination = destination }))
-unfolding payload_of
+unfolding payload_sent
 begins begun items v y u x g memory kind memory' source destination s b held same e = go (destination == 255) refl e
   where
     m : Message
     m = record { number = length begun; seat = x.number; name = v.name; kind = kind; memory = memory'; source = source; destination = destination }
 
-    long : (destination == 255) ≡ false → (length (payload_of m) == 8) ≡ false
+    long : (destination == 255) ≡ false → (length (payload_sent m) == 8) ≡ false
     long one = elim (b.way) [
       | inl all ↦ absurd (let t : (destination == 255) ≡ true = rw all refl in cc)
       | inr o ↦ o.long
@@ -146,4 +146,4 @@ deed_seat begun items v y u x g memory deed.EndsSession s h same e =
     seat_ends begun items v y (noting u g) (unit_after u g (length begun) deed.EndsSession) x noted same (e ∙ append-nil (kept which.Session v.queue)) refl refl
 deed_seat begun items v y u x g memory (deed.Claims name held) s h same e =
     let own : name ≡ x.name = h.0 ∙ (s.own ∙ sym s.name) in
-    seat_claims begun items v y u (unit_after u g (length begun) (deed.Claims name held)) x held s same (e ∙ ap (λ (n : ℕ). queued_frame (claim_frame_value n held) None ∷ []) own) (can_hold held h.1) (noted_name u.node g) refl refl
+    seat_claims begun items v y u (unit_after u g (length begun) (deed.Claims name held)) x held s same (e ∙ ap (λ (n : ℕ). queued_frame (claim_frame_value n held) None ∷ []) own) h.1 (noted_name u.node g) refl refl

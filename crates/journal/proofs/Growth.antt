@@ -6,20 +6,15 @@ use Rattle.bus_ledger.specs.BusValue.{SeatValue, nobody, seat_at}
 use Rattle.bus_ledger.specs.declared.traffic.QueuedFrame.{QueuedFrame}
 use Rattle.bus_ledger.specs.declared.traffic.CarriedFrame.{CarriedFrame}
 use Rattle.bus_ledger.specs.declared.traffic.Tag.{Tag}
+use Rattle.bus_ledger.proofs.Numbers.{same_or_not}
 use Rattle.bus_model.specs.Messages.{Message}
 use Rattle.bus_model.specs.Traffic.{Item, Tag as PartOf}
 use Rattle.bus_model.specs.Machine.{Seat}
 use Rattle.node_core.specs.declared.session.OpenSession.{OpenSession}
 use Rattle.journal.specs.State.{State, UnitState, new_unit}
-use Rattle.journal.specs.Steps.{item_of, message_numbered, number_of, part_of}
+use Rattle.journal.specs.Steps.{item_of, message_numbered, seat_number_of, part_of}
 use Rattle.journal.specs.Worlds.{queued_item}
 use Rattle.journal.proofs.Seated.{IsKnown, AreKnown, AreSession, IsSeat, no_seat, IsCarried, AreCarried}
-
-pub same_or_not : (k j : ℕ) → (k ≡ j) ⊎ (k ≢ j)
-same_or_not zero zero = inl refl
-same_or_not zero (suc j) = inr (λ e. omega arith)
-same_or_not (suc k) zero = inr (λ e. omega arith)
-same_or_not (suc k) (suc j) = elim (same_or_not k j) [ inl e ↦ inl (ap suc e) | inr n ↦ inr (λ e. n (omega arith)) ]
 
 -- ---- one message more
 
@@ -105,7 +100,7 @@ seat_carried begun items e v u x s = record {
 -- ---- items
 
 -- the item of a carried frame depends on its seat's NAME and the message of its tag
-pub item_same : (s t : State) (c : CarriedFrame) → (seat_at s.traffic (number_of c.seat)).name ≡ (seat_at t.traffic (number_of c.seat)).name → part_of s.begun c.tag ≡ part_of t.begun c.tag → item_of s c ≡ item_of t c
+pub item_same : (s t : State) (c : CarriedFrame) → (seat_at s.traffic (seat_number_of c.seat)).name ≡ (seat_at t.traffic (seat_number_of c.seat)).name → part_of s.begun c.tag ≡ part_of t.begun c.tag → item_of s c ≡ item_of t c
 item_same s t c n p = rw (n, p) refl
 
 -- no NAME of a given seat changes
@@ -115,12 +110,12 @@ SameNames s t = (k : ℕ) → k < length s.traffic.seats → (seat_at t.traffic 
 pub items_same : (s t : State) (cs : List CarriedFrame) → SameNames s t → t.begun ≡ s.begun → AreCarried s.begun (length s.traffic.seats) cs → map (item_of t) cs ≡ map (item_of s) cs
 items_same s t [] names begun k = refl
 items_same s t (c ∷ cs) names begun k =
-    rw (names (number_of c.seat) k.0.seat, begun, items_same s t cs names begun k.1) refl
+    rw (names (seat_number_of c.seat) k.0.seat, begun, items_same s t cs names begun k.1) refl
 
 pub items_still : (s t : State) (m : Message) (cs : List CarriedFrame) → SameNames s t → t.begun ≡ m ∷ s.begun → m.number ≡ length s.begun → AreCarried s.begun (length s.traffic.seats) cs → map (item_of t) cs ≡ map (item_of s) cs
 items_still s t m [] names begun e k = refl
 items_still s t m (c ∷ cs) names begun e k =
-    rw (names (number_of c.seat) k.0.seat, begun, part_still m s.begun c.tag e k.0.known, items_still s t m cs names begun e k.1) refl
+    rw (names (seat_number_of c.seat) k.0.seat, begun, part_still m s.begun c.tag e k.0.known, items_still s t m cs names begun e k.1) refl
 
 pub carried_still : (m : Message) (begun : List Message) (n : ℕ) (cs : List CarriedFrame) → m.number ≡ length begun → AreCarried begun n cs → AreCarried (m ∷ begun) n cs
 carried_still m begun n [] e k = tt

@@ -3,7 +3,7 @@ use Rattle.std.proofs.Common.{ℕ, ◌≡◌, List, reverse, refl, ap, ◌∙◌
 use Rattle.can_frame.specs.declared.reading.Reading.{Reading}
 use Rattle.dm_messages.specs.declared.kind.Kind.{Kind}
 use Rattle.bus_model.specs.Expected.{expected, readings}
-use Rattle.bus_model.specs.Heard.{Settings as Station, entries_heard}
+use Rattle.bus_model.specs.Heard.{StationSettings as Station, entries_heard}
 use Rattle.bus_model.specs.Machine.{World, start}
 use Rattle.bus_model.proofs.Grows.{readable_run}
 use Rattle.bus_model.proofs.Worlds.{law_run, law_start, settings_run}

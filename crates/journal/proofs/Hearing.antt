@@ -25,7 +25,7 @@ use Rattle.journal.specs.declared.event.Event.TheVariants.{Hear}
 use Rattle.journal.proofs.Seated.{IsSeat, Stands, no_seat}
 use Rattle.journal.proofs.Changed.{began_stands, began_world, changed, changed_stands, changed_world}
 use Rattle.journal.proofs.Queues.{IsSameSeat}
-use Rattle.journal.proofs.Answers.{answer_of, deed_may, hold_back}
+use Rattle.journal.proofs.Answers.{answer_of, deed_may}
 use Rattle.journal.proofs.Doing.{answered_is, answered_number, begun_is, deed_seat, kept_by, puts_of, seat_answered, unit_after}
 use Rattle.journal.proofs.Places.{around_at, found_at, put_in_place, puts, puts_queue, puts_same, seat_hears, then_same, withdrawn_in_place, withdraws, withdraws_queue, withdraws_same}
 
@@ -123,7 +123,7 @@ hear_at r s seats i memory answered st fits =
     let c : CarriedFrame = found.0 in
     let at : slice_get (items_of s) (seat_at s.traffic (suc i)).heard ≡ Some (item_of s c) =
     slice_get-map (item_of s) s.traffic.wire (seat_at s.traffic (suc i)).heard ∙ ap (option_map (item_of s)) found.1 in
-    let lawful = reaction_is_lawful u.node memory answered (group_of c.frame) (hold_back u.node.claimer.held seat.holdable) in
+    let lawful = reaction_is_lawful u.node memory answered (group_of c.frame) seat.holdable in
     let is : after (Hear (suc i) memory answered) s ≡ state_after s i memory (group_of c.frame) (reaction u.node memory answered c.frame) =
     ap (λ (o : Option FrameValue). after_hear_of o (suc i) memory answered s) (ap (option_map (λ (x : CarriedFrame). x.frame)) found.1) ∙ heard_state s i memory answered c.frame l in
     subst (λ (t : State). (seats' : List Seat) × (answer : Answer) × Step (world_of r s seats) (machine.Hear i answer) (world_of r t seats') × Stands r t seats') (sym is)

@@ -24,3 +24,4 @@ pub mod Reaching
 pub mod Headline
 pub mod Lifted
 pub mod Living
+pub mod Kept

@@ -7,7 +7,7 @@ use Rattle.fault_memory.specs.Memory.{MemoryValue}
 use Rattle.dm_messages.specs.declared.kind.Kind.TheVariants.{Dm1}
 use Rattle.bus_ledger.specs.BusValue.{SeatValue, Traffic, nobody, seat_at}
 use Rattle.bus_ledger.specs.Changes.{hearing, heard_more, leaving, newcomer, queued, queueing, sending, with_seat, withdrawing, withdrawn}
-use Rattle.bus_ledger.specs.Reception.{passes, after_reading as taken}
+use Rattle.bus_ledger.specs.Reception.{passes, reading_taken as taken}
 use Rattle.bus_ledger.specs.declared.traffic.QueuedFrame.{QueuedFrame}
 use Rattle.bus_ledger.specs.declared.traffic.Which.TheVariants as which
 use Rattle.node_core.specs.Beginning.{begins}
@@ -20,11 +20,11 @@ use Rattle.node_core.specs.declared.heard.Started.{Started}
 use Rattle.node_core.specs.declared.heard.Started.TheVariants as started
 use Rattle.node_core.specs.declared.heard.Withdraw.{Withdraw}
 use Rattle.node_core.specs.declared.heard.Withdraw.TheVariants as withdraw
-use Rattle.station_table.specs.Reactions.{reaction}
+use Rattle.station_table.specs.Reactions.{station_reaction}
 use Rattle.station_table.specs.declared.error.StationError.{StationError}
 use Rattle.station_table.specs.declared.reaction.Reaction.{Reaction}
 use Rattle.journal.specs.State.{Settings, State, unit_at}
-use Rattle.journal.specs.Steps.{after, after_join, after_hear_of, after_begin_of, after_starting, after_hearing, after_carry_of, after_read, after_order_of, after_leave, after_inject, next_for, order_answer, put_all, is_session, reacted, session_message_after, tagged, untagged, withdrawn_by}
+use Rattle.journal.specs.Steps.{after, after_join, after_hear_of, after_begin_of, after_starting, after_hearing, after_carry_of, after_read, after_order_of, after_leave, after_inject, next_for, order_answer, put_all, begins_session, reacted, session_message_after, tagged, untagged, withdrawn_by}
 use Rattle.journal.specs.Fits.{Fits}
 use Rattle.journal.specs.Journal.{AllFit, state_after}
 use Rattle.journal.specs.declared.event.Event.{Event}
@@ -66,7 +66,7 @@ heard_lives k w qs t j =
 
 hearing_lives : (k : ℕ) (memory : MemoryValue) (h : Heard) (node : NodeValue) (s : State) → SameLives s.traffic (after_hearing k memory h node s).traffic
 hearing_lives k memory h node s =
-    heard_lives k h.withdraw (map (tagged (length s.begun) (is_session h.begun) (session_message_after (unit_at s k).session_message (length s.begun) h.begun)) h.put) s.traffic
+    heard_lives k h.withdraw (map (tagged (length s.begun) (begins_session h.begun) (session_message_after (unit_at s k).session_message (length s.begun) h.begun)) h.put) s.traffic
 
 hear_lives : (o : Option FrameValue) (k : ℕ) (memory : MemoryValue) (answered : UnitAnswer) (s : State) → SameLives s.traffic (after_hear_of o k memory answered s).traffic
 unfolding after_hear_of
@@ -90,7 +90,7 @@ carry_lives (Some q) k s j = at_place s.traffic.seats k j (sending (seat_at s.tr
 
 read_lives : (x : Reading) (s : State) → SameLives s.traffic (after_read x s).traffic
 unfolding after_read
-read_lives x s j = reacted_lives (reaction s.station x) (taken x s.traffic) j ∙ seat_lives s.traffic 0 (hearing (passes x) (seat_at s.traffic 0)) refl j
+read_lives x s j = reacted_lives (station_reaction s.station x) (taken x s.traffic) j ∙ seat_lives s.traffic 0 (hearing (passes x) (seat_at s.traffic 0)) refl j
 
 order_lives : (o : Result Reaction StationError) (s : State) → SameLives s.traffic (after_order_of o s).traffic
 unfolding after_order_of

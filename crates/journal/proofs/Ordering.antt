@@ -1,16 +1,16 @@
 -- What the station is told to send, and what it carries, are steps of the machine.
 use Rattle.std.proofs.Common.{ℕ, suc, zero, ◌≡◌, ◌+◌, ◌<◌, ◌≤◌, ◌==◌, ◌&&◌, List, [], ◌∷◌, ◌++◌, map, reverse, take, drop, length, slice_get, Bool, true, false, Option, Some, None, Result, Ok, Err, nat_lt, if◌then◌else◌, take_all, refl, sym, ap, ap₂, ◌∙◌, subst, arith}
 use Rattle.std.proofs.lemmas.List.{length-append, length-map, reverse-append, map-append}
-use Rattle.address_claim.specs.Claiming.{is_held}
+use Rattle.address_claim.specs.Claiming.{is_held, CanHold}
 use Rattle.bus_ledger.specs.BusValue.{SeatValue, seat_at}
-use Rattle.bus_ledger.specs.Carrying.{IsNext}
+use Rattle.bus_ledger.specs.Carrying.{IsCarriedNext}
 use Rattle.bus_ledger.specs.Changes.{carried_frame, carried_from, sending, with_seat}
 use Rattle.bus_ledger.specs.declared.traffic.CarriedFrame.{CarriedFrame}
 use Rattle.bus_ledger.specs.declared.traffic.QueuedFrame.{QueuedFrame}
 use Rattle.bus_model.specs.Traffic.{Item}
 use Rattle.bus_model.specs.Heard.{address_heard}
 use Rattle.bus_model.specs.Expected.{Own, readings}
-use Rattle.bus_model.specs.Machine.{CanHold, Carry_station, IsFit, Seat, Step}
+use Rattle.bus_model.specs.Machine.{Carry_station, IsFit, Seat, Step}
 use Rattle.bus_model.specs.Machine.{Ask as Asks}
 use Rattle.bus_model.proofs.Bridge.{truth}
 use Rattle.station_table.specs.KeptValue.{KeptValue, kept_under}
@@ -18,7 +18,8 @@ use Rattle.station_table.specs.Orders.{address_in, ask_from, command_from}
 use Rattle.station_table.specs.StandsFor.{row_of, still_owned}
 use Rattle.station_table.specs.declared.error.StationError.{StationError}
 use Rattle.station_table.specs.declared.error.StationError.TheVariants.{NotAnAddress}
-use Rattle.station_table.specs.StationValue.{StationValue, at}
+use Rattle.reassembly.specs.Tables.{at}
+use Rattle.station_table.specs.StationValue.{StationValue}
 use Rattle.station_table.specs.Reactions.{asking, commanding}
 use Rattle.station_table.specs.declared.reaction.Ask.{Ask as Asked}
 use Rattle.station_table.specs.declared.reaction.Reaction.{Reaction}
@@ -113,7 +114,7 @@ order_runs r s seats o fit stands at fits =
     subst (λ (x : Result Reaction StationError). Runs r s (after_order_of x s) seats) (sym fits.1)
     (queued_runs r s seats fits.0 stands
     (subst (λ (held : Option ℕ). Answers fits.0 r.name false held) (heard_held r s at)
-    (order_answers r.name s.station o fits.0 at.places.0 (heard_holds r s fit at) fits.1)))
+    (order_answers r.name s.station o fits.0 at.places.owners (heard_holds r s fit at) fits.1)))
 
 -- ---- what the station carries
 
@@ -209,7 +210,7 @@ carried_runs r s seats q rest stands whole first = (
         ∙ ap (λ (l : List Item). record (world_of r s seats) { wire = l; asked = reverse (map item rest); path = Own (item_of s (carried_frame 0 q)) ∷ s.path }) (reverse-append (items_of s) (item_of s (carried_frame 0 q) ∷ []))
 
 -- a carry of the station is a step of the machine
-pub carry_station_runs : (r : Settings) (s : State) (seats : List Seat) (q : QueuedFrame) → Stands r s seats → IsNext s.traffic 0 q
+pub carry_station_runs : (r : Settings) (s : State) (seats : List Seat) (q : QueuedFrame) → Stands r s seats → IsCarriedNext s.traffic 0 q
     → Step (world_of r s seats) Carry_station (world_of r (after (Carry 0) s) seats) × Stands r (after (Carry 0) s) seats
 unfolding after_carry_of
 carry_station_runs r s seats q stands next =

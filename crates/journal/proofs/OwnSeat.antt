@@ -9,7 +9,7 @@ use Rattle.bus_ledger.specs.declared.traffic.Which.TheVariants as which
 use Rattle.bus_model.specs.Messages.{Message}
 use Rattle.bus_model.specs.Traffic.{Item}
 use Rattle.bus_model.specs.Expected.{passed}
-use Rattle.bus_model.specs.Machine.{Seat, all_plain, plain}
+use Rattle.bus_model.specs.Machine.{Seat, all_plain, plain_item}
 use Rattle.journal.specs.State.{Settings, State, UnitState, new_unit}
 use Rattle.journal.specs.Steps.{item_of, put_all, untagged}
 use Rattle.journal.specs.Worlds.{items_of, queued_item}
@@ -114,7 +114,7 @@ plain_reverse : (k n : ℕ) (fs : List FrameValue) → all_plain k n (reverse fs
 plain_reverse k n [] = refl
 plain_reverse k n (f ∷ fs) =
     ap (all_plain k n) (reverse-append (f ∷ []) fs)
-    ∙ (plain_append k n (reverse fs) (f ∷ []) ∙ (ap (λ (l : List Item). l ++ plain k n f ∷ []) (plain_reverse k n fs) ∙ sym (reverse-append (plain k n f ∷ []) (all_plain k n fs))))
+    ∙ (plain_append k n (reverse fs) (f ∷ []) ∙ (ap (λ (l : List Item). l ++ plain_item k n f ∷ []) (plain_reverse k n fs) ∙ sym (reverse-append (plain_item k n f ∷ []) (all_plain k n fs))))
 
 -- a queue with such frames behind it
 pub queue_put : (begun : List Message) (k n : ℕ) (qs : List QueuedFrame) (fs : List FrameValue)

@@ -7,9 +7,9 @@ use Rattle.bus_ledger.specs.declared.traffic.QueuedFrame.{QueuedFrame}
 use Rattle.dm_messages.specs.View.{pgn_of_kind}
 use Rattle.transport.specs.Messages.{last_part}
 use Rattle.transport.specs.Pieces.{packet_count}
-use Rattle.bus_model.specs.Messages.{Broadcast, Message, One, Session, frame_of_part, is_session, last_part_of, payload_of, way_of}
+use Rattle.bus_model.specs.Messages.{Broadcast, Message, One, Session, frame_of_part, is_session, last_part_of, payload_sent, way_of}
 use Rattle.bus_model.specs.Traffic.{Item, Tag as PartOf}
-use Rattle.bus_model.specs.Machine.{Seat, first_parts, granted, granted_one, item_of_part, parts_upto, session_opened}
+use Rattle.bus_model.specs.Machine.{Seat, last_part_at_first, granted, granted_one, item_of_part, parts_upto, session_opened}
 use Rattle.node_core.specs.Deed.{first_parts as parts_first, marked_part, parts_begun}
 use Rattle.node_core.specs.declared.out.Out.{Out}
 use Rattle.node_core.specs.declared.out.Part.TheVariants as part
@@ -68,21 +68,21 @@ known_each begun tag put each (j ∷ js) = (each j, known_each begun tag put eac
 
 -- a message goes to one address only where it is long
 abbrev pub IsLongToOne : Message → Type 0
-IsLongToOne m = (m.destination == 255) ≡ false → (length (payload_of m) == 8) ≡ false
+IsLongToOne m = (m.destination == 255) ≡ false → (length (payload_sent m) == 8) ≡ false
 
 -- the same parts come first, and a session is one
 pub record IsWay (m : Message) : Type 0 where
-  pub parts : parts_first (payload_of m) m.destination ≡ first_parts (way_of m) m + 1
+  pub parts : parts_first (payload_sent m) m.destination ≡ last_part_at_first (way_of m) m + 1
   pub session : is_session (way_of m) ≡ not (m.destination == 255)
 
 pub way_is : (m : Message) → IsLongToOne m → IsWay m
 unfolding way_of last_part_of
 way_is m long = record {
-  parts = parts (length (payload_of m) == 8) (m.destination == 255) long;
-  session = session (length (payload_of m) == 8) (m.destination == 255) long;
+  parts = parts (length (payload_sent m) == 8) (m.destination == 255) long;
+  session = session (length (payload_sent m) == 8) (m.destination == 255) long;
 }
   where
-    parts : (b c : Bool) → (c ≡ false → b ≡ false) → (if c then last_part (payload_of m) + 1 else 1) ≡ first_parts (if b then One else (if c then Broadcast else Session m.destination)) m + 1
+    parts : (b c : Bool) → (c ≡ false → b ≡ false) → (if c then last_part (payload_sent m) + 1 else 1) ≡ last_part_at_first (if b then One else (if c then Broadcast else Session m.destination)) m + 1
     parts true true h = refl
     parts false true h = refl
     parts false false h = refl
@@ -97,7 +97,7 @@ way_is m long = record {
 -- to all no session opens
 pub opens_none : (m : Message) (before : Option PartOf) → (m.destination == 255) ≡ true → session_opened (way_of m) m before ≡ before
 unfolding way_of
-opens_none m before e = go (length (payload_of m) == 8) (m.destination == 255) e
+opens_none m before e = go (length (payload_sent m) == 8) (m.destination == 255) e
   where
     go : (b c : Bool) → c ≡ true → session_opened (if b then One else (if c then Broadcast else Session m.destination)) m before ≡ before
     go true c h = refl
@@ -110,30 +110,30 @@ unfolding way_of
 way_session m long e = rw (long e, e) refl
 
 -- a session's last part is its last packet
-pub session_last : (m : Message) (d : ℕ) → way_of m ≡ Session d → last_part_of m ≡ packet_count (length (payload_of m))
+pub session_last : (m : Message) (d : ℕ) → way_of m ≡ Session d → last_part_of m ≡ packet_count (length (payload_sent m))
 unfolding way_of last_part_of
-session_last m d w = go (length (payload_of m) == 8) (m.destination == 255) w
+session_last m d w = go (length (payload_sent m) == 8) (m.destination == 255) w
   where
-    go : (b c : Bool) → (if b then One else (if c then Broadcast else Session m.destination)) ≡ Session d → (if b then 0 else packet_count (length (payload_of m))) ≡ packet_count (length (payload_of m))
+    go : (b c : Bool) → (if b then One else (if c then Broadcast else Session m.destination)) ≡ Session d → (if b then 0 else packet_count (length (payload_sent m))) ≡ packet_count (length (payload_sent m))
     go true c h = cc
     go false c h = refl
 
 -- the parts of the message that begins
 abbrev pub parts_put : Message → ℕ → ℕ → Bool → List QueuedFrame
-parts_put m number session_number session = map (tagged number session session_number) (parts_begun (payload_of m) (pgn_of_kind m.kind) m.source m.destination)
+parts_put m number session_number session = map (tagged number session session_number) (parts_begun (payload_sent m) (pgn_of_kind m.kind) m.source m.destination)
 
 pub begun_known : (begun : List Message) (m : Message) (session_number : ℕ) → m.number ≡ length begun → IsLongToOne m → AreKnown (m ∷ begun) (parts_put m (length begun) session_number (not (m.destination == 255)))
 begun_known begun m session_number newest long =
-    known_each (m ∷ begun) (tagged (length begun) (not (m.destination == 255)) session_number) (marked_part (λ j. part.Begun j) (payload_of m) (pgn_of_kind m.kind) m.source m.destination)
+    known_each (m ∷ begun) (tagged (length begun) (not (m.destination == 255)) session_number) (marked_part (λ j. part.Begun j) (payload_sent m) (pgn_of_kind m.kind) m.source m.destination)
     (λ j. record { message = m; found = found_newest m begun newest; kind = sym (way_is m long).session; number = omega arith })
-    (range_with_len 0 (parts_first (payload_of m) m.destination - 0))
+    (range_with_len 0 (parts_first (payload_sent m) m.destination - 0))
 
 pub begun_items : (begun : List Message) (k : ℕ) (m : Message) (session_number : ℕ) → m.number ≡ length begun → IsLongToOne m
-    → items_put (m ∷ begun) k m.name (parts_put m (length begun) session_number (not (m.destination == 255))) ≡ parts_upto k m (first_parts (way_of m) m)
+    → items_put (m ∷ begun) k m.name (parts_put m (length begun) session_number (not (m.destination == 255))) ≡ parts_upto k m (last_part_at_first (way_of m) m)
 unfolding frame_of_part
 begun_items begun k m session_number newest long =
-    let count : parts_first (payload_of m) m.destination - 0 ≡ first_parts (way_of m) m + 1 = (let e = (way_is m long).parts in omega arith) in
-    ap reverse (items_each (m ∷ begun) k m.name m (tagged (length begun) (not (m.destination == 255)) session_number) (marked_part (λ j. part.Begun j) (payload_of m) (pgn_of_kind m.kind) m.source m.destination)
+    let count : parts_first (payload_sent m) m.destination - 0 ≡ last_part_at_first (way_of m) m + 1 = (let e = (way_is m long).parts in omega arith) in
+    ap reverse (items_each (m ∷ begun) k m.name m (tagged (length begun) (not (m.destination == 255)) session_number) (marked_part (λ j. part.Begun j) (payload_sent m) (pgn_of_kind m.kind) m.source m.destination)
     (λ j. rw (found_newest m begun newest) refl)
-    (range_with_len 0 (parts_first (payload_of m) m.destination - 0)))
-    ∙ (ap (λ (n : ℕ). items_from k m 0 n) count ∙ sym (upto_is k m (first_parts (way_of m) m)))
+    (range_with_len 0 (parts_first (payload_sent m) m.destination - 0)))
+    ∙ (ap (λ (n : ℕ). items_from k m 0 n) count ∙ sym (upto_is k m (last_part_at_first (way_of m) m)))

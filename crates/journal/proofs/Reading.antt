@@ -4,22 +4,23 @@ use Rattle.std.proofs.lemmas.List.{length-map, length-reverse, length-take-le, r
 use Rattle.can_frame.specs.FrameValue.{FrameValue}
 use Rattle.can_frame.specs.declared.reading.Reading.{Reading}
 use Rattle.can_frame.specs.declared.reading.Reading.TheVariants as reading
-use Rattle.address_claim.specs.Claiming.{ClaimerValue}
+use Rattle.address_claim.specs.Claiming.{ClaimerValue, CanHold}
 use Rattle.parameter_group.specs.Group.{group_of}
 use Rattle.bus_ledger.specs.BusValue.{SeatValue, Traffic, seat_at}
 use Rattle.bus_ledger.specs.Changes.{hearing, withdrawn}
-use Rattle.bus_ledger.specs.Reception.{unread, passes, after_reading as taken}
+use Rattle.bus_ledger.specs.Reception.{not_yet_read, passes, reading_taken as taken}
 use Rattle.bus_ledger.specs.declared.traffic.CarriedFrame.{CarriedFrame}
 use Rattle.bus_ledger.specs.declared.traffic.QueuedFrame.{QueuedFrame}
 use Rattle.bus_ledger.specs.declared.traffic.Which.TheVariants as which
 use Rattle.bus_model.specs.Messages.{Message}
 use Rattle.bus_model.specs.Traffic.{Item}
-use Rattle.bus_model.specs.Heard.{Settings as Station, address_heard, claimer_after, is_contest}
+use Rattle.parameter_group.specs.Calm.{is_contest}
+use Rattle.bus_model.specs.Heard.{StationSettings as Station, address_heard, claimer_after}
 use Rattle.bus_model.specs.Expected.{Reception, Received, Missed, passed, readings}
-use Rattle.bus_model.specs.Machine.{CanHold, IsFit, Seat, Step, World, all_plain, claim_alone, AllMaySend, station_seat}
+use Rattle.bus_model.specs.Machine.{IsFit, Seat, Step, World, all_plain, claim_alone, AllMaySend, station_seat}
 use Rattle.bus_model.specs.Machine.{Event as MachineEvent, Miss, Read as Reads}
 use Rattle.bus_model.proofs.Bridge.{address_gap, address_hold, claimer_name}
-use Rattle.station_table.specs.Reactions.{reaction, group_reaction}
+use Rattle.station_table.specs.Reactions.{station_reaction, group_reaction}
 use Rattle.station_table.specs.declared.reaction.Reaction.{Reaction}
 use Rattle.station_table.proofs.Stands.{sender_below}
 use Rattle.journal.specs.State.{Settings, State}
@@ -90,7 +91,7 @@ pub record Passed (s : State) (k : ℕ) (es : List Item) : Type 0 where
   pub passed' : es ++ passed s.path ≡ reverse (take ((seat_at s.traffic 0).heard + k) (items_of s))
   pub within : (seat_at s.traffic 0).heard + k ≤ length s.traffic.wire
 
-pub passed_of : (r : Settings) (s : State) (seats : List Seat) (k : ℕ) → Stands r s seats → k ≤ length (unread s.traffic) → Passed s k (map (item_of s) (reverse (take k (unread s.traffic))))
+pub passed_of : (r : Settings) (s : State) (seats : List Seat) (k : ℕ) → Stands r s seats → k ≤ length (not_yet_read s.traffic) → Passed s k (map (item_of s) (reverse (take k (not_yet_read s.traffic))))
 passed_of r s seats k stands l = record {
   ahead = reverse (drop k (drop h xs));
   wire = ap reverse (sym cut) ∙ (reverse-append (take h xs ++ take k (drop h xs)) (drop k (drop h xs)) ∙ ap (λ ys. reverse (drop k (drop h xs)) ++ ys) (reverse-append (take h xs) (take k (drop h xs)) ∙ sym (ap₂ ◌++◌ front stands.passed')));
@@ -104,8 +105,8 @@ passed_of r s seats k stands l = record {
     xs : List Item
     xs = items_of s
 
-    front : map (item_of s) (reverse (take k (unread s.traffic))) ≡ reverse (take k (drop h xs))
-    front = map-reverse (item_of s) (take k (unread s.traffic)) ∙ ap reverse (sym (take-map (item_of s) k (unread s.traffic)) ∙ ap (take k) (sym (drop-map (item_of s) h s.traffic.wire)))
+    front : map (item_of s) (reverse (take k (not_yet_read s.traffic))) ≡ reverse (take k (drop h xs))
+    front = map-reverse (item_of s) (take k (not_yet_read s.traffic)) ∙ ap reverse (sym (take-map (item_of s) k (not_yet_read s.traffic)) ∙ ap (take k) (sym (drop-map (item_of s) h s.traffic.wire)))
 
     cut : take h xs ++ take k (drop h xs) ++ drop k (drop h xs) ≡ xs
     cut = append_assoc (take h xs) (take k (drop h xs)) (drop k (drop h xs)) ∙ (ap (λ ys. take h xs ++ ys) (take-append-drop k (drop h xs)) ∙ take-append-drop h xs)
@@ -115,15 +116,15 @@ passed_of r s seats k stands l = record {
 read_heard : (x : Reading) (s : State) → 0 < length s.traffic.seats → seat_at (taken x s.traffic) 0 ≡ hearing (passes x) (seat_at s.traffic 0)
 read_heard x s h = set_at s.traffic (hearing (passes x) (seat_at s.traffic 0)) h
 
-own_read : (x : Reading) (s : State) → OwnChange s.traffic (reacted (reaction s.station x) (taken x s.traffic))
-own_read x s = own_then s.traffic (taken x s.traffic) _ (own_heard (passes x) s.traffic) (own_reacted (reaction s.station x) (taken x s.traffic))
+own_read : (x : Reading) (s : State) → OwnChange s.traffic (reacted (station_reaction s.station x) (taken x s.traffic))
+own_read x s = own_then s.traffic (taken x s.traffic) _ (own_heard (passes x) s.traffic) (own_reacted (station_reaction s.station x) (taken x s.traffic))
 
 -- with what it passed over
 pub read_stands : (r : Settings) (s : State) (seats : List Seat) (x : Reading) (es : List Item) → Stands r s seats → Passed s (passes x) es → passed (path_after x s) ≡ es ++ passed s.path → Stands r (after_read x s) seats
 unfolding after_read
 read_stands r s seats x es stands p path =
     stands_own r s (after_read x s) seats stands (own_read x s) refl refl
-    (reacted_known s.begun (reaction s.station x) (taken x s.traffic) some (subst (λ (v : SeatValue). AreKnown s.begun v.queue) (sym (read_heard x s given)) stands.known))
+    (reacted_known s.begun (station_reaction s.station x) (taken x s.traffic) some (subst (λ (v : SeatValue). AreKnown s.begun v.queue) (sym (read_heard x s given)) stands.known))
     (subst (λ (n : ℕ). n ≤ length s.traffic.wire) (sym heard) p.within)
     (path ∙ (p.passed' ∙ ap (λ (n : ℕ). reverse (take n (items_of s))) (sym heard)))
   where
@@ -133,8 +134,8 @@ read_stands r s seats x es stands p path =
     some : 0 < length (taken x s.traffic).seats
     some = subst (λ (n : ℕ). 0 < n) (sym (own_heard (passes x) s.traffic).places) given
 
-    heard : (seat_at (reacted (reaction s.station x) (taken x s.traffic)) 0).heard ≡ (seat_at s.traffic 0).heard + passes x
-    heard = reacted_heard (reaction s.station x) (taken x s.traffic) some ∙ ap (λ (v : SeatValue). v.heard) (read_heard x s given)
+    heard : (seat_at (reacted (station_reaction s.station x) (taken x s.traffic)) 0).heard ≡ (seat_at s.traffic 0).heard + passes x
+    heard = reacted_heard (station_reaction s.station x) (taken x s.traffic) some ∙ ap (λ (v : SeatValue). v.heard) (read_heard x s given)
 
 -- ---- the world after a reading
 
@@ -151,10 +152,10 @@ world_own r s t seats asked path stands own begun queue way =
     world_parts (items_own r s t seats stands own begun) (ap (λ (b : List Message). queue_of b station_seat (seat_at t.traffic 0)) begun ∙ queue) begun way
 
 -- what is asked after a reading
-read_asked : (r : Settings) (s : State) (seats : List Seat) (x : Reading) (claims : Bool) (held : Option ℕ) (a : Answers (reaction s.station x) r.name claims held) → Stands r s seats
-    → queue_of s.begun station_seat (seat_at (reacted (reaction s.station x) (taken x s.traffic)) 0) ≡ all_plain station_seat r.name a.frames ++ asked_with claims r.name held (queue_of s.begun station_seat (seat_at s.traffic 0))
+read_asked : (r : Settings) (s : State) (seats : List Seat) (x : Reading) (claims : Bool) (held : Option ℕ) (a : Answers (station_reaction s.station x) r.name claims held) → Stands r s seats
+    → queue_of s.begun station_seat (seat_at (reacted (station_reaction s.station x) (taken x s.traffic)) 0) ≡ all_plain station_seat r.name a.frames ++ asked_with claims r.name held (queue_of s.begun station_seat (seat_at s.traffic 0))
 read_asked r s seats x claims held a stands =
-    reacted_asked s.begun (reaction s.station x) (taken x s.traffic) r.name claims held a some ((own_heard (passes x) s.traffic).name ∙ stands.name)
+    reacted_asked s.begun (station_reaction s.station x) (taken x s.traffic) r.name claims held a some ((own_heard (passes x) s.traffic).name ∙ stands.name)
     ∙ ap (λ (v : SeatValue). all_plain station_seat r.name a.frames ++ asked_with claims r.name held (queue_of s.begun station_seat v)) (read_heard x s given)
   where
     given : 0 < length s.traffic.seats
@@ -163,7 +164,7 @@ read_asked r s seats x claims held a stands =
     some : 0 < length (taken x s.traffic).seats
     some = subst (λ (n : ℕ). 0 < n) (sym (own_heard (passes x) s.traffic).places) given
 
-pub read_world : (r : Settings) (s : State) (seats : List Seat) (x : Reading) (path : List Reception) (claims : Bool) (held : Option ℕ) (a : Answers (reaction s.station x) r.name claims held) → Stands r s seats → path_after x s ≡ path
+pub read_world : (r : Settings) (s : State) (seats : List Seat) (x : Reading) (path : List Reception) (claims : Bool) (held : Option ℕ) (a : Answers (station_reaction s.station x) r.name claims held) → Stands r s seats → path_after x s ≡ path
     → world_of r (after_read x s) seats ≡ record {
       settings = station_of r;
       wire = reverse (items_of s);
@@ -190,15 +191,15 @@ unfolding address_heard
 heard_held r s at = ap (λ (c : ClaimerValue). c.held) at.claims
 
 frame_answers : (r : Settings) (s : State) (f : FrameValue) → IsFit (station_of r) → AtStation r s
-    → Answers (reaction s.station (reading.Frame f)) r.name (is_contest r.name (address_heard (station_of r) (readings s.path)) (group_of f)) (address_heard (station_of r) (reading.Frame f ∷ readings s.path))
+    → Answers (station_reaction s.station (reading.Frame f)) r.name (is_contest r.name (address_heard (station_of r) (readings s.path)) (group_of f)) (address_heard (station_of r) (reading.Frame f ∷ readings s.path))
 unfolding address_heard
 frame_answers r s f fit at =
     subst (λ (c : ClaimerValue). Answers (group_reaction s.station (group_of f)) r.name (is_contest r.name c.held (group_of f)) (claimer_after (group_of f) c).held) at.claims
     (group_answers r.name s.station (group_of f) (heard_name r s at) fit.name (heard_holds r s fit at) (sender_below f))
 
-missed_answers : (r : Settings) (s : State) (n : ℕ) → IsFit (station_of r) → AtStation r s → Answers (reaction s.station (reading.Gap n)) r.name true (address_heard (station_of r) (readings s.path))
+missed_answers : (r : Settings) (s : State) (n : ℕ) → IsFit (station_of r) → AtStation r s → Answers (station_reaction s.station (reading.Gap n)) r.name true (address_heard (station_of r) (readings s.path))
 missed_answers r s n fit at =
-    subst₂ (λ (m : ℕ) (held : Option ℕ). Answers (reaction s.station (reading.Gap n)) m true held) (heard_name r s at) (heard_held r s at) (gap_answers s.station.claimer (heard_holds r s fit at))
+    subst₂ (λ (m : ℕ) (held : Option ℕ). Answers (station_reaction s.station (reading.Gap n)) m true held) (heard_name r s at) (heard_held r s at) (gap_answers s.station.claimer (heard_holds r s fit at))
 
 -- ---- a frame, and a gap
 
@@ -206,14 +207,14 @@ missed_answers r s n fit at =
 abbrev pub Runs : Settings → State → State → List Seat → Type 0
 Runs r s t seats = (event : MachineEvent) × Step (world_of r s seats) event (world_of r t seats) × Stands r t seats
 
-frame_runs : (r : Settings) (s : State) (seats : List Seat) (c : CarriedFrame) (cs : List CarriedFrame) → unread s.traffic ≡ c ∷ cs → IsFit (station_of r) → Stands r s seats → AtStation r s → Runs r s (after_read (reading.Frame c.frame) s) seats
+frame_runs : (r : Settings) (s : State) (seats : List Seat) (c : CarriedFrame) (cs : List CarriedFrame) → not_yet_read s.traffic ≡ c ∷ cs → IsFit (station_of r) → Stands r s seats → AtStation r s → Runs r s (after_read (reading.Frame c.frame) s) seats
 frame_runs r s seats c cs e fit stands at = (
   Reads a.frames,
   (item_of s c, p.ahead, p.wire, a.may, read_world r s seats (reading.Frame c.frame) (Received (item_of s c) ∷ s.path) _ _ a stands path),
   read_stands r s seats (reading.Frame c.frame) (item_of s c ∷ []) stands p (ap passed path),
 )
   where
-    a : Answers (reaction s.station (reading.Frame c.frame)) r.name (is_contest r.name (address_heard (station_of r) (readings s.path)) (group_of c.frame)) (address_heard (station_of r) (reading.Frame c.frame ∷ readings s.path))
+    a : Answers (station_reaction s.station (reading.Frame c.frame)) r.name (is_contest r.name (address_heard (station_of r) (readings s.path)) (group_of c.frame)) (address_heard (station_of r) (reading.Frame c.frame ∷ readings s.path))
     a = frame_answers r s c.frame fit at
 
     path : path_after (reading.Frame c.frame) s ≡ Received (item_of s c) ∷ s.path
@@ -222,7 +223,7 @@ frame_runs r s seats c cs e fit stands at = (
     p : Passed s 1 (item_of s c ∷ [])
     p = subst (λ (l : List CarriedFrame). Passed s 1 (map (item_of s) (reverse (take 1 l)))) e (passed_of r s seats 1 stands (rw e (omega arith)))
 
-gap_runs : (r : Settings) (s : State) (seats : List Seat) (n : ℕ) → n ≤ length (unread s.traffic) → IsFit (station_of r) → Stands r s seats → AtStation r s → Runs r s (after_read (reading.Gap n) s) seats
+gap_runs : (r : Settings) (s : State) (seats : List Seat) (n : ℕ) → n ≤ length (not_yet_read s.traffic) → IsFit (station_of r) → Stands r s seats → AtStation r s → Runs r s (after_read (reading.Gap n) s) seats
 gap_runs r s seats n l fit stands at = (
   Miss n a.frames,
   (es, p.ahead, long, p.wire, may, read_world r s seats (reading.Gap n) (Missed es ∷ s.path) true _ a stands refl),
@@ -230,9 +231,9 @@ gap_runs r s seats n l fit stands at = (
 )
   where
     es : List Item
-    es = map (item_of s) (reverse (take n (unread s.traffic)))
+    es = map (item_of s) (reverse (take n (not_yet_read s.traffic)))
 
-    a : Answers (reaction s.station (reading.Gap n)) r.name true (address_heard (station_of r) (readings s.path))
+    a : Answers (station_reaction s.station (reading.Gap n)) r.name true (address_heard (station_of r) (readings s.path))
     a = missed_answers r s n fit at
 
     may : AllMaySend r.name (address_heard (station_of r) (reading.Gap (length es) ∷ readings s.path)) a.frames
@@ -242,7 +243,7 @@ gap_runs r s seats n l fit stands at = (
     p = passed_of r s seats n stands l
 
     long : length es ≡ n
-    long = length-map (reverse (take n (unread s.traffic))) (item_of s) ∙ (length-reverse (take n (unread s.traffic)) ∙ length-take-le n (unread s.traffic) l)
+    long = length-map (reverse (take n (not_yet_read s.traffic))) (item_of s) ∙ (length-reverse (take n (not_yet_read s.traffic)) ∙ length-take-le n (not_yet_read s.traffic) l)
 
 -- a reading is a step of the machine
 pub read_runs : (r : Settings) (s : State) (seats : List Seat) (x : Reading) → IsFit (station_of r) → Stands r s seats → AtStation r s → Fits s (Read x) → Runs r s (after (Read x) s) seats

@@ -2,7 +2,7 @@
 use Rattle.std.proofs.Common.{ℕ, ◌≡◌, ◌+◌, ◌*◌, ◌/◌, ◌%◌, ◌<◌, ◌≤◌, ◌^◌, List, Bool, true, false, Option, Some, None, if◌then◌else◌, refl, sym, ap, subst, arith}
 use Rattle.can_frame.specs.Fields.{pdu1_number}
 use Rattle.can_frame.specs.FrameValue.{FrameValue}
-use Rattle.address_claim.specs.Claiming.{is_held}
+use Rattle.address_claim.specs.Claiming.{is_held, CanHold}
 use Rattle.address_claim.specs.Frames.{claim_frame_value}
 use Rattle.requests.specs.Layouts.{request_frame_value, ack_frame_value}
 use Rattle.transport.specs.ControlMessage.{control_bytes, control_of}
@@ -11,7 +11,7 @@ use Rattle.transport.specs.Pieces.{is_message_size}
 use Rattle.transport.specs.declared.control.Control.{Control}
 use Rattle.transport.specs.declared.control.Control.TheVariants.{Rts, Cts, EndAck, Bam, Abort}
 use Rattle.parameter_group.specs.Group.{Group, control_group, group_of}
-use Rattle.bus_model.specs.Machine.{CanHold, MaySend}
+use Rattle.bus_model.specs.Machine.{MaySend}
 use Rattle.bus_model.proofs.Bridge.{claim_group, says_claim, says_by, says_packet, pgn_from, control_pgn, truth}
 
 -- an address held is the one, and can be held

@@ -4,14 +4,15 @@ use Rattle.bus_ledger.specs.BusValue.{SeatValue, seat_at}
 use Rattle.bus_ledger.specs.declared.traffic.QueuedFrame.{QueuedFrame}
 use Rattle.bus_ledger.specs.declared.traffic.CarriedFrame.{CarriedFrame}
 use Rattle.bus_ledger.specs.declared.traffic.Tag.{Tag}
-use Rattle.bus_model.specs.Messages.{Message, Session, way_of, is_session, payload_of}
+use Rattle.bus_model.specs.Messages.{Message, Session, way_of, is_session, payload_sent}
 use Rattle.bus_model.specs.Traffic.{Item, Tag as PartOf}
 use Rattle.bus_model.specs.Expected.{passed}
-use Rattle.bus_model.specs.Machine.{Seat, CanHold}
+use Rattle.address_claim.specs.Claiming.{CanHold}
+use Rattle.bus_model.specs.Machine.{Seat}
 use Rattle.dm_messages.specs.View.{pgn_of_kind}
 use Rattle.node_core.specs.declared.session.OpenSession.{OpenSession}
 use Rattle.journal.specs.State.{Settings, State, UnitState, new_unit}
-use Rattle.journal.specs.Steps.{message_numbered, number_of}
+use Rattle.journal.specs.Steps.{message_numbered, seat_number_of}
 use Rattle.journal.specs.Worlds.{items_of, queue_of}
 
 -- a tag names a message begun, and says whether it is a session
@@ -35,7 +36,7 @@ pub record IsSession (begun : List Message) (i n : ℕ) (held : Option ℕ) (o :
   pub number : i < length begun
   pub kind : t.message.kind ≡ o.kind
   pub name : t.message.name ≡ n
-  pub payload : o.sending.payload ≡ payload_of t.message
+  pub payload : o.sending.payload ≡ payload_sent t.message
   pub destination : o.sending.dest ≡ t.message.destination
   pub pgn : o.sending.pgn ≡ pgn_of_kind o.kind
   pub source : held ≡ Some t.message.source
@@ -67,7 +68,7 @@ no_seat = record { number = 0; name = 0; live = false; held = None; queue = []; 
 
 -- a carried frame's seat was given, and its tag names a message begun
 pub record IsCarried (begun : List Message) (seats : ℕ) (c : CarriedFrame) : Type 0 where
-  pub seat : number_of c.seat < seats
+  pub seat : seat_number_of c.seat < seats
   pub known : IsKnown begun c.tag
 
 abbrev pub AreCarried : List Message → ℕ → List CarriedFrame → Type 0

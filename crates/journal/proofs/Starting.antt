@@ -1,7 +1,7 @@
 -- Nothing has happened: the state is the world in which the machine starts. And one step more makes a longer run.
 use Rattle.std.proofs.Common.{◌≡◌, List, [], ◌∷◌, ◌++◌, refl, subst, arith}
 use Rattle.bus_model.specs.Machine.{Event, Run, Step, World, start}
-use Rattle.journal.specs.State.{Settings, start as state_start}
+use Rattle.journal.specs.State.{Settings, new_state as state_start}
 use Rattle.journal.specs.Worlds.{station_of, world_of}
 use Rattle.journal.proofs.Seated.{Stands}
 

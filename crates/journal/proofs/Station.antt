@@ -7,7 +7,7 @@ use Rattle.can_frame.specs.FrameValue.{FrameValue}
 use Rattle.can_frame.specs.declared.reading.Reading.{Reading}
 use Rattle.can_frame.specs.declared.reading.Reading.TheVariants as reading
 use Rattle.bus_ledger.specs.BusValue.{Traffic}
-use Rattle.bus_ledger.specs.Reception.{unread, overrun, next_reading, first_reading}
+use Rattle.bus_ledger.specs.Reception.{not_yet_read, overrun, next_reading, first_reading}
 use Rattle.bus_ledger.specs.declared.traffic.CarriedFrame.{CarriedFrame}
 use Rattle.bus_ledger.specs.declared.traffic.QueuedFrame.{QueuedFrame}
 use Rattle.bus_ledger.specs.Changes.{carried_frame}
@@ -26,7 +26,7 @@ use Rattle.station_table.specs.Steps.{new_station, after_reading}
 use Rattle.station_table.specs.declared.error.StationError.{StationError}
 use Rattle.station_table.specs.declared.reaction.Reaction.{Reaction}
 use Rattle.station_table.proofs.Stands.{stands_new, stands_after}
-use Rattle.journal.specs.State.{Settings, State, start, unit_at}
+use Rattle.journal.specs.State.{Settings, State, new_state, unit_at}
 use Rattle.journal.specs.Steps.{after, after_join, after_hear_of, after_begin_of, after_starting, after_carry_of, after_read, after_order_of, after_leave, after_inject, item_of, next_for, order_answer, path_after}
 use Rattle.journal.specs.Fits.{Fits}
 use Rattle.journal.specs.Worlds.{station_of}
@@ -37,7 +37,7 @@ use Rattle.journal.specs.declared.event.Event.TheVariants.{Join, Hear, Begin, Tu
 abbrev pub AtStation : Settings → State → Type 0
 AtStation r s = StandsFor (station_of r) r.grant s.station (readings s.path)
 
-pub station_starts : (r : Settings) → IsFit (station_of r) → AtStation r (start r)
+pub station_starts : (r : Settings) → IsFit (station_of r) → AtStation r (new_state r)
 station_starts r fit = stands_new (station_of r) r.grant (new_station r.name r.address r.grant) (ne_eqb r.address 255 (λ e. let a = fit.address in omega arith)) refl
 
 -- ---- events that are no readings
@@ -96,24 +96,24 @@ inject_same f s = record { station = refl; readings' = refl }
 
 -- what stands behind the next reading: the oldest unread frame, or as many as the window was overrun by
 pub data Next (t : Traffic) : Reading → Type 0 where
-  One : (c : CarriedFrame) (cs : List CarriedFrame) → unread t ≡ c ∷ cs → Next t (reading.Frame c.frame)
-  Over : (n : ℕ) → n ≤ length (unread t) → Next t (reading.Gap n)
+  One : (c : CarriedFrame) (cs : List CarriedFrame) → not_yet_read t ≡ c ∷ cs → Next t (reading.Frame c.frame)
+  Over : (n : ℕ) → n ≤ length (not_yet_read t) → Next t (reading.Gap n)
 
 pub next_is : (t : Traffic) (x : Reading) → x ≡ next_reading t → x ≢ reading.Empty → Next t x
-next_is t x e n = subst (Next t) (sym e) (go (nat_lt 0 (overrun t)) (unread t) refl (λ f. n (e ∙ f)))
+next_is t x e n = subst (Next t) (sym e) (go (nat_lt 0 (overrun t)) (not_yet_read t) refl (λ f. n (e ∙ f)))
   where
-    first : (cs : List CarriedFrame) → unread t ≡ cs → first_reading cs ≢ reading.Empty → Next t (first_reading cs)
+    first : (cs : List CarriedFrame) → not_yet_read t ≡ cs → first_reading cs ≢ reading.Empty → Next t (first_reading cs)
     first [] e n = absurd (n refl)
     first (c ∷ cs) e n = One c cs e
 
-    go : (b : Bool) (cs : List CarriedFrame) → unread t ≡ cs → (if b then reading.Gap (overrun t) else first_reading cs) ≢ reading.Empty → Next t (if b then reading.Gap (overrun t) else first_reading cs)
+    go : (b : Bool) (cs : List CarriedFrame) → not_yet_read t ≡ cs → (if b then reading.Gap (overrun t) else first_reading cs) ≢ reading.Empty → Next t (if b then reading.Gap (overrun t) else first_reading cs)
     go true cs e n = Over (overrun t) (omega arith)
     go false cs e n = first cs e n
 
 pub readings_more : (s : State) (x : Reading) → Next s.traffic x → readings (path_after x s) ≡ x ∷ readings s.path
 readings_more s x (One c cs e) = rw e refl
 readings_more s x (Over n l) =
-    ap (λ (m : ℕ). reading.Gap m ∷ readings s.path) (length-map (reverse (take n (unread s.traffic))) (item_of s) ∙ (length-reverse (take n (unread s.traffic)) ∙ length-take-le n (unread s.traffic) l))
+    ap (λ (m : ℕ). reading.Gap m ∷ readings s.path) (length-map (reverse (take n (not_yet_read s.traffic))) (item_of s) ∙ (length-reverse (take n (not_yet_read s.traffic)) ∙ length-take-le n (not_yet_read s.traffic) l))
 
 pub read_at : (r : Settings) (s : State) (x : Reading) → Next s.traffic x → AtStation r s → AtStation r (after_read x s)
 unfolding after_read

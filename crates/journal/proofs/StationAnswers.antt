@@ -1,7 +1,7 @@
 -- What the station withdraws and queues is what the law's machine allows.
 use Rattle.std.proofs.Common.{ℕ, ◌≡◌, ◌+◌, ◌-◌, ◌%◌, ◌<◌, ◌≤◌, ◌^◌, ◌==◌, ◌&&◌, ◌||◌, not, min, nat_lt, List, [], ◌∷◌, ◌++◌, length, reverse, Bool, true, false, Option, Some, None, if◌then◌else◌, refl, sym, subst, arith, append-nil}
 use Rattle.can_frame.specs.FrameValue.{FrameValue}
-use Rattle.address_claim.specs.Claiming.{ClaimerValue, is_held, claim_step, after_claim, held_after, move_step, next_address, noted_after}
+use Rattle.address_claim.specs.Claiming.{ClaimerValue, is_held, claim_step, after_claim, held_after, move_step, next_address, noted_after, CanHold}
 use Rattle.address_claim.specs.Frames.{claim_frame_value}
 use Rattle.address_claim.specs.declared.claimer.ClaimStep.TheVariants.{Nothing, Defend}
 use Rattle.requests.specs.Layouts.{ack_frame_value, commanded_bytes}
@@ -11,11 +11,14 @@ use Rattle.transport.specs.declared.control.Control.{Control}
 use Rattle.transport.specs.declared.control.Control.TheVariants.{Rts, Cts, EndAck, Bam, Abort}
 use Rattle.dm_messages.specs.View.{pgn_of_kind}
 use Rattle.parameter_group.specs.Group.{Group, AddressClaimed, CannotClaim, Request, Acknowledgment, Diagnostic, ConnectionManagement, DataTransfer, Other, group_of}
-use Rattle.bus_model.specs.Heard.{Joining, claimer_after, is_contest, is_whole, kind_of, started, with_packet}
-use Rattle.bus_model.specs.Machine.{AllMaySend, CanHold, MaySend}
-use Rattle.station_table.specs.StationValue.{SessionValue, StationValue, at}
+use Rattle.reassembly.specs.Partials.{is_whole, with_packet}
+use Rattle.reassembly.specs.Tables.{at}
+use Rattle.parameter_group.specs.Calm.{is_contest}
+use Rattle.bus_model.specs.Heard.{Joining, claimer_after, kind_of, started}
+use Rattle.bus_model.specs.Machine.{AllMaySend, MaySend}
+use Rattle.station_table.specs.StationValue.{StationValue}
 use Rattle.station_table.specs.Steps.{packets_at_once}
-use Rattle.station_table.specs.Reactions.{silent, answering, claiming_again, own_claim, claim_reaction, request_reaction, request_for_claims, start_reaction, next_grant, packet_reply, reply_to, replying, group_reaction, group_asked, asking, commanding}
+use Rattle.station_table.specs.Reactions.{silent, answering, claiming_again, own_claim, claim_reaction, request_reaction, request_for_claims, start_reaction, next_grant, packet_reply, reply_to, granted_at_once, replying, group_reaction, group_asked, asking, commanding}
 use Rattle.station_table.specs.declared.reaction.Ask.{Ask}
 use Rattle.station_table.specs.declared.reaction.Reaction.{Reaction}
 use Rattle.station_table.proofs.Stands.{sender}
@@ -102,21 +105,21 @@ NoRts (Some c) = IsNoRts c
 grant_no_rts : (at_once : ℕ) (j : Joining) → NoRts (next_grant at_once j)
 grant_no_rts at_once j = go (length j.pieces % at_once == 0)
   where
-    go : (b : Bool) → NoRts (if b then Some (Cts (min at_once (packet_count j.size - length j.pieces)) (length j.pieces + 1) (pgn_of_kind j.kind)) else None)
+    go : (b : Bool) → NoRts (if b then Some (Cts (min at_once (packet_count j.size - length j.pieces)) (length j.pieces + 1) (pgn_of_kind j.tag.kind)) else None)
     go true = tt
     go false = tt
 
-packet_no_rts : (x : SessionValue) (o : Option Joining) → NoRts (packet_reply x o)
-packet_no_rts x None = tt
-packet_no_rts x (Some j) = go (is_whole j)
+packet_no_rts : (at_once : ℕ) (before : Joining) (o : Option Joining) → NoRts (packet_reply at_once before o)
+packet_no_rts at_once before None = tt
+packet_no_rts at_once before (Some j) = go (is_whole j)
   where
-    go : (b : Bool) → NoRts (if b then Some (EndAck j.size (packet_count j.size) (pgn_of_kind j.kind)) else next_grant x.at_once j)
+    go : (b : Bool) → NoRts (if b then Some (EndAck j.size (packet_count j.size) (pgn_of_kind j.tag.kind)) else next_grant at_once j)
     go true = tt
-    go false = grant_no_rts x.at_once j
+    go false = grant_no_rts at_once j
 
-reply_no_rts : (o : Option SessionValue) (bytes : List ℕ) → NoRts (reply_to o bytes)
-reply_no_rts None bytes = tt
-reply_no_rts (Some x) bytes = packet_no_rts x (with_packet bytes (Some x.joining))
+reply_no_rts : (at_once : ℕ) (o : Option Joining) (bytes : List ℕ) → NoRts (reply_to at_once o bytes)
+reply_no_rts at_once None bytes = tt
+reply_no_rts at_once (Some j) bytes = packet_no_rts at_once j (with_packet bytes (Some j))
 
 replied : (n : ℕ) (held : Option ℕ) (o : Option Control) (d src : ℕ) → CanHold held → src < 256 → NoRts o
     → Answers (if d == 255 then silent else (if is_held held d then replying o d src else silent)) n false held
@@ -138,7 +141,7 @@ answered s (ConnectionManagement src d (Rts size packets most pgn)) small hold l
     opened s.claimer.name s.claimer.held (start_reaction (started (kind_of pgn) size (at s.owners src)) (packets_at_once s.grant most) packets pgn) d src hold low
     (start_no_rts (started (kind_of pgn) size (at s.owners src)) (packets_at_once s.grant most) packets pgn)
 answered s (DataTransfer src d bytes) small hold low =
-    replied s.claimer.name s.claimer.held (reply_to (at s.sessions src) bytes) d src hold low (reply_no_rts (at s.sessions src) bytes)
+    replied s.claimer.name s.claimer.held (reply_to (granted_at_once s src) (at s.sessions src) bytes) d src hold low (reply_no_rts (granted_at_once s src) (at s.sessions src) bytes)
 answered s (CannotClaim m) small hold low = silent_answers s.claimer.name s.claimer.held
 answered s (Acknowledgment control requester pgn d src) small hold low = silent_answers s.claimer.name s.claimer.held
 answered s (Diagnostic kind src bytes) small hold low = silent_answers s.claimer.name s.claimer.held

@@ -8,7 +8,7 @@ use Rattle.bus_model.specs.Heard.{address_heard, address_known, entries_heard}
 use Rattle.bus_model.specs.Machine.{IsFit}
 use Rattle.journal.specs.Worlds.{station_of}
 use Rattle.can_frame.specs.declared.reading.Reading.{Reading}
-use Rattle.journal.specs.State.{State, Settings, start}
+use Rattle.journal.specs.State.{State, Settings, new_state}
 use Rattle.journal.specs.Steps.{after}
 use Rattle.journal.specs.Fits.{Fits}
 use Rattle.journal.specs.declared.event.Event.{Event}
@@ -22,7 +22,7 @@ pub record GarageValue : Type 0 where
 
 -- the state that the events lead to
 unfoldable pub state_after : Settings → List Event → State
-state_after r [] = start r
+state_after r [] = new_state r
 state_after r (e ∷ older) = after e (state_after r older)
 
 abbrev pub state_of : GarageValue → State

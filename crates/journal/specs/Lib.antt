@@ -4,3 +4,4 @@ pub mod Fits
 pub mod Journal
 pub mod Worlds
 pub mod Promises
+pub mod Notes

@@ -32,8 +32,8 @@ pub record State : Type 0 where
   pub path : List Reception
 
 -- nothing has happened; the station's claim is queued
-abbrev pub start : Settings → State
-start r = record {
+abbrev pub new_state : Settings → State
+new_state r = record {
   traffic = queued 0 (queued_frame (claim_frame_value r.name (Some r.address)) None) (new_traffic r.name r.window);
   station = new_station r.name r.address r.grant;
   units = [];

@@ -4,12 +4,13 @@ use Rattle.std.specs.Option.{option_map}
 use Rattle.can_frame.specs.FrameValue.{FrameValue}
 use Rattle.can_frame.specs.declared.reading.Reading.{Reading}
 use Rattle.can_frame.specs.declared.reading.Reading.TheVariants as reading
+use Rattle.can_frame.specs.declared.address.TheConstants.{GLOBAL_ADDRESS}
 use Rattle.address_claim.specs.Frames.{claim_frame_value}
 use Rattle.fault_memory.specs.Memory.{MemoryValue}
 use Rattle.dm_messages.specs.declared.kind.Kind.TheVariants.{Dm1}
 use Rattle.bus_ledger.specs.BusValue.{Traffic, seat_at}
-use Rattle.bus_ledger.specs.Changes.{queued, queued_frame, joined, heard_more, withdrawn, left, carried_from, carried_frame, injected}
-use Rattle.bus_ledger.specs.Reception.{unread, after_reading as taken}
+use Rattle.bus_ledger.specs.Changes.{queued, queued_frame, with_newcomer, heard_more, withdrawn, left, carried_from, carried_frame, injected}
+use Rattle.bus_ledger.specs.Reception.{not_yet_read, reading_taken as taken}
 use Rattle.bus_ledger.specs.declared.traffic.Tag.{Tag}
 use Rattle.bus_ledger.specs.declared.traffic.QueuedFrame.{QueuedFrame}
 use Rattle.bus_ledger.specs.declared.traffic.CarriedFrame.{CarriedFrame}
@@ -32,7 +33,7 @@ use Rattle.node_core.specs.declared.out.Out.{Out}
 use Rattle.node_core.specs.declared.out.Part.{Part}
 use Rattle.node_core.specs.declared.out.Part.TheVariants as part
 use Rattle.station_table.specs.Steps.{after_reading}
-use Rattle.station_table.specs.Reactions.{reaction as station_reaction}
+use Rattle.station_table.specs.Reactions.{station_reaction}
 use Rattle.station_table.specs.StationValue.{StationValue}
 use Rattle.station_table.specs.Orders.{ask_answer, ask_all_answer, command_answer}
 use Rattle.station_table.specs.declared.error.StationError.{StationError}
@@ -67,13 +68,13 @@ untagged f = queued_frame f None
 -- ---- units
 
 -- a message goes to one address
-abbrev pub is_session : Option Begun → Bool
-is_session None = false
-is_session (Some b) = not (b.dest == 255)
+abbrev pub begins_session : Option Begun → Bool
+begins_session None = false
+begins_session (Some b) = not (b.dest == GLOBAL_ADDRESS)
 
 -- the number of the message of the last session, once this one has begun
 abbrev pub session_message_after : ℕ → ℕ → Option Begun → ℕ
-session_message_after before number begun = if is_session begun then number else before
+session_message_after before number begun = if begins_session begun then number else before
 
 abbrev pub message_begun : ℕ → ℕ → ℕ → MemoryValue → Begun → Message
 message_begun number seat name memory b =
@@ -93,7 +94,7 @@ abbrev pub after_hearing : ℕ → MemoryValue → Heard → NodeValue → State
 after_hearing k memory h node s =
     let session_number = session_message_after (unit_at s k).session_message (length s.begun) h.begun in
     record s {
-      traffic = put_all k (map (tagged (length s.begun) (is_session h.begun) session_number) h.put) (withdrawn_by k h.withdraw (heard_more k 1 s.traffic));
+      traffic = put_all k (map (tagged (length s.begun) (begins_session h.begun) session_number) h.put) (withdrawn_by k h.withdraw (heard_more k 1 s.traffic));
       units = slice_set s.units (k - 1) (record { node = node; session_message = session_number });
       begun = begun_after s.begun k (seat_at s.traffic k).name memory h.begun;
     }
@@ -130,21 +131,21 @@ part_of begun None = None
 part_of begun (Some t) = option_map (λ m. record { message = m; part = t.part }) (message_numbered t.message begun)
 
 -- the number of a frame's seat; a frame from outside has none, and bears one that no seat is given
-abbrev pub number_of : Option ℕ → ℕ
-number_of None = 2 ^ 32
-number_of (Some k) = k
+abbrev pub seat_number_of : Option ℕ → ℕ
+seat_number_of None = 2 ^ 32
+seat_number_of (Some k) = k
 
 -- a carried frame with the number and the NAME of its seat and the message that it is a part of
 abbrev pub item_of : State → CarriedFrame → Item
-item_of s c = record { seat = number_of c.seat; name = (seat_at s.traffic (number_of c.seat)).name; frame = c.frame; tag = part_of s.begun c.tag }
+item_of s c = record { seat = seat_number_of c.seat; name = (seat_at s.traffic (seat_number_of c.seat)).name; frame = c.frame; tag = part_of s.begun c.tag }
 
-abbrev pub received : List Reception → Option Item → List Reception
-received path None = path
-received path (Some e) = Received e ∷ path
+abbrev pub with_received : List Reception → Option Item → List Reception
+with_received path None = path
+with_received path (Some e) = Received e ∷ path
 
 abbrev pub path_after : Reading → State → List Reception
-path_after (reading.Frame f) s = received s.path (option_map (item_of s) (slice_get (unread s.traffic) 0))
-path_after (reading.Gap n) s = Missed (map (item_of s) (reverse (take n (unread s.traffic)))) ∷ s.path
+path_after (reading.Frame f) s = with_received s.path (option_map (item_of s) (slice_get (not_yet_read s.traffic) 0))
+path_after (reading.Gap n) s = Missed (map (item_of s) (reverse (take n (not_yet_read s.traffic)))) ∷ s.path
 path_after reading.Empty s = s.path
 
 -- what the station withdraws and queues
@@ -156,7 +157,7 @@ reacted r t = put_all 0 (map untagged r.put) (if r.withdraw then withdrawn 0 whi
 -- the next seat goes to the NAME, whose claim is queued
 unfoldable pub after_join : ℕ → ℕ → State → State
 after_join name address s = record s {
-  traffic = queued (length s.traffic.seats) (untagged (claim_frame_value name (Some address))) (joined name s.traffic);
+  traffic = queued (length s.traffic.seats) (untagged (claim_frame_value name (Some address))) (with_newcomer name s.traffic);
   units = s.units ++ new_unit name address ∷ [];
 }
 

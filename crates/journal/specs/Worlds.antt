@@ -4,7 +4,7 @@ use Rattle.bus_ledger.specs.BusValue.{SeatValue, seat_at}
 use Rattle.bus_ledger.specs.declared.traffic.QueuedFrame.{QueuedFrame}
 use Rattle.bus_model.specs.Messages.{Message}
 use Rattle.bus_model.specs.Traffic.{Item}
-use Rattle.bus_model.specs.Heard.{Settings as Station}
+use Rattle.bus_model.specs.Heard.{StationSettings as Station}
 use Rattle.bus_model.specs.Machine.{Seat, World, station_seat}
 use Rattle.journal.specs.State.{Settings, State}
 use Rattle.journal.specs.Steps.{item_of, part_of}

@@ -1,11 +1,14 @@
 //! The journal of a garage: what may happen on the bus of one vehicle, and what each event changes.
 //!
 //! `specs/State.antt` says what there is, `specs/Fits.antt` when an event may happen, `specs/Steps.antt` what it changes
-//! and `specs/Journal.antt` where a list of events leads to. The code that does it is the garage's.
+//! and `specs/Journal.antt` where a list of events leads to. The code that does it is the garage's. `Journal` keeps the events,
+//! each in 16 bytes (`specs/Notes.antt`).
 #![tactic(auto)]
 
 mod event;
 mod laws;
+mod note;
+mod notes;
 mod order;
 mod promises;
 mod tally;
@@ -15,6 +18,7 @@ pub use laws::{
     commanded_addresses_can_be_held, journal_is_a_run, nothing_stays_unread, path_is_marked,
     shown_is_expected, station_stands_for_its_readings,
 };
+pub use notes::Journal;
 pub use order::Order;
 pub use promises::{
     clear_path_looks_back, lists_only_grow, nothing_missed_shows_all, traffic_is_lawful,

@@ -5,4 +5,4 @@ mod fault;
 mod lines;
 
 pub use fault::{Ended, LogFault};
-pub use lines::{ROOM, may_wait, next_line};
+pub use lines::{ROOM, next_line};

@@ -1,28 +1,55 @@
 use crate::fault::LogFault;
 use candump_line::LINE_LIMIT;
-use std::io::{BufRead, BufReader, Read};
+use std::io::{BufRead, BufReader, Read, Write};
 
 /// The most bytes that are read or written at once.
 pub const ROOM: usize = 65_536;
 
+/// The most bytes that are kept of a line with its end: one more than LF or CR LF behind a line of the greatest length has.
+const MOST: usize = LINE_LIMIT + 2;
+
 /// Reads the next line, with its end. Of a line that is too long, one byte more than a line may have is kept. Tells whether
 /// there was one.
-pub fn next_line<R: BufRead>(reader: &mut R, line: &mut Vec<u8>) -> Result<bool, LogFault> {
+///
+/// Before it waits for a line, what was written goes out.
+pub fn next_line<R: Read, W: Write>(
+    reader: &mut BufReader<R>,
+    writer: &mut W,
+    line: &mut Vec<u8>,
+) -> Result<bool, LogFault> {
     line.clear();
-    let most = LINE_LIMIT as u64 + 2;
-    let read = match reader.by_ref().take(most).read_until(b'\n', line) {
+    if take_buffered(reader, line)? {
+        return Ok(true);
+    }
+    if let Err(error) = writer.flush() {
+        return Err(LogFault::of_write(error));
+    }
+    wait_for_line(reader, line)
+}
+
+/// Takes a whole line that was already read. Tells whether there is one.
+fn take_buffered<R: Read>(reader: &mut BufReader<R>, line: &mut Vec<u8>) -> Result<bool, LogFault> {
+    let buffered = reader.buffer();
+    match memchr::memchr(b'\n', buffered) {
+        Some(end) if end < MOST => {
+            line.extend_from_slice(&buffered[..end + 1])?;
+            reader.consume(end + 1);
+            Ok(true)
+        }
+        _ => Ok(false),
+    }
+}
+
+/// Reads a line of which no end was read yet, or one that is too long.
+fn wait_for_line<R: BufRead>(reader: &mut R, line: &mut Vec<u8>) -> Result<bool, LogFault> {
+    let read = match reader.by_ref().take(MOST as u64).read_until(b'\n', line) {
         Ok(read) => read,
         Err(error) => return Err(LogFault::of_read(error)),
     };
-    if read as u64 == most && line.last() != Some(&b'\n') {
+    if read == MOST && line.last() != Some(&b'\n') {
         if let Err(error) = reader.skip_until(b'\n') {
             return Err(LogFault::of_read(error));
         }
     }
     Ok(read > 0)
-}
-
-/// Whether there is no whole line to be had without waiting.
-pub fn may_wait<R: Read>(reader: &BufReader<R>) -> bool {
-    memchr::memchr(b'\n', reader.buffer()).is_none()
 }

@@ -3,6 +3,6 @@ use Rattle.name_field.specs.declared.error.NameError.{NameError}
 use Rattle.name_field.specs.declared.error.NameError.TheVariants.{FieldTooLarge, BadName}
 
 -- the number of a refusal
-abbrev pub number_of : NameError → ℕ
-number_of FieldTooLarge = 3
-number_of BadName = 4
+abbrev pub name_error_number : NameError → ℕ
+name_error_number FieldTooLarge = 3
+name_error_number BadName = 4

@@ -14,11 +14,11 @@ pub enum NameError {
 }
 
 impl NameError {
-    ghost use Rattle.name_field.specs.NameError.{number_of};
+    ghost use Rattle.name_field.specs.NameError.{name_error_number};
 
     /// The number of the refusal.
     pub fn number(self) -> u8
-        ensures { result ≡ number_of self }
+        ensures { result ≡ name_error_number self }
     {
         match self {
             NameError::FieldTooLarge => 3,

@@ -1,14 +1,14 @@
 use Rattle.std.proofs.Common.{◌≡◌, ℕ, List, refl}
 use Rattle.transport.specs.Sending.{new_sending}
 use Rattle.fault_memory.specs.Memory.{MemoryValue}
-use Rattle.dm_messages.specs.View.{pgn_of_kind}
+use Rattle.dm_messages.specs.View.{pgn_of_kind, payload_of}
 use Rattle.dm_messages.specs.declared.kind.Kind.{Kind}
 use Rattle.node_core.specs.declared.heard.Answer.TheVariants.{NotAsked}
-use Rattle.node_core.specs.Deed.{Begins, payload_of, heard_of, parts_begun, beginning, opened}
+use Rattle.node_core.specs.Deed.{Begins, heard_of, parts_begun, begin_answer, opened}
 
 -- a message of the memory's payload begins
 pub begins_with_memory : (payload : List ℕ) (kind : Kind) (memory : MemoryValue) (source dest : ℕ) → payload ≡ payload_of kind memory
-    → beginning payload (record { kind = kind; source = source; dest = dest }) ≡ heard_of NotAsked (Begins kind memory source dest)
+    → begin_answer payload (record { kind = kind; source = source; dest = dest }) ≡ heard_of NotAsked (Begins kind memory source dest)
 begins_with_memory payload kind memory source dest e = rw e refl
 
 -- a session opens with it

@@ -4,7 +4,7 @@ use Rattle.address_claim.specs.Claiming.{claim_step, held_after}
 use Rattle.address_claim.specs.declared.claimer.ClaimStep.{ClaimStep}
 use Rattle.address_claim.specs.declared.claimer.ClaimStep.TheVariants.{Nothing, Defend, Move, CannotClaim}
 use Rattle.parameter_group.specs.Group.{AddressClaimed}
-use Rattle.node_core.specs.Deed.{Deed, Claims, after}
+use Rattle.node_core.specs.Deed.{Deed, Claims, after_deed}
 use Rattle.node_core.specs.NodeValue.{NodeValue}
 use Rattle.node_core.specs.Reaction.{noted_from, on_claim, on_step}
 
@@ -20,6 +20,6 @@ pub claims_again : (node mid : NodeValue) (source name : ℕ) → mid ≡ noted_
 claims_again node mid source name e n = ap (λ (m : NodeValue). Claims m.claimer.name m.claimer.held) e ∙ step_taken node source (claim_step source name node.claimer) n
 
 pub after_claiming : (node mid now : NodeValue) (source name : ℕ) → mid ≡ noted_from node (AddressClaimed source name) → claim_step source name node.claimer ≢ Nothing
-    → now ≡ after mid (Claims mid.claimer.name mid.claimer.held) → now ≡ after (noted_from node (AddressClaimed source name)) (on_claim node source name)
+    → now ≡ after_deed mid (Claims mid.claimer.name mid.claimer.held) → now ≡ after_deed (noted_from node (AddressClaimed source name)) (on_claim node source name)
 after_claiming node mid now source name e n is =
-    is ∙ (ap (λ (d : Deed). after mid d) (claims_again node mid source name e n) ∙ ap (λ (m : NodeValue). after m (on_claim node source name)) e)
+    is ∙ (ap (λ (d : Deed). after_deed mid d) (claims_again node mid source name e n) ∙ ap (λ (m : NodeValue). after_deed m (on_claim node source name)) e)

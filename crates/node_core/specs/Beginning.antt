@@ -1,10 +1,11 @@
 -- What comes of beginning a message of one's own accord.
 use Rattle.std.specs.Prelude.{ℕ, ◌≤◌, Option, length, if◌then◌else◌}
+use Rattle.can_frame.specs.declared.address.TheConstants.{GLOBAL_ADDRESS}
 use Rattle.fault_memory.specs.Memory.{MemoryValue}
-use Rattle.dm_messages.specs.View.{pgn_of_kind}
+use Rattle.dm_messages.specs.View.{pgn_of_kind, payload_of}
 use Rattle.dm_messages.specs.declared.kind.Kind.{Kind}
 use Rattle.node_core.specs.NodeValue.{is_open}
-use Rattle.node_core.specs.Deed.{payload_of, parts_begun}
+use Rattle.node_core.specs.Deed.{parts_begun}
 use Rattle.node_core.specs.declared.session.OpenSession.{OpenSession}
 use Rattle.node_core.specs.declared.heard.Started.{Started}
 use Rattle.node_core.specs.declared.heard.Started.TheVariants.{Held, Begun}
@@ -13,7 +14,7 @@ use Rattle.node_core.specs.declared.heard.Started.TheVariants.{Held, Begun}
 abbrev pub begins : Option OpenSession → Kind → MemoryValue → ℕ → Started
 begins session kind memory source =
     if is_open session kind then Held
-    else Begun (record { kind = kind; source = source; dest = 255 }) (parts_begun (payload_of kind memory) (pgn_of_kind kind) source 255)
+    else Begun (record { kind = kind; source = source; dest = GLOBAL_ADDRESS }) (parts_begun (payload_of kind memory) (pgn_of_kind kind) source GLOBAL_ADDRESS)
 
 -- the frames are at most 256: the announcement and 255 packets
 abbrev pub IsFew : Started → Type 0

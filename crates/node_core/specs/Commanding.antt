@@ -1,5 +1,7 @@
 -- A commanded address (SAE J1939-81): nine bytes, broadcast in two packets.
 use Rattle.std.specs.Prelude.{ℕ, Bool, ◌&&◌, ◌==◌, nat_le, List, [], ◌∷◌, ◌++◌, drop, length, slice_index, slice_index_or, Option, Some, None, if◌then◌else◌}
+use Rattle.can_frame.specs.declared.address.TheConstants.{GREATEST_ADDRESS, GLOBAL_ADDRESS}
+use Rattle.can_frame.specs.declared.group_numbers.TheConstants.{COMMANDED_ADDRESS}
 use Rattle.requests.specs.Layouts.{commanded_of}
 use Rattle.requests.specs.declared.commanded.Commanded.{Commanded}
 use Rattle.node_core.specs.declared.commanding.HalfCommand.{HalfCommand}
@@ -10,8 +12,8 @@ abbrev pub is_packet : ℕ → List ℕ → Bool
 is_packet number bytes = (length bytes == 8) && (slice_index bytes 0 == number)
 
 -- what an announced broadcast starts: a commanded address, if it is one
-abbrev pub started : ℕ → ℕ → HalfCommand
-started size pgn = if (size == 9) && (pgn == 65240) then Started else Nothing
+abbrev pub command_started : ℕ → ℕ → HalfCommand
+command_started size pgn = if (size == 9) && (pgn == COMMANDED_ADDRESS) then Started else Nothing
 
 -- what is half joined after a packet: one that is not the next one drops it, and so does the last one
 abbrev pub continued : HalfCommand → List ℕ → HalfCommand
@@ -26,7 +28,7 @@ completed _ bytes = None
 
 -- the command is for this NAME, and its address can be held
 abbrev pub is_command_for : ℕ → Commanded → Bool
-is_command_for name c = (c.name == name) && nat_le c.address 253
+is_command_for name c = (c.name == name) && nat_le c.address GREATEST_ADDRESS
 
 -- a command counts only where it is for this NAME
 abbrev pub for_name : ℕ → Option Commanded → Option Commanded
@@ -38,5 +40,5 @@ abbrev pub half_from : List HalfCommand → ℕ → HalfCommand
 half_from halves source = slice_index_or halves source Nothing
 
 -- to all, from an address that can be held
-abbrev pub is_broadcast : ℕ → ℕ → Bool
-is_broadcast destination source = (destination == 255) && nat_le source 253
+abbrev pub is_to_all : ℕ → ℕ → Bool
+is_to_all destination source = (destination == GLOBAL_ADDRESS) && nat_le source GREATEST_ADDRESS

@@ -3,11 +3,12 @@
 use Rattle.std.specs.Prelude.{ℕ, ◌+◌, ◌-◌, ◌==◌, List, [], ◌∷◌, map, Option, Some, None, if◌then◌else◌}
 use Rattle.std.specs.List.{range_with_len}
 use Rattle.can_frame.specs.FrameValue.{FrameValue}
+use Rattle.can_frame.specs.declared.address.TheConstants.{GLOBAL_ADDRESS}
 use Rattle.transport.specs.Messages.{part_of_message, last_part}
 use Rattle.transport.specs.Sending.{new_sending, after_queueing}
 use Rattle.address_claim.specs.Frames.{claim_frame_value}
 use Rattle.fault_memory.specs.Memory.{MemoryValue}
-use Rattle.dm_messages.specs.View.{view, encoding, pgn_of_kind}
+use Rattle.dm_messages.specs.View.{view, encoding, pgn_of_kind, payload_of}
 use Rattle.dm_messages.specs.declared.kind.Kind.{Kind}
 use Rattle.node_core.specs.NodeValue.{NodeValue}
 use Rattle.node_core.specs.declared.session.OpenSession.{OpenSession}
@@ -29,10 +30,6 @@ pub data Deed : Type 0 where
   EndsSession : Deed  -- ends the session and withdraws its frames
   Claims : (name : ℕ) (held : Option ℕ) → Deed  -- withdraws all, ends the session, holds that address or none, and says so
 
--- the payload of a message of that kind: the encoding of the view of the memory
-abbrev pub payload_of : Kind → MemoryValue → List ℕ
-payload_of kind memory = encoding (view kind memory)
-
 -- a frame that is no part of a message
 abbrev pub plain : FrameValue → Out
 plain f = record { frame = f; part = None }
@@ -49,7 +46,7 @@ marked_parts mark payload pgn source destination first end =
 
 -- the parts that are queued when a message begins: all that go to all, of a session the first
 abbrev pub first_parts : List ℕ → ℕ → ℕ
-first_parts payload destination = if destination == 255 then last_part payload + 1 else 1
+first_parts payload destination = if destination == GLOBAL_ADDRESS then last_part payload + 1 else 1
 
 -- the frames queued when a message begins
 abbrev pub parts_begun : List ℕ → ℕ → ℕ → ℕ → List Out
@@ -86,8 +83,8 @@ abbrev pub heard_of : Answer → Deed → Heard
 heard_of answer deed = record { withdraw = withdraw_of deed; put = put_of deed; begun = begun_of deed; answer = answer }
 
 -- the answer by which a message of this payload begins
-abbrev pub beginning : List ℕ → Begun → Heard
-beginning payload begun =
+abbrev pub begin_answer : List ℕ → Begun → Heard
+begin_answer payload begun =
     record {
       withdraw = withdraw.Keep;
       put = parts_begun payload (pgn_of_kind begun.kind) begun.source begun.dest;
@@ -105,10 +102,10 @@ abbrev pub further : OpenSession → ℕ → OpenSession
 further s count = record { kind = s.kind; sending = after_queueing s.sending count }
 
 -- what the unit keeps after a deed
-abbrev pub after : NodeValue → Deed → NodeValue
-after node (Begins kind memory source destination) =
-    if destination == 255 then node else record node { session = Some (opened kind memory destination) }
-after node (Sends session source count) = record node { session = Some (further session count) }
-after node EndsSession = record node { session = None }
-after node (Claims name held) = record node { claimer = record node.claimer { held = held }; session = None }
-after node _ = node
+abbrev pub after_deed : NodeValue → Deed → NodeValue
+after_deed node (Begins kind memory source destination) =
+    if destination == GLOBAL_ADDRESS then node else record node { session = Some (opened kind memory destination) }
+after_deed node (Sends session source count) = record node { session = Some (further session count) }
+after_deed node EndsSession = record node { session = None }
+after_deed node (Claims name held) = record node { claimer = record node.claimer { held = held }; session = None }
+after_deed node _ = node

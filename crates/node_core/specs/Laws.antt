@@ -5,12 +5,13 @@ use Rattle.std.proofs.lemmas.Bool.{and_parts, leb-true, eqb-true, eq-eqb}
 use Rattle.std.proofs.lemmas.List.Quantifiers.{position-Some}
 use Rattle.std.proofs.lemmas.List.{length-take}
 use Rattle.can_frame.specs.FrameValue.{FrameValue}
+use Rattle.can_frame.specs.declared.address.TheConstants.{GREATEST_ADDRESS, GLOBAL_ADDRESS}
 use Rattle.transport.specs.declared.control.Control.{Control}
 use Rattle.transport.specs.declared.control.Control.TheVariants.{Rts, Cts, EndAck, Bam, Abort}
 use Rattle.transport.specs.Messages.{control_frame}
 use Rattle.transport.specs.Sending.{packets_granted, packets_left}
 use Rattle.name_field.specs.Fields.{arbitrary_capable_of}
-use Rattle.address_claim.specs.Claiming.{is_held, is_free, free_address, next_address, noted_after, move_step, claim_step}
+use Rattle.address_claim.specs.Claiming.{is_held, is_free, free_address, next_address, noted_after, move_step, claim_step, CanHold}
 use Rattle.address_claim.specs.Frames.{claim_frame_value}
 use Rattle.address_claim.specs.declared.claimer.ClaimStep.{ClaimStep}
 use Rattle.address_claim.specs.declared.claimer.ClaimStep.TheVariants as step
@@ -18,35 +19,22 @@ use Rattle.requests.specs.declared.commanded.Commanded.{Commanded}
 use Rattle.parameter_group.specs.Group.{Group, AddressClaimed, CannotClaim, Request, Acknowledgment, Diagnostic, ConnectionManagement, DataTransfer, Other}
 use Rattle.fault_memory.specs.Memory.{MemoryValue}
 use Rattle.dm_messages.specs.declared.kind.Kind.{Kind}
-use Rattle.node_core.specs.NodeValue.{NodeValue, is_open, is_destination}
-use Rattle.node_core.specs.Deed.{Deed, Nothing, Replies, Begins, Sends, EndsSession, Claims, payload_of}
+use Rattle.node_core.specs.NodeValue.{NodeValue, is_open, is_destination, open_address}
+use Rattle.dm_messages.specs.View.{payload_of}
+use Rattle.node_core.specs.Deed.{Deed, Nothing, Replies, Begins, Sends, EndsSession, Claims}
 use Rattle.node_core.specs.Asking.{is_agreed}
 use Rattle.node_core.specs.declared.heard.Answer.{Answer}
-use Rattle.node_core.specs.Commanding.{completed, half_from, is_broadcast, for_name}
+use Rattle.node_core.specs.Commanding.{completed, half_from, is_to_all, for_name}
 use Rattle.node_core.specs.Requested.{wanted_by, is_concerned, counts_from, acknowledgment}
 use Rattle.node_core.specs.Reaction.{on_step, asked_for_message, asked_at_address, asked_of_all, asked_for_more, on_request, is_with, on_cts, is_open_with, is_all_queued_with, on_end_ack, on_abort, on_control, on_command, reaction_to}
 use Rattle.node_core.specs.declared.session.OpenSession.{OpenSession}
 use Rattle.node_core.specs.declared.requested.Wanted.{Wanted}
 use Rattle.node_core.specs.declared.requested.Wanted.TheVariants as wanted
+use Rattle.parameter_group.specs.Calm.{IsCalm, is_contest}
 
--- an address that can be held, or none
-abbrev pub CanHold : Option ℕ → Type 0
-CanHold held = IfSome held (λ a. a ≤ 253)
-
--- a claim of the address held, under another NAME
-abbrev pub contests : NodeValue → Group → Bool
-contests node (AddressClaimed source name) = is_held node.claimer.held source && not (name == node.claimer.name)
-contests node _ = false
-
--- a claim of the open session's destination
-abbrev pub cuts : NodeValue → Group → Bool
-cuts node (AddressClaimed source name) = is_destination node.session source
-cuts node _ = false
-
--- neither
-pub record IsCalm (node : NodeValue) (g : Group) : Type 0 where
-  pub uncontested : contests node g ≡ false
-  pub uncut : cuts node g ≡ false
+-- a group is calm to a unit: it neither contests the unit's address nor cuts its session
+abbrev pub IsCalmTo : NodeValue → Group → Type 0
+IsCalmTo node g = IsCalm node.claimer.name node.claimer.held (open_address node.session) g
 
 -- an acknowledgment of a request, from the address held
 pub record Acknowledges (node : NodeValue) (g : Group) (f : FrameValue) : Type 0 where
@@ -82,7 +70,7 @@ pub record Opens (node : NodeValue) (g : Group) (kind : Kind) (memory : MemoryVa
   pub to : ℕ
   pub asked : g ≡ Request pgn to destination
   pub apart : destination ≢ source
-  pub holdable : destination ≤ 253
+  pub holdable : destination ≤ GREATEST_ADDRESS
   pub long : (length (payload_of kind memory) == 8) ≡ false
   pub free : node.session ≡ None
 
@@ -91,7 +79,7 @@ pub record BeginsLawfully (node : NodeValue) (memory : MemoryValue) (g : Group) 
   pub held : node.claimer.held ≡ Some source
   pub same : memory' ≡ memory
   pub closed : is_open node.session kind ≡ false
-  pub way : (destination ≡ 255) ⊎ Opens node g kind memory' source destination
+  pub way : (destination ≡ GLOBAL_ADDRESS) ⊎ Opens node g kind memory' source destination
 
 -- further packets are of the open session, from the address held, and no more than are left
 pub record SendsLawfully (node : NodeValue) (s : OpenSession) (source count : ℕ) : Type 0 where
@@ -101,11 +89,11 @@ pub record SendsLawfully (node : NodeValue) (s : OpenSession) (source count : �
 
 -- what may be done on hearing g
 abbrev pub IsLawfulDeed : NodeValue → MemoryValue → Group → Deed → Type 0
-IsLawfulDeed node memory g Nothing = IsCalm node g
-IsLawfulDeed node memory g (Replies f) = IsCalm node g × IsReply node g f
-IsLawfulDeed node memory g (Begins kind memory' source destination) = IsCalm node g × BeginsLawfully node memory g kind memory' source destination
-IsLawfulDeed node memory g (Sends s source count) = IsCalm node g × SendsLawfully node s source count
-IsLawfulDeed node memory g EndsSession = contests node g ≡ false
+IsLawfulDeed node memory g Nothing = IsCalmTo node g
+IsLawfulDeed node memory g (Replies f) = IsCalmTo node g × IsReply node g f
+IsLawfulDeed node memory g (Begins kind memory' source destination) = IsCalmTo node g × BeginsLawfully node memory g kind memory' source destination
+IsLawfulDeed node memory g (Sends s source count) = IsCalmTo node g × SendsLawfully node s source count
+IsLawfulDeed node memory g EndsSession = is_contest node.claimer.name node.claimer.held g ≡ false
 IsLawfulDeed node memory g (Claims name held) = (name ≡ node.claimer.name) × CanHold held
 
 -- ---- a choice is lawful where both of its sides are
@@ -359,5 +347,5 @@ reaction_is_lawful node memory answer (Acknowledgment control requester pgn dest
 reaction_is_lawful node memory answer (Diagnostic kind source bytes) held = record { uncontested = refl; uncut = refl }
 reaction_is_lawful node memory answer (ConnectionManagement source destination control) held = control_is_lawful node memory source destination control
 reaction_is_lawful node memory answer (DataTransfer source destination bytes) held =
-    command_is_lawful node memory answer source destination bytes _ (command_heard_fits (is_broadcast destination source) node.claimer.name (completed (half_from node.half_commands source) bytes))
+    command_is_lawful node memory answer source destination bytes _ (command_heard_fits (is_to_all destination source) node.claimer.name (completed (half_from node.half_commands source) bytes))
 reaction_is_lawful node memory answer Other held = record { uncontested = refl; uncut = refl }

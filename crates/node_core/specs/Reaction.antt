@@ -2,6 +2,10 @@
 -- `answer` is the unit's own: whether it clears or holds the address, where that is put to it.
 use Rattle.std.specs.Prelude.{◌≡◌, ℕ, Bool, ◌&&◌, ◌==◌, not, false, nat_le, is_some, List, length, slice_index_or, slice_set, Option, Some, None, if◌then◌else◌}
 use Rattle.can_frame.specs.FrameValue.{FrameValue}
+use Rattle.can_frame.specs.declared.address.TheConstants.{GREATEST_ADDRESS, GLOBAL_ADDRESS}
+use Rattle.can_frame.specs.declared.group_numbers.TheConstants.{ADDRESS_CLAIMED}
+use Rattle.requests.specs.declared.acknowledgment.TheConstants.Ack.{POSITIVE, NEGATIVE, CANNOT_RESPOND}
+use Rattle.transport.specs.declared.control.TheConstants.Control.{RESOURCES_NEEDED}
 use Rattle.transport.specs.declared.control.Control.{Control}
 use Rattle.transport.specs.declared.control.Control.TheVariants.{Rts, Cts, EndAck, Bam, Abort}
 use Rattle.transport.specs.Messages.{control_frame}
@@ -18,8 +22,9 @@ use Rattle.dm_messages.specs.declared.kind.Kind.{Kind}
 use Rattle.unit_trait.specs.declared.question.Question.{Question}
 use Rattle.unit_trait.specs.declared.question.Question.TheVariants.{Hold}
 use Rattle.node_core.specs.NodeValue.{NodeValue, is_open, is_destination}
-use Rattle.node_core.specs.Deed.{Deed, Nothing, Replies, Begins, Sends, EndsSession, Claims, payload_of, heard_of, after}
-use Rattle.node_core.specs.Commanding.{started, continued, completed, half_from, is_broadcast, for_name}
+use Rattle.dm_messages.specs.View.{payload_of}
+use Rattle.node_core.specs.Deed.{Deed, Nothing, Replies, Begins, Sends, EndsSession, Claims, heard_of, after_deed}
+use Rattle.node_core.specs.Commanding.{command_started, continued, completed, half_from, is_to_all, for_name}
 use Rattle.node_core.specs.Requested.{wanted_by, is_concerned, counts_from, put_by, acknowledgment}
 use Rattle.node_core.specs.Asking.{is_agreed, memory_answered, IsAnswerTo}
 use Rattle.node_core.specs.declared.commanding.HalfCommand.{HalfCommand}
@@ -50,20 +55,20 @@ on_claim node source name = on_step node source (claim_step source name node.cla
 -- suffice; else a session, one at a time
 abbrev pub asked_for_message : Option OpenSession → Kind → MemoryValue → ℕ → ℕ → ℕ → Deed
 asked_for_message session kind memory pgn address source =
-    if is_open session kind then Replies (acknowledgment 3 source pgn address)
-    else if length (payload_of kind memory) == 8 then Begins kind memory address 255
-    else if is_some session then Replies (acknowledgment 3 source pgn address)
+    if is_open session kind then Replies (acknowledgment CANNOT_RESPOND source pgn address)
+    else if length (payload_of kind memory) == 8 then Begins kind memory address GLOBAL_ADDRESS
+    else if is_some session then Replies (acknowledgment CANNOT_RESPOND source pgn address)
     else Begins kind memory address source
 
 -- asked at the unit's own address
 abbrev pub asked_at_address : NodeValue → MemoryValue → Answer → ℕ → ℕ → ℕ → Wanted → Deed
 asked_at_address node memory answer pgn address source (wanted.Message kind) = asked_for_message node.session kind memory pgn address source
-asked_at_address node memory answer pgn address source (wanted.Clear which) = Replies (acknowledgment (if is_agreed answer then 0 else 1) source pgn address)
-asked_at_address node memory answer pgn address source wanted.Unsupported = Replies (acknowledgment 1 source pgn address)
+asked_at_address node memory answer pgn address source (wanted.Clear which) = Replies (acknowledgment (if is_agreed answer then POSITIVE else NEGATIVE) source pgn address)
+asked_at_address node memory answer pgn address source wanted.Unsupported = Replies (acknowledgment NEGATIVE source pgn address)
 
 -- asked of all: a message, but not while a session of that kind is open; a clear is not answered
 abbrev pub asked_of_all : NodeValue → MemoryValue → ℕ → Wanted → Deed
-asked_of_all node memory address (wanted.Message kind) = if is_open node.session kind then Nothing else Begins kind memory address 255
+asked_of_all node memory address (wanted.Message kind) = if is_open node.session kind then Nothing else Begins kind memory address GLOBAL_ADDRESS
 asked_of_all node memory address _ = Nothing
 
 -- asked for more than the claim: only by who may hold another address
@@ -71,14 +76,14 @@ abbrev pub asked_for_more : NodeValue → MemoryValue → Answer → ℕ → ℕ
 asked_for_more node memory answer pgn destination source None = Nothing
 asked_for_more node memory answer pgn destination source (Some address) =
     if counts_from address source
-    then (if destination == 255 then asked_of_all node memory address (wanted_by pgn) else asked_at_address node memory answer pgn address source (wanted_by pgn))
+    then (if destination == GLOBAL_ADDRESS then asked_of_all node memory address (wanted_by pgn) else asked_at_address node memory answer pgn address source (wanted_by pgn))
     else Nothing
 
 -- a request for the claim is answered with it, or with cannot claim
 abbrev pub on_request : NodeValue → MemoryValue → Answer → ℕ → ℕ → ℕ → Deed
 on_request node memory answer pgn destination source =
     if not (is_concerned node.claimer.held destination) then Nothing
-    else if pgn == 60928 then Replies (claim_frame_value node.claimer.name node.claimer.held)
+    else if pgn == ADDRESS_CLAIMED then Replies (claim_frame_value node.claimer.name node.claimer.held)
     else asked_for_more node memory answer pgn destination source node.claimer.held
 
 -- what a request for more than the claim puts to the unit
@@ -90,7 +95,7 @@ put_with pgn source (Some address) = if counts_from address source then put_by (
 abbrev pub put_by_request : NodeValue → ℕ → ℕ → ℕ → Option Question
 put_by_request node pgn destination source =
     if not (is_concerned node.claimer.held destination) then None
-    else if pgn == 60928 then None
+    else if pgn == ADDRESS_CLAIMED then None
     else put_with pgn source node.claimer.held
 
 -- ---- sessions
@@ -131,7 +136,7 @@ on_abort session source pgn = if is_open_with session source pgn then EndsSessio
 -- with reason 2, "resources needed elsewhere"
 abbrev pub on_control : NodeValue → ℕ → ℕ → Control → Deed
 on_control node source destination (Rts size packets most pgn) =
-    if is_held node.claimer.held destination && nat_le source 253 then Replies (control_frame (Abort 2 pgn) destination source) else Nothing
+    if is_held node.claimer.held destination && nat_le source GREATEST_ADDRESS then Replies (control_frame (Abort RESOURCES_NEEDED pgn) destination source) else Nothing
 on_control node source destination (Cts granted next pgn) =
     if is_held node.claimer.held destination then on_cts node.session destination source granted next pgn else Nothing
 on_control node source destination (EndAck size packets pgn) =
@@ -145,7 +150,7 @@ on_control node source destination (Bam size packets pgn) = Nothing
 -- the command for this NAME that a packet to all makes whole
 abbrev pub command_heard : NodeValue → ℕ → ℕ → List ℕ → Option Commanded
 command_heard node source destination bytes =
-    if is_broadcast destination source then for_name node.claimer.name (completed (half_from node.half_commands source) bytes) else None
+    if is_to_all destination source then for_name node.claimer.name (completed (half_from node.half_commands source) bytes) else None
 
 -- it is put to the unit
 abbrev pub put_by_command : Option Commanded → Option Question
@@ -188,12 +193,12 @@ halves_after_claim node source name =
 -- an announced broadcast drops what is half joined from its source, and may start a commanded address
 abbrev pub announced : NodeValue → ℕ → ℕ → ℕ → ℕ → NodeValue
 announced node source destination size pgn =
-    if is_broadcast destination source then record node { half_commands = slice_set node.half_commands source (started size pgn) } else node
+    if is_to_all destination source then record node { half_commands = slice_set node.half_commands source (command_started size pgn) } else node
 
 -- a broadcast packet goes on with what is half joined from its source
-abbrev pub packet_joined : NodeValue → ℕ → ℕ → List ℕ → NodeValue
-packet_joined node source destination bytes =
-    if is_broadcast destination source
+abbrev pub packet_heard : NodeValue → ℕ → ℕ → List ℕ → NodeValue
+packet_heard node source destination bytes =
+    if is_to_all destination source
     then record node { half_commands = slice_set node.half_commands source (continued (half_from node.half_commands source) bytes) }
     else node
 
@@ -202,12 +207,12 @@ abbrev pub noted_from : NodeValue → Group → NodeValue
 noted_from node (AddressClaimed source name) =
     record node { claimer = after_claim source name node.claimer; half_commands = halves_after_claim node source name }
 noted_from node (ConnectionManagement source destination (Bam size packets pgn)) = announced node source destination size pgn
-noted_from node (DataTransfer source destination bytes) = packet_joined node source destination bytes
+noted_from node (DataTransfer source destination bytes) = packet_heard node source destination bytes
 noted_from node _ = node
 
 -- what the unit keeps afterwards
 abbrev pub node_after : NodeValue → MemoryValue → Answer → FrameValue → NodeValue
-node_after node memory answer f = after (noted_from node (group_of f)) (reaction node memory answer f)
+node_after node memory answer f = after_deed (noted_from node (group_of f)) (reaction node memory answer f)
 
 -- what the frame puts to the unit, if anything: to clear, or to hold a commanded address
 abbrev pub put_to : NodeValue → Group → Option Question

@@ -24,7 +24,7 @@ pub enum HalfCommand {
 impl HalfCommand {
     /// What an announced broadcast starts: a commanded address, if it is one.
     pub fn started(size: u16, pgn: Pgn) -> HalfCommand
-        ensures { result ≡ commanding.started size pgn }
+        ensures { result ≡ commanding.command_started size pgn }
     {
         if size == COMMAND_SIZE && pgn == Pgn::COMMANDED_ADDRESS {
             HalfCommand::Started
@@ -99,7 +99,7 @@ fn is_packet(number: u8, bytes: &[u8]) -> bool
 
 /// Whether a frame goes to all, from an address that can be held.
 pub fn is_broadcast(destination: u8, source: u8) -> bool
-    ensures { result ≡ commanding.is_broadcast destination source }
+    ensures { result ≡ commanding.is_to_all destination source }
 {
     destination == 255 && source <= 253
 }

@@ -1,4 +1,4 @@
-ghost use Rattle.std.specs.Prelude.{◌≡◌, ◌≤◌, ◌↔◌, IfOk, IfErr, OnErr, IfSome, IsSome, IsErrOf, IsNone, Ok, length, option_map, true, false};
+ghost use Rattle.std.specs.Prelude.{◌≡◌, ◌<◌, ◌≤◌, ◌^◌, ◌↔◌, IfOk, IfErr, OnErr, IfSome, IsSome, IsErrOf, IsNone, Ok, length, option_map, true, false};
 ghost use Rattle.address_claim.specs.Frames.{claim_frame_value};
 
 use crate::commanding::HalfCommand;
@@ -44,7 +44,7 @@ impl Node {
     ghost use Rattle.node_core.specs.Asking.{IsAsked};
     ghost use Rattle.node_core.specs.Reaction.{Reacts, question};
     ghost use Rattle.node_core.specs.NodeValue.{new_node, is_destination, is_open};
-    ghost use Rattle.node_core.specs.Deed.{heard_of, after, EndsSession};
+    ghost use Rattle.node_core.specs.Deed.{heard_of, after_deed, EndsSession};
 
     /// A unit of this NAME that holds the address it wants, 0 to 253. It has heard nothing. Takes no memory.
     pub fn new(name: Name, want: u8) -> Node
@@ -60,7 +60,8 @@ impl Node {
 
     /// The frame by which the unit claims its address, or says that it holds none (SAE J1939-81).
     pub fn start(&self) -> Frame
-        ensures { result ≡ claim_frame_value self.now.claimer.name self.now.claimer.held }
+        ensures frame { result ≡ claim_frame_value self.now.claimer.name self.now.claimer.held }
+        ensures name_fits { self.now.claimer.name < 2 ^ 64 }
     {
         claim_frame(self.claimer.name(), self.claimer.held())
     }
@@ -181,7 +182,7 @@ impl Node {
     /// Ends the open session, and withdraws its frames.
     fn end_session(&mut self, alloc: Global) -> Heard
         ensures heard { result ≡ heard_of Answer.NotAsked EndsSession }
-        ensures node { self.new ≡ after self.old EndsSession }
+        ensures node { self.new ≡ after_deed self.old EndsSession }
     {
         self.session = None;
         Heard {

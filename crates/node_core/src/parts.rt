@@ -1,5 +1,4 @@
-ghost use Rattle.std.specs.Prelude.{◌≡◌, ◌<◌, ◌≤◌, ◌^◌, IfOk, length};
-ghost use Rattle.can_frame.specs.Fields.{pdu_format_of_pgn};
+ghost use Rattle.std.specs.Prelude.{◌≡◌, ◌≤◌, IfOk, length};
 ghost use Rattle.transport.specs.Sending.{packets_left};
 ghost use Rattle.dm_messages.specs.View.{pgn_of_kind};
 ghost use Rattle.node_core.specs.Deed.{parts_begun, parts_of_session};
@@ -7,22 +6,9 @@ ghost use Rattle.node_core.specs.Deed.{parts_begun, parts_of_session};
 use crate::heard::Begun;
 use crate::out::{Out, Outs, Part};
 use crate::session::OpenSession;
-use can_frame::{GLOBAL_ADDRESS, Pgn};
-use dm_messages::Kind;
+use can_frame::GLOBAL_ADDRESS;
 use std::alloc::{AllocError, Global};
 use transport::{Payload, Run, message_part, packets};
-
-/// The group of a kind of message.
-pub fn group_of_kind(kind: Kind) -> Pgn
-    ensures value { result ≡ pgn_of_kind kind }
-    ensures fits { result < 2 ^ 18 }
-    ensures to_all { 240 ≤ pdu_format_of_pgn result }
-{
-    match kind {
-        Kind::Dm1 => Pgn::DM1,
-        Kind::Dm2 => Pgn::DM2,
-    }
-}
 
 /// The frames that are queued when a message of 8 to 1,785 bytes to all begins: one, or the run of a broadcast, into which the
 /// payload moves.
@@ -38,7 +24,7 @@ pub fn parts_to_all(alloc: Global, payload: Payload, begun: Begun) -> Result<Out
         return first_part(alloc, payload.as_slice(), begun);
     }
     let end = packets(payload.len() as u16);
-    let pgn = group_of_kind(begun.kind);
+    let pgn = begun.kind.pgn();
     let run = Run::new(payload, pgn, begun.source, GLOBAL_ADDRESS, 0, end);
     Outs::run(alloc, run, Part::Begun(0))
 }
@@ -52,7 +38,7 @@ pub fn first_part(alloc: Global, payload: &[u8], begun: Begun) -> Result<Outs, A
     ensures parts { IfOk result (λ o. o ≡ parts_begun payload.now (pgn_of_kind begun.kind) begun.source begun.dest) }
     ensures few { IfOk result (λ o. length o ≤ 256) }
 {
-    let pgn = group_of_kind(begun.kind);
+    let pgn = begun.kind.pgn();
     let frame = message_part(payload, pgn, begun.source, begun.dest, 0);
     let part = Some(Part::Begun(0));
     Outs::one(alloc, Out { frame, part })

@@ -24,11 +24,11 @@ impl Wanted {
     pub fn by(pgn: Pgn) -> Wanted
         ensures { result ≡ wanted_by pgn }
     {
-        match pgn.number() {
-            65226 => Wanted::Message(Kind::Dm1),
-            65227 => Wanted::Message(Kind::Dm2),
-            65235 => Wanted::Clear(Clear::Active),
-            65228 => Wanted::Clear(Clear::Previous),
+        match pgn {
+            Pgn::DM1 => Wanted::Message(Kind::Dm1),
+            Pgn::DM2 => Wanted::Message(Kind::Dm2),
+            Pgn::DM11 => Wanted::Clear(Clear::Active),
+            Pgn::DM3 => Wanted::Clear(Clear::Previous),
             _ => Wanted::Unsupported,
         }
     }

@@ -3,6 +3,9 @@ use Rattle.std.specs.Prelude.{ℕ, ◌+◌, ◌*◌, ◌&&◌, ◌==◌, nat_le,
 use Rattle.std.specs.Int.{from_le_bytes, w64}
 use Rattle.can_frame.specs.Fields.{pgn_of, pdu_specific_of, source_of}
 use Rattle.can_frame.specs.FrameValue.{FrameValue}
+use Rattle.can_frame.specs.declared.address.TheConstants.{NULL_ADDRESS, GLOBAL_ADDRESS}
+use Rattle.can_frame.specs.declared.group_numbers.TheConstants.{ADDRESS_CLAIMED, REQUEST, ACKNOWLEDGMENT, DATA_TRANSFER, CONNECTION_MANAGEMENT, DM1, DM2}
+use Rattle.dm_messages.specs.View.{pgn_of_kind}
 use Rattle.transport.specs.ControlMessage.{control_of}
 use Rattle.transport.specs.declared.control.Control.{Control}
 use Rattle.dm_messages.specs.declared.kind.Kind.{Kind}
@@ -24,11 +27,11 @@ group_number bytes i = slice_index bytes i + 256 * slice_index bytes (i + 1) + 6
 
 -- an address from 0 to 253 is claimed; from 254 it is cannot claim; 255 claims nothing
 abbrev pub claim_from : ℕ → ℕ → Group
-claim_from source name = if nat_lt source 254 then AddressClaimed source name else (if source == 254 then CannotClaim name else Other)
+claim_from source name = if nat_lt source NULL_ADDRESS then AddressClaimed source name else (if source == NULL_ADDRESS then CannotClaim name else Other)
 
 -- a claim goes to all and has eight bytes, the NAME
 abbrev pub claim_group : ℕ → ℕ → List ℕ → Group
-claim_group destination source bytes = if (destination == 255) && (length bytes == 8) then claim_from source (from_le_bytes w64 bytes) else Other
+claim_group destination source bytes = if (destination == GLOBAL_ADDRESS) && (length bytes == 8) then claim_from source (from_le_bytes w64 bytes) else Other
 
 -- a request has at least three bytes, the group that is asked for
 abbrev pub request_group : ℕ → ℕ → List ℕ → Group
@@ -47,13 +50,13 @@ control_group destination source (Some control) = ConnectionManagement source de
 -- by the parameter group number, the destination, the source and the bytes
 abbrev pub group_by : ℕ → ℕ → ℕ → List ℕ → Group
 group_by pgn destination source bytes =
-    if pgn == 60928 then claim_group destination source bytes
-    else if pgn == 59904 then request_group destination source bytes
-    else if pgn == 59392 then acknowledgment_group destination source bytes
-    else if pgn == 65226 then Diagnostic Dm1 source bytes
-    else if pgn == 65227 then Diagnostic Dm2 source bytes
-    else if pgn == 60416 then control_group destination source (control_of bytes)
-    else if pgn == 60160 then DataTransfer source destination bytes
+    if pgn == ADDRESS_CLAIMED then claim_group destination source bytes
+    else if pgn == REQUEST then request_group destination source bytes
+    else if pgn == ACKNOWLEDGMENT then acknowledgment_group destination source bytes
+    else if pgn == pgn_of_kind Dm1 then Diagnostic Dm1 source bytes
+    else if pgn == pgn_of_kind Dm2 then Diagnostic Dm2 source bytes
+    else if pgn == CONNECTION_MANAGEMENT then control_group destination source (control_of bytes)
+    else if pgn == DATA_TRANSFER then DataTransfer source destination bytes
     else Other
 
 -- what a frame says

@@ -1,5 +1,6 @@
 -- What the program's answer says, in the words of the definition.
 use Rattle.std.specs.Prelude.{◌<◌}
+use Rattle.can_frame.specs.declared.address.TheConstants.{NULL_ADDRESS}
 use Rattle.transport.specs.ControlMessage.{HasLawfulSize}
 use Rattle.parameter_group.specs.Group as group
 use Rattle.parameter_group.specs.Group.{Group}
@@ -18,7 +19,7 @@ said (DataTransfer source dest bytes) = group.DataTransfer source dest bytes.now
 said Other = group.Other
 
 -- an address claimed can be held, and a message with a size has one that is carried in packets
-abbrev pub IsLawful : ParameterGroup → Type 0
-IsLawful (AddressClaimed source name) = source < 254
-IsLawful (ConnectionManagement source dest control) = HasLawfulSize control
-IsLawful _ = Unit {0}
+abbrev pub IsLawfulGroup : ParameterGroup → Type 0
+IsLawfulGroup (AddressClaimed source name) = source < NULL_ADDRESS
+IsLawfulGroup (ConnectionManagement source dest control) = HasLawfulSize control
+IsLawfulGroup _ = Unit {0}

@@ -2,6 +2,7 @@
 use Rattle.std.specs.Prelude.{◌≡◌, ℕ, ◌<◌, ◌^◌, List, Some, None}
 use Rattle.can_frame.specs.Fields.{pdu2_number}
 use Rattle.can_frame.specs.FrameValue.{FrameValue, frame}
+use Rattle.can_frame.specs.declared.address.TheConstants.{NULL_ADDRESS}
 use Rattle.address_claim.specs.Frames.{claim_frame_value}
 use Rattle.requests.specs.Layouts.{request_frame_value, ack_frame_value, IsRequest, IsAck}
 use Rattle.requests.specs.declared.request.Request.{Request as RequestFields}
@@ -15,7 +16,7 @@ use Rattle.parameter_group.specs.Group.{AddressClaimed, CannotClaim, Request, Ac
 
 -- what a written frame must say
 pub record ReadsBack (f : FrameValue) (g : Group) : Type 0 where
-  pub claim : (name address : ℕ) → name < 2 ^ 64 → address < 254 → f ≡ claim_frame_value name (Some address) → g ≡ AddressClaimed address name
+  pub claim : (name address : ℕ) → name < 2 ^ 64 → address < NULL_ADDRESS → f ≡ claim_frame_value name (Some address) → g ≡ AddressClaimed address name
   pub cannot_claim : (name : ℕ) → name < 2 ^ 64 → f ≡ claim_frame_value name None → g ≡ CannotClaim name
   pub request : (r : RequestFields) → IsRequest r → f ≡ request_frame_value r → g ≡ Request r.pgn r.dest r.source
   pub acknowledgment : (a : Ack) → IsAck a → f ≡ ack_frame_value a → g ≡ Acknowledgment a.control a.requester a.pgn a.dest a.source

@@ -4,7 +4,7 @@
 ghost use Rattle.std.specs.Prelude.{◌≡◌};
 ghost use Rattle.can_frame.specs.Fields.{pgn_of};
 ghost use Rattle.parameter_group.specs.Group.{group_of};
-ghost use Rattle.parameter_group.specs.Said.{IsLawful, said};
+ghost use Rattle.parameter_group.specs.Said.{IsLawfulGroup, said};
 ghost use Rattle.parameter_group.specs.Written.{ReadsBack};
 
 use address_claim::{Claim, read_claim};
@@ -58,7 +58,7 @@ impl<'a> ParameterGroup<'a> {
     #[tactic(auto, using(crate::proofs::Cases::of_active_codes, crate::proofs::Cases::of_previous_codes, crate::proofs::Cases::of_control, crate::proofs::Cases::of_packet, crate::proofs::Cases::of_other, crate::specs::Laws::reads_back, crate::proofs::Cases::to_one))]
     pub fn read(frame: &'a Frame) -> ParameterGroup<'a>
         ensures value { said result ≡ group_of frame.entry.now }
-        ensures lawful { IsLawful result }
+        ensures lawful { IsLawfulGroup result }
         ensures reads_back { ReadsBack frame.entry.now (said result) }
     {
         let id = frame.id();
@@ -102,7 +102,7 @@ impl<'a> ParameterGroup<'a> {
 fn claimed(frame: &Frame) -> ParameterGroup<'static>
     requires { pgn_of frame.now.id ≡ 60928 }
     ensures value { said result ≡ group_of frame.now }
-    ensures lawful { IsLawful result }
+    ensures lawful { IsLawfulGroup result }
 {
     match read_claim(frame) {
         Ok(
@@ -120,7 +120,7 @@ fn claimed(frame: &Frame) -> ParameterGroup<'static>
 fn requested(frame: &Frame) -> ParameterGroup<'static>
     requires { pgn_of frame.now.id ≡ 59904 }
     ensures value { said result ≡ group_of frame.now }
-    ensures lawful { IsLawful result }
+    ensures lawful { IsLawfulGroup result }
 {
     match Request::read(frame) {
         Ok(request) => ParameterGroup::Request(request),
@@ -132,7 +132,7 @@ fn requested(frame: &Frame) -> ParameterGroup<'static>
 fn acknowledged(frame: &Frame) -> ParameterGroup<'static>
     requires { pgn_of frame.now.id ≡ 59392 }
     ensures value { said result ≡ group_of frame.now }
-    ensures lawful { IsLawful result }
+    ensures lawful { IsLawfulGroup result }
 {
     match Ack::read(frame) {
         Ok(ack) => ParameterGroup::Acknowledgment(ack),

@@ -3,6 +3,7 @@ use Rattle.std.specs.Prelude.{ℕ, ◌≡◌, ◌≤◌, ◌<◌, ◌^◌, ◌+�
 use Rattle.std.specs.Int.{to_le_bytes, from_le_bytes, w64}
 use Rattle.can_frame.specs.Fields.{source_of, pgn_of, pdu_specific_of, pdu1_number, pgn_bytes, pgn_of_bytes}
 use Rattle.can_frame.specs.FrameValue.{FrameValue, frame}
+use Rattle.can_frame.specs.declared.group_numbers.TheConstants.{REQUEST, ACKNOWLEDGMENT}
 use Rattle.requests.specs.declared.request.Request.{Request}
 use Rattle.requests.specs.declared.acknowledgment.Ack.{Ack}
 use Rattle.requests.specs.declared.commanded.Commanded.{Commanded}
@@ -13,11 +14,11 @@ group_at i bytes = pgn_of_bytes (slice_index bytes i) (slice_index bytes (i + 1)
 
 -- a request as it is written: group 59904 of priority 6, with the group that is asked for
 abbrev pub request_frame_value : Request → FrameValue
-request_frame_value r = frame (pdu1_number 6 59904 r.dest r.source) (pgn_bytes r.pgn)
+request_frame_value r = frame (pdu1_number 6 REQUEST r.dest r.source) (pgn_bytes r.pgn)
 
 -- a frame that is read as a request: of that group, of any priority, with three bytes or more
 pub record IsRequestFrame (f : FrameValue) : Type 0 where
-  pub group : pgn_of f.id ≡ 59904
+  pub group : pgn_of f.id ≡ REQUEST
   pub len : 3 ≤ length f.bytes
 
 -- what it asks for; only its first three bytes count
@@ -32,11 +33,11 @@ pub record IsRequest (r : Request) : Type 0 where
 
 -- an acknowledgment as it is written: group 59392 of priority 6, with eight bytes
 abbrev pub ack_frame_value : Ack → FrameValue
-ack_frame_value a = frame (pdu1_number 6 59392 a.dest a.source) (a.control ∷ 255 ∷ 255 ∷ 255 ∷ a.requester ∷ pgn_bytes a.pgn)
+ack_frame_value a = frame (pdu1_number 6 ACKNOWLEDGMENT a.dest a.source) (a.control ∷ 255 ∷ 255 ∷ 255 ∷ a.requester ∷ pgn_bytes a.pgn)
 
 -- a frame that is read as an acknowledgment: of that group, of any priority, with eight bytes
 pub record IsAckFrame (f : FrameValue) : Type 0 where
-  pub group : pgn_of f.id ≡ 59392
+  pub group : pgn_of f.id ≡ ACKNOWLEDGMENT
   pub len : length f.bytes ≡ 8
 
 -- what it acknowledges; its bytes 2 to 4 are not looked at

@@ -1,5 +1,5 @@
 -- After a claim or an acknowledgment, the tables have at each address what was then heard of it.
-use Rattle.std.proofs.Common.{◌≡◌, ℕ, ◌<◌, Bool, true, false, ◌==◌, not, ◌&&◌, ◌||◌, List, [], ◌∷◌, Option, Some, None, if◌then◌else◌, unwrap_or, length, map, refl, sym, ap, ◌∙◌, subst}
+use Rattle.std.proofs.Common.{◌≡◌, ℕ, ◌<◌, Bool, true, false, ◌==◌, not, ◌&&◌, ◌||◌, List, [], ◌∷◌, ◌++◌, Option, Some, None, if◌then◌else◌, unwrap_or, length, map, refl, sym, ap, ◌∙◌, subst}
 use Rattle.std.specs.Prelude.{slice_set, nat_lt}
 use Rattle.std.specs.Option.{option_map, option_map_or}
 use Rattle.std.proofs.lemmas.Bool.{eq-eqb, eqb-true, ne_eqb}
@@ -11,20 +11,23 @@ use Rattle.can_frame.specs.declared.reading.Reading.{Reading}
 use Rattle.can_frame.specs.declared.reading.Reading.TheVariants.{Frame, Gap, Empty}
 use Rattle.dm_messages.specs.declared.kind.Kind.{Kind}
 use Rattle.dm_messages.specs.declared.kind.Kind.TheVariants.{Dm1, Dm2}
+use Rattle.dm_messages.specs.declared.shown.Shown.{Shown}
 use Rattle.parameter_group.specs.Group.{Group, AddressClaimed, CannotClaim, Acknowledgment, group_of}
-use Rattle.bus_model.specs.Heard.{Settings, AckHeard, RowHeard, is_contest, without_address, with_ack as with_ack_heard, is_answer, ack_of, owner_heard, claimer_heard, claimer_after, address_heard, broadcast_heard, session_heard, row_heard, with_name, kept_under as joining_under}
+use Rattle.parameter_group.specs.Calm.{is_contest}
+use Rattle.bus_model.specs.Heard.{StationSettings, Joining, AckHeard, RowHeard, without_address, row_with_ack as with_ack_heard, is_answer, ack_in_row, owner_heard, claimer_heard, claimer_after, address_heard, broadcast_heard, session_heard, row_heard, with_name, kept_by_owner as joining_under}
 use Rattle.station_table.specs.declared.row.AckSeen.{AckSeen}
 use Rattle.station_table.specs.KeptValue.{KeptValue, nothing_kept, kept_under, entries_of, entries_under, with_claimed, with_ack, with_row, changed_under}
-use Rattle.station_table.specs.StationValue.{SessionValue, StationValue, at}
-use Rattle.station_table.specs.Steps.{session_with, sessions_after, rejoined, packets_at_once, with_answer, after_group}
-use Rattle.station_table.specs.StandsFor.{StandsFor, most_heard, still_owned, ack_known, row_known}
+use Rattle.reassembly.specs.Tables.{at}
+use Rattle.reassembly.specs.TableLaws.{at-set, at-empty, places-empty}
+use Rattle.station_table.specs.StationValue.{StationValue}
+use Rattle.station_table.specs.Steps.{sessions_after, with_answer, after_group}
+use Rattle.station_table.specs.StandsFor.{StandsBeside, still_owned, ack_known, row_known}
 use Rattle.station_table.proofs.OwnAddress.{still_apart}
-use Rattle.station_table.proofs.Tables.{at-set, at-empty, places-empty}
 use Rattle.station_table.proofs.RowLemmas.{named, kept_under-changed, names-changed, kept_under-with_row, names-with_row}
-use Rattle.station_table.proofs.Lines.{StandsAfter, held_same, and_false, changed_place, changed_session, written_place}
+use Rattle.station_table.proofs.Lines.{StandsAfter, held_same, and_false, changed_place, written_place}
 
 -- what a change that leaves the entries leaves
-entries_left : (f : KeptValue → KeptValue) → ((x : KeptValue) (k : Kind) → entries_of (f x) k ≡ entries_of x k)
+pub entries_left : (f : KeptValue → KeptValue) → ((x : KeptValue) (k : Kind) → entries_of (f x) k ≡ entries_of x k)
     → (rows : List (ℕ × KeptValue)) (m n : ℕ) (k : Kind) → entries_under (changed_under f rows m) n k ≡ entries_under rows n k
 entries_left f keeps rows m n k =
     ap (λ (o : Option KeptValue). option_map_or (λ kept. entries_of kept k) o []) (kept_under-changed f rows m n)
@@ -35,7 +38,7 @@ entries_left f keeps rows m n k =
     go true None = refl
     go true (Some x) = keeps x k
 
-ack_keeps : (ack : AckSeen) (x : KeptValue) (k : Kind) → entries_of (with_ack ack x) k ≡ entries_of x k
+pub ack_keeps : (ack : AckSeen) (x : KeptValue) (k : Kind) → entries_of (with_ack ack x) k ≡ entries_of x k
 ack_keeps ack x Dm1 = refl
 ack_keeps ack x Dm2 = refl
 
@@ -49,19 +52,19 @@ row_acknowledged owners n control pgn None = refl
 row_acknowledged owners n control pgn (Some x) = refl
 
 -- an acknowledgment
-pub acknowledged : (r : Settings) (grant : ℕ) (s : StationValue) (h : List Reading) (control requester pgn d src : ℕ) → src < 256 → StandsFor r grant s h
-    → StandsAfter r grant (Acknowledgment control requester pgn d src) (after_group s (Acknowledgment control requester pgn d src)) h
-acknowledged r grant s h control requester pgn d src lt st =
+pub acknowledged : (taken : ℕ → Kind → List Shown) (r : StationSettings) (grant : ℕ) (s : StationValue) (h : List Reading) (control requester pgn d src : ℕ) → src < 256 → StandsBeside taken r grant s h
+    → StandsAfter taken r grant (Acknowledgment control requester pgn d src) (after_group s (Acknowledgment control requester pgn d src)) h
+acknowledged taken r grant s h control requester pgn d src lt st =
     go (is_held s.claimer.held requester || is_held s.claimer.held d) refl (at s.owners src) refl
   where
     same_test : (b : Bool) (own : Option ℕ) → (is_held s.claimer.held requester || is_held s.claimer.held d) ≡ b → at s.owners src ≡ own → (n : ℕ)
         → is_answer requester d (address_heard r h) (owner_heard src h) n ≡ (b && is_held own n)
-    same_test b own i j n = rw (← held_same r grant s h st, i, ← st.owners src lt, j) refl
+    same_test b own i j n = rw (← held_same taken r grant s h st, i, ← st.owners src lt, j) refl
 
     row_of_other : (n : ℕ) (b : Bool) → (if b && false then with_ack_heard control pgn (row_heard r n h) else row_heard r n h) ≡ row_heard r n h
     row_of_other n b = rw (and_false b) refl
 
-    left : (b : Bool) → ((n : ℕ) → is_answer requester d (address_heard r h) (owner_heard src h) n ≡ false) → StandsAfter r grant (Acknowledgment control requester pgn d src) s h
+    left : (b : Bool) → ((n : ℕ) → is_answer requester d (address_heard r h) (owner_heard src h) n ≡ false) → StandsAfter taken r grant (Acknowledgment control requester pgn d src) s h
     left b never = record {
       grants = st.grants;
       claims = st.claims;
@@ -70,6 +73,7 @@ acknowledged r grant s h control requester pgn d src lt st =
       owners = st.owners;
       broadcasts = st.broadcasts;
       sessions = st.sessions;
+      most = st.most;
       rows = λ n. rw (never n) (st.rows n);
       names = st.names;
       entries = st.entries;
@@ -78,7 +82,7 @@ acknowledged r grant s h control requester pgn d src lt st =
     }
 
     go : (b : Bool) → (is_held s.claimer.held requester || is_held s.claimer.held d) ≡ b → (own : Option ℕ) → at s.owners src ≡ own
-        → StandsAfter r grant (Acknowledgment control requester pgn d src) (if b then with_answer s own (record { control = control; pgn = pgn }) else s) h
+        → StandsAfter taken r grant (Acknowledgment control requester pgn d src) (if b then with_answer s own (record { control = control; pgn = pgn }) else s) h
     go false i own j = left false (λ n. same_test false own i j n)
     go true i None j = left true (λ n. same_test true None i j n)
     go true i (Some m) j = record {
@@ -89,11 +93,13 @@ acknowledged r grant s h control requester pgn d src lt st =
       owners = st.owners;
       broadcasts = st.broadcasts;
       sessions = st.sessions;
+      most = st.most;
       rows = λ n.
           ap (row_known s.owners n) (kept_under-changed (with_ack (record { control = control; pgn = pgn })) s.rows m n)
           ∙ (if_row n (m == n) ∙ rw (same_test true (Some m) i j n, ← st.rows n) refl);
       names = names-changed (with_ack (record { control = control; pgn = pgn })) s.rows m ∙ st.names;
-      entries = λ n k. entries_left (with_ack (record { control = control; pgn = pgn })) (ack_keeps (record { control = control; pgn = pgn })) s.rows m n k ∙ st.entries n k;
+      entries = λ n k.
+          ap (λ (x : List Shown). taken n k ++ x) (entries_left (with_ack (record { control = control; pgn = pgn })) (ack_keeps (record { control = control; pgn = pgn })) s.rows m n k) ∙ st.entries n k;
       missed = st.missed;
       unread = st.unread;
     }
@@ -120,7 +126,7 @@ kept_once_claimed a rows m n = kept_under-changed (with_claimed a) (with_row row
 names_once_claimed : (a : Option ℕ) (rows : List (ℕ × KeptValue)) (m : ℕ) → map named (changed_under (with_claimed a) (with_row rows m) m) ≡ with_name m (map named rows)
 names_once_claimed a rows m = names-changed (with_claimed a) (with_row rows m) m ∙ names-with_row rows m
 
-entries_once_claimed : (a : Option ℕ) (rows : List (ℕ × KeptValue)) (m n : ℕ) (k : Kind)
+pub entries_once_claimed : (a : Option ℕ) (rows : List (ℕ × KeptValue)) (m n : ℕ) (k : Kind)
     → entries_under (changed_under (with_claimed a) (with_row rows m) m) n k ≡ entries_under rows n k
 entries_once_claimed a rows m n k =
     ap (λ (o : Option KeptValue). option_map_or (λ kept. entries_of kept k) o []) (kept_once_claimed a rows m n) ∙ go (m == n) (kept_under rows n) k
@@ -132,19 +138,19 @@ entries_once_claimed a rows m n k =
     go true None Dm2 = refl
     go true (Some x) l = claimed_keeps a x l
 
-ack_unclaimed : (owners : List (Option ℕ)) (n : ℕ) (o : Option KeptValue) → ack_known (unwrap_or o nothing_kept).ack ≡ ack_of (row_known owners n o)
+ack_unclaimed : (owners : List (Option ℕ)) (n : ℕ) (o : Option KeptValue) → ack_known (unwrap_or o nothing_kept).ack ≡ ack_in_row (row_known owners n o)
 ack_unclaimed owners n None = refl
 ack_unclaimed owners n (Some x) = refl
 
 -- a NAME that cannot claim has no address
 no_address : (owners : List (Option ℕ)) (n : ℕ) (o : Option KeptValue)
-    → row_known owners n (Some (with_claimed None (unwrap_or o nothing_kept))) ≡ Some (record { address = None; ack = ack_of (row_known owners n o) })
+    → row_known owners n (Some (with_claimed None (unwrap_or o nothing_kept))) ≡ Some (record { address = None; ack = ack_in_row (row_known owners n o) })
 no_address owners n None = refl
 no_address owners n (Some x) = refl
 
-pub cannot_claim : (r : Settings) (grant : ℕ) (s : StationValue) (h : List Reading) (m : ℕ) → StandsFor r grant s h
-    → StandsAfter r grant (CannotClaim m) (after_group s (CannotClaim m)) h
-cannot_claim r grant s h m st = record {
+pub cannot_claim : (taken : ℕ → Kind → List Shown) (r : StationSettings) (grant : ℕ) (s : StationValue) (h : List Reading) (m : ℕ) → StandsBeside taken r grant s h
+    → StandsAfter taken r grant (CannotClaim m) (after_group s (CannotClaim m)) h
+cannot_claim taken r grant s h m st = record {
   grants = st.grants;
   claims = st.claims;
   apart = st.apart;
@@ -152,16 +158,17 @@ cannot_claim r grant s h m st = record {
   owners = st.owners;
   broadcasts = st.broadcasts;
   sessions = st.sessions;
+  most = st.most;
   rows = λ n. ap (row_known s.owners n) (kept_once_claimed None s.rows m n) ∙ rw (← st.rows n) (go n (m == n));
   names = names_once_claimed None s.rows m ∙ ap (with_name m) st.names;
-  entries = λ n k. entries_once_claimed None s.rows m n k ∙ st.entries n k;
+  entries = λ n k. ap (λ (x : List Shown). taken n k ++ x) (entries_once_claimed None s.rows m n k) ∙ st.entries n k;
   missed = st.missed;
   unread = st.unread;
 }
   where
     go : (n : ℕ) (b : Bool)
         → row_known s.owners n (if b then Some (with_claimed None (unwrap_or (kept_under s.rows n) nothing_kept)) else kept_under s.rows n)
-        ≡ (if b then Some (record { address = None; ack = ack_of (row_known s.owners n (kept_under s.rows n)) }) else row_known s.owners n (kept_under s.rows n))
+        ≡ (if b then Some (record { address = None; ack = ack_in_row (row_known s.owners n (kept_under s.rows n)) }) else row_known s.owners n (kept_under s.rows n))
     go n true = no_address s.owners n (kept_under s.rows n)
     go n false = refl
 
@@ -172,7 +179,7 @@ owner_now owners src m a len lt = at-set owners src a (Some m) (subst (λ (x : �
 -- the row of a NAME that claims an address
 row_of_claimant : (owners : List (Option ℕ)) (src m n : ℕ) (o : Option KeptValue) → length owners ≡ 256 → src < 256 → (m == n) ≡ true
     → row_known (slice_set owners src (Some m)) n (Some (with_claimed (Some src) (unwrap_or o nothing_kept)))
-    ≡ Some (record { address = Some src; ack = ack_of (row_known owners n o) })
+    ≡ Some (record { address = Some src; ack = ack_in_row (row_known owners n o) })
 row_of_claimant owners src m n o len lt same =
     let mine : at (slice_set owners src (Some m)) src ≡ Some m = owner_now owners src m src len lt ∙ (rw (eq-eqb src src refl) refl) in
     rw (mine, same, ack_unclaimed owners n o) refl
@@ -213,7 +220,7 @@ row_of_other owners src m n (Some x) len lt apart =
     ∙ if_some (is_held (still_owned owners n x.claimed) src) (row_with None (ack_known x.ack)) (row_with (still_owned owners n x.claimed) (ack_known x.ack))
 
 -- the station's NAME never changes
-pub name_heard : (r : Settings) (h : List Reading) → (claimer_heard r h).name ≡ r.name
+pub name_heard : (r : StationSettings) (h : List Reading) → (claimer_heard r h).name ≡ r.name
 name_heard r [] = refl
 name_heard r (Gap n ∷ older) = name_heard r older
 name_heard r (Empty ∷ older) = name_heard r older
@@ -243,51 +250,52 @@ contest_step src m c = go (is_held c.held src) (m == c.name) (nat_lt c.name m)
     go true false false = move_contest (next_address c.name (noted_after src m c.noted))
 
 -- a claim of an address
-pub claimed : (r : Settings) (grant : ℕ) (s : StationValue) (h : List Reading) (src m : ℕ) → src < 256 → StandsFor r grant s h
-    → StandsAfter r grant (AddressClaimed src m) (after_group s (AddressClaimed src m)) h
-claimed r grant s h src m lt st = record {
+pub claimed : (taken : ℕ → Kind → List Shown) (r : StationSettings) (grant : ℕ) (s : StationValue) (h : List Reading) (src m : ℕ) → src < 256 → StandsBeside taken r grant s h
+    → StandsAfter taken r grant (AddressClaimed src m) (after_group s (AddressClaimed src m)) h
+claimed taken r grant s h src m lt st = record {
   grants = st.grants;
   claims = rw (st.claims) refl;
   apart = still_apart src m s.claimer st.apart;
-  places = (
-    length-set s.owners src (Some m) ∙ st.places.0,
-    length-set s.broadcasts src (joining_under m (at s.broadcasts src)) ∙ st.places.1,
-    session_places (claim_step src m s.claimer),
-  );
+  places = record {
+    owners = length-set s.owners src (Some m) ∙ st.places.owners;
+    broadcasts = length-set s.broadcasts src (joining_under m (at s.broadcasts src)) ∙ st.places.broadcasts;
+    sessions = session_places (claim_step src m s.claimer);
+    most = st.places.most;
+  };
   owners = λ a below.
-      written_place s.owners (λ v. owner_heard v h) (λ v. Some m) src (Some m) st.places.0 lt refl st.owners a below;
-  broadcasts = λ a below. changed_place s.broadcasts (λ v. broadcast_heard v h) (joining_under m) src st.places.1 lt st.broadcasts a below;
+      written_place s.owners (λ v. owner_heard v h) (λ v. Some m) src (Some m) st.places.owners lt refl st.owners a below;
+  broadcasts = λ a below. changed_place s.broadcasts (λ v. broadcast_heard v h) (joining_under m) src st.places.broadcasts lt st.broadcasts a below;
   sessions = λ a below.
       sessions_now a below (claim_step src m s.claimer) (is_contest s.claimer.name s.claimer.held (AddressClaimed src m)) (contest_step src m s.claimer)
-      ∙ ap (session_with (packets_at_once grant (most_heard r a h))) (rw (contest_same) refl);
+      ∙ rw (contest_same) refl;
+  most = st.most;
   rows = λ n. ap (row_known (slice_set s.owners src (Some m)) n) (kept_once_claimed (Some src) s.rows m n) ∙ rw (← st.rows n) (rows_now n (m == n) refl);
   names = names_once_claimed (Some src) s.rows m ∙ ap (with_name m) st.names;
-  entries = λ n k. entries_once_claimed (Some src) s.rows m n k ∙ st.entries n k;
+  entries = λ n k. ap (λ (x : List Shown). taken n k ++ x) (entries_once_claimed (Some src) s.rows m n k) ∙ st.entries n k;
   missed = st.missed;
   unread = st.unread;
 }
   where
     contest_same : is_contest s.claimer.name s.claimer.held (AddressClaimed src m) ≡ is_contest r.name (address_heard r h) (AddressClaimed src m)
-    contest_same = rw (held_same r grant s h st, st.claims, name_heard r h) refl
+    contest_same = rw (held_same taken r grant s h st, st.claims, name_heard r h) refl
 
-    session_places : (step : ClaimStep) → length (sessions_after step (slice_set s.sessions src (rejoined (joining_under m) (at s.sessions src)))) ≡ 256
-    session_places Nothing = length-set s.sessions src (rejoined (joining_under m) (at s.sessions src)) ∙ st.places.2
-    session_places Defend = places-empty SessionValue
-    session_places (Move b) = places-empty SessionValue
-    session_places NoAddress = places-empty SessionValue
+    session_places : (step : ClaimStep) → length (sessions_after step (slice_set s.sessions src (joining_under m (at s.sessions src)))) ≡ 256
+    session_places Nothing = length-set s.sessions src (joining_under m (at s.sessions src)) ∙ st.places.sessions
+    session_places Defend = places-empty Joining
+    session_places (Move b) = places-empty Joining
+    session_places NoAddress = places-empty Joining
 
     sessions_now : (a : ℕ) → a < 256 → (step : ClaimStep) (b : Bool) → IsContest step b
-        → at (sessions_after step (slice_set s.sessions src (rejoined (joining_under m) (at s.sessions src)))) a
-        ≡ session_with (packets_at_once grant (most_heard r a h))
-        (if b then None else (if src == a then joining_under m (session_heard r a h) else session_heard r a h))
-    sessions_now a below Nothing b e = rw (e) (changed_session r grant s h (joining_under m) src st lt refl a below)
+        → at (sessions_after step (slice_set s.sessions src (joining_under m (at s.sessions src)))) a
+        ≡ (if b then None else (if src == a then joining_under m (session_heard r a h) else session_heard r a h))
+    sessions_now a below Nothing b e = rw (e) (changed_place s.sessions (λ v. session_heard r v h) (joining_under m) src st.places.sessions lt st.sessions a below)
     sessions_now a below Defend b e = rw (e) (at-empty a)
     sessions_now a below (Move c) b e = rw (e) (at-empty a)
     sessions_now a below NoAddress b e = rw (e) (at-empty a)
 
     rows_now : (n : ℕ) (b : Bool) → (m == n) ≡ b
         → row_known (slice_set s.owners src (Some m)) n (if b then Some (with_claimed (Some src) (unwrap_or (kept_under s.rows n) nothing_kept)) else kept_under s.rows n)
-        ≡ (if b then Some (record { address = Some src; ack = ack_of (row_known s.owners n (kept_under s.rows n)) })
+        ≡ (if b then Some (record { address = Some src; ack = ack_in_row (row_known s.owners n (kept_under s.rows n)) })
         else without_address src (row_known s.owners n (kept_under s.rows n)))
-    rows_now n true e = row_of_claimant s.owners src m n (kept_under s.rows n) st.places.0 lt e
-    rows_now n false e = row_of_other s.owners src m n (kept_under s.rows n) st.places.0 lt e
+    rows_now n true e = row_of_claimant s.owners src m n (kept_under s.rows n) st.places.owners lt e
+    rows_now n false e = row_of_other s.owners src m n (kept_under s.rows n) st.places.owners lt e

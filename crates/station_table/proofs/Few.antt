@@ -9,8 +9,9 @@ use Rattle.transport.specs.declared.control.Control.{Control}
 use Rattle.transport.specs.declared.control.Control.TheVariants.{Rts}
 use Rattle.parameter_group.specs.Group.{Group, AddressClaimed, Request, ConnectionManagement, DataTransfer, group_of}
 use Rattle.station_table.specs.declared.reaction.Reaction.{Reaction}
-use Rattle.station_table.specs.StationValue.{StationValue, at}
-use Rattle.station_table.specs.Reactions.{claim_reaction, replying, reply_to, group_reaction, reaction}
+use Rattle.station_table.specs.StationValue.{StationValue}
+use Rattle.reassembly.specs.Tables.{at}
+use Rattle.station_table.specs.Reactions.{claim_reaction, replying, reply_to, granted_at_once, group_reaction, station_reaction}
 use Rattle.station_table.specs.Steps.{after_group}
 
 pub after_same : (s t : StationValue) (g said : Group) → said ≡ g → t ≡ after_group s said → t ≡ after_group s g
@@ -47,13 +48,13 @@ few_group s (ConnectionManagement source d (Rts size packets most pgn)) =
     few_if (is_held s.claimer.held d && nat_lt source 254) _ _ (omega arith) (omega arith)
 few_group s (DataTransfer source d bytes) =
     few_if (d == 255) _ _ (omega arith)
-    (few_if (is_held s.claimer.held d) _ _ (few_reply (reply_to (at s.sessions source) bytes) d source) (omega arith))
+    (few_if (is_held s.claimer.held d) _ _ (few_reply (reply_to (granted_at_once s source) (at s.sessions source) bytes) d source) (omega arith))
 few_group s _ = omega arith
 
-few_reading : (s : StationValue) (x : Reading) → IsFew (reaction s x)
+few_reading : (s : StationValue) (x : Reading) → IsFew (station_reaction s x)
 few_reading s Empty = omega arith
 few_reading s (Gap n) = omega arith
 few_reading s (Frame f) = few_group s (group_of f)
 
-pub few_frames : (s : StationValue) (x : Reading) (put : Reaction) → put ≡ reaction s x → length put.put ≤ 2
+pub few_frames : (s : StationValue) (x : Reading) (put : Reaction) → put ≡ station_reaction s x → length put.put ≤ 2
 few_frames s x put e = let P : Reaction → Type 0 = λ y. IsFew y in subst P (sym e) (few_reading s x)

@@ -9,7 +9,9 @@ use Rattle.transport.specs.declared.control.Control.TheVariants.{Rts, Bam, Abort
 use Rattle.transport.specs.Assembling.{is_next}
 use Rattle.parameter_group.specs.Group.{Group, AddressClaimed, CannotClaim, Acknowledgment, ConnectionManagement, DataTransfer, group_of}
 use Rattle.bus_model.specs.Traffic.{owner_after}
-use Rattle.bus_model.specs.Heard.{Settings, Joining, RowHeard, is_contest, kind_of, started, with_packet, unfinished, is_whole, kept_under, or_else, without_kind, is_kind, without_address, addressless, with_ack, is_answer, ack_of, owner_heard, address_heard, broadcast_after, broadcast_heard, session_after, session_heard, row_after, row_heard}
+use Rattle.reassembly.specs.Partials.{with_packet, unfinished, is_whole}
+use Rattle.parameter_group.specs.Calm.{is_contest}
+use Rattle.bus_model.specs.Heard.{StationSettings, Joining, RowHeard, kind_of, started, kept_by_owner, or_else, without_kind, is_kind, without_address, addressless, row_with_ack, is_answer, ack_in_row, owner_heard, address_heard, broadcast_after, broadcast_heard, session_after, session_heard, row_after, row_heard}
 
 -- a choice that gave something: which way it went
 pub pick_cases : {X : Type 0} (b : Bool) (o r v : X) → (if b then o else r) ≡ v → ((b ≡ true) × (o ≡ v)) ⊎ ((b ≡ false) × (r ≡ v))
@@ -24,25 +26,25 @@ without_address-some a (Some row) h = go (is_held row.address a)
     go true = refl
     go false = refl
 
-with_ack-some : (c p : ℕ) (o : Option RowHeard) → is_some o ≡ true → is_some (with_ack c p o) ≡ true
+with_ack-some : (c p : ℕ) (o : Option RowHeard) → is_some o ≡ true → is_some (row_with_ack c p o) ≡ true
 with_ack-some c p None h = h
 with_ack-some c p (Some row) h = refl
 
 -- a row stays
-row_stays : (r : Settings) (n : ℕ) (g : Group) (older : List Reading) (o : Option RowHeard) → is_some o ≡ true → is_some (row_after r n g older o) ≡ true
+row_stays : (r : StationSettings) (n : ℕ) (g : Group) (older : List Reading) (o : Option RowHeard) → is_some o ≡ true → is_some (row_after r n g older o) ≡ true
 row_stays r n (AddressClaimed s m) older o h = go (m == n)
   where
-    go : (b : Bool) → is_some (if b then Some (record { address = Some s; ack = ack_of o }) else without_address s o) ≡ true
+    go : (b : Bool) → is_some (if b then Some (record { address = Some s; ack = ack_in_row o }) else without_address s o) ≡ true
     go true = refl
     go false = without_address-some s o h
 row_stays r n (CannotClaim m) older o h = go (m == n)
   where
-    go : (b : Bool) → is_some (if b then Some (record { address = None; ack = ack_of o }) else o) ≡ true
+    go : (b : Bool) → is_some (if b then Some (record { address = None; ack = ack_in_row o }) else o) ≡ true
     go true = refl
     go false = h
 row_stays r n (Acknowledgment control requester pgn d s) older o h = go (is_answer requester d (address_heard r older) (owner_heard s older) n)
   where
-    go : (b : Bool) → is_some (if b then with_ack control pgn o else o) ≡ true
+    go : (b : Bool) → is_some (if b then row_with_ack control pgn o else o) ≡ true
     go true = with_ack-some control pgn o h
     go false = h
 row_stays r n _ older o h = h
@@ -52,7 +54,7 @@ addressless-some None h = h
 addressless-some (Some row) h = refl
 
 -- the owner of an address has a row
-owner_after-row : (r : Settings) (a n : ℕ) (g : Group) (older : List Reading) (own : Option ℕ) (o : Option RowHeard)
+owner_after-row : (r : StationSettings) (a n : ℕ) (g : Group) (older : List Reading) (own : Option ℕ) (o : Option RowHeard)
     → (own ≡ Some n → is_some o ≡ true) → owner_after a g own ≡ Some n → is_some (row_after r n g older o) ≡ true
 owner_after-row r a n (AddressClaimed s m) older own o ih h = ⊎_elim claimed before (pick_cases (s == a) (Some m) own (Some n) h)
   where
@@ -65,7 +67,7 @@ owner_after-row r a n (CannotClaim m) older own o ih h = row_stays r n (CannotCl
 owner_after-row r a n (Acknowledgment c q p d s) older own o ih h = row_stays r n (Acknowledgment c q p d s) older o (ih h)
 owner_after-row r a n _ older own o ih h = ih h
 
-pub owner_has_row : (r : Settings) (a n : ℕ) (h : List Reading) → owner_heard a h ≡ Some n → is_some (row_heard r n h) ≡ true
+pub owner_has_row : (r : StationSettings) (a n : ℕ) (h : List Reading) → owner_heard a h ≡ Some n → is_some (row_heard r n h) ≡ true
 owner_has_row r a n [] e = absurd cc
 owner_has_row r a n (Gap m ∷ older) e = absurd cc
 owner_has_row r a n (Empty ∷ older) e = owner_has_row r a n older e
@@ -73,18 +75,18 @@ owner_has_row r a n (Frame f ∷ older) e =
     owner_after-row r a n (group_of f) older (owner_heard a older) (row_heard r n older) (owner_has_row r a n older) e
 
 -- a message that starts is the owner's
-started-owner : (k : Option Kind) (size : ℕ) (own : Option ℕ) (j : Joining) → started k size own ≡ Some j → own ≡ Some j.owner
+started-owner : (k : Option Kind) (size : ℕ) (own : Option ℕ) (j : Joining) → started k size own ≡ Some j → own ≡ Some j.tag.owner
 started-owner None size own j h = absurd cc
 started-owner (Some k) size None j h = absurd cc
-started-owner (Some k) size (Some n) j h = let e : record { owner = n; kind = k; size = size; pieces = [] } ≡ j = cc in ap (λ (v : Joining). Some v.owner) e
+started-owner (Some k) size (Some n) j h = let e : record { tag = record { owner = n; kind = k }; size = size; pieces = [] } ≡ j = cc in ap (λ (v : Joining). Some v.tag.owner) e
 
-with_packet-owner : (bytes : List ℕ) (o : Option Joining) (j : Joining) → with_packet bytes o ≡ Some j → (i : Joining) × (o ≡ Some i) × (i.owner ≡ j.owner)
+with_packet-owner : (bytes : List ℕ) (o : Option Joining) (j : Joining) → with_packet bytes o ≡ Some j → (i : Joining) × (o ≡ Some i) × (i.tag.owner ≡ j.tag.owner)
 with_packet-owner bytes None j h = absurd cc
 with_packet-owner bytes (Some i) j h = go (is_next i.size i.pieces bytes) h
   where
-    go : (b : Bool) → (if b then Some (record i { pieces = i.pieces ++ drop 1 bytes ∷ [] }) else None) ≡ Some j → (x : Joining) × (Some i ≡ Some x) × (x.owner ≡ j.owner)
+    go : (b : Bool) → (if b then Some (record i { pieces = i.pieces ++ drop 1 bytes ∷ [] }) else None) ≡ Some j → (x : Joining) × (Some i ≡ Some x) × (x.tag.owner ≡ j.tag.owner)
     go false e = absurd cc
-    go true e = let q : record i { pieces = i.pieces ++ drop 1 bytes ∷ [] } ≡ j = cc in (i, refl, ap (λ (v : Joining). v.owner) q)
+    go true e = let q : record i { pieces = i.pieces ++ drop 1 bytes ∷ [] } ≡ j = cc in (i, refl, ap (λ (v : Joining). v.tag.owner) q)
 
 unfinished-same : (o : Option Joining) (j : Joining) → unfinished o ≡ Some j → o ≡ Some j
 unfinished-same None j h = h
@@ -94,9 +96,9 @@ unfinished-same (Some i) j h = go (is_whole i) h
     go true e = absurd cc
     go false e = e
 
-kept_under-same : (n : ℕ) (o : Option Joining) (j : Joining) → kept_under n o ≡ Some j → o ≡ Some j
+kept_under-same : (n : ℕ) (o : Option Joining) (j : Joining) → kept_by_owner n o ≡ Some j → o ≡ Some j
 kept_under-same n None j h = h
-kept_under-same n (Some i) j h = go (n == i.owner) h
+kept_under-same n (Some i) j h = go (n == i.tag.owner) h
   where
     go : (b : Bool) → (if b then Some i else None) ≡ Some j → Some i ≡ Some j
     go true e = e
@@ -104,26 +106,26 @@ kept_under-same n (Some i) j h = go (n == i.owner) h
 
 without_kind-same : (k : Option Kind) (o : Option Joining) (j : Joining) → without_kind k o ≡ Some j → o ≡ Some j
 without_kind-same k None j h = h
-without_kind-same k (Some i) j h = go (is_kind i.kind k) h
+without_kind-same k (Some i) j h = go (is_kind i.tag.kind k) h
   where
     go : (b : Bool) → (if b then None else Some i) ≡ Some j → Some i ≡ Some j
     go true e = absurd cc
     go false e = e
 
 -- the packet's message is of the same owner
-pub packet_owner_row : (r : Settings) (h : List Reading) (bytes : List ℕ) (o : Option Joining) (j : Joining)
-    → ((i : Joining) → o ≡ Some i → is_some (row_heard r i.owner h) ≡ true) → with_packet bytes o ≡ Some j → is_some (row_heard r j.owner h) ≡ true
+pub packet_owner_row : (r : StationSettings) (h : List Reading) (bytes : List ℕ) (o : Option Joining) (j : Joining)
+    → ((i : Joining) → o ≡ Some i → is_some (row_heard r i.tag.owner h) ≡ true) → with_packet bytes o ≡ Some j → is_some (row_heard r j.tag.owner h) ≡ true
 packet_owner_row r h bytes o j ih e =
     let w = with_packet-owner bytes o j e in
     subst (λ (v : ℕ). is_some (row_heard r v h) ≡ true) w.2 (ih w.0 w.1)
 
 -- the owner of a broadcast that is half joined has a row
-broadcast_after-row : (r : Settings) (a : ℕ) (j : Joining) (g : Group) (older : List Reading) (before : Option Joining)
-    → ((i : Joining) → before ≡ Some i → is_some (row_heard r i.owner older) ≡ true) → broadcast_after a g (owner_heard a older) before ≡ Some j
-    → is_some (row_after r j.owner g older (row_heard r j.owner older)) ≡ true
+broadcast_after-row : (r : StationSettings) (a : ℕ) (j : Joining) (g : Group) (older : List Reading) (before : Option Joining)
+    → ((i : Joining) → before ≡ Some i → is_some (row_heard r i.tag.owner older) ≡ true) → broadcast_after a g (owner_heard a older) before ≡ Some j
+    → is_some (row_after r j.tag.owner g older (row_heard r j.tag.owner older)) ≡ true
 broadcast_after-row r a j (ConnectionManagement s d (Bam size packets pgn)) older before ih h =
     ⊎_elim
-    (λ w. owner_has_row r a j.owner older (started-owner (kind_of pgn) size (owner_heard a older) j w.1))
+    (λ w. owner_has_row r a j.tag.owner older (started-owner (kind_of pgn) size (owner_heard a older) j w.1))
     (λ w. ih j w.1)
     (pick_cases (s == a && d == 255) (started (kind_of pgn) size (owner_heard a older)) before (Some j) h)
 broadcast_after-row r a j (DataTransfer s d bytes) older before ih h =
@@ -132,13 +134,13 @@ broadcast_after-row r a j (DataTransfer s d bytes) older before ih h =
     (λ w. ih j w.1)
     (pick_cases (s == a && d == 255) (unfinished (with_packet bytes before)) before (Some j) h)
 broadcast_after-row r a j (AddressClaimed s n) older before ih h =
-    row_stays r j.owner (AddressClaimed s n) older (row_heard r j.owner older)
-    (⊎_elim (λ w. ih j (kept_under-same n before j w.1)) (λ w. ih j w.1) (pick_cases (s == a) (kept_under n before) before (Some j) h))
-broadcast_after-row r a j (CannotClaim n) older before ih h = row_stays r j.owner (CannotClaim n) older (row_heard r j.owner older) (ih j h)
-broadcast_after-row r a j (Acknowledgment c q p d s) older before ih h = row_stays r j.owner (Acknowledgment c q p d s) older (row_heard r j.owner older) (ih j h)
+    row_stays r j.tag.owner (AddressClaimed s n) older (row_heard r j.tag.owner older)
+    (⊎_elim (λ w. ih j (kept_under-same n before j w.1)) (λ w. ih j w.1) (pick_cases (s == a) (kept_by_owner n before) before (Some j) h))
+broadcast_after-row r a j (CannotClaim n) older before ih h = row_stays r j.tag.owner (CannotClaim n) older (row_heard r j.tag.owner older) (ih j h)
+broadcast_after-row r a j (Acknowledgment c q p d s) older before ih h = row_stays r j.tag.owner (Acknowledgment c q p d s) older (row_heard r j.tag.owner older) (ih j h)
 broadcast_after-row r a j _ older before ih h = ih j h
 
-pub broadcast_has_row : (r : Settings) (a : ℕ) (h : List Reading) (j : Joining) → broadcast_heard a h ≡ Some j → is_some (row_heard r j.owner h) ≡ true
+pub broadcast_has_row : (r : StationSettings) (a : ℕ) (h : List Reading) (j : Joining) → broadcast_heard a h ≡ Some j → is_some (row_heard r j.tag.owner h) ≡ true
 broadcast_has_row r a [] j e = absurd cc
 broadcast_has_row r a (Gap m ∷ older) j e = absurd cc
 broadcast_has_row r a (Empty ∷ older) j e = broadcast_has_row r a older j e
@@ -150,12 +152,12 @@ or_else-cases None before j h = inr h
 or_else-cases (Some i) before j h = inl h
 
 -- the owner of a session that is half joined has a row
-session_after-row : (r : Settings) (a : ℕ) (j : Joining) (g : Group) (older : List Reading) (held : Option ℕ) (before : Option Joining)
-    → ((i : Joining) → before ≡ Some i → is_some (row_heard r i.owner older) ≡ true) → session_after r.name a g held (owner_heard a older) before ≡ Some j
-    → is_some (row_after r j.owner g older (row_heard r j.owner older)) ≡ true
+session_after-row : (r : StationSettings) (a : ℕ) (j : Joining) (g : Group) (older : List Reading) (held : Option ℕ) (before : Option Joining)
+    → ((i : Joining) → before ≡ Some i → is_some (row_heard r i.tag.owner older) ≡ true) → session_after r.name a g held (owner_heard a older) before ≡ Some j
+    → is_some (row_after r j.tag.owner g older (row_heard r j.tag.owner older)) ≡ true
 session_after-row r a j (ConnectionManagement s d (Rts size packets most pgn)) older held before ih h =
     ⊎_elim
-    (λ w. ⊎_elim (λ e. owner_has_row r a j.owner older (started-owner (kind_of pgn) size (owner_heard a older) j e)) (λ e. ih j e)
+    (λ w. ⊎_elim (λ e. owner_has_row r a j.tag.owner older (started-owner (kind_of pgn) size (owner_heard a older) j e)) (λ e. ih j e)
     (or_else-cases (started (kind_of pgn) size (owner_heard a older)) before j w.1))
     (λ w. ih j w.1)
     (pick_cases (s == a && is_held held d) (or_else (started (kind_of pgn) size (owner_heard a older)) before) before (Some j) h)
@@ -168,16 +170,16 @@ session_after-row r a j (DataTransfer s d bytes) older held before ih h =
     (λ w. ih j w.1)
     (pick_cases (s == a && is_held held d) (unfinished (with_packet bytes before)) before (Some j) h)
 session_after-row r a j (AddressClaimed s n) older held before ih h =
-    row_stays r j.owner (AddressClaimed s n) older (row_heard r j.owner older)
+    row_stays r j.tag.owner (AddressClaimed s n) older (row_heard r j.tag.owner older)
     (⊎_elim
     (λ w. absurd (cc (w.1)))
-    (λ w. ⊎_elim (λ v. ih j (kept_under-same n before j v.1)) (λ v. ih j v.1) (pick_cases (s == a) (kept_under n before) before (Some j) w.1))
-    (pick_cases (is_contest r.name held (AddressClaimed s n)) None (if s == a then kept_under n before else before) (Some j) h))
-session_after-row r a j (CannotClaim n) older held before ih h = row_stays r j.owner (CannotClaim n) older (row_heard r j.owner older) (ih j h)
-session_after-row r a j (Acknowledgment c q p d s) older held before ih h = row_stays r j.owner (Acknowledgment c q p d s) older (row_heard r j.owner older) (ih j h)
+    (λ w. ⊎_elim (λ v. ih j (kept_under-same n before j v.1)) (λ v. ih j v.1) (pick_cases (s == a) (kept_by_owner n before) before (Some j) w.1))
+    (pick_cases (is_contest r.name held (AddressClaimed s n)) None (if s == a then kept_by_owner n before else before) (Some j) h))
+session_after-row r a j (CannotClaim n) older held before ih h = row_stays r j.tag.owner (CannotClaim n) older (row_heard r j.tag.owner older) (ih j h)
+session_after-row r a j (Acknowledgment c q p d s) older held before ih h = row_stays r j.tag.owner (Acknowledgment c q p d s) older (row_heard r j.tag.owner older) (ih j h)
 session_after-row r a j _ older held before ih h = ih j h
 
-pub session_has_row : (r : Settings) (a : ℕ) (h : List Reading) (j : Joining) → session_heard r a h ≡ Some j → is_some (row_heard r j.owner h) ≡ true
+pub session_has_row : (r : StationSettings) (a : ℕ) (h : List Reading) (j : Joining) → session_heard r a h ≡ Some j → is_some (row_heard r j.tag.owner h) ≡ true
 session_has_row r a [] j e = absurd cc
 session_has_row r a (Gap m ∷ older) j e = absurd cc
 session_has_row r a (Empty ∷ older) j e = session_has_row r a older j e

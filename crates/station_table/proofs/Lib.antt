@@ -1,13 +1,13 @@
 pub mod Claims
 pub mod Commands
 pub mod Few
-pub mod HalfLemmas
+pub mod Joinings
 pub mod Known
 pub mod Lines
+pub mod Lists
 pub mod Messages
 pub mod Orders
 pub mod OwnAddress
 pub mod Queries
 pub mod RowLemmas
 pub mod Stands
-pub mod Tables

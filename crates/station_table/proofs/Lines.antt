@@ -1,48 +1,47 @@
 -- After each thing that a frame can say, the tables have at each address what was then heard of it.
 use Rattle.std.proofs.Common.{◌≡◌, ℕ, ◌+◌, ◌<◌, Bool, true, false, ◌==◌, not, ◌&&◌, List, [], ◌∷◌, ◌++◌, Option, Some, None, is_some, if◌then◌else◌, length, map, reverse, refl, sym, ap, ◌∙◌, subst}
-use Rattle.std.specs.Prelude.{slice_set}
+use Rattle.std.specs.Prelude.{slice_set, slice_index}
 use Rattle.std.specs.Option.{option_map, option_map_or}
 use Rattle.std.proofs.lemmas.Bool.{eqb-true}
 use Rattle.std.proofs.lemmas.Grind.{reverse_onto}
+use Rattle.std.proofs.lemmas.List.{append_assoc}
 use Rattle.address_claim.specs.Claiming.{is_held}
 use Rattle.can_frame.specs.declared.reading.Reading.{Reading}
 use Rattle.dm_messages.specs.declared.kind.Kind.{Kind}
 use Rattle.dm_messages.specs.declared.kind.Kind.TheVariants.{Dm1, Dm2}
 use Rattle.dm_messages.specs.declared.shown.Shown.{Shown}
-use Rattle.dm_messages.specs.View.{decoding}
-use Rattle.parameter_group.specs.Group.{Group, Other}
+use Rattle.dm_messages.specs.View.{decoding, same_kind}
+use Rattle.parameter_group.specs.Group.{Group}
 use Rattle.bus_model.specs.Traffic.{owner_after}
-use Rattle.bus_model.specs.Heard.{Settings, Joining, Entry, same_kind, counted, owner_heard, claimer_heard, claimer_after, address_heard, broadcast_after, broadcast_heard, session_after, session_heard, row_after, row_heard, names_after, names_heard, ended_by, put, put_read, entries_heard, is_unreadable, unread_count, missed_count}
+use Rattle.bus_model.specs.Heard.{StationSettings, Entry, counted, owner_heard, claimer_heard, claimer_after, address_heard, broadcast_after, broadcast_heard, session_after, session_heard, row_after, row_heard, names_after, names_heard, ended_by, put, put_read, entries_heard, is_unreadable, unread_count, missed_count}
 use Rattle.station_table.specs.KeptValue.{KeptValue, kept_under, entries_of, entries_under, with_entry, changed_under}
-use Rattle.station_table.specs.StationValue.{StationValue, at}
-use Rattle.station_table.specs.Steps.{session_with, rejoined, packets_at_once, with_reading, with_ended}
-use Rattle.station_table.specs.StandsFor.{StandsFor, session_known, most_after, most_heard, row_known}
-use Rattle.station_table.proofs.Tables.{at-set}
+use Rattle.reassembly.specs.Tables.{at}
+use Rattle.reassembly.specs.TableLaws.{at-set}
+use Rattle.station_table.specs.StationValue.{StationValue}
+use Rattle.station_table.specs.Steps.{with_reading, with_ended}
+use Rattle.station_table.specs.StandsFor.{StandsBeside, AreTables, most_after, most_heard, row_known}
 use Rattle.station_table.proofs.RowLemmas.{named, kept_under-changed, names-changed}
 
 -- the tables after one frame that says this
-pub record StandsAfter (r : Settings) (grant : ℕ) (g : Group) (s : StationValue) (h : List Reading) : Type 0 where
+pub record StandsAfter (taken : ℕ → Kind → List Shown) (r : StationSettings) (grant : ℕ) (g : Group) (s : StationValue) (h : List Reading) : Type 0 where
   pub grants : s.grant ≡ grant
   pub claims : s.claimer ≡ claimer_after g (claimer_heard r h)
   pub apart : is_held s.claimer.held 255 ≡ false
-  pub places : (length s.owners ≡ 256) × (length s.broadcasts ≡ 256) × (length s.sessions ≡ 256)
+  pub places : AreTables s.owners s.broadcasts s.sessions s.most
   pub owners : (a : ℕ) → a < 256 → at s.owners a ≡ owner_after a g (owner_heard a h)
   pub broadcasts : (a : ℕ) → a < 256 → at s.broadcasts a ≡ broadcast_after a g (owner_heard a h) (broadcast_heard a h)
-  pub sessions :
-      (a : ℕ) → a < 256
-      → at s.sessions a
-      ≡ session_with (packets_at_once grant (most_after a g (address_heard r h) (owner_heard a h) (most_heard r a h)))
-      (session_after r.name a g (address_heard r h) (owner_heard a h) (session_heard r a h))
+  pub sessions : (a : ℕ) → a < 256 → at s.sessions a ≡ session_after r.name a g (address_heard r h) (owner_heard a h) (session_heard r a h)
+  pub most : (a : ℕ) → a < 256 → slice_index s.most a ≡ most_after a g (address_heard r h) (owner_heard a h) (most_heard r a h)
   pub rows : (n : ℕ) → row_known s.owners n (kept_under s.rows n) ≡ row_after r n g h (row_heard r n h)
   pub names : map named s.rows ≡ names_after g (names_heard h)
-  pub entries : (n : ℕ) (k : Kind) → entries_under s.rows n k ≡ reverse (put n k (ended_by r g h) (entries_heard r n k h))
+  pub entries : (n : ℕ) (k : Kind) → taken n k ++ entries_under s.rows n k ≡ reverse (put n k (ended_by r g h) (entries_heard r n k h))
   pub missed : s.missed ≡ missed_count h
   pub unread : s.unread ≡ (if is_unreadable (ended_by r g h) then counted (unread_count r h + 1) else unread_count r h)
 
 -- the station's own address
-pub held_same : (r : Settings) (grant : ℕ) (s : StationValue) (h : List Reading) → StandsFor r grant s h → s.claimer.held ≡ address_heard r h
+pub held_same : (taken : ℕ → Kind → List Shown) (r : StationSettings) (grant : ℕ) (s : StationValue) (h : List Reading) → StandsBeside taken r grant s h → s.claimer.held ≡ address_heard r h
 unfolding address_heard
-held_same r grant s h st = rw (st.claims) refl
+held_same taken r grant s h st = rw (st.claims) refl
 
 -- two tests of one number
 pub and_true : (b : Bool) → (b && true) ≡ b
@@ -74,42 +73,20 @@ pub written_place : {X : Type 0} (t : List (Option X)) (known new : ℕ → Opti
 written_place t known new i v len lt e same a below =
     at-set t i a v (subst (λ (x : ℕ). i < x) (sym len) lt) ∙ (rw (e, same a below) (at_place new i a (known a)))
 
--- a change of what a session has joined
-pub rejoined_lem : (change : Option Joining → Option Joining) (p : ℕ) (j : Option Joining) → change None ≡ None → rejoined change (session_with p j) ≡ session_with p (change j)
-rejoined_lem change p None e = rw (e) refl
-rejoined_lem change p (Some j) e = refl
-
-pub if_session : (b : Bool) (p : ℕ) (x y : Option Joining) → (if b then session_with p x else session_with p y) ≡ session_with p (if b then x else y)
-if_session true p x y = refl
-if_session false p x y = refl
-
--- one session is changed
-pub changed_session : (r : Settings) (grant : ℕ) (s : StationValue) (h : List Reading) (change : Option Joining → Option Joining) (i : ℕ)
-    → StandsFor r grant s h → i < 256 → change None ≡ None → (a : ℕ) → a < 256
-    → at (slice_set s.sessions i (rejoined change (at s.sessions i))) a
-    ≡ session_with (packets_at_once grant (most_heard r a h)) (if i == a then change (session_heard r a h) else session_heard r a h)
-changed_session r grant s h change i st lt e a below =
-    changed_place s.sessions (λ v. session_known r grant v h) (rejoined change) i st.places.2 lt st.sessions a below
-    ∙ (rw (rejoined_lem change (packets_at_once grant (most_heard r a h)) (session_heard r a h) e)
-    (if_session (i == a) (packets_at_once grant (most_heard r a h)) (change (session_heard r a h)) (session_heard r a h)))
-
 -- the tables before a message that ended is read: what else the frame says is there already
-pub record Midway (r : Settings) (grant : ℕ) (g : Group) (s : StationValue) (h : List Reading) : Type 0 where
+pub record Midway (taken : ℕ → Kind → List Shown) (r : StationSettings) (grant : ℕ) (g : Group) (s : StationValue) (h : List Reading) : Type 0 where
   pub grants : s.grant ≡ grant
   pub claims : s.claimer ≡ claimer_after g (claimer_heard r h)
   pub apart : is_held s.claimer.held 255 ≡ false
-  pub places : (length s.owners ≡ 256) × (length s.broadcasts ≡ 256) × (length s.sessions ≡ 256)
+  pub places : AreTables s.owners s.broadcasts s.sessions s.most
   pub owners : (a : ℕ) → a < 256 → at s.owners a ≡ owner_after a g (owner_heard a h)
   pub broadcasts : (a : ℕ) → a < 256 → at s.broadcasts a ≡ broadcast_after a g (owner_heard a h) (broadcast_heard a h)
-  pub sessions :
-      (a : ℕ) → a < 256
-      → at s.sessions a
-      ≡ session_with (packets_at_once grant (most_after a g (address_heard r h) (owner_heard a h) (most_heard r a h)))
-      (session_after r.name a g (address_heard r h) (owner_heard a h) (session_heard r a h))
+  pub sessions : (a : ℕ) → a < 256 → at s.sessions a ≡ session_after r.name a g (address_heard r h) (owner_heard a h) (session_heard r a h)
+  pub most : (a : ℕ) → a < 256 → slice_index s.most a ≡ most_after a g (address_heard r h) (owner_heard a h) (most_heard r a h)
   pub before : (n : ℕ) → row_known s.owners n (kept_under s.rows n) ≡ row_heard r n h
   pub rows : (n : ℕ) → row_heard r n h ≡ row_after r n g h (row_heard r n h)
   pub names : map named s.rows ≡ names_after g (names_heard h)
-  pub entries : (n : ℕ) (k : Kind) → entries_under s.rows n k ≡ reverse (entries_heard r n k h)
+  pub entries : (n : ℕ) (k : Kind) → taken n k ++ entries_under s.rows n k ≡ reverse (entries_heard r n k h)
   pub missed : s.missed ≡ missed_count h
   pub unread : s.unread ≡ unread_count r h
 
@@ -130,36 +107,34 @@ row_if_entry owners n k v o true = row_with_entry owners n k v o
 row_if_entry owners n k v o false = refl
 
 -- one more entry of a kind, newest last
-entries_with : (k l : Kind) (v : Shown) (x : KeptValue) → entries_of (with_entry k v x) l ≡ (if same_kind k l then entries_of x l ++ v ∷ [] else entries_of x l)
+pub entries_with : (k l : Kind) (v : Shown) (x : KeptValue) → entries_of (with_entry k v x) l ≡ (if same_kind k l then entries_of x l ++ v ∷ [] else entries_of x l)
 entries_with Dm1 Dm1 v x = refl
 entries_with Dm1 Dm2 v x = refl
 entries_with Dm2 Dm1 v x = refl
 entries_with Dm2 Dm2 v x = refl
 
 -- of what was heard newest first, one more stands last when turned round
-turned_push : (v : Shown) (shown : List Shown) (heard : List Shown) (b : Bool) → shown ≡ reverse heard
-    → (if b then shown ++ v ∷ [] else shown) ≡ reverse (if b then v ∷ heard else heard)
-turned_push v shown heard true e = rw (e) (sym (reverse_onto heard v []))
-turned_push v shown heard false e = e
+turned_push : (taken : List Shown) (v : Shown) (shown : List Shown) (heard : List Shown) (b : Bool) → taken ++ shown ≡ reverse heard
+    → taken ++ (if b then shown ++ v ∷ [] else shown) ≡ reverse (if b then v ∷ heard else heard)
+turned_push taken v shown heard true e = sym (append_assoc taken shown (v ∷ [])) ∙ (ap (λ (x : List Shown). x ++ v ∷ []) e ∙ sym (reverse_onto heard v []))
+turned_push taken v shown heard false e = e
 
 -- the entries of each NAME and kind once one was added
-entries_added : (rows : List (ℕ × KeptValue)) (m n : ℕ) (k l : Kind) (v : Shown) (heard : List Shown)
-    → ((x : KeptValue) × (kept_under rows m ≡ Some x)) → entries_under rows n l ≡ reverse heard
-    → entries_under (changed_under (with_entry k v) rows m) n l ≡ reverse (if m == n && same_kind k l then v ∷ heard else heard)
-entries_added rows m n k l v heard there e =
-    ap (λ (o : Option KeptValue). option_map_or (λ kept. entries_of kept l) o []) (kept_under-changed (with_entry k v) rows m n)
+entries_added : (taken : List Shown) (rows : List (ℕ × KeptValue)) (m n : ℕ) (k l : Kind) (v : Shown) (heard : List Shown)
+    → ((x : KeptValue) × (kept_under rows m ≡ Some x)) → taken ++ entries_under rows n l ≡ reverse heard
+    → taken ++ entries_under (changed_under (with_entry k v) rows m) n l ≡ reverse (if m == n && same_kind k l then v ∷ heard else heard)
+entries_added taken rows m n k l v heard there e =
+    ap (λ (o : Option KeptValue). taken ++ option_map_or (λ kept. entries_of kept l) o []) (kept_under-changed (with_entry k v) rows m n)
     ∙ go (m == n) refl
   where
-    of_other : (b : Bool) → reverse heard ≡ reverse (if false && b then v ∷ heard else heard)
-    of_other b = refl
-
-    of_same : (x : KeptValue) → kept_under rows n ≡ Some x → entries_of (with_entry k v x) l ≡ reverse (if true && same_kind k l then v ∷ heard else heard)
+    of_same : (x : KeptValue) → kept_under rows n ≡ Some x → taken ++ entries_of (with_entry k v x) l ≡ reverse (if true && same_kind k l then v ∷ heard else heard)
     of_same x i =
-        let now : entries_of x l ≡ reverse heard = (let q : entries_under rows n l ≡ entries_of x l = (rw (i) refl) in sym q ∙ e) in
-        entries_with k l v x ∙ turned_push v (entries_of x l) heard (same_kind k l) now
+        let q : entries_under rows n l ≡ entries_of x l = rw (i) refl in
+        let now : taken ++ entries_of x l ≡ reverse heard = ap (λ (y : List Shown). taken ++ y) (sym q) ∙ e in
+        ap (λ (y : List Shown). taken ++ y) (entries_with k l v x) ∙ turned_push taken v (entries_of x l) heard (same_kind k l) now
 
     go : (b : Bool) → (m == n) ≡ b
-        → option_map_or (λ kept. entries_of kept l) (if b then option_map (with_entry k v) (kept_under rows n) else kept_under rows n) []
+        → taken ++ option_map_or (λ kept. entries_of kept l) (if b then option_map (with_entry k v) (kept_under rows n) else kept_under rows n) []
         ≡ reverse (if b && same_kind k l then v ∷ heard else heard)
     go false i = e
     go true i =
@@ -171,9 +146,9 @@ if_same true x = refl
 if_same false x = refl
 
 -- a message that ends is read
-pub ending : (r : Settings) (grant : ℕ) (g : Group) (s : StationValue) (h : List Reading) (o : Option Entry) → Midway r grant g s h → o ≡ ended_by r g h
-    → ((e : Entry) → o ≡ Some e → is_some (row_heard r e.name h) ≡ true) → StandsAfter r grant g (with_ended s o) h
-ending r grant g s h None mid e there = record {
+pub ending : (taken : ℕ → Kind → List Shown) (r : StationSettings) (grant : ℕ) (g : Group) (s : StationValue) (h : List Reading) (o : Option Entry) → Midway taken r grant g s h → o ≡ ended_by r g h
+    → ((e : Entry) → o ≡ Some e → is_some (row_heard r e.name h) ≡ true) → StandsAfter taken r grant g (with_ended s o) h
+ending taken r grant g s h None mid e there = record {
   grants = mid.grants;
   claims = mid.claims;
   apart = mid.apart;
@@ -181,13 +156,14 @@ ending r grant g s h None mid e there = record {
   owners = mid.owners;
   broadcasts = mid.broadcasts;
   sessions = mid.sessions;
+  most = mid.most;
   rows = λ n. mid.before n ∙ mid.rows n;
   names = mid.names;
   entries = λ n k. rw (← e) (mid.entries n k);
   missed = mid.missed;
   unread = rw (← e) (mid.unread);
 }
-ending r grant g s h (Some m) mid e there = go (decoding m.bytes) refl
+ending taken r grant g s h (Some m) mid e there = go (decoding m.bytes) refl
   where
     unread_now : (o : Option Shown) → decoding m.bytes ≡ o
         → (if is_unreadable (ended_by r g h) then counted (unread_count r h + 1) else unread_count r h) ≡ (if not (is_some o) then counted (unread_count r h + 1) else unread_count r h)
@@ -197,7 +173,7 @@ ending r grant g s h (Some m) mid e there = go (decoding m.bytes) refl
         → put n k (ended_by r g h) (entries_heard r n k h) ≡ (if m.name == n && same_kind m.kind k then put_read o (entries_heard r n k h) else entries_heard r n k h)
     put_now o i n k = rw (← e, i) refl
 
-    go : (o : Option Shown) → decoding m.bytes ≡ o → StandsAfter r grant g (with_reading s m.name m.kind o) h
+    go : (o : Option Shown) → decoding m.bytes ≡ o → StandsAfter taken r grant g (with_reading s m.name m.kind o) h
     go None i = record {
       grants = mid.grants;
       claims = mid.claims;
@@ -206,6 +182,7 @@ ending r grant g s h (Some m) mid e there = go (decoding m.bytes) refl
       owners = mid.owners;
       broadcasts = mid.broadcasts;
       sessions = mid.sessions;
+      most = mid.most;
       rows = λ n. mid.before n ∙ mid.rows n;
       names = mid.names;
       entries = λ n k. mid.entries n k ∙ ap (λ (x : List Shown). reverse x) (if_same (m.name == n && same_kind m.kind k) (entries_heard r n k h) ∙ sym (put_now None i n k));
@@ -220,12 +197,13 @@ ending r grant g s h (Some m) mid e there = go (decoding m.bytes) refl
       owners = mid.owners;
       broadcasts = mid.broadcasts;
       sessions = mid.sessions;
+      most = mid.most;
       rows = λ n.
           ap (row_known s.owners n) (kept_under-changed (with_entry m.kind v) s.rows m.name n)
           ∙ (row_if_entry s.owners n m.kind v (kept_under s.rows n) (m.name == n) ∙ (mid.before n ∙ mid.rows n));
       names = names-changed (with_entry m.kind v) s.rows m.name ∙ mid.names;
       entries = λ n k.
-          entries_added s.rows m.name n m.kind k v (entries_heard r n k h)
+          entries_added (taken n k) s.rows m.name n m.kind k v (entries_heard r n k h)
           (has_row s.owners m.name (kept_under s.rows m.name) (rw (mid.before m.name) (there m refl))) (mid.entries n k)
           ∙ ap (λ (x : List Shown). reverse x) (sym (put_now (Some v) i n k));
       missed = mid.missed;

@@ -1,7 +1,7 @@
 -- After a diagnostic message, or a part of one, the tables have at each address what was then heard of it.
 use Rattle.std.proofs.Common.{◌≡◌, ℕ, ◌<◌, Bool, true, false, ◌==◌, ◌&&◌, List, Option, Some, None, is_some, if◌then◌else◌, refl, sym, ap, ◌∙◌, subst, ⊎_elim}
-use Rattle.std.specs.Prelude.{slice_set}
-use Rattle.std.proofs.lemmas.Bool.{eqb-true}
+use Rattle.std.specs.Prelude.{slice_set, slice_index}
+use Rattle.std.proofs.lemmas.Bool.{eq-eqb, eqb-true}
 use Rattle.std.proofs.lemmas.List.{length-set}
 use Rattle.address_claim.specs.Claiming.{is_held}
 use Rattle.can_frame.specs.declared.reading.Reading.{Reading}
@@ -11,19 +11,22 @@ use Rattle.dm_messages.specs.View.{decoding}
 use Rattle.transport.specs.declared.control.Control.TheVariants.{Rts, Bam, Abort}
 use Rattle.transport.specs.Pieces.{joined}
 use Rattle.parameter_group.specs.Group.{Diagnostic, ConnectionManagement, DataTransfer}
-use Rattle.bus_model.specs.Heard.{Settings, Joining, Entry, kind_of, started, with_packet, finished, entry_under, is_whole, or_else, without_kind, owner_heard, address_heard, broadcast_heard, session_heard, row_heard, ended_by}
-use Rattle.station_table.specs.StationValue.{SessionValue, StationValue, at}
-use Rattle.station_table.specs.Steps.{session_with, joining_of, rejoined, packets_at_once, or_older, with_reading, with_ended, packet_joined, with_broadcast_packet, with_session_packet, after_group}
-use Rattle.station_table.specs.StandsFor.{StandsFor, session_known, most_heard}
+use Rattle.reassembly.specs.Partials.{with_packet, is_whole, after_packet}
+use Rattle.reassembly.specs.Tables.{at}
+use Rattle.reassembly.specs.TableLaws.{item-set}
+use Rattle.bus_model.specs.Heard.{StationSettings, Joining, Entry, kind_of, started, finished, entry_under, or_else, without_kind, owner_heard, address_heard, broadcast_heard, session_heard, row_heard, ended_by}
+use Rattle.station_table.specs.StationValue.{StationValue}
+use Rattle.station_table.specs.Steps.{with_reading, with_ended, with_broadcast_packet, with_session_packet, with_session, after_group}
+use Rattle.station_table.specs.StandsFor.{StandsBeside, most_heard}
 use Rattle.station_table.proofs.Known.{pick_cases, owner_has_row, broadcast_has_row, session_has_row, packet_owner_row}
-use Rattle.station_table.proofs.Lines.{StandsAfter, Midway, held_same, and_true, and_false, changed_place, changed_session, written_place, ending}
+use Rattle.station_table.proofs.Lines.{StandsAfter, Midway, held_same, and_true, and_false, changed_place, written_place, ending}
 
 -- a single message
-pub single : (r : Settings) (grant : ℕ) (s : StationValue) (h : List Reading) (k : Kind) (src : ℕ) (bytes : List ℕ) → src < 256 → StandsFor r grant s h
-    → StandsAfter r grant (Diagnostic k src bytes) (after_group s (Diagnostic k src bytes)) h
-single r grant s h k src bytes lt st = ending r grant (Diagnostic k src bytes) s h (entry_under (at s.owners src) k bytes) mid same there
+pub single : (taken : ℕ → Kind → List Shown) (r : StationSettings) (grant : ℕ) (s : StationValue) (h : List Reading) (k : Kind) (src : ℕ) (bytes : List ℕ) → src < 256 → StandsBeside taken r grant s h
+    → StandsAfter taken r grant (Diagnostic k src bytes) (after_group s (Diagnostic k src bytes)) h
+single taken r grant s h k src bytes lt st = ending taken r grant (Diagnostic k src bytes) s h (entry_under (at s.owners src) k bytes) mid same there
   where
-    mid : Midway r grant (Diagnostic k src bytes) s h
+    mid : Midway taken r grant (Diagnostic k src bytes) s h
     mid = record {
       grants = st.grants;
       claims = st.claims;
@@ -32,6 +35,7 @@ single r grant s h k src bytes lt st = ending r grant (Diagnostic k src bytes) s
       owners = st.owners;
       broadcasts = st.broadcasts;
       sessions = st.sessions;
+      most = st.most;
       before = st.rows;
       rows = λ n. refl;
       names = st.names;
@@ -53,19 +57,19 @@ single r grant s h k src bytes lt st = ending r grant (Diagnostic k src bytes) s
     there e j = owned (owner_heard src h) e refl (sym same ∙ j)
 
 -- the owner of a message that is whole
-finished_owner : (o : Option Joining) (e : Entry) → finished o ≡ Some e → (j : Joining) × (o ≡ Some j) × (j.owner ≡ e.name)
+finished_owner : (o : Option Joining) (e : Entry) → finished o ≡ Some e → (j : Joining) × (o ≡ Some j) × (j.tag.owner ≡ e.name)
 finished_owner None e h = absurd cc
 finished_owner (Some j) e h =
     ⊎_elim (λ w. (j, refl, ap (λ (x : Option Entry). name_of x) (w.1))) (λ w. absurd (cc (w.1)))
-    (pick_cases (is_whole j) (Some (record { name = j.owner; kind = j.kind; bytes = joined j.size j.pieces })) None (Some e) h)
+    (pick_cases (is_whole j) (Some (record { name = j.tag.owner; kind = j.tag.kind; bytes = joined j.size j.pieces })) None (Some e) h)
   where
     name_of : Option Entry → ℕ
     name_of None = 0
     name_of (Some x) = x.name
 
 -- whose message is whole once the packet is there
-packet_there : (r : Settings) (h : List Reading) (bytes : List ℕ) (before : Option Joining) (e : Entry)
-    → ((j : Joining) → before ≡ Some j → is_some (row_heard r j.owner h) ≡ true) → finished (with_packet bytes before) ≡ Some e → is_some (row_heard r e.name h) ≡ true
+packet_there : (r : StationSettings) (h : List Reading) (bytes : List ℕ) (before : Option Joining) (e : Entry)
+    → ((j : Joining) → before ≡ Some j → is_some (row_heard r j.tag.owner h) ≡ true) → finished (with_packet bytes before) ≡ Some e → is_some (row_heard r e.name h) ≡ true
 packet_there r h bytes before e known f =
     let w = finished_owner (with_packet bytes before) e f in
     subst (λ (v : ℕ). is_some (row_heard r v h) ≡ true) w.2 (packet_owner_row r h bytes before w.0 known w.1)
@@ -87,7 +91,7 @@ ended_broadcasts s (Some e) table = go (decoding e.bytes)
     go None = refl
     go (Some v) = refl
 
-ended_sessions : (s : StationValue) (o : Option Entry) (table : List (Option SessionValue))
+ended_sessions : (s : StationValue) (o : Option Entry) (table : List (Option Joining))
     → with_ended (record s { sessions = table }) o ≡ (let ended = with_ended s o in record ended { sessions = table })
 ended_sessions s None table = refl
 ended_sessions s (Some e) table = go (decoding e.bytes)
@@ -97,31 +101,30 @@ ended_sessions s (Some e) table = go (decoding e.bytes)
     go (Some v) = refl
 
 -- a packet of a broadcast
-broadcast_packet : (r : Settings) (grant : ℕ) (s : StationValue) (h : List Reading) (src d : ℕ) (bytes : List ℕ) → (d == 255) ≡ true → src < 256
-    → is_held s.claimer.held 255 ≡ false → StandsFor r grant s h → StandsAfter r grant (DataTransfer src d bytes) (with_broadcast_packet s src bytes) h
-broadcast_packet r grant s h src d bytes to_all lt not_held st =
-    subst (λ (x : StationValue). StandsAfter r grant (DataTransfer src d bytes) x h)
-    (ended_broadcasts s (finished (with_packet bytes (at s.broadcasts src))) (slice_set s.broadcasts src (packet_joined bytes (at s.broadcasts src))))
-    (ending r grant (DataTransfer src d bytes) (record s { broadcasts = slice_set s.broadcasts src (packet_joined bytes (at s.broadcasts src)) }) h
+broadcast_packet : (taken : ℕ → Kind → List Shown) (r : StationSettings) (grant : ℕ) (s : StationValue) (h : List Reading) (src d : ℕ) (bytes : List ℕ) → (d == 255) ≡ true → src < 256
+    → is_held s.claimer.held 255 ≡ false → StandsBeside taken r grant s h → StandsAfter taken r grant (DataTransfer src d bytes) (with_broadcast_packet s src bytes) h
+broadcast_packet taken r grant s h src d bytes to_all lt not_held st =
+    subst (λ (x : StationValue). StandsAfter taken r grant (DataTransfer src d bytes) x h)
+    (ended_broadcasts s (finished (with_packet bytes (at s.broadcasts src))) (slice_set s.broadcasts src (after_packet bytes (at s.broadcasts src))))
+    (ending taken r grant (DataTransfer src d bytes) (record s { broadcasts = slice_set s.broadcasts src (after_packet bytes (at s.broadcasts src)) }) h
     (finished (with_packet bytes (at s.broadcasts src))) mid same there)
   where
     own_other : is_held (address_heard r h) d ≡ false
-    own_other = let e : d ≡ 255 = eqb-true d 255 to_all in rw (← held_same r grant s h st, e) not_held
+    own_other = let e : d ≡ 255 = eqb-true d 255 to_all in rw (← held_same taken r grant s h st, e) not_held
 
-    mid : Midway r grant (DataTransfer src d bytes) (record s { broadcasts = slice_set s.broadcasts src (packet_joined bytes (at s.broadcasts src)) }) h
+    mid : Midway taken r grant (DataTransfer src d bytes) (record s { broadcasts = slice_set s.broadcasts src (after_packet bytes (at s.broadcasts src)) }) h
     mid = record {
       grants = st.grants;
       claims = st.claims;
       apart = st.apart;
-      places = (st.places.0, length-set s.broadcasts src (packet_joined bytes (at s.broadcasts src)) ∙ st.places.1, st.places.2);
+      places = record { owners = st.places.owners; broadcasts = length-set s.broadcasts src (after_packet bytes (at s.broadcasts src)) ∙ st.places.broadcasts; sessions = st.places.sessions; most = st.places.most };
       owners = st.owners;
       broadcasts = λ a below.
-          changed_place s.broadcasts (λ v. broadcast_heard v h) (packet_joined bytes) src st.places.1 lt st.broadcasts a below
-          ∙ test_holds src a (d == 255) (packet_joined bytes (broadcast_heard a h)) (broadcast_heard a h) to_all;
+          changed_place s.broadcasts (λ v. broadcast_heard v h) (after_packet bytes) src st.places.broadcasts lt st.broadcasts a below
+          ∙ test_holds src a (d == 255) (after_packet bytes (broadcast_heard a h)) (broadcast_heard a h) to_all;
       sessions = λ a below.
-          st.sessions a below
-          ∙ ap (session_with (packets_at_once grant (most_heard r a h)))
-          (test_fails src a (is_held (address_heard r h) d) (packet_joined bytes (session_heard r a h)) (session_heard r a h) own_other);
+          st.sessions a below ∙ test_fails src a (is_held (address_heard r h) d) (after_packet bytes (session_heard r a h)) (session_heard r a h) own_other;
+      most = st.most;
       before = st.rows;
       rows = λ n. refl;
       names = st.names;
@@ -136,37 +139,30 @@ broadcast_packet r grant s h src d bytes to_all lt not_held st =
     there : (e : Entry) → finished (with_packet bytes (at s.broadcasts src)) ≡ Some e → is_some (row_heard r e.name h) ≡ true
     there e j = packet_there r h bytes (broadcast_heard src h) e (broadcast_has_row r src h) (ap (λ (o : Option Joining). finished (with_packet bytes o)) (sym (st.broadcasts src lt)) ∙ j)
 
-joining_known : (p : ℕ) (o : Option Joining) → joining_of (session_with p o) ≡ o
-joining_known p None = refl
-joining_known p (Some j) = refl
-
 -- a packet of a session
-session_packet : (r : Settings) (grant : ℕ) (s : StationValue) (h : List Reading) (src d : ℕ) (bytes : List ℕ) → (d == 255) ≡ false → is_held s.claimer.held d ≡ true
-    → src < 256 → StandsFor r grant s h → StandsAfter r grant (DataTransfer src d bytes) (with_session_packet s src bytes) h
-session_packet r grant s h src d bytes not_all held lt st =
-    subst (λ (x : StationValue). StandsAfter r grant (DataTransfer src d bytes) x h)
-    (ended_sessions s (finished (with_packet bytes (joining_of (at s.sessions src)))) (slice_set s.sessions src (rejoined (packet_joined bytes) (at s.sessions src))))
-    (ending r grant (DataTransfer src d bytes) (record s { sessions = slice_set s.sessions src (rejoined (packet_joined bytes) (at s.sessions src)) }) h
-    (finished (with_packet bytes (joining_of (at s.sessions src)))) mid same there)
+session_packet : (taken : ℕ → Kind → List Shown) (r : StationSettings) (grant : ℕ) (s : StationValue) (h : List Reading) (src d : ℕ) (bytes : List ℕ) → (d == 255) ≡ false → is_held s.claimer.held d ≡ true
+    → src < 256 → StandsBeside taken r grant s h → StandsAfter taken r grant (DataTransfer src d bytes) (with_session_packet s src bytes) h
+session_packet taken r grant s h src d bytes not_all held lt st =
+    subst (λ (x : StationValue). StandsAfter taken r grant (DataTransfer src d bytes) x h)
+    (ended_sessions s (finished (with_packet bytes (at s.sessions src))) (slice_set s.sessions src (after_packet bytes (at s.sessions src))))
+    (ending taken r grant (DataTransfer src d bytes) (record s { sessions = slice_set s.sessions src (after_packet bytes (at s.sessions src)) }) h
+    (finished (with_packet bytes (at s.sessions src))) mid same there)
   where
     own : is_held (address_heard r h) d ≡ true
-    own = rw (← held_same r grant s h st) held
+    own = rw (← held_same taken r grant s h st) held
 
-    joined_so_far : joining_of (at s.sessions src) ≡ session_heard r src h
-    joined_so_far = ap joining_of (st.sessions src lt) ∙ joining_known (packets_at_once grant (most_heard r src h)) (session_heard r src h)
-
-    mid : Midway r grant (DataTransfer src d bytes) (record s { sessions = slice_set s.sessions src (rejoined (packet_joined bytes) (at s.sessions src)) }) h
+    mid : Midway taken r grant (DataTransfer src d bytes) (record s { sessions = slice_set s.sessions src (after_packet bytes (at s.sessions src)) }) h
     mid = record {
       grants = st.grants;
       claims = st.claims;
       apart = st.apart;
-      places = (st.places.0, st.places.1, length-set s.sessions src (rejoined (packet_joined bytes) (at s.sessions src)) ∙ st.places.2);
+      places = record { owners = st.places.owners; broadcasts = st.places.broadcasts; sessions = length-set s.sessions src (after_packet bytes (at s.sessions src)) ∙ st.places.sessions; most = st.places.most };
       owners = st.owners;
-      broadcasts = λ a below. st.broadcasts a below ∙ test_fails src a (d == 255) (packet_joined bytes (broadcast_heard a h)) (broadcast_heard a h) not_all;
+      broadcasts = λ a below. st.broadcasts a below ∙ test_fails src a (d == 255) (after_packet bytes (broadcast_heard a h)) (broadcast_heard a h) not_all;
       sessions = λ a below.
-          changed_session r grant s h (packet_joined bytes) src st lt refl a below
-          ∙ ap (session_with (packets_at_once grant (most_heard r a h)))
-          (test_holds src a (is_held (address_heard r h) d) (packet_joined bytes (session_heard r a h)) (session_heard r a h) own);
+          changed_place s.sessions (λ v. session_heard r v h) (after_packet bytes) src st.places.sessions lt st.sessions a below
+          ∙ test_holds src a (is_held (address_heard r h) d) (after_packet bytes (session_heard r a h)) (session_heard r a h) own;
+      most = st.most;
       before = st.rows;
       rows = λ n. refl;
       names = st.names;
@@ -175,26 +171,25 @@ session_packet r grant s h src d bytes not_all held lt st =
       unread = st.unread;
     }
 
-    same : finished (with_packet bytes (joining_of (at s.sessions src))) ≡ ended_by r (DataTransfer src d bytes) h
-    same = rw (not_all, own, joined_so_far) refl
+    same : finished (with_packet bytes (at s.sessions src)) ≡ ended_by r (DataTransfer src d bytes) h
+    same = rw (not_all, own, st.sessions src lt) refl
 
-    there : (e : Entry) → finished (with_packet bytes (joining_of (at s.sessions src))) ≡ Some e → is_some (row_heard r e.name h) ≡ true
-    there e j = packet_there r h bytes (session_heard r src h) e (session_has_row r src h) (ap (λ (o : Option Joining). finished (with_packet bytes o)) (sym joined_so_far) ∙ j)
+    there : (e : Entry) → finished (with_packet bytes (at s.sessions src)) ≡ Some e → is_some (row_heard r e.name h) ≡ true
+    there e j = packet_there r h bytes (session_heard r src h) e (session_has_row r src h) (ap (λ (o : Option Joining). finished (with_packet bytes o)) (sym (st.sessions src lt)) ∙ j)
 
 -- a packet to another address
-other_packet : (r : Settings) (grant : ℕ) (s : StationValue) (h : List Reading) (src d : ℕ) (bytes : List ℕ) → (d == 255) ≡ false → is_held s.claimer.held d ≡ false
-    → StandsFor r grant s h → StandsAfter r grant (DataTransfer src d bytes) s h
-other_packet r grant s h src d bytes not_all not_held st = record {
+other_packet : (taken : ℕ → Kind → List Shown) (r : StationSettings) (grant : ℕ) (s : StationValue) (h : List Reading) (src d : ℕ) (bytes : List ℕ) → (d == 255) ≡ false → is_held s.claimer.held d ≡ false
+    → StandsBeside taken r grant s h → StandsAfter taken r grant (DataTransfer src d bytes) s h
+other_packet taken r grant s h src d bytes not_all not_held st = record {
   grants = st.grants;
   claims = st.claims;
   apart = st.apart;
   places = st.places;
   owners = st.owners;
-  broadcasts = λ a below. st.broadcasts a below ∙ test_fails src a (d == 255) (packet_joined bytes (broadcast_heard a h)) (broadcast_heard a h) not_all;
+  broadcasts = λ a below. st.broadcasts a below ∙ test_fails src a (d == 255) (after_packet bytes (broadcast_heard a h)) (broadcast_heard a h) not_all;
   sessions = λ a below.
-      st.sessions a below
-      ∙ ap (session_with (packets_at_once grant (most_heard r a h)))
-      (test_fails src a (is_held (address_heard r h) d) (packet_joined bytes (session_heard r a h)) (session_heard r a h) own_other);
+      st.sessions a below ∙ test_fails src a (is_held (address_heard r h) d) (after_packet bytes (session_heard r a h)) (session_heard r a h) own_other;
+  most = st.most;
   rows = st.rows;
   names = st.names;
   entries = λ n k. rw (not_all, own_other) (st.entries n k);
@@ -203,22 +198,22 @@ other_packet r grant s h src d bytes not_all not_held st = record {
 }
   where
     own_other : is_held (address_heard r h) d ≡ false
-    own_other = rw (← held_same r grant s h st) not_held
+    own_other = rw (← held_same taken r grant s h st) not_held
 
-pub packet : (r : Settings) (grant : ℕ) (s : StationValue) (h : List Reading) (src d : ℕ) (bytes : List ℕ) → src < 256 → is_held s.claimer.held 255 ≡ false
-    → StandsFor r grant s h → StandsAfter r grant (DataTransfer src d bytes) (after_group s (DataTransfer src d bytes)) h
-packet r grant s h src d bytes lt not_held st = go (d == 255) (is_held s.claimer.held d) refl refl
+pub packet : (taken : ℕ → Kind → List Shown) (r : StationSettings) (grant : ℕ) (s : StationValue) (h : List Reading) (src d : ℕ) (bytes : List ℕ) → src < 256 → is_held s.claimer.held 255 ≡ false
+    → StandsBeside taken r grant s h → StandsAfter taken r grant (DataTransfer src d bytes) (after_group s (DataTransfer src d bytes)) h
+packet taken r grant s h src d bytes lt not_held st = go (d == 255) (is_held s.claimer.held d) refl refl
   where
     go : (b c : Bool) → (d == 255) ≡ b → is_held s.claimer.held d ≡ c
-        → StandsAfter r grant (DataTransfer src d bytes) (if b then with_broadcast_packet s src bytes else (if c then with_session_packet s src bytes else s)) h
-    go true c i j = broadcast_packet r grant s h src d bytes i lt not_held st
-    go false true i j = session_packet r grant s h src d bytes i j lt st
-    go false false i j = other_packet r grant s h src d bytes i j st
+        → StandsAfter taken r grant (DataTransfer src d bytes) (if b then with_broadcast_packet s src bytes else (if c then with_session_packet s src bytes else s)) h
+    go true c i j = broadcast_packet taken r grant s h src d bytes i lt not_held st
+    go false true i j = session_packet taken r grant s h src d bytes i j lt st
+    go false false i j = other_packet taken r grant s h src d bytes i j st
 
 -- a broadcast is announced
-pub bam : (r : Settings) (grant : ℕ) (s : StationValue) (h : List Reading) (src d size packets pgn : ℕ) → src < 256 → StandsFor r grant s h
-    → StandsAfter r grant (ConnectionManagement src d (Bam size packets pgn)) (after_group s (ConnectionManagement src d (Bam size packets pgn))) h
-bam r grant s h src d size packets pgn lt st = go (d == 255) refl
+pub bam : (taken : ℕ → Kind → List Shown) (r : StationSettings) (grant : ℕ) (s : StationValue) (h : List Reading) (src d size packets pgn : ℕ) → src < 256 → StandsBeside taken r grant s h
+    → StandsAfter taken r grant (ConnectionManagement src d (Bam size packets pgn)) (after_group s (ConnectionManagement src d (Bam size packets pgn))) h
+bam taken r grant s h src d size packets pgn lt st = go (d == 255) refl
   where
     new : ℕ → Option Joining
     new a = started (kind_of pgn) size (owner_heard a h)
@@ -227,19 +222,20 @@ bam r grant s h src d size packets pgn lt st = go (d == 255) refl
     here = started (kind_of pgn) size (at s.owners src)
 
     go : (b : Bool) → (d == 255) ≡ b
-        → StandsAfter r grant (ConnectionManagement src d (Bam size packets pgn))
+        → StandsAfter taken r grant (ConnectionManagement src d (Bam size packets pgn))
         (if b then record s { broadcasts = slice_set s.broadcasts src (started (kind_of pgn) size (at s.owners src)) } else s) h
     go true i = record {
       grants = st.grants;
       claims = st.claims;
       apart = st.apart;
-      places = (st.places.0, length-set s.broadcasts src (started (kind_of pgn) size (at s.owners src)) ∙ st.places.1, st.places.2);
+      places = record { owners = st.places.owners; broadcasts = length-set s.broadcasts src (started (kind_of pgn) size (at s.owners src)) ∙ st.places.broadcasts; sessions = st.places.sessions; most = st.places.most };
       owners = st.owners;
       broadcasts = λ a below.
           written_place s.broadcasts (λ v. broadcast_heard v h) (λ v. started (kind_of pgn) size (owner_heard v h)) src (started (kind_of pgn) size (at s.owners src))
-          st.places.1 lt (ap (started (kind_of pgn) size) (st.owners src lt)) st.broadcasts a below
+          st.places.broadcasts lt (ap (started (kind_of pgn) size) (st.owners src lt)) st.broadcasts a below
           ∙ test_holds src a (d == 255) (started (kind_of pgn) size (owner_heard a h)) (broadcast_heard a h) i;
       sessions = st.sessions;
+      most = st.most;
       rows = st.rows;
       names = st.names;
       entries = st.entries;
@@ -254,6 +250,7 @@ bam r grant s h src d size packets pgn lt st = go (d == 255) refl
       owners = st.owners;
       broadcasts = λ a below. st.broadcasts a below ∙ test_fails src a (d == 255) (started (kind_of pgn) size (owner_heard a h)) (broadcast_heard a h) i;
       sessions = st.sessions;
+      most = st.most;
       rows = st.rows;
       names = st.names;
       entries = st.entries;
@@ -261,80 +258,87 @@ bam r grant s h src d size packets pgn lt st = go (d == 255) refl
       unread = st.unread;
     }
 
--- a session that starts takes the place of an older one, and another leaves it
-older_or_new : (grant most most_before : ℕ) (new before : Option Joining)
-    → or_older (session_with (packets_at_once grant most) new) (session_with (packets_at_once grant most_before) before)
-    ≡ session_with (packets_at_once grant (if is_some new then most else most_before)) (or_else new before)
-older_or_new grant most most_before None before = refl
-older_or_new grant most most_before (Some j) before = refl
-
 -- a session is announced
-pub rts : (r : Settings) (grant : ℕ) (s : StationValue) (h : List Reading) (src d size packets most pgn : ℕ) → src < 256 → StandsFor r grant s h
-    → StandsAfter r grant (ConnectionManagement src d (Rts size packets most pgn)) (after_group s (ConnectionManagement src d (Rts size packets most pgn))) h
-rts r grant s h src d size packets most pgn lt st = go (is_held s.claimer.held d) refl
+pub rts : (taken : ℕ → Kind → List Shown) (r : StationSettings) (grant : ℕ) (s : StationValue) (h : List Reading) (src d size packets most pgn : ℕ) → src < 256 → StandsBeside taken r grant s h
+    → StandsAfter taken r grant (ConnectionManagement src d (Rts size packets most pgn)) (after_group s (ConnectionManagement src d (Rts size packets most pgn))) h
+rts taken r grant s h src d size packets most pgn lt st = go (is_held s.claimer.held d) refl
   where
-    written : Option SessionValue
-    written = or_older (session_with (packets_at_once s.grant most) (started (kind_of pgn) size (at s.owners src))) (at s.sessions src)
+    begun_at : ℕ → Option Joining
+    begun_at a = started (kind_of pgn) size (owner_heard a h)
 
-    new : ℕ → Option SessionValue
-    new a =
-        session_with (packets_at_once grant (if is_some (started (kind_of pgn) size (owner_heard a h)) then most else most_heard r a h))
-        (or_else (started (kind_of pgn) size (owner_heard a h)) (session_heard r a h))
+    own_held : (b : Bool) → is_held s.claimer.held d ≡ b → is_held (address_heard r h) d ≡ b
+    own_held b i = ap (λ v. is_held v d) (sym (held_same taken r grant s h st)) ∙ i
 
-    written_new :
-        or_older (session_with (packets_at_once s.grant most) (started (kind_of pgn) size (at s.owners src))) (at s.sessions src)
-        ≡ session_with (packets_at_once grant (if is_some (started (kind_of pgn) size (owner_heard src h)) then most else most_heard r src h))
-        (or_else (started (kind_of pgn) size (owner_heard src h)) (session_heard r src h))
-    written_new =
-        rw (st.grants, st.owners src lt, st.sessions src lt)
-        (older_or_new grant most (most_heard r src h) (started (kind_of pgn) size (owner_heard src h)) (session_heard r src h))
+    at_source : (o : Option Joining) → started (kind_of pgn) size (at s.owners src) ≡ o → (a : ℕ) → (src == a) ≡ true → started (kind_of pgn) size (owner_heard a h) ≡ o
+    at_source o e a here =
+        let place : src ≡ a = eqb-true src a here in
+        ap (λ v. started (kind_of pgn) size (owner_heard v h)) (sym place) ∙ (ap (started (kind_of pgn) size) (sym (st.owners src lt)) ∙ e)
 
-    here : (a : ℕ) (b c : Bool) → b ≡ true
-        → (if c then session_with (packets_at_once grant (if is_some (started (kind_of pgn) size (owner_heard a h)) then most else most_heard r a h))
-        (or_else (started (kind_of pgn) size (owner_heard a h)) (session_heard r a h)) else session_known r grant a h)
-        ≡ session_with (packets_at_once grant (if (c && b) && is_some (started (kind_of pgn) size (owner_heard a h)) then most else most_heard r a h))
-        (if c && b then or_else (started (kind_of pgn) size (owner_heard a h)) (session_heard r a h) else session_heard r a h)
-    here a b true e = rw (e) refl
-    here a b false e = refl
+    nothing_begun : (a : ℕ) (before : Option Joining) → started (kind_of pgn) size (at s.owners src) ≡ None → (b c : Bool) → (src == a) ≡ b
+        → before ≡ (if b && c then or_else (started (kind_of pgn) size (owner_heard a h)) before else before)
+    nothing_begun a before e true true here = rw (at_source None e a here) refl
+    nothing_begun a before e true false here = refl
+    nothing_begun a before e false c here = refl
 
-    not_here : (a : ℕ) (b c : Bool) → b ≡ false
-        → session_known r grant a h
-        ≡ session_with (packets_at_once grant (if (c && b) && is_some (started (kind_of pgn) size (owner_heard a h)) then most else most_heard r a h))
-        (if c && b then or_else (started (kind_of pgn) size (owner_heard a h)) (session_heard r a h) else session_heard r a h)
-    not_here a b true e = rw (e) refl
-    not_here a b false e = refl
+    no_limit : (a before : ℕ) → started (kind_of pgn) size (at s.owners src) ≡ None → (b c : Bool) → (src == a) ≡ b
+        → before ≡ (if (b && c) && is_some (started (kind_of pgn) size (owner_heard a h)) then most else before)
+    no_limit a before e true true here = rw (at_source None e a here) refl
+    no_limit a before e true false here = refl
+    no_limit a before e false c here = refl
 
-    go : (b : Bool) → is_held s.claimer.held d ≡ b
-        → StandsAfter r grant (ConnectionManagement src d (Rts size packets most pgn))
-        (if b then record s {
-          sessions = slice_set s.sessions src
-              (or_older (session_with (packets_at_once s.grant most) (started (kind_of pgn) size (at s.owners src))) (at s.sessions src));
-        } else s) h
-    go true i = record {
+    limit : (a : ℕ) (j : Joining) → a < 256 → started (kind_of pgn) size (at s.owners src) ≡ Some j → (b c : Bool) → (src == a) ≡ b → c ≡ true
+        → (if b then most else slice_index s.most a) ≡ (if (b && c) && is_some (started (kind_of pgn) size (owner_heard a h)) then most else most_heard r a h)
+    limit a j below e true true here i = rw (at_source (Some j) e a here) refl
+    limit a j below e true false here i = absurd cc
+    limit a j below e false c here i = st.most a below
+
+    begins : is_held s.claimer.held d ≡ true → (o : Option Joining) → started (kind_of pgn) size (at s.owners src) ≡ o
+        → StandsAfter taken r grant (ConnectionManagement src d (Rts size packets most pgn)) (with_session s src most o) h
+    begins i None e = record {
       grants = st.grants;
       claims = st.claims;
       apart = st.apart;
-      places = (
-        st.places.0,
-        st.places.1,
-        length-set s.sessions src
-            (or_older (session_with (packets_at_once s.grant most) (started (kind_of pgn) size (at s.owners src))) (at s.sessions src)) ∙ st.places.2,
-      );
+      places = st.places;
       owners = st.owners;
       broadcasts = st.broadcasts;
-      sessions = λ a below.
-          written_place s.sessions (λ v. session_known r grant v h)
-          (λ v. session_with (packets_at_once grant (if is_some (started (kind_of pgn) size (owner_heard v h)) then most else most_heard r v h))
-          (or_else (started (kind_of pgn) size (owner_heard v h)) (session_heard r v h)))
-          src (or_older (session_with (packets_at_once s.grant most) (started (kind_of pgn) size (at s.owners src))) (at s.sessions src))
-          st.places.2 lt written_new st.sessions a below
-          ∙ here a (is_held (address_heard r h) d) (src == a) (ap (λ v. is_held v d) (sym (held_same r grant s h st)) ∙ i);
+      sessions = λ a below. st.sessions a below ∙ nothing_begun a (session_heard r a h) e (src == a) (is_held (address_heard r h) d) refl;
+      most = λ a below. st.most a below ∙ no_limit a (most_heard r a h) e (src == a) (is_held (address_heard r h) d) refl;
       rows = st.rows;
       names = st.names;
       entries = st.entries;
       missed = st.missed;
       unread = st.unread;
     }
+    begins i (Some j) e = record {
+      grants = st.grants;
+      claims = st.claims;
+      apart = st.apart;
+      places = record {
+        owners = st.places.owners;
+        broadcasts = st.places.broadcasts;
+        sessions = length-set s.sessions src (Some j) ∙ st.places.sessions;
+        most = length-set s.most src most ∙ st.places.most;
+      };
+      owners = st.owners;
+      broadcasts = st.broadcasts;
+      sessions = λ a below.
+          written_place s.sessions (λ v. session_heard r v h) (λ v. or_else (begun_at v) (session_heard r v h)) src (Some j) st.places.sessions lt
+          (ap (λ (o : Option Joining). or_else o (session_heard r src h)) (sym (at_source (Some j) e src (eq-eqb src src refl)))) st.sessions a below
+          ∙ test_holds src a (is_held (address_heard r h) d) (or_else (begun_at a) (session_heard r a h)) (session_heard r a h) (own_held true i);
+      most = λ a below.
+          item-set 0 s.most src a most (subst (λ (v : ℕ). src < v) (sym st.places.most) lt)
+          ∙ limit a j below e (src == a) (is_held (address_heard r h) d) refl (own_held true i);
+      rows = st.rows;
+      names = st.names;
+      entries = st.entries;
+      missed = st.missed;
+      unread = st.unread;
+    }
+
+    go : (b : Bool) → is_held s.claimer.held d ≡ b
+        → StandsAfter taken r grant (ConnectionManagement src d (Rts size packets most pgn))
+        (if b then with_session s src most (started (kind_of pgn) size (at s.owners src)) else s) h
+    go true i = begins i (started (kind_of pgn) size (at s.owners src)) refl
     go false i = record {
       grants = st.grants;
       claims = st.claims;
@@ -342,9 +346,8 @@ rts r grant s h src d size packets most pgn lt st = go (is_held s.claimer.held d
       places = st.places;
       owners = st.owners;
       broadcasts = st.broadcasts;
-      sessions = λ a below.
-          st.sessions a below
-          ∙ not_here a (is_held (address_heard r h) d) (src == a) (ap (λ v. is_held v d) (sym (held_same r grant s h st)) ∙ i);
+      sessions = λ a below. st.sessions a below ∙ test_fails src a (is_held (address_heard r h) d) (or_else (begun_at a) (session_heard r a h)) (session_heard r a h) (own_held false i);
+      most = λ a below. st.most a below ∙ rw (own_held false i, and_false (src == a)) refl;
       rows = st.rows;
       names = st.names;
       entries = st.entries;
@@ -353,25 +356,25 @@ rts r grant s h src d size packets most pgn lt st = go (is_held s.claimer.held d
     }
 
 -- a session is aborted
-pub aborted : (r : Settings) (grant : ℕ) (s : StationValue) (h : List Reading) (src d reason pgn : ℕ) → src < 256 → StandsFor r grant s h
-    → StandsAfter r grant (ConnectionManagement src d (Abort reason pgn)) (after_group s (ConnectionManagement src d (Abort reason pgn))) h
-aborted r grant s h src d reason pgn lt st = go (is_held s.claimer.held d) refl
+pub aborted : (taken : ℕ → Kind → List Shown) (r : StationSettings) (grant : ℕ) (s : StationValue) (h : List Reading) (src d reason pgn : ℕ) → src < 256 → StandsBeside taken r grant s h
+    → StandsAfter taken r grant (ConnectionManagement src d (Abort reason pgn)) (after_group s (ConnectionManagement src d (Abort reason pgn))) h
+aborted taken r grant s h src d reason pgn lt st = go (is_held s.claimer.held d) refl
   where
     go : (b : Bool) → is_held s.claimer.held d ≡ b
-        → StandsAfter r grant (ConnectionManagement src d (Abort reason pgn))
-        (if b then record s { sessions = slice_set s.sessions src (rejoined (without_kind (kind_of pgn)) (at s.sessions src)) } else s) h
+        → StandsAfter taken r grant (ConnectionManagement src d (Abort reason pgn))
+        (if b then record s { sessions = slice_set s.sessions src (without_kind (kind_of pgn) (at s.sessions src)) } else s) h
     go true i = record {
       grants = st.grants;
       claims = st.claims;
       apart = st.apart;
-      places = (st.places.0, st.places.1, length-set s.sessions src (rejoined (without_kind (kind_of pgn)) (at s.sessions src)) ∙ st.places.2);
+      places = record { owners = st.places.owners; broadcasts = st.places.broadcasts; sessions = length-set s.sessions src (without_kind (kind_of pgn) (at s.sessions src)) ∙ st.places.sessions; most = st.places.most };
       owners = st.owners;
       broadcasts = st.broadcasts;
       sessions = λ a below.
-          changed_session r grant s h (without_kind (kind_of pgn)) src st lt refl a below
-          ∙ ap (session_with (packets_at_once grant (most_heard r a h)))
-          (test_holds src a (is_held (address_heard r h) d) (without_kind (kind_of pgn) (session_heard r a h)) (session_heard r a h)
-          (ap (λ v. is_held v d) (sym (held_same r grant s h st)) ∙ i));
+          changed_place s.sessions (λ v. session_heard r v h) (without_kind (kind_of pgn)) src st.places.sessions lt st.sessions a below
+          ∙ test_holds src a (is_held (address_heard r h) d) (without_kind (kind_of pgn) (session_heard r a h)) (session_heard r a h)
+          (ap (λ v. is_held v d) (sym (held_same taken r grant s h st)) ∙ i);
+      most = st.most;
       rows = st.rows;
       names = st.names;
       entries = st.entries;
@@ -387,9 +390,9 @@ aborted r grant s h src d reason pgn lt st = go (is_held s.claimer.held d) refl
       broadcasts = st.broadcasts;
       sessions = λ a below.
           st.sessions a below
-          ∙ ap (session_with (packets_at_once grant (most_heard r a h)))
-          (test_fails src a (is_held (address_heard r h) d) (without_kind (kind_of pgn) (session_heard r a h)) (session_heard r a h)
-          (ap (λ v. is_held v d) (sym (held_same r grant s h st)) ∙ i));
+          ∙ test_fails src a (is_held (address_heard r h) d) (without_kind (kind_of pgn) (session_heard r a h)) (session_heard r a h)
+          (ap (λ v. is_held v d) (sym (held_same taken r grant s h st)) ∙ i);
+      most = st.most;
       rows = st.rows;
       names = st.names;
       entries = st.entries;

@@ -1,13 +1,12 @@
 -- What was heard decides what the station answers to an order.
-use Rattle.std.proofs.Common.{◌≡◌, ◌↔◌, ◌≤◌, ◌<◌, ℕ, suc, List, Option, Some, None, IsSome, IsNone, Result, Ok, Err, IsOk, Bool, true, false, nat_lt, if◌then◌else◌, refl, sym, ap, ◌∙◌, subst, arith, rules}
+use Rattle.std.proofs.Common.{◌≡◌, ◌↔◌, ◌≤◌, ◌<◌, ℕ, List, Option, Some, None, IsSome, IsNone, Err, IsOk, Bool, true, false, nat_lt, if◌then◌else◌, refl, ap, ◌∙◌, arith, rules}
 use Rattle.std.proofs.lemmas.Bool.{ltb-true, ltb-false}
 use Rattle.can_frame.specs.declared.reading.Reading.{Reading}
-use Rattle.bus_model.specs.Heard.{Settings, RowHeard, address_heard, address_in_row, address_known, row_heard}
+use Rattle.bus_model.specs.Heard.{StationSettings, address_heard, address_in_row, address_known}
 use Rattle.station_table.specs.KeptValue.{KeptValue, kept_under}
-use Rattle.station_table.specs.Orders.{AreAsked, IsAsked, IsCommanded, address_in, ask_all_answer, ask_answer, ask_from, command_answer, command_from}
-use Rattle.station_table.specs.StandsFor.{StandsFor, row_known, row_of}
+use Rattle.station_table.specs.Orders.{AnswersAskAll, AnswersAsk, AnswersCommand, address_in, ask_all_answer, ask_answer, ask_from, command_answer, command_from}
+use Rattle.station_table.specs.StandsFor.{StandsFor, none_taken, row_known, row_of}
 use Rattle.station_table.specs.StationValue.{StationValue}
-use Rattle.station_table.specs.declared.error.StationError.{StationError}
 use Rattle.station_table.specs.declared.error.StationError.TheVariants.{NotAnAddress, NoAddress, NotHeld}
 use Rattle.station_table.specs.declared.reaction.Ask.{Ask}
 use Rattle.station_table.specs.declared.reaction.Reaction.{Reaction}
@@ -24,9 +23,9 @@ from_two None to ask = search rules
 from_two (Some own) None ask = search rules
 from_two (Some own) (Some address) ask = search rules
 
-pub asked_as_heard : (r : Settings) (grant : ℕ) (s : StationValue) (h : List Reading) (name : ℕ) (ask : Ask) → StandsFor r grant s h → IsAsked r h name (ask_answer s name ask)
+pub asked_as_heard : (r : StationSettings) (grant : ℕ) (s : StationValue) (h : List Reading) (name : ℕ) (ask : Ask) → StandsFor r grant s h → AnswersAsk r h name (ask_answer s name ask)
 asked_as_heard r grant s h name ask st =
-    let own = held_same r grant s h st in
+    let own = held_same none_taken r grant s h st in
     let to : address_in (row_of s.owners name (kept_under s.rows name)) ≡ address_known r name h = row_address s.owners name (kept_under s.rows name) ∙ ap address_in_row (st.rows name) in
     let parts = from_two (address_heard r h) (address_known r name h) ask in
     rw (own, to) (record { not_held = parts.0; no_address = parts.1; asked = parts.2 })
@@ -35,9 +34,9 @@ from_one : (own : Option ℕ) (ask : Ask) (to : ℕ) → ((ask_from own (Some to
 from_one None ask to = search rules
 from_one (Some own) ask to = search rules
 
-pub all_asked_as_heard : (r : Settings) (grant : ℕ) (s : StationValue) (h : List Reading) (ask : Ask) → StandsFor r grant s h → AreAsked r h (ask_all_answer s ask)
+pub all_asked_as_heard : (r : StationSettings) (grant : ℕ) (s : StationValue) (h : List Reading) (ask : Ask) → StandsFor r grant s h → AnswersAskAll r h (ask_all_answer s ask)
 all_asked_as_heard r grant s h ask st =
-    let own = held_same r grant s h st in
+    let own = held_same none_taken r grant s h st in
     let parts = from_one (address_heard r h) ask 255 in
     rw own (record { not_held = parts.0; asked = parts.1 })
 
@@ -52,8 +51,8 @@ commands_from own name address true e = let far : 253 < address = ltb-true 253 a
 commands_from None name address false e = let near : address ≤ 253 = ltb-false 253 address e in search rules
 commands_from (Some own) name address false e = let near : address ≤ 253 = ltb-false 253 address e in search rules
 
-pub commanded_as_heard : (r : Settings) (grant : ℕ) (s : StationValue) (h : List Reading) (name address : ℕ) → StandsFor r grant s h → IsCommanded r h address (command_answer s name address)
+pub commanded_as_heard : (r : StationSettings) (grant : ℕ) (s : StationValue) (h : List Reading) (name address : ℕ) → StandsFor r grant s h → AnswersCommand r h address (command_answer s name address)
 commanded_as_heard r grant s h name address st =
-    let own = held_same r grant s h st in
+    let own = held_same none_taken r grant s h st in
     let parts = commands_from (address_heard r h) name address (nat_lt 253 address) refl in
     rw own (record { not_an_address = parts.0; not_held = parts.1; commanded = parts.2 })

@@ -1,22 +1,26 @@
 -- The tables stand for the readings: at first for none, and after each reading for that one in front of the others.
 use Rattle.std.proofs.Common.{◌≡◌, ℕ, ◌+◌, ◌<◌, ◌≤◌, Bool, true, false, ◌==◌, ◌&&◌, List, [], ◌∷◌, Option, Some, None, if◌then◌else◌, length, refl, sym, ap, ◌∙◌, subst, arith}
-use Rattle.std.specs.Prelude.{Result, Ok, Err, OnOk, nat_lt, nat_le}
+use Rattle.std.specs.Prelude.{Result, Ok, Err, OnOk, nat_lt, nat_le, slice_index}
+use Rattle.std.proofs.lemmas.List.{get_or-replicate, length-replicate}
 use Rattle.std.proofs.lemmas.Bool.{ne_eqb}
 use Rattle.address_claim.specs.Claiming.{ClaimerValue, new_claimer}
 use Rattle.can_frame.specs.declared.reading.Reading.{Reading}
 use Rattle.can_frame.specs.declared.reading.Reading.TheVariants.{Frame, Gap, Empty}
 use Rattle.transport.specs.declared.control.Control.{Control}
 use Rattle.transport.specs.declared.control.Control.TheVariants.{Rts, Cts, EndAck, Bam, Abort}
+use Rattle.dm_messages.specs.declared.kind.Kind.{Kind}
+use Rattle.dm_messages.specs.declared.shown.Shown.{Shown}
 use Rattle.parameter_group.specs.Group.{Group, AddressClaimed, CannotClaim, Request, Acknowledgment, Diagnostic, ConnectionManagement, DataTransfer, Other, group_of, group_by, control_group}
 use Rattle.can_frame.specs.Fields.{pgn_of, pdu_specific_of, source_of}
 use Rattle.can_frame.specs.FrameValue.{FrameValue}
 use Rattle.transport.specs.ControlMessage.{control_of}
-use Rattle.bus_model.specs.Heard.{Settings, Joining, RowHeard, addressless, counted}
+use Rattle.bus_model.specs.Heard.{StationSettings, Joining, RowHeard, addressless, counted}
 use Rattle.station_table.specs.KeptValue.{KeptValue, kept_under}
-use Rattle.station_table.specs.StationValue.{SessionValue, StationValue}
-use Rattle.station_table.specs.Steps.{empty_table, new_station, after_group, after_gap, after_reading}
-use Rattle.station_table.specs.StandsFor.{StandsFor, still_owned, ack_known, row_known}
-use Rattle.station_table.proofs.Tables.{at-empty, places-empty}
+use Rattle.reassembly.specs.Tables.{empty_table}
+use Rattle.reassembly.specs.TableLaws.{at-empty, places-empty}
+use Rattle.station_table.specs.StationValue.{StationValue}
+use Rattle.station_table.specs.Steps.{no_limits, new_station, after_group, after_gap, after_reading}
+use Rattle.station_table.specs.StandsFor.{StandsBeside, StandsFor, none_taken, still_owned, ack_known, row_known}
 use Rattle.station_table.proofs.Lines.{StandsAfter}
 use Rattle.station_table.proofs.Claims.{acknowledged, cannot_claim, claimed}
 use Rattle.station_table.proofs.Messages.{single, packet, bam, rts, aborted}
@@ -58,17 +62,17 @@ unfolding group_of
 sender_below f = below_group (pgn_of f.id) (pdu_specific_of f.id) (source_of f.id) f.bytes (omega arith)
 
 -- whatever a frame says
-pub group_stands : (r : Settings) (grant : ℕ) (s : StationValue) (h : List Reading) (g : Group) → sender g < 256
-    → StandsFor r grant s h → StandsAfter r grant g (after_group s g) h
-group_stands r grant s h (AddressClaimed src n) lt st = claimed r grant s h src n lt st
-group_stands r grant s h (CannotClaim n) lt st = cannot_claim r grant s h n st
-group_stands r grant s h (Acknowledgment c q p d src) lt st = acknowledged r grant s h c q p d src lt st
-group_stands r grant s h (Diagnostic k src bytes) lt st = single r grant s h k src bytes lt st
-group_stands r grant s h (ConnectionManagement src d (Bam size packets pgn)) lt st = bam r grant s h src d size packets pgn lt st
-group_stands r grant s h (ConnectionManagement src d (Rts size packets most pgn)) lt st = rts r grant s h src d size packets most pgn lt st
-group_stands r grant s h (ConnectionManagement src d (Abort reason pgn)) lt st = aborted r grant s h src d reason pgn lt st
-group_stands r grant s h (DataTransfer src d bytes) lt st = packet r grant s h src d bytes lt st.apart st
-group_stands r grant s h (Request p d src) lt st = record {
+pub group_beside : (taken : ℕ → Kind → List Shown) (r : StationSettings) (grant : ℕ) (s : StationValue) (h : List Reading) (g : Group) → sender g < 256
+    → StandsBeside taken r grant s h → StandsAfter taken r grant g (after_group s g) h
+group_beside taken r grant s h (AddressClaimed src n) lt st = claimed taken r grant s h src n lt st
+group_beside taken r grant s h (CannotClaim n) lt st = cannot_claim taken r grant s h n st
+group_beside taken r grant s h (Acknowledgment c q p d src) lt st = acknowledged taken r grant s h c q p d src lt st
+group_beside taken r grant s h (Diagnostic k src bytes) lt st = single taken r grant s h k src bytes lt st
+group_beside taken r grant s h (ConnectionManagement src d (Bam size packets pgn)) lt st = bam taken r grant s h src d size packets pgn lt st
+group_beside taken r grant s h (ConnectionManagement src d (Rts size packets most pgn)) lt st = rts taken r grant s h src d size packets most pgn lt st
+group_beside taken r grant s h (ConnectionManagement src d (Abort reason pgn)) lt st = aborted taken r grant s h src d reason pgn lt st
+group_beside taken r grant s h (DataTransfer src d bytes) lt st = packet taken r grant s h src d bytes lt st.apart st
+group_beside taken r grant s h (Request p d src) lt st = record {
   grants = st.grants;
   claims = st.claims;
   apart = st.apart;
@@ -76,13 +80,14 @@ group_stands r grant s h (Request p d src) lt st = record {
   owners = st.owners;
   broadcasts = st.broadcasts;
   sessions = st.sessions;
+  most = st.most;
   rows = st.rows;
   names = st.names;
   entries = st.entries;
   missed = st.missed;
   unread = st.unread;
 }
-group_stands r grant s h (ConnectionManagement src d (Cts granted next pgn)) lt st = record {
+group_beside taken r grant s h (ConnectionManagement src d (Cts granted next pgn)) lt st = record {
   grants = st.grants;
   claims = st.claims;
   apart = st.apart;
@@ -90,13 +95,14 @@ group_stands r grant s h (ConnectionManagement src d (Cts granted next pgn)) lt 
   owners = st.owners;
   broadcasts = st.broadcasts;
   sessions = st.sessions;
+  most = st.most;
   rows = st.rows;
   names = st.names;
   entries = st.entries;
   missed = st.missed;
   unread = st.unread;
 }
-group_stands r grant s h (ConnectionManagement src d (EndAck size packets pgn)) lt st = record {
+group_beside taken r grant s h (ConnectionManagement src d (EndAck size packets pgn)) lt st = record {
   grants = st.grants;
   claims = st.claims;
   apart = st.apart;
@@ -104,13 +110,14 @@ group_stands r grant s h (ConnectionManagement src d (EndAck size packets pgn)) 
   owners = st.owners;
   broadcasts = st.broadcasts;
   sessions = st.sessions;
+  most = st.most;
   rows = st.rows;
   names = st.names;
   entries = st.entries;
   missed = st.missed;
   unread = st.unread;
 }
-group_stands r grant s h Other lt st = record {
+group_beside taken r grant s h Other lt st = record {
   grants = st.grants;
   claims = st.claims;
   apart = st.apart;
@@ -118,6 +125,7 @@ group_stands r grant s h Other lt st = record {
   owners = st.owners;
   broadcasts = st.broadcasts;
   sessions = st.sessions;
+  most = st.most;
   rows = st.rows;
   names = st.names;
   entries = st.entries;
@@ -134,15 +142,16 @@ addressless_row n owners (Some x) = go x.claimed
     go None = refl
     go (Some a) = rw (at-empty {X = ℕ} a) refl
 
-pub gap_stands : (r : Settings) (grant : ℕ) (s : StationValue) (h : List Reading) (n : ℕ) → StandsFor r grant s h → StandsFor r grant (after_gap s n) (Gap n ∷ h)
-gap_stands r grant s h n st = record {
+pub gap_beside : (taken : ℕ → Kind → List Shown) (r : StationSettings) (grant : ℕ) (s : StationValue) (h : List Reading) (n : ℕ) → StandsBeside taken r grant s h → StandsBeside taken r grant (after_gap s n) (Gap n ∷ h)
+gap_beside taken r grant s h n st = record {
   grants = st.grants;
   claims = st.claims;
   apart = st.apart;
-  places = (places-empty ℕ, places-empty Joining, places-empty SessionValue);
+  places = record { owners = places-empty ℕ; broadcasts = places-empty Joining; sessions = places-empty Joining; most = st.places.most };
   owners = λ a below. at-empty a;
   broadcasts = λ a below. at-empty a;
   sessions = λ a below. at-empty a;
+  most = st.most;
   rows = λ m. addressless_row m s.owners (kept_under s.rows m) ∙ ap addressless (st.rows m);
   names = st.names;
   entries = st.entries;
@@ -151,9 +160,9 @@ gap_stands r grant s h n st = record {
 }
 
 -- a reading that is not refused
-pub stands_after : (r : Settings) (grant : ℕ) (s : StationValue) (h : List Reading) (x : Reading) → StandsFor r grant s h
-    → StandsFor r grant (after_reading s x) (x ∷ h)
-stands_after r grant s h Empty st = record {
+pub beside_after : (taken : ℕ → Kind → List Shown) (r : StationSettings) (grant : ℕ) (s : StationValue) (h : List Reading) (x : Reading) → StandsBeside taken r grant s h
+    → StandsBeside taken r grant (after_reading s x) (x ∷ h)
+beside_after taken r grant s h Empty st = record {
   grants = st.grants;
   claims = st.claims;
   apart = st.apart;
@@ -161,16 +170,17 @@ stands_after r grant s h Empty st = record {
   owners = st.owners;
   broadcasts = st.broadcasts;
   sessions = st.sessions;
+  most = st.most;
   rows = st.rows;
   names = st.names;
   entries = st.entries;
   missed = st.missed;
   unread = st.unread;
 }
-stands_after r grant s h (Gap n) st = gap_stands r grant s h n st
-stands_after r grant s h (Frame f) st = at_frame (group_stands r grant s h (group_of f) (sender_below f) st)
+beside_after taken r grant s h (Gap n) st = gap_beside taken r grant s h n st
+beside_after taken r grant s h (Frame f) st = at_frame (group_beside taken r grant s h (group_of f) (sender_below f) st)
   where
-    at_frame : StandsAfter r grant (group_of f) (after_group s (group_of f)) h → StandsFor r grant (after_group s (group_of f)) (Frame f ∷ h)
+    at_frame : StandsAfter taken r grant (group_of f) (after_group s (group_of f)) h → StandsBeside taken r grant (after_group s (group_of f)) (Frame f ∷ h)
     at_frame t = record {
       grants = t.grants;
       claims = t.claims;
@@ -179,6 +189,7 @@ stands_after r grant s h (Frame f) st = at_frame (group_stands r grant s h (grou
       owners = t.owners;
       broadcasts = t.broadcasts;
       sessions = t.sessions;
+      most = t.most;
       rows = t.rows;
       names = t.names;
       entries = t.entries;
@@ -186,16 +197,31 @@ stands_after r grant s h (Frame f) st = at_frame (group_stands r grant s h (grou
       unread = t.unread;
     }
 
+-- where no entry was taken out of a list
+pub stands_after : (r : StationSettings) (grant : ℕ) (s : StationValue) (h : List Reading) (x : Reading) → StandsFor r grant s h
+    → StandsFor r grant (after_reading s x) (x ∷ h)
+stands_after r grant s h x st = beside_after none_taken r grant s h x st
+
+-- no sender told how many packets it takes at once
+limits_places : length no_limits ≡ 256
+unfolding no_limits
+limits_places = length-replicate {A = ℕ} 256 255
+
+limit_none : (a : ℕ) → a < 256 → slice_index no_limits a ≡ 255
+unfolding no_limits
+limit_none a below = get_or-replicate 256 a 255 0 below
+
 -- a new station, which has read nothing
-pub stands_new : (r : Settings) (grant : ℕ) (s : StationValue) → (r.address == 255) ≡ false → s ≡ new_station r.name r.address grant → StandsFor r grant s []
+pub stands_new : (r : StationSettings) (grant : ℕ) (s : StationValue) → (r.address == 255) ≡ false → s ≡ new_station r.name r.address grant → StandsFor r grant s []
 stands_new r grant s below e = subst (λ (v : StationValue). StandsFor r grant v []) (sym e) (record {
   grants = refl;
   claims = refl;
   apart = below;
-  places = (places-empty ℕ, places-empty Joining, places-empty SessionValue);
+  places = record { owners = places-empty ℕ; broadcasts = places-empty Joining; sessions = places-empty Joining; most = limits_places };
   owners = λ a below. at-empty a;
   broadcasts = λ a below. at-empty a;
   sessions = λ a below. at-empty a;
+  most = λ a below. limit_none a below;
   rows = λ n. refl;
   names = refl;
   entries = λ n k. refl;
@@ -204,30 +230,36 @@ stands_new r grant s below e = subst (λ (v : StationValue). StandsFor r grant v
 })
 
 -- the parts of a new station
-pub stands_new_parts : (name address grant : ℕ) (claimer : ClaimerValue) (owners : List (Option ℕ)) (rows : List (ℕ × KeptValue)) (broadcasts : List (Option Joining)) (sessions : List (Option SessionValue))
-    → address ≤ 253 → claimer ≡ new_claimer name address → owners ≡ empty_table → rows ≡ [] → broadcasts ≡ empty_table → sessions ≡ empty_table
+pub stands_new_parts : (name address grant : ℕ) (claimer : ClaimerValue) (owners : List (Option ℕ)) (rows : List (ℕ × KeptValue)) (broadcasts sessions : List (Option Joining)) (most : List ℕ)
+    → address ≤ 253 → claimer ≡ new_claimer name address → owners ≡ empty_table → rows ≡ [] → broadcasts ≡ empty_table → sessions ≡ empty_table → most ≡ no_limits
     → StandsFor (record { name = name; address = address }) grant
-    (record { claimer = claimer; grant = grant; owners = owners; rows = rows; broadcasts = broadcasts; sessions = sessions; missed = 0; unread = 0 }) []
-stands_new_parts name address grant claimer owners rows broadcasts sessions fits c o r b s =
-    stands_new (record { name = name; address = address }) grant _ (ne_eqb address 255 (λ same. let wrong : address ≡ 255 = same in omega arith)) (rw (c, o, r, b, s) refl)
+    (record { claimer = claimer; grant = grant; owners = owners; rows = rows; broadcasts = broadcasts; sessions = sessions; most = most; missed = 0; unread = 0 }) []
+stands_new_parts name address grant claimer owners rows broadcasts sessions most fits c o r b s m =
+    stands_new (record { name = name; address = address }) grant _ (ne_eqb address 255 (λ same. let wrong : address ≡ 255 = same in omega arith)) (rw (c, o, r, b, s, m) refl)
 
 -- the station's tables after a list of readings, newest first
-pub station_after : Settings → ℕ → List Reading → StationValue
+pub station_after : StationSettings → ℕ → List Reading → StationValue
 station_after r grant [] = new_station r.name r.address grant
 station_after r grant (x ∷ older) = after_reading (station_after r grant older) x
 
 -- they stand for that list
-pub stands_always : (r : Settings) (grant : ℕ) → (r.address == 255) ≡ false → (h : List Reading) → StandsFor r grant (station_after r grant h) h
+pub stands_always : (r : StationSettings) (grant : ℕ) → (r.address == 255) ≡ false → (h : List Reading) → StandsFor r grant (station_after r grant h) h
 unfolding station_after
 stands_always r grant below [] = stands_new r grant (new_station r.name r.address grant) below refl
 stands_always r grant below (x ∷ older) = stands_after r grant (station_after r grant older) older x (stands_always r grant below older)
 
 -- a reading, with the tables after it named
-pub stands_read : (r : Settings) (grant : ℕ) (s t : StationValue) (h : List Reading) (x : Reading) → t ≡ after_reading s x → StandsFor r grant s h → StandsFor r grant t (x ∷ h)
+pub stands_read : (r : StationSettings) (grant : ℕ) (s t : StationValue) (h : List Reading) (x : Reading) → t ≡ after_reading s x → StandsFor r grant s h → StandsFor r grant t (x ∷ h)
 stands_read r grant s t h x e st = subst (λ (v : StationValue). StandsFor r grant v (x ∷ h)) (sym e) (stands_after r grant s h x st)
 
 -- the same at a call's answer
 pub stands_on_ok : {T E : Type 0} (result : Result T E) (s t : StationValue) (x : Reading) → OnOk result (t ≡ after_reading s x)
-    → OnOk result ((r : Settings) (grant : ℕ) (h : List Reading) → StandsFor r grant s h → StandsFor r grant t (x ∷ h))
+    → OnOk result ((r : StationSettings) (grant : ℕ) (h : List Reading) → StandsFor r grant s h → StandsFor r grant t (x ∷ h))
 stands_on_ok (Ok y) s t x e = λ r grant h st. stands_read r grant s t h x e st
 stands_on_ok (Err y) s t x e = tt
+
+-- and with entries taken out of the lists
+pub beside_on_ok : {T E : Type 0} (result : Result T E) (s t : StationValue) (x : Reading) → OnOk result (t ≡ after_reading s x)
+    → OnOk result ((taken : ℕ → Kind → List Shown) (r : StationSettings) (grant : ℕ) (h : List Reading) → StandsBeside taken r grant s h → StandsBeside taken r grant t (x ∷ h))
+beside_on_ok (Ok y) s t x e = λ taken r grant h st. subst (λ (v : StationValue). StandsBeside taken r grant v (x ∷ h)) (sym e) (beside_after taken r grant s h x st)
+beside_on_ok (Err y) s t x e = tt

@@ -1,5 +1,5 @@
 -- What the station keeps under each NAME.
-use Rattle.std.specs.Prelude.{ℕ, List, [], ◌∷◌, ◌++◌, Option, Some, None, nat_eq, is_some, if◌then◌else◌}
+use Rattle.std.specs.Prelude.{ℕ, List, [], ◌∷◌, ◌++◌, drop, Option, Some, None, nat_eq, is_some, if◌then◌else◌}
 use Rattle.std.specs.Option.{option_map_or}
 use Rattle.std.specs.Map.{lookup, set_value}
 use Rattle.dm_messages.specs.declared.kind.Kind.{Kind}
@@ -35,6 +35,11 @@ with_ack ack kept = record kept { ack = Some ack }
 abbrev pub with_entry : Kind → Shown → KeptValue → KeptValue
 with_entry Dm1 shown kept = record kept { dm1 = kept.dm1 ++ shown ∷ [] }
 with_entry Dm2 shown kept = record kept { dm2 = kept.dm2 ++ shown ∷ [] }
+
+-- without the oldest entry of a kind, where there is one
+abbrev pub without_oldest : Kind → KeptValue → KeptValue
+without_oldest Dm1 kept = record kept { dm1 = drop 1 kept.dm1 }
+without_oldest Dm2 kept = record kept { dm2 = drop 1 kept.dm2 }
 
 -- what is kept under the NAME, if it has a row
 abbrev pub kept_under : List (ℕ × KeptValue) → ℕ → Option KeptValue

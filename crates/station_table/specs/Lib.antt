@@ -1,5 +1,5 @@
-pub mod Halves
 pub mod KeptValue
+pub mod Lists
 pub mod Orders
 pub mod Reactions
 pub mod Refusals

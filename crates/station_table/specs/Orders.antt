@@ -1,7 +1,8 @@
 -- What the station answers to each order, memory aside.
 use Rattle.std.specs.Prelude.{◌≡◌, ◌↔◌, ◌≤◌, ◌<◌, ℕ, List, Option, Some, None, IsSome, IsNone, Result, Ok, Err, IsOk, nat_lt, if◌then◌else◌}
 use Rattle.can_frame.specs.declared.reading.Reading.{Reading}
-use Rattle.bus_model.specs.Heard.{Settings, address_heard, address_known}
+use Rattle.can_frame.specs.declared.address.TheConstants.{GREATEST_ADDRESS, GLOBAL_ADDRESS}
+use Rattle.bus_model.specs.Heard.{StationSettings, address_heard, address_known}
 use Rattle.station_table.specs.declared.error.StationError.{StationError}
 use Rattle.station_table.specs.declared.error.StationError.TheVariants.{NotAnAddress, NoAddress, NotHeld}
 use Rattle.station_table.specs.declared.reaction.Ask.{Ask}
@@ -29,7 +30,7 @@ ask_answer s name ask = ask_from s.claimer.held (address_in (row_of s.owners nam
 
 -- all are asked
 abbrev pub ask_all_answer : StationValue → Ask → Result Reaction StationError
-ask_all_answer s ask = ask_from s.claimer.held (Some 255) ask
+ask_all_answer s ask = ask_from s.claimer.held (Some GLOBAL_ADDRESS) ask
 
 -- a command from the station's address
 abbrev pub command_from : Option ℕ → ℕ → ℕ → Result Reaction StationError
@@ -38,21 +39,21 @@ command_from (Some own) name address = Ok (commanding own name address)
 
 -- the unit of a NAME is commanded to hold an address
 abbrev pub command_answer : StationValue → ℕ → ℕ → Result Reaction StationError
-command_answer s name address = if nat_lt 253 address then Err NotAnAddress else command_from s.claimer.held name address
+command_answer s name address = if nat_lt GREATEST_ADDRESS address then Err NotAnAddress else command_from s.claimer.held name address
 
 -- what was heard decides whether a NAME is asked: the station holds an address, and one of that NAME is known
-pub record IsAsked (r : Settings) (h : List Reading) (name : ℕ) (answer : Result Reaction StationError) : Type 0 where
+pub record AnswersAsk (r : StationSettings) (h : List Reading) (name : ℕ) (answer : Result Reaction StationError) : Type 0 where
   pub not_held : (answer ≡ Err NotHeld) ↔ IsNone (address_heard r h)
   pub no_address : (answer ≡ Err NoAddress) ↔ (IsSome (address_heard r h) × IsNone (address_known r name h))
   pub asked : IsOk answer ↔ (IsSome (address_heard r h) × IsSome (address_known r name h))
 
 -- and whether all are asked: the station holds an address
-pub record AreAsked (r : Settings) (h : List Reading) (answer : Result Reaction StationError) : Type 0 where
+pub record AnswersAskAll (r : StationSettings) (h : List Reading) (answer : Result Reaction StationError) : Type 0 where
   pub not_held : (answer ≡ Err NotHeld) ↔ IsNone (address_heard r h)
   pub asked : IsOk answer ↔ IsSome (address_heard r h)
 
 -- and whether a NAME is commanded to an address: it can be held, and the station holds one itself
-pub record IsCommanded (r : Settings) (h : List Reading) (address : ℕ) (answer : Result Reaction StationError) : Type 0 where
-  pub not_an_address : (answer ≡ Err NotAnAddress) ↔ (253 < address)
-  pub not_held : (answer ≡ Err NotHeld) ↔ ((address ≤ 253) × IsNone (address_heard r h))
-  pub commanded : IsOk answer ↔ ((address ≤ 253) × IsSome (address_heard r h))
+pub record AnswersCommand (r : StationSettings) (h : List Reading) (address : ℕ) (answer : Result Reaction StationError) : Type 0 where
+  pub not_an_address : (answer ≡ Err NotAnAddress) ↔ (GREATEST_ADDRESS < address)
+  pub not_held : (answer ≡ Err NotHeld) ↔ ((address ≤ GREATEST_ADDRESS) × IsNone (address_heard r h))
+  pub commanded : IsOk answer ↔ ((address ≤ GREATEST_ADDRESS) × IsSome (address_heard r h))

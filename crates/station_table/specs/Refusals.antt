@@ -3,8 +3,8 @@ use Rattle.station_table.specs.declared.error.StationError.{StationError}
 use Rattle.station_table.specs.declared.error.StationError.TheVariants.{OutOfMemory, NotAnAddress, NoAddress, NotHeld}
 
 -- the number of the station's refusal
-abbrev pub number_of : StationError → ℕ
-number_of OutOfMemory = 0
-number_of NotAnAddress = 7
-number_of NoAddress = 22
-number_of NotHeld = 23
+abbrev pub station_error_number : StationError → ℕ
+station_error_number OutOfMemory = 0
+station_error_number NotAnAddress = 7
+station_error_number NoAddress = 22
+station_error_number NotHeld = 23

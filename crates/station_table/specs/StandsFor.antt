@@ -1,17 +1,19 @@
 -- When the station's tables say what a list of readings says.
-use Rattle.std.specs.Prelude.{◌≡◌, ℕ, ◌<◌, List, [], ◌∷◌, Option, Some, None, false, ◌&&◌, ◌==◌, is_some, if◌then◌else◌, length, map, reverse}
+use Rattle.std.specs.Prelude.{◌≡◌, ℕ, ◌<◌, List, [], ◌∷◌, ◌++◌, Option, Some, None, false, ◌&&◌, ◌==◌, is_some, if◌then◌else◌, length, map, reverse, slice_index}
 use Rattle.address_claim.specs.Claiming.{is_held}
 use Rattle.can_frame.specs.declared.reading.Reading.{Reading}
 use Rattle.can_frame.specs.declared.reading.Reading.TheVariants.{Frame, Gap, Empty}
+use Rattle.can_frame.specs.declared.address.TheConstants.{GLOBAL_ADDRESS}
 use Rattle.dm_messages.specs.declared.kind.Kind.{Kind}
+use Rattle.dm_messages.specs.declared.shown.Shown.{Shown}
 use Rattle.transport.specs.declared.control.Control.TheVariants.{Rts}
 use Rattle.parameter_group.specs.Group.{Group, ConnectionManagement, group_of}
-use Rattle.bus_model.specs.Heard.{Settings, AckHeard, RowHeard, kind_of, started, owner_heard, claimer_heard, address_heard, broadcast_heard, session_heard, row_heard, names_heard, entries_heard, missed_count, unread_count}
+use Rattle.reassembly.specs.Tables.{at}
+use Rattle.bus_model.specs.Heard.{StationSettings, Joining, AckHeard, RowHeard, kind_of, started, owner_heard, claimer_heard, address_heard, broadcast_heard, session_heard, row_heard, names_heard, entries_heard, missed_count, unread_count}
 use Rattle.station_table.specs.declared.row.AckSeen.{AckSeen}
 use Rattle.station_table.specs.declared.row.Row.{Row}
 use Rattle.station_table.specs.KeptValue.{KeptValue, kept_under, entries_under}
-use Rattle.station_table.specs.StationValue.{SessionValue, StationValue, at}
-use Rattle.station_table.specs.Steps.{session_with, packets_at_once}
+use Rattle.station_table.specs.StationValue.{StationValue}
 
 -- an Rts that starts a session tells how many packets its sender takes at once
 abbrev pub most_after : ℕ → Group → Option ℕ → Option ℕ → ℕ → ℕ
@@ -20,15 +22,11 @@ most_after a (ConnectionManagement s d (Rts size packets most pgn)) held own bef
 most_after a _ held own before = before
 
 -- how many packets at once the sender of the last session that was started from the address takes
-abbrev pub most_heard : Settings → ℕ → List Reading → ℕ
+abbrev pub most_heard : StationSettings → ℕ → List Reading → ℕ
 most_heard r a [] = 255
 most_heard r a (Gap n ∷ older) = most_heard r a older
 most_heard r a (Empty ∷ older) = most_heard r a older
 most_heard r a (Frame f ∷ older) = most_after a (group_of f) (address_heard r older) (owner_heard a older) (most_heard r a older)
-
--- the session half joined from the address, with the most packets that one grant gives
-abbrev pub session_known : Settings → ℕ → ℕ → List Reading → Option SessionValue
-session_known r grant a h = session_with (packets_at_once grant (most_heard r a h)) (session_heard r a h)
 
 -- the claimed address, where it is still the NAME's
 abbrev pub still_owned : List (Option ℕ) → ℕ → Option ℕ → Option ℕ
@@ -44,20 +42,37 @@ abbrev pub row_known : List (Option ℕ) → ℕ → Option KeptValue → Option
 row_known owners name None = None
 row_known owners name (Some kept) = Some (record { address = still_owned owners name kept.claimed; ack = ack_known kept.ack })
 
--- each table has at each address what was heard of it
-pub record StandsFor (r : Settings) (grant : ℕ) (s : StationValue) (h : List Reading) : Type 0 where
+-- the tables are of 256 addresses
+pub record AreTables (owned : List (Option ℕ)) (announced opened : List (Option Joining)) (limits : List ℕ) : Type 0 where
+  pub owners : length owned ≡ 256
+  pub broadcasts : length announced ≡ 256
+  pub sessions : length opened ≡ 256
+  pub most : length limits ≡ 256
+
+-- each table has at each address what was heard of it, and so has each list, with the entries that were taken out of it in
+-- front of those that stand there
+pub record StandsBeside (taken : ℕ → Kind → List Shown) (r : StationSettings) (grant : ℕ) (s : StationValue) (h : List Reading) : Type 0 where
   pub grants : s.grant ≡ grant
   pub claims : s.claimer ≡ claimer_heard r h
-  pub apart : is_held s.claimer.held 255 ≡ false
-  pub places : (length s.owners ≡ 256) × (length s.broadcasts ≡ 256) × (length s.sessions ≡ 256)
+  pub apart : is_held s.claimer.held GLOBAL_ADDRESS ≡ false
+  pub places : AreTables s.owners s.broadcasts s.sessions s.most
   pub owners : (a : ℕ) → a < 256 → at s.owners a ≡ owner_heard a h
   pub broadcasts : (a : ℕ) → a < 256 → at s.broadcasts a ≡ broadcast_heard a h
-  pub sessions : (a : ℕ) → a < 256 → at s.sessions a ≡ session_known r grant a h
+  pub sessions : (a : ℕ) → a < 256 → at s.sessions a ≡ session_heard r a h
+  pub most : (a : ℕ) → a < 256 → slice_index s.most a ≡ most_heard r a h
   pub rows : (n : ℕ) → row_known s.owners n (kept_under s.rows n) ≡ row_heard r n h
   pub names : map (λ e. e.0) s.rows ≡ names_heard h
-  pub entries : (n : ℕ) (k : Kind) → entries_under s.rows n k ≡ reverse (entries_heard r n k h)
+  pub entries : (n : ℕ) (k : Kind) → taken n k ++ entries_under s.rows n k ≡ reverse (entries_heard r n k h)
   pub missed : s.missed ≡ missed_count h
   pub unread : s.unread ≡ unread_count r h
+
+-- no entry was taken out of a list
+abbrev pub none_taken : ℕ → Kind → List Shown
+none_taken n k = []
+
+-- each table and each list has what was heard of it
+abbrev pub StandsFor : StationSettings → ℕ → StationValue → List Reading → Type 0
+StandsFor r grant s h = StandsBeside none_taken r grant s h
 
 -- the row that the station shows of a NAME
 abbrev pub row_of : List (Option ℕ) → ℕ → Option KeptValue → Option Row

@@ -2,6 +2,7 @@
 use Rattle.std.specs.Prelude.{ℕ, ◌+◌, min, List, [], Option, Some, None, ◌||◌, ◌==◌, if◌then◌else◌, slice_set, replicate}
 use Rattle.can_frame.specs.declared.reading.Reading.{Reading}
 use Rattle.can_frame.specs.declared.reading.Reading.TheVariants.{Frame, Gap, Empty}
+use Rattle.can_frame.specs.declared.address.TheConstants.{GLOBAL_ADDRESS}
 use Rattle.dm_messages.specs.declared.kind.Kind.{Kind}
 use Rattle.dm_messages.specs.declared.shown.Shown.{Shown}
 use Rattle.dm_messages.specs.View.{decoding}
@@ -10,42 +11,27 @@ use Rattle.parameter_group.specs.Group.{Group, AddressClaimed, CannotClaim, Ackn
 use Rattle.address_claim.specs.Claiming.{is_held, new_claimer, claim_step, after_claim}
 use Rattle.address_claim.specs.declared.claimer.ClaimStep.{ClaimStep}
 use Rattle.address_claim.specs.declared.claimer.ClaimStep.TheVariants.{Nothing}
-use Rattle.bus_model.specs.Heard.{Joining, Entry, kind_of, started, with_packet, unfinished, finished, entry_under, without_kind, counted, kept_under as joining_under}
+use Rattle.reassembly.specs.Partials.{with_packet, after_packet}
+use Rattle.reassembly.specs.Tables.{at, empty_table}
+use Rattle.bus_model.specs.Heard.{Joining, Origin, Entry, kind_of, started, finished, entry_under, without_kind, counted, kept_by_owner as joining_under}
 use Rattle.station_table.specs.declared.row.AckSeen.{AckSeen}
+use Rattle.station_table.specs.declared.ended.Ended.{Ended}
 use Rattle.station_table.specs.KeptValue.{with_claimed, with_ack, with_entry, with_row, changed_under}
-use Rattle.station_table.specs.StationValue.{SessionValue, StationValue, at}
+use Rattle.station_table.specs.StationValue.{StationValue}
 
--- a table in which no address has anything
-unfoldable pub empty_table : {X : Type 0} → List (Option X)
-empty_table = replicate 256 None
+-- no sender told how many packets it takes at once
+unfoldable pub no_limits : List ℕ
+no_limits = replicate 256 255
 
--- the session with what became of its message, or none where that ended
-abbrev pub session_with : ℕ → Option Joining → Option SessionValue
-session_with at_once None = None
-session_with at_once (Some j) = Some (record { joining = j; at_once = at_once })
-
--- what a session has joined
-abbrev pub joining_of : Option SessionValue → Option Joining
-joining_of None = None
-joining_of (Some x) = Some x.joining
-
--- the most packets that one grant of the session gives
-abbrev pub at_once_of : Option SessionValue → ℕ
-at_once_of None = 0
-at_once_of (Some x) = x.at_once
-
--- the same session after a change of what it has joined
-abbrev pub rejoined : (Option Joining → Option Joining) → Option SessionValue → Option SessionValue
-rejoined change x = session_with (at_once_of x) (change (joining_of x))
+-- whose a diagnostic message is that starts, from an address with an owner
+abbrev pub origin_of : Option Kind → Option ℕ → Option Origin
+origin_of None own = None
+origin_of (Some k) None = None
+origin_of (Some k) (Some n) = Some (record { owner = n; kind = k })
 
 -- the least of the grant and of what the sender takes at once; 0 is no limit
 abbrev pub packets_at_once : ℕ → ℕ → ℕ
 packets_at_once grant most = if most == 0 then grant else min grant most
-
--- a session that starts takes the place of an older one
-abbrev pub or_older : Option SessionValue → Option SessionValue → Option SessionValue
-or_older None older = older
-or_older (Some x) older = Some x
 
 -- a message that ended is read: an entry where it shows something, else it counts as unread
 abbrev pub with_reading : StationValue → ℕ → Kind → Option Shown → StationValue
@@ -57,13 +43,23 @@ abbrev pub with_ended : StationValue → Option Entry → StationValue
 with_ended s None = s
 with_ended s (Some e) = with_reading s e.name e.kind (decoding e.bytes)
 
+-- what a message that ended shows, if one did
+abbrev pub ended_shown : Option Entry → Option Ended
+ended_shown None = None
+ended_shown (Some e) = Some (record { origin = record { owner = e.name; kind = e.kind }; shown = decoding e.bytes })
+
+-- what it shows is kept
+abbrev pub with_read : StationValue → Option Ended → StationValue
+with_read s None = s
+with_read s (Some e) = with_reading s e.origin.owner e.origin.kind e.shown
+
 -- an acknowledgment from an address with an owner
 abbrev pub with_answer : StationValue → Option ℕ → AckSeen → StationValue
 with_answer s None ack = s
 with_answer s (Some name) ack = record s { rows = changed_under (with_ack ack) s.rows name }
 
 -- a step of the station's own claims drops every session
-abbrev pub sessions_after : ClaimStep → List (Option SessionValue) → List (Option SessionValue)
+abbrev pub sessions_after : ClaimStep → List (Option Joining) → List (Option Joining)
 sessions_after Nothing sessions = sessions
 sessions_after _ sessions = empty_table
 
@@ -74,24 +70,25 @@ with_claim s source name = record s {
   owners = slice_set s.owners source (Some name);
   rows = changed_under (with_claimed (Some source)) (with_row s.rows name) name;
   broadcasts = slice_set s.broadcasts source (joining_under name (at s.broadcasts source));
-  sessions = sessions_after (claim_step source name s.claimer) (slice_set s.sessions source (rejoined (joining_under name) (at s.sessions source)));
+  sessions = sessions_after (claim_step source name s.claimer) (slice_set s.sessions source (joining_under name (at s.sessions source)));
 }
-
--- what is half joined after one more packet; nothing once it is whole
-abbrev pub packet_joined : List ℕ → Option Joining → Option Joining
-packet_joined bytes before = unfinished (with_packet bytes before)
 
 -- a packet of a broadcast
 abbrev pub with_broadcast_packet : StationValue → ℕ → List ℕ → StationValue
 with_broadcast_packet s source bytes =
     let ended = with_ended s (finished (with_packet bytes (at s.broadcasts source))) in
-    record ended { broadcasts = slice_set s.broadcasts source (packet_joined bytes (at s.broadcasts source)) }
+    record ended { broadcasts = slice_set s.broadcasts source (after_packet bytes (at s.broadcasts source)) }
 
 -- a packet of a session
 abbrev pub with_session_packet : StationValue → ℕ → List ℕ → StationValue
 with_session_packet s source bytes =
-    let ended = with_ended s (finished (with_packet bytes (joining_of (at s.sessions source)))) in
-    record ended { sessions = slice_set s.sessions source (rejoined (packet_joined bytes) (at s.sessions source)) }
+    let ended = with_ended s (finished (with_packet bytes (at s.sessions source))) in
+    record ended { sessions = slice_set s.sessions source (after_packet bytes (at s.sessions source)) }
+
+-- a session is announced: what starts takes the place of an older one, with what its sender takes at once
+abbrev pub with_session : StationValue → ℕ → ℕ → Option Joining → StationValue
+with_session s source most None = s
+with_session s source most (Some j) = record s { sessions = slice_set s.sessions source (Some j); most = slice_set s.most source most }
 
 -- a station that has read nothing
 abbrev pub new_station : ℕ → ℕ → ℕ → StationValue
@@ -102,6 +99,7 @@ new_station name address grant = record {
   rows = [];
   broadcasts = empty_table;
   sessions = empty_table;
+  most = no_limits;
   missed = 0;
   unread = 0;
 }
@@ -116,22 +114,19 @@ after_group s (Acknowledgment control requester pgn destination source) =
     else s
 after_group s (Diagnostic kind source bytes) = with_ended s (entry_under (at s.owners source) kind bytes)
 after_group s (ConnectionManagement source destination (Bam size packets pgn)) =
-    if destination == 255
+    if destination == GLOBAL_ADDRESS
     then record s { broadcasts = slice_set s.broadcasts source (started (kind_of pgn) size (at s.owners source)) }
     else s
 after_group s (ConnectionManagement source destination (Rts size packets most pgn)) =
     if is_held s.claimer.held destination
-    then record s {
-      sessions = slice_set s.sessions source
-          (or_older (session_with (packets_at_once s.grant most) (started (kind_of pgn) size (at s.owners source))) (at s.sessions source));
-    }
+    then with_session s source most (started (kind_of pgn) size (at s.owners source))
     else s
 after_group s (ConnectionManagement source destination (Abort reason pgn)) =
     if is_held s.claimer.held destination
-    then record s { sessions = slice_set s.sessions source (rejoined (without_kind (kind_of pgn)) (at s.sessions source)) }
+    then record s { sessions = slice_set s.sessions source (without_kind (kind_of pgn) (at s.sessions source)) }
     else s
 after_group s (DataTransfer source destination bytes) =
-    if destination == 255 then with_broadcast_packet s source bytes
+    if destination == GLOBAL_ADDRESS then with_broadcast_packet s source bytes
     else (if is_held s.claimer.held destination then with_session_packet s source bytes else s)
 after_group s _ = s
 

@@ -21,11 +21,11 @@ pub enum StationError {
 }
 
 impl StationError {
-    ghost use Rattle.station_table.specs.Refusals.{number_of};
+    ghost use Rattle.station_table.specs.Refusals.{station_error_number};
 
     /// The refusal's number: 0, 7, 22 or 23.
     pub fn number(self) -> u8
-        ensures { result ≡ number_of self }
+        ensures { result ≡ station_error_number self }
     {
         match self {
             StationError::OutOfMemory => 0,

@@ -1,4 +1,4 @@
-ghost use Rattle.std.specs.Prelude.{◌≡◌, ℕ, OnOk, OnErr};
+ghost use Rattle.std.specs.Prelude.{◌≡◌, ℕ, drop, slice_get, OnOk, OnErr};
 
 use crate::row::AckSeen;
 use dm_messages::{Kind, Shown};
@@ -23,7 +23,7 @@ impl Model for Kept {
 }
 
 impl Kept {
-    ghost use Rattle.station_table.specs.KeptValue.{nothing_kept, entries_of, with_claimed, with_ack, with_entry};
+    ghost use Rattle.station_table.specs.KeptValue.{nothing_kept, entries_of, with_claimed, with_ack, with_entry, without_oldest};
 
     /// Nothing yet.
     pub fn new(alloc: Global) -> Kept
@@ -86,4 +86,26 @@ impl Kept {
             Kind::Dm2 => self.dm2.as_slice(),
         }
     }
+
+    /// Takes out the oldest entry of a kind; none where there is none.
+    pub fn take_oldest(&mut self, kind: Kind) -> Option<Shown>
+        ensures value { result ≡ slice_get (entries_of self.old kind) 0 }
+        ensures rest { self.new ≡ without_oldest kind self.old }
+    {
+        match kind {
+            Kind::Dm1 => take_first(&mut self.dm1),
+            Kind::Dm2 => take_first(&mut self.dm2),
+        }
+    }
+}
+
+/// Takes out the first of the entries; none where there is none.
+fn take_first(entries: &mut Vec<Shown>) -> Option<Shown>
+    ensures value { result ≡ slice_get entries.old.items 0 }
+    ensures rest { entries.new.items ≡ drop 1 entries.old.items }
+{
+    if entries.is_empty() {
+        return None;
+    }
+    Some(entries.remove(0))
 }

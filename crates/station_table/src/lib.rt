@@ -1,14 +1,14 @@
 //! The diagnostic station: what it keeps of the frames that it reads, and what it answers (SAE J1939-21, -73 and -81).
 #![tactic(auto)]
 
+mod ended;
 mod error;
-mod half;
 mod kept;
+mod origin;
 mod reaction;
+mod replies;
 mod row;
 mod rows;
-mod session;
-mod slots;
 mod station;
 
 pub use error::StationError;

@@ -25,7 +25,7 @@ impl Model for Rows {
 }
 
 impl Rows {
-    ghost use Rattle.station_table.specs.KeptValue.{KeptValue, kept_under, entries_under, with_claimed, with_ack, with_entry, with_row, changed_under};
+    ghost use Rattle.station_table.specs.KeptValue.{KeptValue, kept_under, entries_under, with_claimed, with_ack, with_entry, with_row, without_oldest, changed_under};
 
     /// No rows.
     pub fn new(alloc: Global) -> Rows
@@ -116,6 +116,18 @@ impl Rows {
         match self.rows.get(&name) {
             Some(kept) => kept.shown(kind),
             None => &[],
+        }
+    }
+
+    /// Takes out the oldest entry of a kind under the NAME; none where it has no row, or no entry of that kind.
+    #[tactic(auto, using(std::proofs::lemmas::Map::Steps::set_value_same))]
+    pub fn take_oldest(&mut self, name: Name, kind: Kind) -> Option<Shown>
+        ensures value { result ≡ slice_get (entries_under self.old name kind) 0 }
+        ensures rest { self.new ≡ changed_under (without_oldest kind) self.old name }
+    {
+        match self.rows.get_mut(&name) {
+            Some(kept) => kept.take_oldest(kind),
+            None => None,
         }
     }
 }

@@ -1,39 +1,42 @@
-ghost use Rattle.std.specs.Prelude.{◌≡◌, ℕ, ◌<◌, ◌≤◌, [], ◌∷◌, length, map, reverse, slice_get, List, IfOk, IfSome, OnOk, OnErr};
+ghost use Rattle.std.specs.Prelude.{◌≡◌, ℕ, ◌<◌, ◌≤◌, ◌^◌, [], ◌∷◌, length, map, reverse, slice_get, List, IfOk, IfSome, OnOk, OnErr};
 ghost use Rattle.std.specs.Option.{option_map};
 ghost use Rattle.can_frame.specs.declared.reading.Reading.{Reading as AnyReading};
 ghost use Rattle.address_claim.specs.Claiming.{ClaimerValue};
-ghost use Rattle.bus_model.specs.Heard.{Settings, address_heard, names_heard, row_heard, entries_heard, missed_count, unread_count};
+ghost use Rattle.bus_model.specs.Heard.{StationSettings, address_heard, names_heard, row_heard, entries_heard, missed_count, unread_count};
 ghost use Rattle.station_table.specs.Reactions.{own_claim};
+ghost use Rattle.station_table.specs.Steps.{no_limits};
 
-use crate::half::Half;
+use crate::origin::Origin;
 use crate::row::Row;
 use crate::rows::Rows;
-use crate::session::Session;
-use crate::slots::{no_broadcasts, no_owners, no_sessions};
 use address_claim::{Claimer, claim_frame};
 use can_frame::Frame;
 use dm_messages::{Kind, Shown};
 use name_field::Name;
+use reassembly::{AddressTable, Partials};
 use std::alloc::Global;
 use std::marker::Model;
 
 mod answers;
 mod claims;
+mod lists;
 mod messages;
 mod orders;
 mod readings;
 
 /// The diagnostic station: the rows by NAME that the frames which it reads tell, and what it answers.
 ///
-/// Its tables are indexed by source address. It knows of the bus only what it was handed.
+/// Its tables are indexed by source address, and take no memory before something is kept in them. It knows of the bus only
+/// what it was handed.
 #[derive(Drop)]
 pub struct Station {
     claimer: Claimer,
     grant: u8,
-    owners: [Option<Name>; 256],
+    owners: AddressTable<Name>,
     rows: Rows,
-    broadcasts: [Option<Half>; 256],
-    sessions: [Option<Session>; 256],
+    broadcasts: Partials<Origin>,
+    sessions: Partials<Origin>,
+    most: [u8; 256],
     missed: u64,
     unread: u64,
 }
@@ -47,10 +50,11 @@ impl Model for Station {
     ghost view = { λ s. record {
       claimer = s.claimer;
       grant = s.grant;
-      owners = s.owners;
+      owners = s.owners.slots;
       rows = s.rows;
       broadcasts = s.broadcasts;
       sessions = s.sessions;
+      most = s.most;
       missed = s.missed;
       unread = s.unread;
     } };
@@ -60,6 +64,7 @@ impl Model for Station {
 
 impl Station {
     ghost use Rattle.station_table.specs.KeptValue.{kept_under, entries_under};
+    ghost use Rattle.reassembly.specs.Tables.{at};
     ghost use Rattle.station_table.specs.Steps.{new_station};
     ghost use Rattle.station_table.specs.StandsFor.{StandsFor, row_of, row_heard_as};
 
@@ -75,10 +80,11 @@ impl Station {
         Station {
             claimer: Claimer::new(name, address),
             grant,
-            owners: no_owners(),
+            owners: AddressTable::new(alloc),
             rows: Rows::new(alloc),
-            broadcasts: no_broadcasts(),
-            sessions: no_sessions(),
+            broadcasts: Partials::new(alloc),
+            sessions: Partials::new(alloc),
+            most: no_limits(),
             missed: 0,
             unread: 0,
         }
@@ -86,7 +92,8 @@ impl Station {
 
     /// The claim of its address, or its cannot claim where it holds none.
     pub fn start(&self) -> Frame
-        ensures { result ≡ own_claim self.now.claimer }
+        ensures frame { result ≡ own_claim self.now.claimer }
+        ensures name_fits { self.now.claimer.name < 2 ^ 64 }
     {
         claim_frame(self.claimer.name(), self.claimer.held())
     }
@@ -95,7 +102,7 @@ impl Station {
     #[tactic(auto, using(crate::proofs::Queries::held_as_heard))]
     pub fn held(&self) -> Option<u8>
         ensures value { result ≡ self.now.claimer.held }
-        ensures heard { (r : Settings) (grant : ℕ) (h : List AnyReading) → StandsFor r grant self.now h → result ≡ address_heard r h }
+        ensures heard { (r : StationSettings) (grant : ℕ) (h : List AnyReading) → StandsFor r grant self.now h → result ≡ address_heard r h }
         ensures bound { IfSome result (λ a. a ≤ 253) }
     {
         self.claimer.held()
@@ -105,7 +112,7 @@ impl Station {
     #[tactic(auto, using(crate::proofs::Queries::names_as_heard))]
     pub fn names(&self) -> usize
         ensures value { result ≡ length self.now.rows }
-        ensures heard { (r : Settings) (grant : ℕ) (h : List AnyReading) → StandsFor r grant self.now h → result ≡ length (names_heard h) }
+        ensures heard { (r : StationSettings) (grant : ℕ) (h : List AnyReading) → StandsFor r grant self.now h → result ≡ length (names_heard h) }
     {
         self.rows.len()
     }
@@ -114,7 +121,7 @@ impl Station {
     #[tactic(auto, using(crate::proofs::Queries::name_as_heard))]
     pub fn name_at(&self, place: usize) -> Option<Name>
         ensures value { result ≡ slice_get (map (λ e. e.0) self.now.rows) place }
-        ensures heard { (r : Settings) (grant : ℕ) (h : List AnyReading) → StandsFor r grant self.now h → result ≡ slice_get (names_heard h) place }
+        ensures heard { (r : StationSettings) (grant : ℕ) (h : List AnyReading) → StandsFor r grant self.now h → result ≡ slice_get (names_heard h) place }
     {
         self.rows.name_at(place)
     }
@@ -123,21 +130,28 @@ impl Station {
     #[tactic(auto, using(crate::proofs::Queries::row_as_heard))]
     pub fn row(&self, name: Name) -> Option<Row>
         ensures value { result ≡ row_of self.now.owners name (kept_under self.now.rows name) }
-        ensures heard { (r : Settings) (grant : ℕ) (h : List AnyReading) → StandsFor r grant self.now h → option_map row_heard_as result ≡ row_heard r name h }
+        ensures heard { (r : StationSettings) (grant : ℕ) (h : List AnyReading) → StandsFor r grant self.now h → option_map row_heard_as result ≡ row_heard r name h }
     {
         let (claimed, ack) = self.rows.get(name)?;
         let address = match claimed {
-            Some(address) if self.owners[usize::from(address)] == Some(name) => Some(address),
+            Some(address) if self.owner(address) == Some(name) => Some(address),
             _ => None,
         };
         Some(Row { address, ack })
+    }
+
+    /// The owner of an address.
+    fn owner(&self, address: u8) -> Option<Name>
+        ensures { result ≡ at self.now.owners address }
+    {
+        self.owners.get(address).copied()
     }
 
     /// The entries of a kind under a NAME, oldest first; none for a NAME that has no row.
     #[tactic(auto, using(crate::proofs::Queries::entries_as_heard))]
     pub fn shown(&self, name: Name, kind: Kind) -> &[Shown]
         ensures value { result.now ≡ entries_under self.now.rows name kind }
-        ensures heard { (r : Settings) (grant : ℕ) (h : List AnyReading) → StandsFor r grant self.now h → result.now ≡ reverse (entries_heard r name kind h) }
+        ensures heard { (r : StationSettings) (grant : ℕ) (h : List AnyReading) → StandsFor r grant self.now h → result.now ≡ reverse (entries_heard r name kind h) }
     {
         self.rows.shown(name, kind)
     }
@@ -146,7 +160,7 @@ impl Station {
     #[tactic(auto, using(crate::proofs::Queries::missed_as_heard))]
     pub fn missed(&self) -> u64
         ensures value { result ≡ self.now.missed }
-        ensures heard { (r : Settings) (grant : ℕ) (h : List AnyReading) → StandsFor r grant self.now h → result ≡ missed_count h }
+        ensures heard { (r : StationSettings) (grant : ℕ) (h : List AnyReading) → StandsFor r grant self.now h → result ≡ missed_count h }
     {
         self.missed
     }
@@ -155,8 +169,16 @@ impl Station {
     #[tactic(auto, using(crate::proofs::Queries::unread_as_heard))]
     pub fn unread(&self) -> u64
         ensures value { result ≡ self.now.unread }
-        ensures heard { (r : Settings) (grant : ℕ) (h : List AnyReading) → StandsFor r grant self.now h → result ≡ unread_count r h }
+        ensures heard { (r : StationSettings) (grant : ℕ) (h : List AnyReading) → StandsFor r grant self.now h → result ≡ unread_count r h }
     {
         self.unread
     }
+}
+
+/// What senders take at once, where none told.
+#[tactic(auto, unfolding(crate::specs::Steps::no_limits))]
+fn no_limits() -> [u8; 256]
+    ensures { result ≡ no_limits }
+{
+    [255; 256]
 }

@@ -1,4 +1,6 @@
+mod many;
 mod meetings;
+mod past;
 mod runs;
 mod thinker;
 mod worker;

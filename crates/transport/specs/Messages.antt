@@ -2,6 +2,8 @@
 use Rattle.std.specs.Prelude.{ℕ, zero, suc, nat_eq, if◌then◌else◌, List, [], ◌∷◌, length}
 use Rattle.can_frame.specs.Fields.{pdu1_number, pdu2_number}
 use Rattle.can_frame.specs.FrameValue.{FrameValue, frame}
+use Rattle.can_frame.specs.declared.address.TheConstants.{GLOBAL_ADDRESS}
+use Rattle.can_frame.specs.declared.group_numbers.TheConstants.{DATA_TRANSFER, CONNECTION_MANAGEMENT}
 use Rattle.transport.specs.Pieces.{packet_count, packet}
 use Rattle.transport.specs.ControlMessage.{control_bytes}
 use Rattle.transport.specs.declared.control.Control.{Control}
@@ -9,16 +11,16 @@ use Rattle.transport.specs.declared.control.Control.TheVariants.{Rts, Bam}
 
 -- the frame of a connection management message (group 60416, priority 7)
 abbrev pub control_frame : Control → ℕ → ℕ → FrameValue
-control_frame control source destination = frame (pdu1_number 7 60416 destination source) (control_bytes control)
+control_frame control source destination = frame (pdu1_number 7 CONNECTION_MANAGEMENT destination source) (control_bytes control)
 
 -- the frame of a data transfer packet (group 60160, priority 7)
 abbrev pub packet_frame : List ℕ → ℕ → ℕ → FrameValue
-packet_frame bytes source destination = frame (pdu1_number 7 60160 destination source) bytes
+packet_frame bytes source destination = frame (pdu1_number 7 DATA_TRANSFER destination source) bytes
 
 -- what announces a payload: to all a Bam, else an Rts with no limit
 abbrev pub announcement : ℕ → ℕ → ℕ → Control
 announcement size pgn destination =
-    if nat_eq destination 255 then Bam size (packet_count size) pgn else Rts size (packet_count size) 255 pgn
+    if nat_eq destination GLOBAL_ADDRESS then Bam size (packet_count size) pgn else Rts size (packet_count size) 255 pgn
 
 -- part 0 of a message: the one frame to all if the payload has eight bytes, else the announcement
 abbrev pub first_part : List ℕ → ℕ → ℕ → ℕ → FrameValue

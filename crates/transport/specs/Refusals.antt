@@ -3,6 +3,6 @@ use Rattle.transport.specs.declared.control.ControlError.{ControlError}
 use Rattle.transport.specs.declared.control.ControlError.TheVariants.{BadControl, BadSize}
 
 -- the number of a refusal
-abbrev pub number_of : ControlError → ℕ
-number_of BadControl = 5
-number_of BadSize = 6
+abbrev pub control_error_number : ControlError → ℕ
+control_error_number BadControl = 5
+control_error_number BadSize = 6

@@ -1,4 +1,4 @@
-ghost use Rattle.std.specs.Prelude.{◌≡◌, ℕ, ◌≤◌, ◌↔◌, IfOk, IsTrue, Some, List, length, nat_eq, if◌then◌else◌};
+ghost use Rattle.std.specs.Prelude.{◌≡◌, ℕ, ◌<◌, ◌≤◌, ◌↔◌, ◌∷◌, [], ◌++◌, IfOk, IsTrue, IsSome, IsSomeAnd, Some, List, length, nat_eq, if◌then◌else◌};
 ghost use Rattle.transport.specs.Pieces.{IsNext};
 ghost use Rattle.transport.specs.Pieces.{packet_count, pieces, packets_of, joined};
 
@@ -88,18 +88,39 @@ impl Assembly {
         answered(taken + 1, count)
     }
 
-    /// The same message with the same packets taken, in memory of its own.
-    pub fn copy(&self, alloc: Global) -> Result<Assembly, AllocError>
-        ensures { IfOk result (λ a. a ≡ self.now) }
+    /// Takes a packet that is the next one, without judging it again. It takes no memory.
+    pub fn add(&mut self, part: &[u8])
+        requires { IsSome (with_part self.old.size self.old.taken part.now) }
+        ensures { self.new ≡ after_part self.old part.now }
     {
-        let mut bytes = Vec::with_capacity(alloc, 7 * usize::from(packets(self.size)))?;
-        bytes.extend_from_slice(&self.bytes)?;
-        Ok(Assembly {
-            size: self.size,
-            pgn: self.pgn,
-            bytes,
-            broken: self.broken,
-        })
+        if self.bytes.extend_from_slice(&part[1..]).is_err() {
+            unreachable!()
+        }
+    }
+
+    /// Gives back the packet that was taken last.
+    pub fn give_back(&mut self)
+        requires { IsSomeAnd self.old.taken (λ taken. 0 < length taken) }
+        ensures { (before : List (List ℕ)) (part : List ℕ) → self.old.taken ≡ Some (before ++ part ∷ []) → self.new ≡ record self.old { taken = Some before } }
+    {
+        self.bytes.truncate(self.bytes.len() - 7);
+    }
+
+    /// The payload of a message that is whole: the pieces one after another, cut to the size.
+    pub fn payload(&self) -> &[u8]
+        requires { took_of self.now.size self.now.taken ≡ Took.Whole }
+        ensures { (parts : List (List ℕ)) → self.now.taken ≡ Some parts → result.now ≡ joined self.now.size parts }
+    {
+        &self.bytes[..usize::from(self.size)]
+    }
+
+    /// The message's size in bytes, 9 to 1,785.
+    pub fn size(&self) -> u16
+        ensures value { result ≡ self.now.size }
+        ensures least { 9 ≤ result }
+        ensures most { result ≤ 1785 }
+    {
+        self.size
     }
 
     /// The group of the message.

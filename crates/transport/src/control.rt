@@ -18,11 +18,11 @@ pub enum ControlError {
 }
 
 impl ControlError {
-    ghost use Rattle.transport.specs.Refusals.{number_of};
+    ghost use Rattle.transport.specs.Refusals.{control_error_number};
 
     /// The refusal's number: 5 or 6.
     pub fn number(self) -> u8
-        ensures { result ≡ number_of self }
+        ensures { result ≡ control_error_number self }
     {
         match self {
             ControlError::BadControl => 5,

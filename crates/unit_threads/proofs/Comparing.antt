@@ -11,7 +11,7 @@ use Rattle.garage.specs.declared.error.GarageError.TheVariants.{Stranger}
 use Rattle.unit_threads.specs.declared.ended.Ended.{Ended}
 use Rattle.unit_threads.specs.declared.ended.EndReason.{EndReason}
 use Rattle.unit_threads.specs.declared.ended.EndReason.TheVariants as reason
-use Rattle.unit_threads.specs.Ends.{Agrees, AgreesAt, AreApart, IsUnseated}
+use Rattle.unit_threads.specs.Ends.{Agrees, AgreesAt, HaveOwnSeats, IsUnseated}
 
 -- with a seat
 pub agrees_seated : (turns : ℕ) (journal : List Event) (k : ℕ) (t : Tally) (refusal : Option EndReason)
@@ -36,5 +36,5 @@ same_slice xs ys n e = rw e (take-append-le (length xs) xs (drop (length xs) ys)
 pub all_agree : (turns : ℕ) (journal : List Event) (xs ys : List Ended) (n : ℕ) → n ≡ length xs → All (Agrees turns journal) xs → All (Agrees turns journal) (take n (xs ++ drop (length xs) ys))
 all_agree turns journal xs ys n e h = let P : List Ended → Type 0 = λ l. All (Agrees turns journal) l in subst P (sym (same_slice xs ys n e)) h
 
-pub all_apart : (xs ys : List Ended) (n : ℕ) → n ≡ length xs → AreApart xs → AreApart (take n (xs ++ drop (length xs) ys))
-all_apart xs ys n e h = let P : List Ended → Type 0 = λ l. AreApart l in subst P (sym (same_slice xs ys n e)) h
+pub all_apart : (xs ys : List Ended) (n : ℕ) → n ≡ length xs → HaveOwnSeats xs → HaveOwnSeats (take n (xs ++ drop (length xs) ys))
+all_apart xs ys n e h = let P : List Ended → Type 0 = λ l. HaveOwnSeats l in subst P (sym (same_slice xs ys n e)) h

@@ -20,7 +20,7 @@ use Rattle.journal.specs.declared.event.Event.{Event}
 use Rattle.journal.specs.declared.event.Event.TheVariants.{Hear, Begin, Turned, Carry, Read, Leave}
 use Rattle.journal.specs.declared.tally.Tally.{Tally}
 use Rattle.garage.specs.Answers.{Hears, Reads}
-use Rattle.garage.specs.Carrying.{Carries}
+use Rattle.garage.specs.Carrying.{AddsCarry}
 use Rattle.garage.specs.Causes.{held_at, has_open_dm1}
 use Rattle.garage.specs.declared.steps.HeardOne.{HeardOne}
 use Rattle.garage.specs.declared.steps.HeardOne.TheVariants as heard
@@ -160,14 +160,14 @@ pub keeps_more : (a b c : GarageValue) (k : ℕ) → KeepsSeats a b → c ≡ wi
 keeps_more a b c k h e = keeps_same a (with_event (Carry k) b) c (record { still = λ j name events s. seated_still k b j name events (h.still j name events s) }) e
 
 -- a carry that carried a frame
-pub carry_goes_on : (a b c : GarageValue) (n : ℕ) (r : Carried) (seat : ℕ) (frame : FrameValue) → r ≡ carried.Frame seat frame → CarriedSoFar n a b → KeepsSeats a b → Carries b r c
+pub carry_goes_on : (a b c : GarageValue) (n : ℕ) (r : Carried) (seat : ℕ) (frame : FrameValue) → r ≡ carried.Frame seat frame → CarriedSoFar n a b → KeepsSeats a b → AddsCarry b r c
     → CarriedSoFar (n + 1) a c × KeepsSeats a c
 carry_goes_on a b c n (carried.Frame k f) seat frame e g s h = (carried_more a b c k n (n + 1) g h.1.adds refl, keeps_more a b c k s h.1.adds)
 carry_goes_on a b c n carried.Idle seat frame e g s h = absurd (cc e)
 carry_goes_on a b c n carried.Waiting seat frame e g s h = absurd (cc e)
 
 -- and one that found none to carry
-pub carry_stops : (a b c : GarageValue) (n : ℕ) (r : Carried) → ((r ≡ carried.Idle) ⊎ (r ≡ carried.Waiting)) → CarriedSoFar n a b → KeepsSeats a b → n < 8 → Carries b r c
+pub carry_stops : (a b c : GarageValue) (n : ℕ) (r : Carried) → ((r ≡ carried.Idle) ⊎ (r ≡ carried.Waiting)) → CarriedSoFar n a b → KeepsSeats a b → n < 8 → AddsCarry b r c
     → CarriesAll a c × KeepsSeats a c
 carry_stops a b c n (carried.Frame k f) e g s l h = elim e [ inl i ↦ absurd (cc i) | inr w ↦ absurd (cc w) ]
 carry_stops a b c n carried.Idle e g s l h = (carried_until a b c n g l h.1 (inl h.0), keeps_same a b c s h.1)

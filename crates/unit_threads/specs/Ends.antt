@@ -4,7 +4,7 @@ use Rattle.journal.specs.Journal.{joins, tally_of}
 use Rattle.journal.specs.declared.event.Event.{Event}
 use Rattle.journal.specs.declared.tally.Tally.{Tally}
 use Rattle.garage.specs.Opening.{no_events}
-use Rattle.garage.specs.Refusals.{IsJoinRefusal, number_of}
+use Rattle.garage.specs.Refusals.{IsJoinRefusal, garage_error_number}
 use Rattle.garage.specs.declared.error.GarageError.{GarageError}
 use Rattle.garage.specs.declared.error.GarageError.TheVariants.{NotAnAddress, BookFull, OutOfMemory, Stranger}
 use Rattle.unit_threads.specs.declared.ended.Ended.{Ended}
@@ -13,7 +13,7 @@ use Rattle.unit_threads.specs.declared.ended.EndReason.TheVariants as reason
 
 -- the number that a reason is written with
 abbrev pub number_of_end : EndReason → ℕ
-number_of_end (reason.Garage e) = number_of e
+number_of_end (reason.Garage e) = garage_error_number e
 number_of_end reason.NoThread = 27
 
 -- the journal had no room, or there was no memory
@@ -33,15 +33,16 @@ pub record IsToldOf (k : ℕ) (journal : List Event) (t : Tally) : Type 0 where
 abbrev pub IsWhole : ℕ → Tally → ℕ → Type 0
 IsWhole turns t events = (t.joined ≡ 1) × (t.turned ≡ turns) × (t.left ≡ 1) × (events ≡ t.events)
 
--- one that was refused, but not by the comparison: it joined, had no more than its turns and left
+-- one that was refused for want of room or memory: it joined, had no more than its turns and left
 abbrev pub IsCutShort : ℕ → Tally → ℕ → Type 0
 IsCutShort turns t events = (t.joined ≡ 1) × (t.turned ≤ turns) × (t.left ≡ 1) × (events ≡ t.events)
 
--- what is told of a seat agrees with its counts, by the refusal
+-- what is told of a seat agrees with its counts, by the refusal. A unit that joined had a thread
 abbrev pub AgreesAt : ℕ → Tally → ℕ → Option EndReason → Type 0
 AgreesAt turns t events None = IsWhole turns t events
 AgreesAt turns t events (Some (reason.Garage Stranger)) = events ≡ t.events
-AgreesAt turns t events (Some _) = IsCutShort turns t events
+AgreesAt turns t events (Some (reason.Garage e)) = IsWant e × IsCutShort turns t events
+AgreesAt turns t events (Some reason.NoThread) = ⊥
 
 -- a unit that never joined was refused by the mount, or its thread was not started
 abbrev pub IsUnseated : Option EndReason → Type 0
@@ -72,8 +73,8 @@ abbrev pub IsCounted : Ended → Type 0
 IsCounted e = (e.seat ≢ None) × (e.refusal ≢ Some (reason.Garage Stranger))
 
 -- among the first n, one that is counted names another seat than those before it
-abbrev pub AreApartTo : ℕ → List Ended → Type 0
-AreApartTo n es = (i j : ℕ) → i < n → j < i → IsCounted (end_at es i) → (end_at es j).seat ≢ (end_at es i).seat
+abbrev pub HaveOwnSeatsTo : ℕ → List Ended → Type 0
+HaveOwnSeatsTo n es = (i j : ℕ) → i < n → j < i → IsCounted (end_at es i) → (end_at es j).seat ≢ (end_at es i).seat
 
-abbrev pub AreApart : List Ended → Type 0
-AreApart es = AreApartTo (length es) es
+abbrev pub HaveOwnSeats : List Ended → Type 0
+HaveOwnSeats es = HaveOwnSeatsTo (length es) es

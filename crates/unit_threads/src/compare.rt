@@ -1,6 +1,6 @@
 ghost use Rattle.std.specs.Prelude.{◌≡◌, ◌≢◌, false, true, Some, length, vec_len};
 ghost use Rattle.std.specs.List.{All};
-ghost use Rattle.unit_threads.specs.Ends.{Agrees, AgreesAt, AreApart, IsMountRefusal, IsStrangerAt, IsUnseated};
+ghost use Rattle.unit_threads.specs.Ends.{Agrees, AgreesAt, HaveOwnSeats, IsMountRefusal, IsStrangerAt, IsUnseated, IsWant};
 
 use crate::ended::{EndReason, Ended};
 use garage::{Garage, GarageError};
@@ -12,7 +12,7 @@ use journal::Tally;
 pub(crate) fn compared_ends(garage: &Garage, turns: u32, mut ended: Vec<Ended>) -> Vec<Ended>
     ensures len { vec_len result ≡ vec_len ended }
     ensures agree { All (Agrees turns garage.now.journal) result.items }
-    ensures apart { AreApart result.items }
+    ensures apart { HaveOwnSeats result.items }
 {
     check_all(garage, turns, ended.as_mut_slice());
     ended
@@ -22,7 +22,7 @@ pub(crate) fn compared_ends(garage: &Garage, turns: u32, mut ended: Vec<Ended>) 
 fn check_all(garage: &Garage, turns: u32, ended: &mut [Ended])
     ensures len { length ended.new ≡ length ended.old }
     ensures agree { All (Agrees turns garage.now.journal) ended.new }
-    ensures apart { AreApart ended.new }
+    ensures apart { HaveOwnSeats ended.new }
 {
     for i in 0..ended.len() {
         let mut end = checked(garage, turns, ended[i]);
@@ -99,9 +99,18 @@ fn compared(turns: u32, tally: Tally, end: Ended) -> Option<EndReason>
     let left = tally.joined == 1 && tally.left == 1;
     match end.refusal {
         None if left && tally.turned == turns && tally.events == end.events => None,
-        Some(reason) if left && tally.turned <= turns => Some(reason),
+        Some(EndReason::Garage(error)) if left && tally.turned <= turns && is_want(error) => {
+            Some(EndReason::Garage(error))
+        }
         _ => Some(EndReason::Garage(GarageError::Stranger)),
     }
+}
+
+/// Whether a step of a seated unit can be refused with this.
+fn is_want(error: GarageError) -> bool
+    ensures { result ≡ true → IsWant error }
+{
+    matches!(error, GarageError::BookFull | GarageError::OutOfMemory)
 }
 
 /// Whether one of these ends names the seat.

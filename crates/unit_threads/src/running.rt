@@ -1,6 +1,6 @@
 ghost use Rattle.std.specs.Prelude.{◌≡◌, ◌+◌, ◌^◌, ◌<◌, ◌≤◌, IfErr, IfOk, IfSome, vec_capacity, vec_len};
 ghost use Rattle.std.specs.List.{All};
-ghost use Rattle.unit_threads.specs.Ends.{Agrees, AreApart, IsWant};
+ghost use Rattle.unit_threads.specs.Ends.{Agrees, HaveOwnSeats, IsWant};
 
 use crate::compare::compared_ends;
 use crate::ended::{EndReason, Ended};
@@ -49,7 +49,7 @@ pub fn run<R: Threads + Wait + Sync, G: Gate>(
     ensures none { IfErr result.1 (λ _. result.0 ≡ garage) }
     ensures all { IfOk result.1 (λ r. vec_len r.ended ≡ vec_len units) }
     ensures agree { IfOk result.1 (λ r. All (Agrees turns result.0.journal) r.ended.items) }
-    ensures apart { IfOk result.1 (λ r. AreApart r.ended.items) }
+    ensures apart { IfOk result.1 (λ r. HaveOwnSeats r.ended.items) }
     ensures station { IfOk result.1 (λ r. IfSome r.station IsWant) }
 {
     let ended: Vec<Ended> = match Vec::with_capacity(alloc, units.len()) {

@@ -1,5 +1,6 @@
 -- Which vehicle a TOML document describes.
 use Rattle.std.specs.Prelude.{ℕ, ℤ, pos, ◌≡◌, ◌≤◌, List, [], ◌∷◌, Option, Some, None, codes, option_and_then}
+use Rattle.can_frame.specs.declared.address.TheConstants.{GREATEST_ADDRESS}
 use Rattle.name_field.specs.NameText.{IsNameText}
 use Rattle.hex_text.specs.Hex.{hex_value}
 use Rattle.toml.specs.Data.{Data, Items, no_items, item, get, as_integer, as_str, as_array}
@@ -28,7 +29,7 @@ HasName d name = (text : List ℕ) × (text_at (codes "name") d ≡ Some text) �
 -- the station's NAME, and four numbers in their ranges
 pub record HoldsStation (d : Data) (s : Station) : Type 0 where
   pub name : HasName d s.name
-  pub address : HasNumber d (codes "address") s.address 0 253
+  pub address : HasNumber d (codes "address") s.address 0 GREATEST_ADDRESS
   pub window : HasNumber d (codes "window") s.window 1 4096
   pub grant : HasNumber d (codes "grant") s.grant 1 255
   pub limit : HasNumber d (codes "limit") s.limit 1 16777216
@@ -43,7 +44,7 @@ HoldsKind d (Flicker spn fmi) = (text_at (codes "kind") d ≡ Some (codes "flick
 -- a unit's NAME, its address and its kind
 pub record HoldsUnit (d : Data) (u : UnitLine) : Type 0 where
   pub name : HasName d u.name
-  pub address : HasNumber d (codes "address") u.address 0 253
+  pub address : HasNumber d (codes "address") u.address 0 GREATEST_ADDRESS
   pub kind : HoldsKind d u.kind
 
 -- one unit for each item, in order

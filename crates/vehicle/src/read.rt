@@ -8,12 +8,10 @@ ghost use Rattle.vehicle.specs.Holding.{number_at, text_at, HasName, HasNumber, 
 
 use crate::fault::VehicleFault;
 use crate::{Station, UnitKind, UnitLine, Vehicle};
+use can_frame::GREATEST_ADDRESS;
 use name_field::Name;
 use std::alloc::Global;
 use toml::{Table, Value};
-
-/// The highest address that can be held.
-const HIGHEST_ADDRESS: u32 = 253;
 
 /// The largest window of unread frames.
 const MOST_UNREAD: u32 = 4096;
@@ -124,7 +122,7 @@ fn read_name(value: &Value) -> Result<Name, VehicleFault>
 fn read_address(value: &Value) -> Result<u8, VehicleFault>
     ensures { IfOk result (λ a. HasNumber (view value.now) (codes "address") a 0 253) }
 {
-    Ok(read_number(value, "address", 0, HIGHEST_ADDRESS)? as u8)
+    Ok(read_number(value, "address", 0, u32::from(GREATEST_ADDRESS))? as u8)
 }
 
 fn read_text<'a>(value: &'a Value, key: &str) -> Result<&'a str, VehicleFault>

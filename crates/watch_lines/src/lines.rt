@@ -2,7 +2,7 @@ use crate::form::write_change;
 use crate::run::Options;
 use bus_watch::Watch;
 use candump_line::{Line, read_line};
-use log_lines::{Ended, LogFault, may_wait, next_line};
+use log_lines::{Ended, LogFault, next_line};
 use std::alloc::Global;
 use std::io::{BufReader, BufWriter, Read, Write};
 
@@ -18,29 +18,21 @@ pub(crate) fn read_lines<R: Read + Drop, W: Write + Drop, E: Write>(
 ) -> Ended {
     let mut line = Vec::new(alloc);
     let mut bad = 0u64;
-    let mut fault = None;
     for number in 1..u64::MAX {
-        if may_wait(reader) && writer.flush().is_err() {
-            fault = Some(LogFault::Write);
-            break;
-        }
-        match next_line(reader, &mut line) {
-            Ok(true) => {}
+        let heard = match next_line(reader, writer, &mut line) {
+            Ok(true) => hear_line(
+                alloc,
+                writer,
+                errors,
+                watch,
+                options,
+                line.as_slice(),
+                number,
+            ),
             Ok(false) => break,
-            Err(why) => {
-                fault = Some(why);
-                break;
-            }
-        }
-        match hear_line(
-            alloc,
-            writer,
-            errors,
-            watch,
-            options,
-            line.as_slice(),
-            number,
-        ) {
+            Err(fault) => Err(fault),
+        };
+        match heard {
             Ok(false) => {}
             Ok(true) => {
                 bad = bad.saturating_add(1);
@@ -48,13 +40,13 @@ pub(crate) fn read_lines<R: Read + Drop, W: Write + Drop, E: Write>(
                     break;
                 }
             }
-            Err(why) => {
-                fault = Some(why);
-                break;
-            }
+            Err(fault) => return Ended {
+                bad,
+                fault: Some(fault),
+            },
         }
     }
-    Ended { bad, fault }
+    Ended { bad, fault: None }
 }
 
 /// Hears a line, and writes what it changed. Tells whether it is bad.

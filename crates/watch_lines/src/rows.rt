@@ -7,7 +7,7 @@ use std::alloc::{AllocError, Global};
 use trouble_code::Dtc;
 
 /// The names of the values.
-const HEADER: [&[u8]; 10] = [
+const HEADER: [&[u8]; 11] = [
     b"name",
     b"address",
     b"kind",
@@ -18,6 +18,7 @@ const HEADER: [&[u8]; 10] = [
     b"spn",
     b"fmi",
     b"count",
+    b"contested",
 ];
 
 /// The count of a code that is not available (SAE J1939-73).
@@ -68,7 +69,7 @@ fn put_name(rows: &mut Rows, alloc: Global, watch: &Watch, name: Name) -> Result
         return put_row(
             rows,
             &[
-                before[0], before[1], none, none, none, none, none, none, none, none,
+                before[0], before[1], none, none, none, none, none, none, none, none, none,
             ],
         );
     }
@@ -103,6 +104,7 @@ fn put_run(
         last.as_bytes(),
         times.as_bytes(),
         lamps.as_bytes(),
+        if run.contested { b"true" } else { b"false" },
     ];
     let codes = run.shown.codes.as_slice();
     if codes.is_empty() {
@@ -117,7 +119,7 @@ fn put_run(
 fn put_code_of(
     rows: &mut Rows,
     alloc: Global,
-    run: [&[u8]; 7],
+    run: [&[u8]; 8],
     code: Dtc,
 ) -> Result<(), AllocError> {
     let spn = code.spn();
@@ -137,9 +139,10 @@ fn put_code_of(
     )
 }
 
-fn put_code(rows: &mut Rows, run: [&[u8]; 7], code: [&[u8]; 3]) -> Result<(), AllocError> {
+/// The values of a code stand before the last of its run.
+fn put_code(rows: &mut Rows, run: [&[u8]; 8], code: [&[u8]; 3]) -> Result<(), AllocError> {
     let fields = [
-        run[0], run[1], run[2], run[3], run[4], run[5], run[6], code[0], code[1], code[2],
+        run[0], run[1], run[2], run[3], run[4], run[5], run[6], code[0], code[1], code[2], run[7],
     ];
     put_row(rows, &fields)
 }

@@ -1,6 +1,6 @@
 use Rattle.std.proofs.Common.{◌≡◌, ◌∙◌, subst}
 use Rattle.bus_model.specs.Expected.{expected, passed, readings}
-use Rattle.bus_model.specs.Heard.{Settings, entries_heard}
+use Rattle.bus_model.specs.Heard.{StationSettings, entries_heard}
 use Rattle.bus_model.specs.Machine.{start}
 use Rattle.bus_model.proofs.Lawful.{Lawful}
 use Rattle.bus_model.proofs.Lookback.{lawful_rest}
@@ -13,5 +13,5 @@ returns c = λ r fit events w run whole n k.
     let law = law_run (start r) events w (law_start r fit) run in
     let st = w.settings.name in
     let lawful = lawful_rest st law.station.ahead (passed w.path) (subst (Lawful st) law.station.reach law.wire) in
-    subst (λ (v : Settings). entries_heard v n k (readings w.path) ≡ expected n k w.begun w.path) (settings_run (start r) events w run) (law.same n k)
+    subst (λ (v : StationSettings). entries_heard v n k (readings w.path) ≡ expected n k w.begun w.path) (settings_run (start r) events w run) (law.same n k)
     ∙ expected_whole n k w.begun w.path (λ m i. clear_whole st w.begun m w.path law.numbered i whole lawful law.marked (passed_booked w law))

@@ -1,8 +1,6 @@
-ghost use Rattle.std.specs.Prelude.{◌≡◌, ℕ, ◌∷◌, List, OnOk};
-ghost use Rattle.bus_model.specs.Heard.{Settings as StationSettings};
-ghost use Rattle.can_frame.specs.declared.reading.Reading.{Reading as AnyReading};
+ghost use Rattle.std.specs.Prelude.{◌≡◌, OnOk};
+ghost use Rattle.bus_watch.specs.WatchValue.{Takes};
 ghost use Rattle.can_frame.specs.declared.reading.Reading.TheVariants.{Frame as FrameRead, Gap as GapRead};
-ghost use Rattle.station_table.specs.StandsFor.{StandsFor};
 
 use crate::change::Change;
 use crate::run::add_entry;
@@ -30,7 +28,7 @@ impl Watch {
         alloc: Global,
         reading: Reading,
     ) -> Result<Vec<Change>, AllocError>
-        ensures { OnOk result ((r : StationSettings) (h : List AnyReading) → StandsFor r 255 self.old h → StandsFor r 255 self.new (reading ∷ h)) }
+        ensures { OnOk result (Takes self.old self.new reading) }
     {
         match reading {
             Reading::Frame(frame) => self.take_frame(alloc, frame),
@@ -44,7 +42,7 @@ impl Watch {
 
     /// Has the station take a reading. What it would send is only counted.
     fn read(&mut self, alloc: Global, reading: Reading) -> Result<(), AllocError>
-        ensures { OnOk result ((r : StationSettings) (h : List AnyReading) → StandsFor r 255 self.old h → StandsFor r 255 self.new (reading ∷ h)) }
+        ensures { OnOk result (Takes self.old self.new reading) }
     {
         match self.station.take(alloc, reading) {
             Ok(reaction) => {
@@ -63,7 +61,7 @@ impl Watch {
 
     /// Frames were missed.
     fn take_gap(&mut self, alloc: Global, count: u32) -> Result<Vec<Change>, AllocError>
-        ensures { OnOk result ((r : StationSettings) (h : List AnyReading) → StandsFor r 255 self.old h → StandsFor r 255 self.new (GapRead count ∷ h)) }
+        ensures { OnOk result (Takes self.old self.new (GapRead count)) }
     {
         self.owners.forget();
         self.read(alloc, Reading::Gap(count))?;
@@ -72,7 +70,7 @@ impl Watch {
 
     /// A frame.
     fn take_frame(&mut self, alloc: Global, frame: Frame) -> Result<Vec<Change>, AllocError>
-        ensures { OnOk result ((r : StationSettings) (h : List AnyReading) → StandsFor r 255 self.old h → StandsFor r 255 self.new (FrameRead frame ∷ h)) }
+        ensures { OnOk result (Takes self.old self.new (FrameRead frame)) }
     {
         match ParameterGroup::read(&frame) {
             ParameterGroup::AddressClaimed { source, name } => {
@@ -108,7 +106,7 @@ impl Watch {
         source: u8,
         name: Name,
     ) -> Result<Vec<Change>, AllocError>
-        ensures { OnOk result ((r : StationSettings) (h : List AnyReading) → StandsFor r 255 self.old h → StandsFor r 255 self.new (FrameRead frame ∷ h)) }
+        ensures { OnOk result (Takes self.old self.new (FrameRead frame)) }
     {
         let before = self.address_of(name);
         match self.owners.claim(source, name, self.now) {
@@ -129,7 +127,7 @@ impl Watch {
         before: Option<u8>,
         other: Name,
     ) -> Result<Vec<Change>, AllocError>
-        ensures { OnOk result ((r : StationSettings) (h : List AnyReading) → StandsFor r 255 self.old h → StandsFor r 255 self.new (FrameRead frame ∷ h)) }
+        ensures { OnOk result (Takes self.old self.new (FrameRead frame)) }
     {
         let other_before = self.address_of(other);
         self.read(alloc, Reading::Frame(frame))?;
@@ -147,7 +145,7 @@ impl Watch {
         frame: Frame,
         name: Name,
     ) -> Result<Vec<Change>, AllocError>
-        ensures { OnOk result ((r : StationSettings) (h : List AnyReading) → StandsFor r 255 self.old h → StandsFor r 255 self.new (FrameRead frame ∷ h)) }
+        ensures { OnOk result (Takes self.old self.new (FrameRead frame)) }
     {
         let is_new = self.station.row(name).is_none();
         let before = self.address_of(name);
@@ -165,7 +163,7 @@ impl Watch {
         frame: Frame,
         source: u8,
     ) -> Result<Vec<Change>, AllocError>
-        ensures { OnOk result ((r : StationSettings) (h : List AnyReading) → StandsFor r 255 self.old h → StandsFor r 255 self.new (FrameRead frame ∷ h)) }
+        ensures { OnOk result (Takes self.old self.new (FrameRead frame)) }
     {
         let Some(name) = self.owners.owner(source) else {
             self.read(alloc, Reading::Frame(frame))?;
@@ -184,7 +182,7 @@ impl Watch {
         source: u8,
         begins: bool,
     ) -> Result<Vec<Change>, AllocError>
-        ensures { OnOk result ((r : StationSettings) (h : List AnyReading) → StandsFor r 255 self.old h → StandsFor r 255 self.new (FrameRead frame ∷ h)) }
+        ensures { OnOk result (Takes self.old self.new (FrameRead frame)) }
     {
         let Some(name) = self.owners.owner(source) else {
             self.read(alloc, Reading::Frame(frame))?;

@@ -1,40 +1,39 @@
-ghost use Rattle.std.specs.Prelude.{◌≡◌, ◌≤◌, ℕ, ◌∷◌, List, Some, IfOk, OnOk};
-ghost use Rattle.can_frame.specs.declared.reading.Reading.TheVariants.{Frame as FrameRead};
+ghost use Rattle.std.specs.Prelude.{◌≡◌, ◌≤◌, ℕ, ◌∷◌, List, Some, IfOk, OnOk, if◌then◌else◌};
 ghost use Rattle.address_claim.specs.Frames.{claim_frame_value};
-ghost use Rattle.bus_model.specs.Heard.{Settings as StationSettings};
-ghost use Rattle.can_frame.specs.declared.reading.Reading.{Reading as AnyReading};
-ghost use Rattle.station_table.specs.StandsFor.{StandsFor};
-ghost use Rattle.bus_watch.specs.Readings.{MayBeReading};
+ghost use Rattle.bus_watch.specs.Followed as followed;
+ghost use Rattle.bus_watch.specs.Told.{Told, Beginning, StandsForAll};
+ghost use Rattle.bus_watch.specs.Told as told;
+ghost use Rattle.bus_watch.specs.WatchValue.{Takes};
+ghost use Rattle.can_frame.specs.declared.reading.Reading.TheVariants.{Frame as FrameRead};
+ghost use Rattle.candump_line.specs.declared.line.Line.TheVariants as said;
+ghost use Rattle.parameter_group.specs.Group.{group_of, ConnectionManagement, DataTransfer};
 
 use crate::change::Change;
 use crate::watch::Watch;
 use address_claim::claim_frame;
-use can_frame::{Frame, Reading};
-use candump_line::{Line, Time};
+use can_frame::{Frame, GLOBAL_ADDRESS, Reading};
+use candump_line::{Foreign, Line, Time};
 use name_field::Name;
 use parameter_group::ParameterGroup;
 use std::alloc::{AllocError, Global};
 use transport::Control;
 
-/// All addresses, as a destination.
-const GLOBAL_ADDRESS: u8 = 255;
-
 impl Watch {
     /// Reads a line, and tells what it changed.
     ///
-    /// The station takes one reading: the frame of a line of the watched bus; so many missed frames where the line tells
-    /// of them, and one where it is bad and bad lines count; else the empty reading.
+    /// The station takes one reading: the frame of a line of the watched bus, but for a packet that came too late; so many
+    /// missed frames where the line tells of them, and one where it is bad and bad lines count; else the empty reading.
     ///
     /// # Errors
     /// Memory was refused. The station may have read the line, and the watch is not to be used any more.
     pub fn hear(&mut self, alloc: Global, line: &Line<'_>) -> Result<Vec<Change>, AllocError>
-        ensures { OnOk result ((r : StationSettings) (h : List AnyReading) → StandsFor r 255 self.old h → (x : AnyReading) × MayBeReading line.now x × StandsFor r 255 self.new (x ∷ h)) }
+        ensures { OnOk result ((b : Beginning) (ts : List Told) → StandsForAll b ts self.old → StandsForAll b (told.Read line.now ∷ ts) self.new) }
     {
         let reading = self.reading_of(alloc, line)?;
         self.take(alloc, reading)
     }
 
-    /// Assumes that a NAME holds an address, 0 to 253, as if it had claimed it before the first line.
+    /// Assumes that a NAME holds an address, 0 to 253, as if it had claimed it now.
     ///
     /// # Errors
     /// Memory was refused, as by `hear`.
@@ -45,7 +44,7 @@ impl Watch {
         address: u8,
     ) -> Result<Vec<Change>, AllocError>
         requires { address ≤ 253 }
-        ensures { OnOk result ((r : StationSettings) (h : List AnyReading) → StandsFor r 255 self.old h → StandsFor r 255 self.new (FrameRead (claim_frame_value name (Some address)) ∷ h)) }
+        ensures { OnOk result ((b : Beginning) (ts : List Told) → StandsForAll b ts self.old → StandsForAll b (told.Assumed name address ∷ ts) self.new) }
     {
         let claim = claim_frame(name, Some(address));
         self.take(alloc, Reading::Frame(claim))
@@ -53,56 +52,104 @@ impl Watch {
 
     /// The reading that a line is to the station.
     fn reading_of(&mut self, alloc: Global, line: &Line<'_>) -> Result<Reading, AllocError>
-        ensures reading { IfOk result (λ x. MayBeReading line.now x) }
-        ensures same { self.new ≡ self.old }
+        ensures reading { IfOk result (λ x. x ≡ followed.reading_by self.old.station.claimer.held self.old.followed line.now) }
+        ensures followed { OnOk result (self.new ≡ record self.old { followed = followed.followed_after self.old.station.claimer.held self.old.followed line.now }) }
     {
         self.counts.lines = self.counts.lines.saturating_add(1);
         match line {
-            Line::Frame { time, bus, frame } => {
-                if !self.is_watched(alloc, *bus)? {
-                    return Ok(Reading::Empty);
-                }
-                self.counts.frames = self.counts.frames.saturating_add(1);
-                self.pass(*time);
-                if self.is_late(frame, *time) {
-                    self.counts.withheld = self.counts.withheld.saturating_add(1);
-                    return Ok(Reading::Empty);
-                }
-                Ok(Reading::Frame(*frame))
-            }
-            Line::Dropped { bus, count } => {
-                if !self.is_dropped_here(*bus) {
-                    return Ok(Reading::Empty);
-                }
-                self.counts.drops = self.counts.drops.saturating_add(1);
-                Ok(Reading::Gap(*count))
-            }
-            Line::Overflow { time, bus } => {
-                if !self.is_watched(alloc, *bus)? {
-                    return Ok(Reading::Empty);
-                }
-                self.counts.error = self.counts.error.saturating_add(1);
-                self.pass(*time);
-                Ok(Reading::Gap(1))
-            }
+            Line::Frame { time, bus, frame } => self.reading_of_frame(alloc, *time, *bus, frame),
+            Line::Dropped { bus, count } => Ok(self.reading_of_drops(*bus, *count)),
+            Line::Overflow { time, bus } => self.reading_of_overflow(alloc, *time, *bus),
             Line::Foreign { bus, what } => {
-                if self.is_watched(alloc, *bus)? {
-                    self.counts.add_foreign(*what);
-                }
+                self.hear_foreign(alloc, *bus, *what)?;
                 Ok(Reading::Empty)
             }
             Line::Note => {
                 self.counts.notes = self.counts.notes.saturating_add(1);
                 Ok(Reading::Empty)
             }
-            Line::Bad(_) => {
-                self.counts.bad = self.counts.bad.saturating_add(1);
-                if self.settings.skips_bad {
-                    return Ok(Reading::Empty);
-                }
-                Ok(Reading::Gap(1))
-            }
+            Line::Bad(_) => Ok(self.reading_of_bad()),
         }
+    }
+
+    /// A frame of the watched bus is read, but for a packet that is withheld.
+    fn reading_of_frame(
+        &mut self,
+        alloc: Global,
+        time: Option<Time>,
+        bus: Option<&str>,
+        frame: &Frame,
+    ) -> Result<Reading, AllocError>
+        ensures reading { IfOk result (λ x. x ≡ followed.reading_by self.old.station.claimer.held self.old.followed (said.Frame time bus.entry frame.now)) }
+        ensures followed { OnOk result (self.new ≡ record self.old { followed = followed.followed_after self.old.station.claimer.held self.old.followed (said.Frame time bus.entry frame.now) }) }
+    {
+        if !self.is_watched(alloc, bus)? {
+            return Ok(Reading::Empty);
+        }
+        self.counts.frames = self.counts.frames.saturating_add(1);
+        self.pass(time);
+        if self.is_withheld(frame, time) {
+            self.counts.withheld = self.counts.withheld.saturating_add(1);
+            return Ok(Reading::Empty);
+        }
+        Ok(Reading::Frame(*frame))
+    }
+
+    /// Frames that were dropped are missed, where they may be of the watched bus.
+    fn reading_of_drops(&mut self, bus: Option<&str>, count: u32) -> Reading
+        ensures reading { result ≡ followed.reading_by self.old.station.claimer.held self.old.followed (said.Dropped bus.entry count) }
+        ensures same { self.new ≡ self.old }
+    {
+        if !self.is_dropped_here(bus) {
+            return Reading::Empty;
+        }
+        self.counts.drops = self.counts.drops.saturating_add(1);
+        Reading::Gap(count)
+    }
+
+    /// A frame that the controller of the watched bus lost is missed.
+    fn reading_of_overflow(
+        &mut self,
+        alloc: Global,
+        time: Option<Time>,
+        bus: Option<&str>,
+    ) -> Result<Reading, AllocError>
+        ensures reading { IfOk result (λ x. x ≡ followed.reading_by self.old.station.claimer.held self.old.followed (said.Overflow time bus.entry)) }
+        ensures followed { OnOk result (self.new ≡ record self.old { followed = followed.with_bus bus.entry self.old.followed }) }
+    {
+        if !self.is_watched(alloc, bus)? {
+            return Ok(Reading::Empty);
+        }
+        self.counts.error = self.counts.error.saturating_add(1);
+        self.pass(time);
+        Ok(Reading::Gap(1))
+    }
+
+    /// A bad line is one frame missed, unless bad lines are passed over.
+    fn reading_of_bad(&mut self) -> Reading
+        ensures reading { result ≡ (if self.old.followed.skips_bad then Reading.Empty else Reading.Gap 1) }
+        ensures same { self.new ≡ self.old }
+    {
+        self.counts.bad = self.counts.bad.saturating_add(1);
+        if self.settings.skips_bad {
+            return Reading::Empty;
+        }
+        Reading::Gap(1)
+    }
+
+    /// A frame that is none of SAE J1939 is only counted.
+    fn hear_foreign(
+        &mut self,
+        alloc: Global,
+        bus: Option<&str>,
+        what: Foreign,
+    ) -> Result<(), AllocError>
+        ensures { OnOk result (self.new ≡ record self.old { followed = followed.with_bus bus.entry self.old.followed }) }
+    {
+        if self.is_watched(alloc, bus)? {
+            self.counts.add_foreign(what);
+        }
+        Ok(())
     }
 
     /// Keeps the time of a line.
@@ -117,7 +164,8 @@ impl Watch {
     /// Whether a frame is of the watched bus. Where none is named yet, it is the frame's. A frame without a bus is of
     /// none.
     fn is_watched(&mut self, alloc: Global, bus: Option<&str>) -> Result<bool, AllocError>
-        ensures { self.new ≡ self.old }
+        ensures watched { IfOk result (λ x. x ≡ followed.is_watched self.old.followed.bus bus.entry) }
+        ensures followed { OnOk result (self.new ≡ record self.old { followed = followed.with_bus bus.entry self.old.followed }) }
     {
         let Some(bus) = bus else {
             self.counts.notes = self.counts.notes.saturating_add(1);
@@ -135,7 +183,9 @@ impl Watch {
     }
 
     /// Whether frames that were dropped may be of the watched bus.
-    fn is_dropped_here(&self, bus: Option<&str>) -> bool {
+    fn is_dropped_here(&self, bus: Option<&str>) -> bool
+        ensures { result ≡ followed.may_be_watched self.entry.now.followed.bus bus.entry }
+    {
         match (&self.bus, bus) {
             (Some(watched), Some(bus)) => watched.as_str() == bus,
             _ => true,
@@ -143,8 +193,9 @@ impl Watch {
     }
 
     /// Whether a frame is a packet that came too late for its message, or one of a message that has such a packet.
-    fn is_late(&mut self, frame: &Frame, time: Option<Time>) -> bool
-        ensures { self.new ≡ self.old }
+    fn is_withheld(&mut self, frame: &Frame, time: Option<Time>) -> bool
+        ensures withheld { result ≡ followed.is_withheld self.old.followed.silence self.old.station.claimer.held time (group_of frame.now) self.old.followed }
+        ensures followed { self.new ≡ record self.old { followed = followed.after_frame self.old.followed.silence self.old.station.claimer.held time (group_of frame.now) self.old.followed } }
     {
         let Some(most) = self.settings.silence else {
             return false;
@@ -152,30 +203,47 @@ impl Watch {
         match ParameterGroup::read(frame) {
             ParameterGroup::ConnectionManagement {
                 source,
-                dest: GLOBAL_ADDRESS,
-                control: Control::Bam { .. },
-            } => {
-                self.broadcasts.announce(source, time);
-                false
-            }
-            ParameterGroup::ConnectionManagement {
-                source,
                 dest,
-                control: Control::Rts { .. },
-            } if self.station.held() == Some(dest) => {
-                self.sessions.announce(source, time);
+                control,
+            } => {
+                self.hear_control(source, dest, control, time);
                 false
             }
-            ParameterGroup::DataTransfer {
-                source,
-                dest: GLOBAL_ADDRESS,
-                ..
-            } => self.broadcasts.is_late(source, time, most),
-            ParameterGroup::DataTransfer { source, dest, .. }
-                if self.station.held() == Some(dest) => {
-                self.sessions.is_late(source, time, most)
+            ParameterGroup::DataTransfer { source, dest, .. } => {
+                self.is_late(source, dest, time, most)
             }
-            _ => false,
+            ParameterGroup::AddressClaimed { .. }
+            | ParameterGroup::CannotClaim { .. }
+            | ParameterGroup::Request(_)
+            | ParameterGroup::Acknowledgment(_)
+            | ParameterGroup::Diagnostic { .. }
+            | ParameterGroup::Other => false,
         }
+    }
+
+    /// Takes note of a message that is announced to all or to the station.
+    fn hear_control(&mut self, source: u8, dest: u8, control: Control, time: Option<Time>)
+        ensures { (most : ℕ) → self.new ≡ record self.old { followed = followed.followed_by_group most self.old.station.claimer.held time (ConnectionManagement source dest control) self.old.followed } }
+    {
+        let to_station = self.station.held() == Some(dest);
+        match control {
+            Control::Bam { .. } if dest == GLOBAL_ADDRESS => self.broadcasts.announce(source, time),
+            Control::Rts { .. } if to_station => self.sessions.announce(source, time),
+            _ => {}
+        }
+    }
+
+    /// Whether a packet came too late.
+    fn is_late(&mut self, source: u8, dest: u8, time: Option<Time>, most: u64) -> bool
+        ensures late { (bytes : List ℕ) → result ≡ followed.is_late most self.old.station.claimer.held time (DataTransfer source dest bytes) self.old.followed }
+        ensures followed { (bytes : List ℕ) → self.new ≡ record self.old { followed = followed.followed_by_group most self.old.station.claimer.held time (DataTransfer source dest bytes) self.old.followed } }
+    {
+        if dest == GLOBAL_ADDRESS {
+            return self.broadcasts.hear(source, time, most);
+        }
+        if self.station.held() == Some(dest) {
+            return self.sessions.hear(source, time, most);
+        }
+        false
     }
 }

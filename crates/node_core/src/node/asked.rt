@@ -1,5 +1,5 @@
 ghost use Rattle.std.specs.Prelude.{◌≡◌, ◌≤◌, IfOk, IfErr, OnOk, OnErr, Some, length, if◌then◌else◌};
-ghost use Rattle.node_core.specs.Deed.{Replies, beginning, heard_of};
+ghost use Rattle.node_core.specs.Deed.{Replies, begin_answer, heard_of};
 ghost use Rattle.node_core.specs.Asking.{is_agreed, memory_answered, IsAnswerTo, IsAsked};
 ghost use Rattle.node_core.specs.Requested.{put_by};
 ghost use Rattle.node_core.specs.Requested as requested;
@@ -8,7 +8,7 @@ use crate::error::NodeError;
 use crate::heard::{Answer, Begun, Heard, Withdraw};
 use crate::node::Node;
 use crate::out::{Out, Outs, Room};
-use crate::parts::{first_part, group_of_kind, parts_to_all};
+use crate::parts::{first_part, parts_to_all};
 use crate::requested::{Wanted, acknowledgment, counts_from, put};
 use crate::session::OpenSession;
 use can_frame::Pgn;
@@ -27,7 +27,7 @@ const NEGATIVE: u8 = 1;
 const BUSY: u8 = 3;
 
 impl Node {
-    ghost use Rattle.node_core.specs.Deed.{after};
+    ghost use Rattle.node_core.specs.Deed.{after_deed};
     ghost use Rattle.node_core.specs.Requested.{is_concerned};
     ghost use Rattle.node_core.specs.Reaction.{on_request, put_by_request, asked_of_all, asked_at_address, asked_for_message};
     ghost use Rattle.node_core.specs.declared.requested.Wanted.TheVariants as wanted;
@@ -41,7 +41,7 @@ impl Node {
     ) -> Result<Heard, NodeError>
         ensures name { name_of unit.new ≡ name_of unit.old }
         ensures heard { IfOk result (λ h. h ≡ heard_of h.answer (on_request self.old (memory_of unit.old) h.answer request.pgn request.dest request.source)) }
-        ensures node { IfOk result (λ h. self.new ≡ after self.old (on_request self.old (memory_of unit.old) h.answer request.pgn request.dest request.source)) }
+        ensures node { IfOk result (λ h. self.new ≡ after_deed self.old (on_request self.old (memory_of unit.old) h.answer request.pgn request.dest request.source)) }
         ensures memory { IfOk result (λ h. memory_of unit.new ≡ memory_answered (put_by_request self.old request.pgn request.dest request.source) h.answer (memory_of unit.old)) }
         ensures few { IfOk result (λ h. length h.put ≤ 256) }
         ensures refused { IfErr result (λ e. e ≡ NodeError.OutOfMemory) }
@@ -87,7 +87,7 @@ impl Node {
     ) -> Result<Heard, NodeError>
         ensures name { name_of unit.new ≡ name_of unit.old }
         ensures heard { IfOk result (λ h. h ≡ heard_of h.answer (asked_of_all self.now (memory_of unit.old) address wanted)) }
-        ensures same { self.now ≡ after self.now (asked_of_all self.now (memory_of unit.old) address wanted) }
+        ensures same { self.now ≡ after_deed self.now (asked_of_all self.now (memory_of unit.old) address wanted) }
         ensures memory { IfOk result (λ h. memory_of unit.new ≡ memory_answered (put_by wanted) h.answer (memory_of unit.old)) }
         ensures few { IfOk result (λ h. length h.put ≤ 256) }
         ensures refused { IfErr result (λ e. e ≡ NodeError.OutOfMemory) }
@@ -117,7 +117,7 @@ impl Node {
         memory: &FaultMemory,
     ) -> Result<Heard, NodeError>
         ensures heard { IfOk result (λ h. h ≡ heard_of Answer.NotAsked (asked_of_all self.now memory.now address (wanted.Message kind))) }
-        ensures same { self.now ≡ after self.now (asked_of_all self.now memory.now address (wanted.Message kind)) }
+        ensures same { self.now ≡ after_deed self.now (asked_of_all self.now memory.now address (wanted.Message kind)) }
         ensures few { IfOk result (λ h. length h.put ≤ 256) }
         ensures refused { IfErr result (λ e. e ≡ NodeError.OutOfMemory) }
     {
@@ -145,7 +145,7 @@ impl Node {
         requires { request.source ≤ 253 }
         ensures name { name_of unit.new ≡ name_of unit.old }
         ensures heard { IfOk result (λ h. h ≡ heard_of h.answer (asked_at_address self.old (memory_of unit.old) h.answer request.pgn address request.source wanted)) }
-        ensures node { IfOk result (λ h. self.new ≡ after self.old (asked_at_address self.old (memory_of unit.old) h.answer request.pgn address request.source wanted)) }
+        ensures node { IfOk result (λ h. self.new ≡ after_deed self.old (asked_at_address self.old (memory_of unit.old) h.answer request.pgn address request.source wanted)) }
         ensures memory { IfOk result (λ h. memory_of unit.new ≡ memory_answered (put_by wanted) h.answer (memory_of unit.old)) }
         ensures few { IfOk result (λ h. length h.put ≤ 256) }
         ensures refused { IfErr result (λ e. e ≡ NodeError.OutOfMemory) }
@@ -183,7 +183,7 @@ impl Node {
     ) -> Result<Heard, NodeError>
         requires { request.source ≤ 253 }
         ensures heard { IfOk result (λ h. h ≡ heard_of Answer.NotAsked (asked_for_message self.old.session kind memory.now request.pgn address request.source)) }
-        ensures node { OnOk result (self.new ≡ after self.old (asked_for_message self.old.session kind memory.now request.pgn address request.source)) }
+        ensures node { OnOk result (self.new ≡ after_deed self.old (asked_for_message self.old.session kind memory.now request.pgn address request.source)) }
         ensures few { IfOk result (λ h. length h.put ≤ 256) }
         ensures refused { IfErr result (λ e. e ≡ NodeError.OutOfMemory) }
         ensures kept { OnErr result (self.new ≡ self.old) }
@@ -209,7 +209,7 @@ impl Node {
             dest: request.source,
         };
         let heard = message_begun(first_part(alloc, payload.as_slice(), begun)?, begun);
-        let sending = Sending::start(payload, request.source, group_of_kind(kind));
+        let sending = Sending::start(payload, request.source, kind.pgn());
         self.session = Some(OpenSession { kind, sending });
         Ok(heard)
     }

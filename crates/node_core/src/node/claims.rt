@@ -9,7 +9,7 @@ use name_field::Name;
 use std::alloc::{AllocError, Global};
 
 impl Node {
-    ghost use Rattle.node_core.specs.Deed.{heard_of, after, Claims};
+    ghost use Rattle.node_core.specs.Deed.{heard_of, after_deed, Claims};
     ghost use Rattle.node_core.specs.Reaction.{on_claim, on_uncontested, noted_from, is_of_another};
     ghost use Rattle.parameter_group.specs.Group.{AddressClaimed};
 
@@ -22,7 +22,7 @@ impl Node {
     ) -> Result<Heard, AllocError>
         requires { source ≤ 253 }
         ensures heard { IfOk result (λ h. h ≡ heard_of Answer.NotAsked (on_claim self.old source name)) }
-        ensures node { OnOk result (self.new ≡ after (noted_from self.old (AddressClaimed source name)) (on_claim self.old source name)) }
+        ensures node { OnOk result (self.new ≡ after_deed (noted_from self.old (AddressClaimed source name)) (on_claim self.old source name)) }
         ensures few { IfOk result (λ h. length h.put ≤ 256) }
         ensures kept { OnErr result (self.new ≡ self.old) }
     {
@@ -62,7 +62,7 @@ impl Node {
     /// Ends the open session if this is its destination.
     fn end_session_with(&mut self, alloc: Global, source: u8) -> Heard
         ensures heard { result ≡ heard_of Answer.NotAsked (on_uncontested self.old.session source) }
-        ensures node { self.new ≡ after self.old (on_uncontested self.old.session source) }
+        ensures node { self.new ≡ after_deed self.old (on_uncontested self.old.session source) }
     {
         if !self.is_destination(source) {
             return Heard::nothing(alloc);
@@ -73,7 +73,7 @@ impl Node {
     /// Withdraws all, ends the session, and claims the address held, or says that none is.
     pub(super) fn claim_again(&mut self, room: Room, answer: Answer) -> Heard
         ensures heard { result ≡ heard_of answer (Claims self.old.claimer.name self.old.claimer.held) }
-        ensures node { self.new ≡ after self.old (Claims self.old.claimer.name self.old.claimer.held) }
+        ensures node { self.new ≡ after_deed self.old (Claims self.old.claimer.name self.old.claimer.held) }
     {
         self.session = None;
         let out = Out {

@@ -12,9 +12,9 @@ use std::alloc::Global;
 use unit_trait::{Question, Unit};
 
 impl Node {
-    ghost use Rattle.node_core.specs.Deed.{heard_of, after, Claims};
+    ghost use Rattle.node_core.specs.Deed.{heard_of, after_deed, Claims};
     ghost use Rattle.node_core.specs.Asking.{IsAnswerTo, IsAsked};
-    ghost use Rattle.node_core.specs.Reaction.{announced, command_heard, put_by_command, packet_joined, on_packet};
+    ghost use Rattle.node_core.specs.Reaction.{announced, command_heard, put_by_command, packet_heard, on_packet};
 
     /// Takes note of a broadcast announcement: it drops what is half joined from its source, and may start a commanded
     /// address.
@@ -38,7 +38,7 @@ impl Node {
     ) -> Result<Heard, NodeError>
         ensures name { name_of unit.new ≡ name_of unit.old }
         ensures heard { IfOk result (λ h. h ≡ heard_of h.answer (on_packet self.old h.answer source destination bytes.now)) }
-        ensures node { IfOk result (λ h. self.new ≡ after (packet_joined self.old source destination bytes.now) (on_packet self.old h.answer source destination bytes.now)) }
+        ensures node { IfOk result (λ h. self.new ≡ after_deed (packet_heard self.old source destination bytes.now) (on_packet self.old h.answer source destination bytes.now)) }
         ensures memory { memory_of unit.new ≡ memory_of unit.old }
         ensures few { IfOk result (λ h. length h.put ≤ 256) }
         ensures refused { IfErr result (λ e. e ≡ NodeError.OutOfMemory) }
@@ -78,7 +78,7 @@ impl Node {
 
     /// A broadcast packet goes on with what is half joined from its source.
     fn join_packet(&mut self, source: u8, destination: u8, bytes: &[u8])
-        ensures { self.new ≡ packet_joined self.old source destination bytes.now }
+        ensures { self.new ≡ packet_heard self.old source destination bytes.now }
     {
         if !is_broadcast(destination, source) {
             return;
@@ -91,9 +91,9 @@ impl Node {
     fn obey(&mut self, address: u8, room: Room) -> Heard
         requires { address ≤ 253 }
         ensures heard { result ≡ heard_of Answer.Agreed (Claims self.old.claimer.name (Some address)) }
-        ensures node { self.new ≡ after self.old (Claims self.old.claimer.name (Some address)) }
+        ensures node { self.new ≡ after_deed self.old (Claims self.old.claimer.name (Some address)) }
     {
-        let _ = self.claimer.command(address);
+        self.claimer.hold(address);
         self.claim_again(room, Answer::Agreed)
     }
 }

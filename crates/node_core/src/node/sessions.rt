@@ -15,7 +15,7 @@ const RESOURCES_NEEDED: u8 = 2;
 
 impl Node {
     ghost use Rattle.address_claim.specs.Claiming.{is_held};
-    ghost use Rattle.node_core.specs.Deed.{heard_of, after, further, Nothing, Replies};
+    ghost use Rattle.node_core.specs.Deed.{heard_of, after_deed, further, Nothing, Replies};
     ghost use Rattle.node_core.specs.Reaction.{on_control, on_cts, on_end_ack, on_abort, is_open_with, is_all_queued_with, noted_from};
     ghost use Rattle.parameter_group.specs.Group.{ConnectionManagement};
 
@@ -28,7 +28,7 @@ impl Node {
         control: Control,
     ) -> Result<Heard, AllocError>
         ensures heard { IfOk result (λ h. h ≡ heard_of Answer.NotAsked (on_control self.old source destination control)) }
-        ensures node { OnOk result (self.new ≡ after (noted_from self.old (ConnectionManagement source destination control)) (on_control self.old source destination control)) }
+        ensures node { OnOk result (self.new ≡ after_deed (noted_from self.old (ConnectionManagement source destination control)) (on_control self.old source destination control)) }
         ensures few { IfOk result (λ h. length h.put ≤ 256) }
         ensures kept { OnErr result (self.new ≡ self.old) }
     {
@@ -78,7 +78,7 @@ impl Node {
         pgn: Pgn,
     ) -> Result<Heard, AllocError>
         ensures heard { IfOk result (λ h. h ≡ heard_of Answer.NotAsked (if is_held self.old.claimer.held destination then on_cts self.old.session destination source granted next pgn else Nothing)) }
-        ensures node { OnOk result (self.new ≡ after self.old (if is_held self.old.claimer.held destination then on_cts self.old.session destination source granted next pgn else Nothing)) }
+        ensures node { OnOk result (self.new ≡ after_deed self.old (if is_held self.old.claimer.held destination then on_cts self.old.session destination source granted next pgn else Nothing)) }
         ensures few { IfOk result (λ h. length h.put ≤ 256) }
         ensures kept { OnErr result (self.new ≡ self.old) }
     {
@@ -119,7 +119,7 @@ impl Node {
     fn hear_end_ack(&mut self, alloc: Global, source: u8, destination: u8, pgn: Pgn) -> Heard
         ensures few { length result.put ≤ 256 }
         ensures heard { result ≡ heard_of Answer.NotAsked (if is_held self.old.claimer.held destination then on_end_ack self.old.session source pgn else Nothing) }
-        ensures node { self.new ≡ after self.old (if is_held self.old.claimer.held destination then on_end_ack self.old.session source pgn else Nothing) }
+        ensures node { self.new ≡ after_deed self.old (if is_held self.old.claimer.held destination then on_end_ack self.old.session source pgn else Nothing) }
     {
         if !self.is_held(destination) || !self.is_all_queued_with(source, pgn) {
             return Heard::nothing(alloc);
@@ -131,7 +131,7 @@ impl Node {
     fn hear_abort(&mut self, alloc: Global, source: u8, destination: u8, pgn: Pgn) -> Heard
         ensures few { length result.put ≤ 256 }
         ensures heard { result ≡ heard_of Answer.NotAsked (if is_held self.old.claimer.held destination then on_abort self.old.session source pgn else Nothing) }
-        ensures node { self.new ≡ after self.old (if is_held self.old.claimer.held destination then on_abort self.old.session source pgn else Nothing) }
+        ensures node { self.new ≡ after_deed self.old (if is_held self.old.claimer.held destination then on_abort self.old.session source pgn else Nothing) }
     {
         if !self.is_held(destination) || !self.is_open_with(source, pgn) {
             return Heard::nothing(alloc);

@@ -4,7 +4,6 @@ ghost use Rattle.station_table.specs.Reactions as reactions;
 
 use crate::reaction::Reaction;
 use crate::row::AckSeen;
-use crate::slots::owner_at;
 use crate::station::Station;
 use can_frame::{GLOBAL_ADDRESS, NULL_ADDRESS, Pgn};
 use requests::{Ack, Request};
@@ -48,7 +47,7 @@ impl Station {
         if held != Some(ack.requester) && held != Some(ack.dest) {
             return;
         }
-        if let Some(owner) = owner_at(&self.owners, ack.source) {
+        if let Some(owner) = self.owner(ack.source) {
             let seen = AckSeen {
                 control: ack.control,
                 pgn: ack.pgn,

@@ -1,16 +1,20 @@
-ghost use Rattle.std.specs.Prelude.{◌≡◌, ◌<◌, IfOk, OnOk, OnErr, IsOkUnless};
+ghost use Rattle.std.specs.Prelude.{◌≡◌, slice_set, IfOk, OnOk, OnErr, IsOkUnless};
 ghost use Rattle.address_claim.specs.Claiming.{IsLawfulStep, claim_step};
 ghost use Rattle.can_frame.specs.declared.reading.Reading.TheVariants.{Gap};
+ghost use Rattle.bus_model.specs.Heard.{kept_by_owner};
 ghost use Rattle.parameter_group.specs.Group as group;
+ghost use Rattle.reassembly.specs.Tables.{at};
 ghost use Rattle.station_table.specs.Reactions as reactions;
+ghost use Rattle.station_table.specs.Steps.{sessions_after};
 
 use crate::error::StationError;
+use crate::origin::{Origin, keep_under};
 use crate::reaction::Reaction;
-use crate::slots::{keep_broadcasts, keep_sessions, no_broadcasts, no_owners, no_sessions};
 use crate::station::Station;
 use address_claim::{ClaimStep, claim_frame};
 use can_frame::{Frames, GLOBAL_ADDRESS, NULL_ADDRESS, Pgn};
 use name_field::Name;
+use reassembly::Partials;
 use requests::Request;
 use std::alloc::{AllocError, Global};
 
@@ -32,10 +36,11 @@ impl Station {
     {
         let step = self.claimer.answer(source, name);
         let reaction = self.answer_to_claim(alloc, step)?;
+        self.owners.make()?;
         self.rows.add(alloc, name)?;
         self.rows.claim(name, Some(source));
-        self.owners[usize::from(source)] = Some(name);
-        keep_broadcasts(&mut self.broadcasts, source, name);
+        self.owners.put(source, name);
+        keep_under(&mut self.broadcasts, source, name);
         keep_sessions(&mut self.sessions, step, source, name);
         self.claimer.hear_claim(source, name);
         Ok(reaction)
@@ -75,7 +80,7 @@ impl Station {
     /// their claims.
     pub(super) fn hear_gap(&mut self, alloc: Global, count: u32) -> Result<Reaction, StationError>
         ensures ok { OnOk result (self.new ≡ after_gap self.old count) }
-        ensures reaction { IfOk result (λ x. x ≡ reactions.reaction self.old (Gap count)) }
+        ensures reaction { IfOk result (λ x. x ≡ reactions.station_reaction self.old (Gap count)) }
         ensures err { OnErr result (self.new ≡ self.old) }
         ensures only_memory { IsOkUnless result StationError.OutOfMemory }
     {
@@ -87,13 +92,23 @@ impl Station {
         let mut put = Frames::new(alloc);
         put.push(self.start())?;
         put.push(request.frame())?;
-        self.owners = no_owners();
-        self.broadcasts = no_broadcasts();
-        self.sessions = no_sessions();
+        self.owners.clear();
+        self.broadcasts.clear();
+        self.sessions.clear();
         self.missed = self.missed.saturating_add(u64::from(count));
         Ok(Reaction {
             withdraw: true,
             put,
         })
+    }
+}
+
+/// A claim of an address keeps the session from there under its owner alone; a step of the station's own claims drops all.
+fn keep_sessions(sessions: &mut Partials<Origin>, step: ClaimStep, source: u8, name: Name)
+    ensures { sessions.new ≡ sessions_after step (slice_set sessions.old source (kept_by_owner name (at sessions.old source))) }
+{
+    match step {
+        ClaimStep::Nothing => keep_under(sessions, source, name),
+        _ => sessions.clear(),
     }
 }

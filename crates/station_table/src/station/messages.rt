@@ -1,23 +1,21 @@
-ghost use Rattle.std.specs.Prelude.{◌≡◌, ◌≤◌, Some, None, nat_lt, if◌then◌else◌, slice_set, IfOk, OnOk, OnErr, IsOkUnless};
-ghost use Rattle.dm_messages.specs.View as view;
-ghost use Rattle.parameter_group.specs.Group as group;
+ghost use Rattle.std.specs.Prelude.{◌≡◌, ◌≤◌, nat_lt, if◌then◌else◌, slice_set, Some, IfOk, OnOk, OnErr, IsOkUnless};
 ghost use Rattle.bus_model.specs.Heard as heard;
+ghost use Rattle.parameter_group.specs.Group as group;
+ghost use Rattle.reassembly.specs.Partials.{answer_to};
+ghost use Rattle.reassembly.specs.Tables.{at};
 ghost use Rattle.station_table.specs.Reactions as reactions;
 ghost use Rattle.transport.specs.Messages as message;
 
+use crate::ended::{Ended, ended_with, shown_by};
 use crate::error::StationError;
-use crate::half::{Ended, Half};
+use crate::origin::{Origin, drop_kind, kind_of};
 use crate::reaction::Reaction;
-use crate::slots::{
-    abort_session, at_once, broadcast_end, kind_of, owner_at, packet_to_broadcast,
-    packet_to_session, put_broadcast, session_end, session_reply, start_session,
-};
+use crate::replies::{at_once, reply};
 use crate::station::Station;
 use can_frame::{NULL_ADDRESS, Pgn};
-use dm_messages::{Kind, ReadError, Shown, read};
-use name_field::Name;
-use std::alloc::{AllocError, Global};
-use transport::{Control, control_frame};
+use dm_messages::Kind;
+use std::alloc::Global;
+use transport::{Control, Took, control_frame};
 
 /// What a request to send announces.
 #[derive(Clone, Copy)]
@@ -29,25 +27,19 @@ pub(super) struct Announced {
 }
 
 impl Station {
-    ghost use Rattle.station_table.specs.Halves.{entry_of};
-    ghost use Rattle.station_table.specs.StationValue.{at};
-    ghost use Rattle.station_table.specs.Steps.{after_group, or_older, packets_at_once, rejoined, session_with, with_broadcast_packet, with_ended, with_reading, with_session_packet};
-    ghost use Rattle.std.specs.Option.{option_map};
+    ghost use Rattle.station_table.specs.Steps.{after_group, origin_of, packets_at_once, with_broadcast_packet, with_read, with_session, with_session_packet};
 
-    /// A message that ended is read: an entry under its owner where it shows something, else it counts as unread.
-    fn read_message(
-        &mut self,
-        alloc: Global,
-        owner: Name,
-        kind: Kind,
-        payload: &[u8],
-    ) -> Result<(), StationError>
-        ensures ok { OnOk result (self.new ≡ with_reading self.old owner kind (view.decoding payload.now)) }
+    /// What a message that ended shows is kept: an entry under its owner where it shows something, else it counts as unread.
+    fn keep(&mut self, ended: Option<Ended>) -> Result<(), StationError>
+        ensures ok { OnOk result (self.new ≡ with_read self.old ended) }
         ensures err { OnErr result (self.new ≡ self.old) }
         ensures only_memory { IsOkUnless result StationError.OutOfMemory }
     {
-        match shown_by(alloc, payload)? {
-            Some(shown) => self.rows.push(owner, kind, shown)?,
+        let Some(Ended { origin, shown }) = ended else {
+            return Ok(());
+        };
+        match shown {
+            Some(shown) => self.rows.push(origin.owner(), origin.kind(), shown)?,
             None => self.unread = self.unread.saturating_add(1),
         }
         Ok(())
@@ -65,31 +57,23 @@ impl Station {
         ensures err { OnErr result (self.new ≡ self.old) }
         ensures only_memory { IsOkUnless result StationError.OutOfMemory }
     {
-        match owner_at(&self.owners, source) {
-            Some(owner) => self.read_message(alloc, owner, kind, bytes),
-            None => Ok(()),
-        }
+        let Some(owner) = self.owner(source) else {
+            return Ok(());
+        };
+        let shown = shown_by(alloc, bytes)?;
+        self.keep(Some(Ended {
+            origin: Origin::new(owner, kind),
+            shown,
+        }))
     }
 
-    /// What starts with an announcement of a diagnostic message from an address with an owner.
-    fn begin(
-        &self,
-        alloc: Global,
-        source: u8,
-        size: u16,
-        pgn: Pgn,
-    ) -> Result<Option<Half>, AllocError>
-        requires least { 9 ≤ size }
-        requires most { size ≤ 1785 }
-        ensures { IfOk result (λ o. o ≡ heard.started (heard.kind_of pgn) size (at self.now.owners source)) }
+    /// Whose a message is that an announcement of this group starts: of an address with an owner, if it is a diagnostic one.
+    fn origin(&self, source: u8, pgn: Pgn) -> Option<Origin>
+        ensures { result ≡ origin_of (heard.kind_of pgn) (at self.now.owners source) }
     {
-        let Some(kind) = kind_of(pgn) else {
-            return Ok(None);
-        };
-        let Some(owner) = owner_at(&self.owners, source) else {
-            return Ok(None);
-        };
-        Ok(Some(Half::start(alloc, owner, kind, size, pgn)?))
+        let kind = kind_of(pgn)?;
+        let owner = self.owner(source)?;
+        Some(Origin::new(owner, kind))
     }
 
     /// A broadcast is announced: the one half joined from its source is dropped, and a diagnostic one from an address with
@@ -110,8 +94,10 @@ impl Station {
         ensures err { OnErr result (self.new ≡ self.old) }
         ensures only_memory { IsOkUnless result StationError.OutOfMemory }
     {
-        let begun = self.begin(alloc, source, size, pgn)?;
-        put_broadcast(&mut self.broadcasts, source, begun);
+        match self.origin(source, pgn) {
+            Some(origin) => self.broadcasts.start(alloc, source, origin, size, pgn)?,
+            None => self.broadcasts.forget(source),
+        }
         Ok(())
     }
 
@@ -126,22 +112,17 @@ impl Station {
     ) -> Result<Reaction, StationError>
         requires least { 9 ≤ announced.size }
         requires most { announced.size ≤ 1785 }
-        ensures ok { OnOk result (self.new ≡ record self.old {
-          sessions = slice_set self.old.sessions source
-              (or_older (session_with (packets_at_once self.old.grant announced.most) (heard.started (heard.kind_of announced.pgn) announced.size (at self.old.owners source)))
-              (at self.old.sessions source));
-        }) }
+        ensures ok { OnOk result (self.new ≡ with_session self.old source announced.most (heard.started (heard.kind_of announced.pgn) announced.size (at self.old.owners source))) }
         ensures reaction { IfOk result (λ x. x ≡ (if nat_lt source 254 then reactions.answering (message.control_frame
             (reactions.start_reaction (heard.started (heard.kind_of announced.pgn) announced.size (at self.old.owners source)) (packets_at_once self.old.grant announced.most) announced.packets announced.pgn)
             dest source) else reactions.silent)) }
         ensures err { OnErr result (self.new ≡ self.old) }
         ensures only_memory { IsOkUnless result StationError.OutOfMemory }
     {
-        let begun = self.begin(alloc, source, announced.size, announced.pgn)?;
-        let at_once = at_once(self.grant, announced.most);
-        let answer = match &begun {
+        let origin = self.origin(source, announced.pgn);
+        let answer = match &origin {
             Some(_) => Control::Cts {
-                granted: at_once.min(announced.packets),
+                granted: at_once(self.grant, announced.most).min(announced.packets),
                 next: 1,
                 pgn: announced.pgn,
             },
@@ -155,7 +136,11 @@ impl Station {
         } else {
             Reaction::silent(alloc)
         };
-        start_session(&mut self.sessions, source, begun, at_once);
+        if let Some(origin) = origin {
+            self.sessions
+                .start(alloc, source, origin, announced.size, announced.pgn)?;
+            self.most[usize::from(source)] = announced.most;
+        }
         Ok(reaction)
     }
 
@@ -163,27 +148,10 @@ impl Station {
     pub(super) fn hear_abort(&mut self, source: u8, pgn: Pgn)
         ensures { self.new ≡ record self.old {
           sessions = slice_set self.old.sessions source
-              (rejoined (heard.without_kind (heard.kind_of pgn)) (at self.old.sessions source));
+              (heard.without_kind (heard.kind_of pgn) (at self.old.sessions source));
         } }
     {
-        abort_session(&mut self.sessions, source, kind_of(pgn));
-    }
-
-    /// A message that ended, if one did.
-    fn read_ended(&mut self, alloc: Global, ended: Option<Ended>) -> Result<(), StationError>
-        ensures ok { OnOk result (self.new ≡ with_ended self.old (option_map entry_of ended)) }
-        ensures err { OnErr result (self.new ≡ self.old) }
-        ensures only_memory { IsOkUnless result StationError.OutOfMemory }
-    {
-        match ended {
-            Some(ended) => self.read_message(
-                alloc,
-                ended.owner,
-                ended.kind,
-                ended.payload.as_slice(),
-            ),
-            None => Ok(()),
-        }
+        drop_kind(&mut self.sessions, source, kind_of(pgn));
     }
 
     /// A packet of a broadcast.
@@ -197,9 +165,12 @@ impl Station {
         ensures err { OnErr result (self.new ≡ self.old) }
         ensures only_memory { IsOkUnless result StationError.OutOfMemory }
     {
-        let ended = broadcast_end(alloc, &self.broadcasts, source, bytes)?;
-        self.read_ended(alloc, ended)?;
-        packet_to_broadcast(&mut self.broadcasts, source, bytes);
+        let Some(took) = self.broadcasts.answer(source, bytes) else {
+            return Ok(());
+        };
+        let ended = ended_with(alloc, &mut self.broadcasts, source, bytes, took)?;
+        self.keep(ended)?;
+        self.broadcasts.take(source, bytes, took);
         Ok(())
     }
 
@@ -212,29 +183,47 @@ impl Station {
         bytes: &[u8],
     ) -> Result<Reaction, StationError>
         ensures ok { OnOk result (self.new ≡ with_session_packet self.old source bytes.now) }
-        ensures reaction { IfOk result (λ x. x ≡ reactions.replying (reactions.reply_to (at self.old.sessions source) bytes.now) dest source) }
+        ensures reaction { IfOk result (λ x. x ≡ reactions.replying (reactions.reply_to (reactions.granted_at_once self.old source) (at self.old.sessions source) bytes.now) dest source) }
         ensures err { OnErr result (self.new ≡ self.old) }
         ensures only_memory { IsOkUnless result StationError.OutOfMemory }
     {
-        let ended = session_end(alloc, &self.sessions, source, bytes)?;
-        let reaction = match session_reply(&self.sessions, source, bytes) {
+        let Some(took) = self.sessions.answer(source, bytes) else {
+            return Ok(Reaction::silent(alloc));
+        };
+        let reaction = match self.reply(source, bytes, took) {
             Some(reply) => Reaction::answering(alloc, control_frame(reply, dest, source))?,
             None => Reaction::silent(alloc),
         };
-        self.read_ended(alloc, ended)?;
-        packet_to_session(&mut self.sessions, source, bytes);
+        self.take_session_packet(alloc, source, bytes, took)?;
         Ok(reaction)
     }
-}
 
-/// What a payload shows; none where it cannot be read.
-fn shown_by(alloc: Global, payload: &[u8]) -> Result<Option<Shown>, StationError>
-    ensures ok { IfOk result (λ o. o ≡ view.decoding payload.now) }
-    ensures only_memory { IsOkUnless result StationError.OutOfMemory }
-{
-    match read(alloc, payload) {
-        Ok(shown) => Ok(Some(shown)),
-        Err(ReadError::OutOfMemory) => Err(StationError::OutOfMemory),
-        Err(_) => Ok(None),
+    /// Reads a packet of a session, which was answered so.
+    fn take_session_packet(
+        &mut self,
+        alloc: Global,
+        source: u8,
+        bytes: &[u8],
+        took: Took,
+    ) -> Result<(), StationError>
+        requires { answer_to bytes.now (at self.old.sessions source) ≡ Some took }
+        ensures ok { OnOk result (self.new ≡ with_session_packet self.old source bytes.now) }
+        ensures err { OnErr result (self.new ≡ self.old) }
+        ensures only_memory { IsOkUnless result StationError.OutOfMemory }
+    {
+        let ended = ended_with(alloc, &mut self.sessions, source, bytes, took)?;
+        self.keep(ended)?;
+        self.sessions.take(source, bytes, took);
+        Ok(())
+    }
+
+    /// What is answered to a packet of a session, which was answered so.
+    fn reply(&self, source: u8, packet: &[u8], took: Took) -> Option<Control>
+        requires { answer_to packet.now (at self.now.sessions source) ≡ Some took }
+        ensures { result ≡ reactions.reply_to (reactions.granted_at_once self.now source) (at self.now.sessions source) packet.now }
+    {
+        let session = self.sessions.get(source)?;
+        let at_once = at_once(self.grant, self.most[usize::from(source)]);
+        reply(session, at_once, packet, took)
     }
 }

@@ -1,5 +1,5 @@
 ghost use Rattle.std.specs.Prelude.{◌≡◌, ◌⊎◌, ◌≤◌, ℕ, List, Ok, Err, length, IfOk, IfErr};
-ghost use Rattle.bus_model.specs.Heard.{Settings};
+ghost use Rattle.bus_model.specs.Heard.{StationSettings};
 ghost use Rattle.can_frame.specs.declared.reading.Reading.{Reading as AnyReading};
 ghost use Rattle.station_table.specs.Reactions as reactions;
 ghost use Rattle.station_table.specs.declared.error.StationError.{StationError as AnyRefusal};
@@ -15,7 +15,7 @@ use std::alloc::{AllocError, Global};
 use transport::message_part;
 
 impl Station {
-    ghost use Rattle.station_table.specs.Orders.{AreAsked, IsAsked, IsCommanded, ask_answer, ask_all_answer, command_answer};
+    ghost use Rattle.station_table.specs.Orders.{AnswersAskAll, AnswersAsk, AnswersCommand, ask_answer, ask_all_answer, command_answer};
     ghost use Rattle.station_table.specs.StandsFor.{StandsFor};
 
     /// Asks the unit of this NAME; the station stays as it is.
@@ -27,7 +27,7 @@ impl Station {
         ensures ok { IfOk result (λ x. ask_answer self.now name ask ≡ Ok x) }
         ensures refused { (e : AnyRefusal) → ask_answer self.now name ask ≡ Err e → result ≡ Err e }
         ensures why { IfErr result (λ e. (e ≡ StationError.OutOfMemory) ⊎ (ask_answer self.now name ask ≡ Err e)) }
-        ensures heard { (r : Settings) (grant : ℕ) (h : List AnyReading) → StandsFor r grant self.now h → IsAsked r h name (ask_answer self.now name ask) }
+        ensures heard { (r : StationSettings) (grant : ℕ) (h : List AnyReading) → StandsFor r grant self.now h → AnswersAsk r h name (ask_answer self.now name ask) }
     {
         let Some(own) = self.held() else {
             return Err(StationError::NotHeld);
@@ -49,7 +49,7 @@ impl Station {
         ensures ok { IfOk result (λ x. ask_all_answer self.now ask ≡ Ok x) }
         ensures refused { (e : AnyRefusal) → ask_all_answer self.now ask ≡ Err e → result ≡ Err e }
         ensures why { IfErr result (λ e. (e ≡ StationError.OutOfMemory) ⊎ (ask_all_answer self.now ask ≡ Err e)) }
-        ensures heard { (r : Settings) (grant : ℕ) (h : List AnyReading) → StandsFor r grant self.now h → AreAsked r h (ask_all_answer self.now ask) }
+        ensures heard { (r : StationSettings) (grant : ℕ) (h : List AnyReading) → StandsFor r grant self.now h → AnswersAskAll r h (ask_all_answer self.now ask) }
     {
         let Some(own) = self.held() else {
             return Err(StationError::NotHeld);
@@ -65,7 +65,7 @@ impl Station {
         ensures ok { IfOk result (λ x. command_answer self.now name address ≡ Ok x) }
         ensures refused { (e : AnyRefusal) → command_answer self.now name address ≡ Err e → result ≡ Err e }
         ensures why { IfErr result (λ e. (e ≡ StationError.OutOfMemory) ⊎ (command_answer self.now name address ≡ Err e)) }
-        ensures heard { (r : Settings) (grant : ℕ) (h : List AnyReading) → StandsFor r grant self.now h → IsCommanded r h address (command_answer self.now name address) }
+        ensures heard { (r : StationSettings) (grant : ℕ) (h : List AnyReading) → StandsFor r grant self.now h → AnswersCommand r h address (command_answer self.now name address) }
     {
         if address > GREATEST_ADDRESS {
             return Err(StationError::NotAnAddress);

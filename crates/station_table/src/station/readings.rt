@@ -1,6 +1,8 @@
 ghost use Rattle.std.specs.Prelude.{◌≡◌, ◌≢◌, ◌≤◌, ℕ, ◌∷◌, List, length, IfOk, OnOk, OnErr, IsOkUnless};
-ghost use Rattle.bus_model.specs.Heard.{Settings};
+ghost use Rattle.bus_model.specs.Heard.{StationSettings};
 ghost use Rattle.can_frame.specs.declared.reading.Reading.{Reading as AnyReading};
+ghost use Rattle.dm_messages.specs.declared.kind.Kind.{Kind as AnyKind};
+ghost use Rattle.dm_messages.specs.declared.shown.Shown.{Shown as AnyShown};
 ghost use Rattle.parameter_group.specs.Group as group;
 ghost use Rattle.station_table.specs.Reactions as reactions;
 ghost use Rattle.transport.specs.ControlMessage.{HasLawfulSize};
@@ -15,7 +17,7 @@ use std::alloc::Global;
 use transport::Control;
 
 impl Station {
-    ghost use Rattle.station_table.specs.StandsFor.{StandsFor};
+    ghost use Rattle.station_table.specs.StandsFor.{StandsBeside, StandsFor};
     ghost use Rattle.station_table.specs.Steps.{after_group, after_reading};
 
     /// Takes one reading, and says what to withdraw and to queue.
@@ -25,8 +27,10 @@ impl Station {
     #[tactic(auto, using(crate::proofs::Few::few_frames))]
     pub fn take(&mut self, alloc: Global, reading: Reading) -> Result<Reaction, StationError>
         ensures step { OnOk result (self.new ≡ after_reading self.old reading) }
-        ensures reaction { IfOk result (λ x. x ≡ reactions.reaction self.old reading) }
-        ensures stands { OnOk result ((r : Settings) (grant : ℕ) (h : List AnyReading) → StandsFor r grant self.old h → StandsFor r grant self.new (reading ∷ h)) }
+        ensures reaction { IfOk result (λ x. x ≡ reactions.station_reaction self.old reading) }
+        ensures stands { OnOk result ((r : StationSettings) (grant : ℕ) (h : List AnyReading) → StandsFor r grant self.old h → StandsFor r grant self.new (reading ∷ h)) }
+        ensures beside { OnOk result ((taken : ℕ → AnyKind → List AnyShown) (r : StationSettings) (grant : ℕ) (h : List AnyReading) → StandsBeside taken r grant self.old h
+            → StandsBeside taken r grant self.new (reading ∷ h)) }
         ensures few { IfOk result (λ x. length x.put ≤ 2) }
         ensures err { OnErr result (self.new ≡ self.old) }
         ensures not_empty { OnErr result (reading ≢ Reading.Empty) }

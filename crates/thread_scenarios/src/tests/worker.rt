@@ -6,6 +6,8 @@ use fault_memory::{FaultChange, FaultError, FaultMemory};
 use name_field::Name;
 use std::alloc::Global;
 use std::sync::Wait;
+use std::sync::atomic::{AtomicU64, Ordering};
+use std::thread;
 use unit_threads::Gate;
 use unit_trait::{Refused, Unit};
 
@@ -89,4 +91,47 @@ pub struct Open;
 
 impl Gate for Open {
     fn before_turn<R: Wait>(&self, _rt: &R, _unit: u32, _turn: u32) {}
+}
+
+/// How often a unit of a crowd looks whether all have come.
+const MOST_LOOKS: u32 = 10_000_000;
+
+/// Before its first turn each unit of a crowd waits until all of them have joined.
+#[derive(Drop)]
+pub struct Crowd {
+    all: u64,
+    come: AtomicU64,
+    met: AtomicU64,
+}
+
+impl Crowd {
+    /// A crowd of so many units, of which none has come.
+    pub fn new(all: u8) -> Crowd {
+        Crowd {
+            all: u64::from(all),
+            come: AtomicU64::new(0),
+            met: AtomicU64::new(0),
+        }
+    }
+
+    /// How many of them have seen all come.
+    pub fn met(&self) -> u64 {
+        self.met.load(Ordering::SeqCst)
+    }
+}
+
+impl Gate for Crowd {
+    fn before_turn<R: Wait>(&self, _rt: &R, _unit: u32, turn: u32) {
+        if turn > 0 {
+            return;
+        }
+        self.come.fetch_add(1, Ordering::SeqCst);
+        for _ in 0..MOST_LOOKS {
+            if self.come.load(Ordering::SeqCst) >= self.all {
+                self.met.fetch_add(1, Ordering::SeqCst);
+                return;
+            }
+            thread::yield_now();
+        }
+    }
 }

@@ -47,7 +47,7 @@ DROPCOUNT: dropped 7 CAN frames on 'can0' socket (total drops 7)
 ";
 
 /// Lines, how they are written, what is written, and what is told of bad lines.
-const WATCHED: [(&str, Form, &str, &str); 6] = [
+const WATCHED: [(&str, Form, &str, &str); 7] = [
     (
         TWO_UNITS,
         Form::Text,
@@ -66,9 +66,9 @@ lines 4 frames 4 bad 0; not J1939: 11-bit 0, remote 0, CAN FD 0, error 0; other 
         TWO_UNITS,
         Form::Csv,
         "\
-name,address,kind,first_time,last_time,entries,lamps,spn,fmi,count
-00000000000000A0,0,dm1,1.100000,1.200000,2,04FF,1208,3,1
-00000000000000A1,1,,,,,,,,
+name,address,kind,first_time,last_time,entries,lamps,spn,fmi,count,contested
+00000000000000A0,0,dm1,1.100000,1.200000,2,04FF,1208,3,1,false
+00000000000000A1,1,,,,,,,,,
 ",
         "",
     ),
@@ -97,6 +97,17 @@ name,address,kind,first_time,last_time,entries,lamps,spn,fmi,count
 0000000000000090    0      2      0 04FF    1
 missed 0 unread 0
 lines 5 frames 5 bad 0; not J1939: 11-bit 0, remote 0, CAN FD 0, error 0; other bus 0; not attributed 0
+",
+        "",
+    ),
+    (
+        TAKEOVER,
+        Form::Csv,
+        "\
+name,address,kind,first_time,last_time,entries,lamps,spn,fmi,count,contested
+00000000000000A0,,dm1,1.100000,1.100000,1,04FF,1208,3,1,false
+0000000000000090,0,dm1,2.100000,2.100000,1,04FF,1208,3,1,true
+0000000000000090,0,dm1,2.300000,2.300000,1,04FF,1208,3,1,false
 ",
         "",
     ),

@@ -1,12 +1,12 @@
 use Rattle.std.proofs.Common.{◌≡◌, ℕ, ◌∙◌, length, arith, ap}
-use Rattle.candump_line.proofs.LineLemmas.{id_reads, length-data, decoded, data_made}
+use Rattle.candump_line.proofs.LineLemmas.{length-data, decoded, data_made}
 use Rattle.std.proofs.lemmas.Grind.{common_steps}
 use Rattle.candump_line.proofs.logged.read_frame.Goals as goal
 
 pub returns-in_err-number : goal.returns-in_err-number
 returns-in_err-number c = record {
   reads_back = λ f lawful ei ed.
-      let some = c.read_hex.ensures.reads_back f.id (omega (arith, lawful.id)) (id_reads _ _ ei) in
+      let some = c.read_number.ensures.reads_back f.id (omega (arith, lawful.id)) ei in
       let none = c.in_err-number.was in
       cc;
 }
@@ -31,7 +31,7 @@ returns c = record {
   reads_back = λ f lawful ei ed.
       let len = ap length ed ∙ length-data f.bytes in
       let done = decoded _ f.bytes _ _ _ c.decode_to_slice.ensures.value ed (grind (arith, common_steps)) lawful.bytes in
-      let some = c.read_hex.ensures.reads_back f.id (omega (arith, lawful.id)) (id_reads _ _ ei) in
+      let some = c.read_number.ensures.reads_back f.id (omega (arith, lawful.id)) ei in
       let number = c.in_ok-number.was in
       let same : c.in_ok-number.number ≡ f.id = cc in
       data_made _ _ _ _ f _ c.data_frame.ensures same done.1 (omega arith) lawful;

@@ -9,4 +9,4 @@ use Rattle.node_core.proofs.parts.parts_to_all.Goals as goal
 pub returns-clause-few : goal.returns-clause-few
 returns-clause-few c =
     IfOk-weaker c.run.result (λ (o : List Out). o ≡ map (run_out (Begun 0)) c.new-run.result) (λ (o : List Out). length o ≤ 256)
-    (λ o e. few_in_run (Begun 0) c.new-run.result o c.args.payload c.group_of_kind-pgn.result c.args.begun.source 255 0 c.packets-end.result c.new-run.ensures.run (omega (arith, c.packets-end.ensures.count)) e) c.run.ensures
+    (λ o e. few_in_run (Begun 0) c.new-run.result o c.args.payload c.pgn-pgn.result c.args.begun.source 255 0 c.packets-end.result c.new-run.ensures.run (omega (arith, c.packets-end.ensures.count)) e) c.run.ensures

@@ -1,19 +1,21 @@
-use Rattle.std.proofs.Common.{[], ◌∷◌}
-use Rattle.bus_ledger.specs.Changes.{queued_frame}
-use Rattle.bus_ledger.proofs.Seats.{queue_kept, queue_ok, queue_err, queue_spare, other_spares}
+use Rattle.std.proofs.Common.{ap, ◌∙◌, sym, subst, arith}
+use Rattle.bus_ledger.specs.BusValue.{Traffic, IsLive, seat_at}
+use Rattle.bus_ledger.specs.Changes.{queued, queued_frame}
 use Rattle.bus_ledger.proofs.bus.Bus.queue.Goals as goal
 
-pub invariant_of-self : goal.invariant_of-self
-invariant_of-self c = queue_kept c.self.inside c.args.self.now c.args.seat (queued_frame c.args.frame c.args.tag ∷ []) c.index_mut-place.result.now c.put.new.self c.put.result c.self.view_is c.self.invariant c.requires.live.0 c.requires.live.1 c.index_mut-place.ensures.value c.put.ensures.ok c.put.ensures.err
+pub queue_reserved-requires : goal.queue_reserved-requires
+queue_reserved-requires c =
+    let same = c.reserve.ensures.traffic in
+    let count = ap (λ (t : Traffic). (seat_at t c.args.seat).queued) same in
+    let few = c.requires.few in
+    let room = c.in_ok-reserve.ensures.ok in
+    record { live = subst (λ (t : Traffic). IsLive t c.args.seat) (sym same) c.requires.live; spare = omega arith; few = omega arith }
 
 pub returns-clause-ok : goal.returns-clause-ok
-returns-clause-ok c = queue_ok c.self.inside c.args.self.now c.args.seat (queued_frame c.args.frame c.args.tag ∷ []) c.index_mut-place.result.now c.put.new.self c.put.result c.self.view_is c.requires.live.0 c.index_mut-place.ensures.value c.put.ensures.ok
-
-pub returns-clause-err : goal.returns-clause-err
-returns-clause-err c = queue_err c.self.inside c.args.self.now c.args.seat c.index_mut-place.result.now c.put.new.self c.put.result c.self.view_is c.requires.live.0 c.index_mut-place.ensures.value c.put.ensures.err
+returns-clause-ok c = c.queue_reserved.ensures.traffic ∙ ap (queued c.args.seat (queued_frame c.args.frame c.args.tag)) c.reserve.ensures.traffic
 
 pub returns-clause-spare : goal.returns-clause-spare
-returns-clause-spare c = queue_spare c.self.inside c.args.self.now c.args.seat c.index_mut-place.result.now c.put.new.self c.self.view_is c.requires.live.0 c.index_mut-place.ensures.value c.put.ensures.spare
+returns-clause-spare c = let kept = c.reserve.ensures.spares c.args.seat in let one = c.queue_reserved.ensures.spare in omega arith
 
 pub returns-clause-spares : goal.returns-clause-spares
-returns-clause-spares c = other_spares c.self.inside c.args.self.now c.args.seat c.put.new.self c.self.view_is
+returns-clause-spares c = λ k other. let kept = c.reserve.ensures.spares k in let more = c.queue_reserved.ensures.spares k other in omega arith

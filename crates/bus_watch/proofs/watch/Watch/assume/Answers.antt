@@ -1,4 +1,12 @@
+use Rattle.std.proofs.Common.{ap}
+use Rattle.can_frame.specs.declared.reading.Reading.TheVariants.{Frame}
+use Rattle.bus_watch.proofs.Steps.{on_ok, stands_for_assumed}
+use Rattle.bus_watch.specs.WatchValue.{Takes}
 use Rattle.bus_watch.proofs.watch.Watch.assume.Goals as goal
 
 pub returns : goal.returns
-returns c = rw (← c.claim_frame-claim.ensures) c.take.ensures
+returns c =
+    on_ok c.take.result
+    (λ (takes : Takes c.args.self.now c.take.new.self (Frame c.claim_frame-claim.result)).
+    stands_for_assumed c.args.self.now c.take.new.self c.args.name c.args.address _ (ap Frame c.claim_frame-claim.ensures.frame) takes)
+    c.take.ensures

@@ -1,22 +1,20 @@
-use Rattle.std.proofs.Common.{ℕ, suc, false, ◌≡◌, arith, refl, ap, ◌∙◌, sym, subst, List, ◌++◌, ◌∷◌, [], ◌+◌, ◌-◌, ◌≤◌, length, map}
+use Rattle.std.proofs.Common.{ℕ, suc, false, ◌≡◌, arith, refl, ap, ◌∙◌, sym, subst, List, ◌++◌, ◌∷◌, [], ◌+◌, ◌-◌, length, map}
 use Rattle.std.proofs.lemmas.List.{length-set, length-map}
-use Rattle.std.specs.Option.{IsSome}
-use Rattle.garage.specs.Causes.{held_at}
 use Rattle.std.specs.Vec.{with_item}
 use Rattle.fault_memory.specs.Memory.{IsLawfulMemory}
 use Rattle.bus_ledger.specs.BusValue.{Traffic, seat_at}
-use Rattle.bus_ledger.specs.Joining.{live_units}
-use Rattle.node_core.specs.Beginning.{IsFew}
+use Rattle.bus_ledger.specs.Newcomers.{live_units}
 use Rattle.journal.specs.State.{State, UnitState, unit_at}
 use Rattle.journal.specs.Steps.{put_all, tagged}
-use Rattle.journal.specs.Journal.{GarageValue, one_more}
+use Rattle.journal.specs.Journal.{one_more}
+use Rattle.journal.specs.Notes.{memory_at}
 use Rattle.journal.specs.declared.event.Event.{Event}
 use Rattle.journal.specs.declared.event.Event.TheVariants.{Begin}
 use Rattle.garage.specs.declared.garage.Place.{Place}
-use Rattle.garage.proofs.BeginLemmas.{begin_did, begins_of, begun_as, joins_begin'}
+use Rattle.garage.proofs.BeginLemmas.{begins_inside}
 use Rattle.garage.proofs.Traffics.{some_live, puts, keeps_refl}
 use Rattle.garage.proofs.InHand.{station_lives}
-use Rattle.garage.proofs.Standing.{state, place_few, place_within, unit_now, bus_unit, unit_is, units_same, place_tally, stands_more, tallies_one, fresh_one}
+use Rattle.garage.proofs.Standing.{state, begin_did, begin_fits, begins_of, joins_begin, place_few, place_within, unit_now, bus_unit, unit_is, units_same, place_tally, stands_more, tallies_one, fresh_one}
 use Rattle.garage.proofs.garage.Garage.begin_message.Goals as goal
 
 pub overflow_add-place : goal.overflow_add-place
@@ -35,7 +33,7 @@ queue_outs-requires-clause-few g c =
     let one = some_live a.bus.traffic c.args.seat (station_lives a stands) ub in
     let q = stands.queued c.args.seat in
     let same = ap (λ (t : Traffic). (seat_at t c.args.seat).queued) c.make_ready.ensures.traffic in
-    let few : length c.in-Begun.put ≤ 256 = subst IsFew c.in-Begun.is c.in_ok-started.ensures.few in
+    let few = c.requires.few in
     let ok = c.in_ok-memory.ensures.room in
     let fits = ok.0 in
     let limit = stands.few in
@@ -50,22 +48,19 @@ invariant_of-self-2 g c =
     let k = seat - 1 in
     let t = a.bus.traffic in
     let s = state a in
-    let again = c.index-place.result.now in
     let x = c.index_mut-place.result.now in
     let u = unit_now a c.args.self.now seat c.self.view_is c.requires.unit in
     let low = u.0 in
     let h = place_within a seat stands u in
-    let memory = c.in_ok-memory.memory in
+    let memory = memory_at c.make_ready.new.journal.memories c.in_ok-memory.memory in
     let same = unit_is a seat x stands h c.index_mut-place.ensures.value in
-    let same_again = unit_is a seat again stands h c.index-place.ensures in
-    let some : IsSome (unit_at s seat).node.claimer.held = subst (λ (v : GarageValue). IsSome (held_at v seat)) (sym c.self.view_is) c.requires.held in
-    let mem_is = c.in_ok-memory.ensures.memory.0 in
-    let lawful : IsLawfulMemory memory = c.in_ok-memory.ensures.memory.1 in
-    let put = c.in-Begun.put in
-    let b = c.in-Begun.begun in
-    let begins' = begins_of again.node.claimer.held again.node.session b put c.in_ok-started.started memory _ c.in-Begun.is mem_is c.in_ok-started.ensures.started in
-    let did = begin_did seat memory b put s again.node (ap (λ (v : UnitState). v.node) same_again) some begins' in
-    let is = did.after' in
+    let mem_is = c.in_ok-memory.ensures.memory.value in
+    let lawful : IsLawfulMemory memory = subst IsLawfulMemory (sym mem_is) c.in_ok-memory.ensures.lawful in
+    let put = c.args.put in
+    let begins = begins_inside a c.args.self.now seat memory _ put c.self.view_is mem_is c.requires.begins in
+    let node = (unit_at s seat).node in
+    let fit = begin_fits seat memory s node begins.0 begins.1 put u lawful refl begins.2 begins.3 in
+    let is = begin_did seat memory s node begins.0 begins.1 put refl begins.2 begins.3 in
     let number = stands.begun in
     let p : Place = record x { tally = one_more x.tally } in
     let last : x.session_message ≡ (unit_at s seat).session_message = sym (ap (λ (v : UnitState). v.session_message) same) in
@@ -73,19 +68,18 @@ invariant_of-self-2 g c =
     ∙ ap (put_all seat (map (tagged a.begun false x.session_message) put)) c.make_ready.ensures.traffic in
     let more = puts seat (map (tagged a.begun false x.session_message) put) t t (keeps_refl t) in
     let long = length-map put (tagged a.begun false x.session_message) in
-    let few : length put ≤ 256 = subst IsFew c.in-Begun.is c.in_ok-started.ensures.few in
+    let few = c.requires.few in
     let lives = ap live_units now ∙ more.units in
     let wires = ap (λ (v : Traffic). length v.wire) now ∙ ap length more.wire in
     let many = ap (λ (v : Traffic). length v.seats) now ∙ more.seats in
     let ok = c.in_ok-memory.ensures.room in
     let fits = ok.0 in
     let room = ok.1 in
-    let n = c.push_reserved.ensures.len in
-    let m = c.push_reserved.ensures.capacity in
+    let n = c.note_begin.ensures.room in
     stands_more a _ (Begin seat memory) stands (record {
       settings = refl;
-      journal = c.push_reserved.ensures.items ∙ ap (λ (l : List Event). l ++ Begin seat memory ∷ []) c.make_ready.ensures.items;
-      fits = (u, did.fits, lawful);
+      journal = c.note_begin.ensures.items ∙ ap (λ (l : List Event). l ++ Begin seat memory ∷ []) c.make_ready.ensures.items;
+      fits = fit;
       traffic = now ∙ (ap (λ (i : ℕ). put_all seat (map (tagged i false x.session_message) put) t) number
           ∙ (ap (λ (l : ℕ). put_all seat (map (tagged (length s.begun) false l) put) t) last
           ∙ (ap (put_all seat (map (tagged (length s.begun) false (unit_at s seat).session_message) put)) stands.traffic ∙ sym (ap (λ (v : State). v.traffic) is))));
@@ -93,7 +87,7 @@ invariant_of-self-2 g c =
       units = units_same a.places.items k x p h c.index_mut-place.ensures.value refl ∙ (stands.units ∙ sym (ap (λ (v : State). v.units) is));
       begun = (let e : a.begun + 1 ≡ suc (length s.begun) = omega arith in e) ∙ sym (ap (λ (v : State). length v.begun) is);
       injected = omega arith;
-      joined = joins_begin' seat memory _ ∙ (stands.joined ∙ sym (length-set a.places.items k p));
+      joined = joins_begin seat memory _ ∙ (stands.joined ∙ sym (length-set a.places.items k p));
       tallies = tallies_one a.places.items _ (Begin seat memory) k seat p one_more stands.tallies (λ j t'. refl) (omega arith) h (ap one_more (place_tally a k x h c.index_mut-place.ensures.value));
       fresh = λ j l. fresh_one _ (Begin seat memory) seat (length a.places.items) one_more stands.fresh (λ i t'. refl) (omega arith) j (omega (arith, length-set a.places.items k));
       seats = (let y = stands.seats in omega (arith, length-set a.places.items k p));
@@ -112,20 +106,17 @@ returns-clause-ok g c =
     let stands = c.self.invariant in
     let seat = c.args.seat in
     let s = state a in
-    let again = c.index-place.result.now in
     let x = c.index_mut-place.result.now in
     let u = unit_now a c.args.self.now seat c.self.view_is c.requires.unit in
     let h = place_within a seat stands u in
-    let memory = c.in_ok-memory.memory in
-    let same_again = unit_is a seat again stands h c.index-place.ensures in
-    let some : IsSome (unit_at s seat).node.claimer.held = subst (λ (v : GarageValue). IsSome (held_at v seat)) (sym c.self.view_is) c.requires.held in
-    let mem_is = c.in_ok-memory.ensures.memory.0 in
-    let lawful : IsLawfulMemory memory = c.in_ok-memory.ensures.memory.1 in
-    let put = c.in-Begun.put in
-    let b = c.in-Begun.begun in
-    let begins' = begins_of again.node.claimer.held again.node.session b put c.in_ok-started.started memory _ c.in-Begun.is mem_is c.in_ok-started.ensures.started in
-    let did = begin_did seat memory b put s again.node (ap (λ (v : UnitState). v.node) same_again) some begins' in
-    begun_as a (record {
+    let memory = memory_at c.make_ready.new.journal.memories c.in_ok-memory.memory in
+    let mem_is = c.in_ok-memory.ensures.memory.value in
+    let lawful : IsLawfulMemory memory = subst IsLawfulMemory (sym mem_is) c.in_ok-memory.ensures.lawful in
+    let put = c.args.put in
+    let begins = begins_inside a c.args.self.now seat memory _ put c.self.view_is mem_is c.requires.begins in
+    let node = (unit_at s seat).node in
+    let fit = begin_fits seat memory s node begins.0 begins.1 put u lawful refl begins.2 begins.3 in
+    begins_of a (record {
       name = a.name;
       address = a.address;
       window = a.window;
@@ -137,8 +128,8 @@ returns-clause-ok g c =
       begun = a.begun + 1;
       live = a.live;
       injected = a.injected;
-      journal = c.push_reserved.new.self;
+      journal = c.note_begin.new.self;
     })
     c.args.self.now seat memory _ c.self.view_is refl
-    (c.push_reserved.ensures.items ∙ ap (λ (l : List Event). l ++ Begin seat memory ∷ []) c.make_ready.ensures.items)
-    mem_is (u, did.fits, lawful)
+    (c.note_begin.ensures.items ∙ ap (λ (l : List Event). l ++ Begin seat memory ∷ []) c.make_ready.ensures.items)
+    mem_is fit

@@ -2,14 +2,14 @@ use Rattle.std.proofs.Common.{arith, refl, ap, ◌∙◌, sym, subst, List, ◌+
 use Rattle.std.proofs.lemmas.List.{length-set, length_push}
 use Rattle.bus_ledger.specs.BusValue.{Traffic, seat_at}
 use Rattle.bus_ledger.specs.Changes.{carried_from, carried_frame}
-use Rattle.bus_ledger.specs.Joining.{live_units}
-use Rattle.bus_ledger.specs.Carrying.{IsNext, Carries}
+use Rattle.bus_ledger.specs.Newcomers.{live_units}
+use Rattle.bus_ledger.specs.Carrying.{IsCarriedNext, Carries}
 use Rattle.bus_ledger.specs.declared.traffic.Carried.{Carried}
 use Rattle.bus_ledger.specs.declared.traffic.Carried.TheVariants.{Frame}
+use Rattle.bus_ledger.proofs.Sounds.{offer_says}
 use Rattle.journal.specs.State.{State}
 use Rattle.journal.specs.declared.event.Event.{Event}
 use Rattle.journal.specs.declared.event.Event.TheVariants.{Carry}
-use Rattle.garage.proofs.Traffics.{offer_says}
 use Rattle.garage.proofs.Standing.{state, joins_carry, stands_more, tallies_still, fresh_still, carry_is, sent_queued, sent_units}
 use Rattle.garage.proofs.CarryLemmas.{uncarried_full}
 use Rattle.garage.proofs.Lists.{lists_pushed}
@@ -24,20 +24,19 @@ invariant_of-self-2 c =
     let did : Carries before (Frame k c.in-Frame.frame) c.carry.new.self.traffic =
     subst (λ (r : Carried). Carries before r c.carry.new.self.traffic) c.in-Frame.is c.in_ok-carried.ensures.ok in
     let q = did.0 in
-    let next : IsNext (state a).traffic k q = subst (λ (t : Traffic). IsNext t k q) stands.traffic did.1 in
+    let next : IsCarriedNext (state a).traffic k q = subst (λ (t : Traffic). IsCarriedNext t k q) stands.traffic did.1 in
     let now = did.3 in
-    let is = carry_is k q (state a) (offer_says (state a).traffic k q next.offers).1 in
+    let is = carry_is k q (state a) (offer_says (length (state a).traffic.wire) (seat_at (state a).traffic k) q next.offers).first in
     let ok = c.in-Ok.ensures.ok in
     let fits = ok.0 in
     let room = ok.1 in
     let wires = ap (λ (t : Traffic). length t.wire) now ∙ length_push before.wire (carried_frame k q) in
     let many = ap (λ (t : Traffic). length t.seats) now in
     let lives = ap live_units now ∙ sent_units before k q in
-    let n = c.push_reserved.ensures.len in
-    let m = c.push_reserved.ensures.capacity in
+    let n = c.note_carry.ensures.room in
     stands_more a _ (Carry k) stands (record {
       settings = refl;
-      journal = c.push_reserved.ensures.items ∙ ap (λ (l : List Event). l ++ Carry k ∷ []) c.make_room.ensures.items;
+      journal = c.note_carry.ensures.items ∙ ap (λ (l : List Event). l ++ Carry k ∷ []) c.make_room.ensures.items;
       fits = (q, next);
       traffic = now ∙ (ap (carried_from k q) stands.traffic ∙ sym (ap (λ (s : State). s.traffic) is));
       station = stands.station ∙ sym (ap (λ (s : State). s.station) is);
@@ -63,8 +62,8 @@ returns-clause-lists c =
     let k = c.in-Frame.seat in
     let did : Carries a.bus.traffic (Frame k c.in-Frame.frame) c.carry.new.self.traffic =
     subst (λ (r : Carried). Carries a.bus.traffic r c.carry.new.self.traffic) c.in-Frame.is c.in_ok-carried.ensures.ok in
-    let next : IsNext (state a).traffic k did.0 = subst (λ (t : Traffic). IsNext t k did.0) c.self.invariant.traffic did.1 in
-    lists_pushed a c.args.self.now _ _ (Carry k) c.self.view_is c.self.invariant refl (c.push_reserved.ensures.items ∙ ap (λ (l : List Event). l ++ Carry k ∷ []) c.make_room.ensures.items) (did.0, next)
+    let next : IsCarriedNext (state a).traffic k did.0 = subst (λ (t : Traffic). IsCarriedNext t k did.0) c.self.invariant.traffic did.1 in
+    lists_pushed a c.args.self.now _ _ (Carry k) c.self.view_is c.self.invariant refl (c.note_carry.ensures.items ∙ ap (λ (l : List Event). l ++ Carry k ∷ []) c.make_room.ensures.items) (did.0, next)
 
 pub returns-in-Err-clause-full : goal.returns-in-Err-clause-full
 returns-in-Err-clause-full c =

@@ -4,20 +4,21 @@ use Rattle.std.specs.Option.{option_map}
 use Rattle.fault_memory.specs.Memory.{MemoryValue, IsLawfulMemory}
 use Rattle.bus_ledger.specs.BusValue.{Traffic, seat_at}
 use Rattle.bus_ledger.specs.Changes.{heard_more}
-use Rattle.bus_ledger.specs.Joining.{live_units}
+use Rattle.bus_ledger.specs.Newcomers.{live_units}
 use Rattle.bus_ledger.specs.declared.traffic.CarriedFrame.{CarriedFrame}
 use Rattle.node_core.specs.NodeValue.{NodeValue}
 use Rattle.node_core.specs.Reaction.{reaction, node_after}
 use Rattle.unit_trait.specs.declared.question.Question.{Question}
 use Rattle.node_core.specs.Deed.{heard_of}
 use Rattle.journal.specs.State.{State, UnitState, unit_at}
-use Rattle.journal.specs.Steps.{put_all, tagged, is_session, session_message_after, withdrawn_by, next_for}
+use Rattle.journal.specs.Steps.{put_all, tagged, begins_session, session_message_after, withdrawn_by, next_for}
 use Rattle.journal.specs.Journal.{GarageValue, state_of, one_more}
+use Rattle.journal.specs.Notes.{memory_at}
 use Rattle.journal.specs.declared.event.Event.{Event}
 use Rattle.journal.specs.declared.event.Event.TheVariants.{Hear}
 use Rattle.std.specs.Vec.{with_item}
 use Rattle.garage.specs.Inside.{unit_of}
-use Rattle.garage.specs.Answers.{with_begun}
+use Rattle.garage.specs.Answers.{count_with_begun}
 use Rattle.garage.specs.declared.garage.Place.{Place}
 use Rattle.garage.proofs.Traffics.{some_live, puts, keeps_heard, keeps_withdrawn_by, keeps_then}
 use Rattle.garage.proofs.InHand.{station_lives}
@@ -35,7 +36,7 @@ invariant_of-self-in_err-heard g c =
     let node = c.in_err-heard.ensures.kept in
     still a _ stands refl c.make_ready.ensures.traffic refl
     (same_place a.places.items (c.args.seat - 1) x _ h c.index_mut-place.ensures.value (ap (λ (n : NodeValue). record { node = n; session_message = x.session_message; tally = x.tally }) node))
-    refl refl refl c.make_ready.ensures.items (let r = stands.room in let l = c.make_ready.ensures.len in let m = c.make_ready.ensures.grows in omega arith)
+    refl refl refl c.make_ready.ensures.items (let r = stands.room in let m = c.make_ready.ensures.grows in omega arith)
 
 pub overflow_add-place : goal.overflow_add-place
 overflow_add-place g c =
@@ -81,15 +82,15 @@ invariant_of-self-2 g c =
     let h = place_within a seat stands u in
     let f = c.in-Some.frame in
     let heard = c.in_ok-heard.heard in
-    let memory = c.in_ok-memory.memory in
+    let memory = memory_at c.make_ready.new.journal.memories c.in_ok-memory.memory in
     let node' = c.hear.new.self in
     let last = c.last_session-place.result in
     let p : Place = (record { node = node'; session_message = last; tally = one_more x.tally }) in
     let same = unit_is a seat x stands h c.index_mut-place.ensures.value in
     let there = next_within t.wire (seat_at t seat).heard f (sym c.in-Some.ensures.frame) in
     let next : next_for s seat ≡ Some f = ap (λ (b : Traffic). option_map (λ (c' : CarriedFrame). c'.frame) (slice_get b.wire (seat_at b seat).heard)) (sym stands.traffic) ∙ sym c.in-Some.ensures.frame in
-    let mem_is = c.in_ok-memory.ensures.memory.0 in
-    let lawful = c.in_ok-memory.ensures.memory.1 in
+    let mem_is = c.in_ok-memory.ensures.memory.value in
+    let lawful = subst IsLawfulMemory (sym mem_is) c.in_ok-memory.ensures.lawful in
     let reacts = c.in_ok-heard.ensures.heard in
     let is = hear_did seat memory f s x.node heard node' next (ap (λ (v : UnitState). v.node) same)
     (reacts.heard_is ∙ ap (λ (m : MemoryValue). heard_of heard.answer (reaction x.node m heard.answer f)) (sym mem_is))
@@ -110,23 +111,22 @@ invariant_of-self-2 g c =
     let ok = c.in_ok-memory.ensures.room in
     let fits = ok.0 in
     let room = ok.1 in
-    let n = c.push_reserved.ensures.len in
-    let m = c.push_reserved.ensures.capacity in
+    let n = c.note_hear.ensures.room in
     let counted = c.begun_count-begun.ensures in
     let one = begun_few a.begun heard.begun in
     stands_more a _ (Hear seat memory heard.answer) stands (record {
       settings = refl;
-      journal = c.push_reserved.ensures.items ∙ ap (λ (l : List Event). l ++ Hear seat memory heard.answer ∷ []) c.make_ready.ensures.items;
+      journal = c.note_hear.ensures.items ∙ ap (λ (l : List Event). l ++ Hear seat memory heard.answer ∷ []) c.make_ready.ensures.items;
       fits = (u, subst (λ (b : Traffic). (seat_at b seat).heard < length b.wire) stands.traffic there, lawful, is_answered (unit_at s seat).node x.node (next_for s seat) f heard.answer (ap (λ (v : UnitState). v.node) same) next reacts.answer_is);
       traffic = now ∙ (ap (λ (n : ℕ). put_all seat (map (tagged n c.begins_session-session.result last) heard.put) (withdrawn_by seat heard.withdraw (heard_more seat 1 t))) number
           ∙ (ap (λ (b : Bool). put_all seat (map (tagged (length s.begun) b last) heard.put) (withdrawn_by seat heard.withdraw (heard_more seat 1 t))) said
-          ∙ (ap (λ (l : ℕ). put_all seat (map (tagged (length s.begun) (is_session heard.begun) l) heard.put) (withdrawn_by seat heard.withdraw (heard_more seat 1 t))) last_is
-          ∙ (ap (λ (b : Traffic). put_all seat (map (tagged (length s.begun) (is_session heard.begun) (session_message_after (unit_at s seat).session_message (length s.begun) heard.begun)) heard.put) (withdrawn_by seat heard.withdraw (heard_more seat 1 b))) stands.traffic
+          ∙ (ap (λ (l : ℕ). put_all seat (map (tagged (length s.begun) (begins_session heard.begun) l) heard.put) (withdrawn_by seat heard.withdraw (heard_more seat 1 t))) last_is
+          ∙ (ap (λ (b : Traffic). put_all seat (map (tagged (length s.begun) (begins_session heard.begun) (session_message_after (unit_at s seat).session_message (length s.begun) heard.begun)) heard.put) (withdrawn_by seat heard.withdraw (heard_more seat 1 b))) stands.traffic
           ∙ sym (ap (λ (v : State). v.traffic) is)))));
       station = stands.station ∙ sym (ap (λ (v : State). v.station) is);
       units = map-set unit_of a.places.items k p ∙ (ap (λ (l : ℕ). set (map unit_of a.places.items) k (record { node = node'; session_message = l })) last_is
           ∙ (ap (λ (us : List UnitState). set us k (record { node = node'; session_message = session_message_after (unit_at s seat).session_message (length s.begun) heard.begun })) stands.units ∙ sym (ap (λ (v : State). v.units) is)));
-      begun = counted ∙ (ap (λ (n : ℕ). with_begun n heard.begun) number ∙ (sym (begun_length s.begun seat (seat_at s.traffic seat).name memory heard.begun) ∙ sym (ap (λ (v : State). length v.begun) is)));
+      begun = counted ∙ (ap (λ (n : ℕ). count_with_begun n heard.begun) number ∙ (sym (begun_length s.begun seat (seat_at s.traffic seat).name memory heard.begun) ∙ sym (ap (λ (v : State). length v.begun) is)));
       injected = omega arith;
       joined = joins_hear seat memory heard.answer _ ∙ (stands.joined ∙ sym (length-set a.places.items k p));
       tallies = tallies_one a.places.items _ (Hear seat memory heard.answer) k seat p one_more stands.tallies (λ j t'. refl) (omega arith) h (ap one_more (place_tally a k x h c.index_mut-place.ensures.value));
@@ -153,12 +153,12 @@ returns-clause-ok g c =
     let h = place_within a seat stands u in
     let f = c.in-Some.frame in
     let heard = c.in_ok-heard.heard in
-    let memory = c.in_ok-memory.memory in
+    let memory = memory_at c.make_ready.new.journal.memories c.in_ok-memory.memory in
     let same = unit_is a seat x stands h c.index_mut-place.ensures.value in
     let there = next_within t.wire (seat_at t seat).heard f (sym c.in-Some.ensures.frame) in
     let next : next_for (state a) seat ≡ Some f = ap (λ (b : Traffic). option_map (λ (c' : CarriedFrame). c'.frame) (slice_get b.wire (seat_at b seat).heard)) (sym stands.traffic) ∙ sym c.in-Some.ensures.frame in
-    let mem_is = c.in_ok-memory.ensures.memory.0 in
-    let lawful = subst IsLawfulMemory mem_is c.in_ok-memory.ensures.memory.1 in
+    let mem_is = c.in_ok-memory.ensures.memory.value in
+    let lawful = c.in_ok-memory.ensures.lawful in
     let reacts = c.in_ok-heard.ensures.heard in
     let answers : Question → Bool → _ → Type 0 = (goal.Unit-dyn g c.args.unit.now).Answers c.args.unit.now.1 in (
       asked.0,
@@ -175,10 +175,10 @@ returns-clause-ok g c =
         begun = c.begun_count-begun.result;
         live = a.live;
         injected = a.injected;
-        journal = c.push_reserved.new.self;
+        journal = c.note_hear.new.self;
       })
           c.args.self.now seat x.node f heard.answer memory _ _ answers c.args.unit.now.1 asked.0 c.self.view_is refl
-          (c.push_reserved.ensures.items ∙ ap (λ (l : List Event). l ++ Hear seat memory heard.answer ∷ []) c.make_ready.ensures.items)
+          (c.note_hear.ensures.items ∙ ap (λ (l : List Event). l ++ Hear seat memory heard.answer ∷ []) c.make_ready.ensures.items)
           mem_is next (u, subst (λ (b : Traffic). (seat_at b seat).heard < length b.wire) stands.traffic there, lawful, is_answered (unit_at (state a) seat).node x.node (next_for (state a) seat) f heard.answer (ap (λ (v : UnitState). v.node) same) next reacts.answer_is)
           (ap (λ (v : UnitState). v.node) same) reacts.memory_is asked.2,
     )

@@ -2,7 +2,7 @@ use Rattle.std.proofs.Common.{arith, refl, ap, ◌∙◌, sym, List, ◌++◌, �
 use Rattle.std.proofs.lemmas.List.{length-reverse, length_push}
 use Rattle.bus_ledger.specs.BusValue.{Traffic, seat_at}
 use Rattle.bus_ledger.specs.Changes.{injected, stray_frame}
-use Rattle.bus_ledger.specs.Joining.{live_units}
+use Rattle.bus_ledger.specs.Newcomers.{live_units}
 use Rattle.journal.specs.State.{State}
 use Rattle.journal.specs.declared.event.Event.{Event}
 use Rattle.journal.specs.declared.event.Event.TheVariants.{Inject}
@@ -27,11 +27,10 @@ invariant_of-self-2 c =
     let room = ok.1 in
     let wires = ap (λ (t : Traffic). length t.wire) now ∙ length_push a.bus.traffic.wire (stray_frame f) in
     let many = ap (λ (t : Traffic). length t.seats) now in
-    let n = c.push_reserved.ensures.len in
-    let m = c.push_reserved.ensures.capacity in
+    let n = c.note_inject.ensures.room in
     stands_more a _ (Inject f) stands (record {
       settings = refl;
-      journal = c.push_reserved.ensures.items ∙ ap (λ (l : List Event). l ++ Inject f ∷ []) c.make_room.ensures.items;
+      journal = c.note_inject.ensures.items ∙ ap (λ (l : List Event). l ++ Inject f ∷ []) c.make_room.ensures.items;
       fits = tt;
       traffic = now ∙ (ap (injected f) stands.traffic ∙ sym (ap (λ (s : State). s.traffic) is));
       station = stands.station ∙ sym (ap (λ (s : State). s.station) is);
@@ -53,4 +52,4 @@ invariant_of-self-2 c =
 
 pub returns-clause-lists : goal.returns-clause-lists
 returns-clause-lists c =
-    lists_pushed c.self.inside c.args.self.now _ _ (Inject c.args.frame) c.self.view_is c.self.invariant refl (c.push_reserved.ensures.items ∙ ap (λ (l : List Event). l ++ Inject c.args.frame ∷ []) c.make_room.ensures.items) tt
+    lists_pushed c.self.inside c.args.self.now _ _ (Inject c.args.frame) c.self.view_is c.self.invariant refl (c.note_inject.ensures.items ∙ ap (λ (l : List Event). l ++ Inject c.args.frame ∷ []) c.make_room.ensures.items) tt

@@ -1,7 +1,7 @@
 use Rattle.std.proofs.Common.{ℕ, suc, ◌≡◌, arith, refl, ap, ◌∙◌, sym, subst, List, ◌++◌, ◌∷◌, [], ◌+◌, ◌<◌, ◌^◌, length, map, reverse, Some}
 use Rattle.std.proofs.lemmas.List.{length_push, map_push}
 use Rattle.bus_ledger.specs.BusValue.{Traffic, seat_at}
-use Rattle.bus_ledger.specs.Joining.{live_units}
+use Rattle.bus_ledger.specs.Newcomers.{live_units}
 use Rattle.journal.specs.State.{State, UnitState, new_unit}
 use Rattle.journal.specs.Journal.{GarageValue, state_of, tally_of}
 use Rattle.journal.specs.declared.event.Event.{Event}
@@ -9,12 +9,12 @@ use Rattle.garage.specs.Inside.{unit_of, place_at}
 use Rattle.garage.specs.declared.garage.Place.{Place}
 use Rattle.garage.specs.declared.garage.Garage.TheInside.{Inside}
 use Rattle.can_frame.specs.FrameValue.{FrameValue}
-use Rattle.bus_ledger.specs.Changes.{queued, joined, newcomer}
+use Rattle.bus_ledger.specs.Changes.{queued, with_newcomer, newcomer}
 use Rattle.node_core.specs.NodeValue.{NodeValue}
 use Rattle.address_claim.specs.Frames.{claim_frame_value}
 use Rattle.journal.specs.Steps.{untagged}
 use Rattle.journal.specs.declared.event.Event.TheVariants.{Join}
-use Rattle.bus_ledger.specs.Joining.{join_refusal}
+use Rattle.bus_ledger.specs.Newcomers.{join_refusal}
 use Rattle.garage.proofs.Traffics.{PutsOn, puts, keeps_refl, joined_units, joined_queued}
 use Rattle.garage.proofs.InHand.{station_lives}
 use Rattle.garage.proofs.Standing.{state, join_is, joins_join, stands_more, tallies_push, fresh_join, added, seated_join}
@@ -30,12 +30,12 @@ invariant_of-self-2 c =
     let t = a.bus.traffic in
     let k = length t.seats in
     let did = c.in_ok-seat.ensures.ok in
-    let small : c.args.name < 2 ^ 64 = (let e = c.number-number.ensures in let b = c.number-number.type_inv in omega arith) in
+    let small : c.args.name < 2 ^ 64 = subst (λ (n : ℕ). n < 2 ^ 64) (ap (λ (n : NodeValue). n.claimer.name) c.new-node.ensures) c.start-claim.ensures.name_fits in
     let claim = c.start-claim.result in
-    let claims = c.start-claim.ensures ∙ ap (λ (n : NodeValue). claim_frame_value n.claimer.name n.claimer.held) c.new-node.ensures in
+    let claims = c.start-claim.ensures.frame ∙ ap (λ (n : NodeValue). claim_frame_value n.claimer.name n.claimer.held) c.new-node.ensures in
     let now = c.queue_frames.ensures ∙ (ap (λ (s : ℕ). queued s (untagged claim) c.join.new.self.traffic) did.0 ∙ ap (queued k (untagged claim)) did.2) in
     let is = join_is name want (state a) in
-    let put : PutsOn 1 (joined name t) (queued k (untagged claim) (joined name t)) = puts k (untagged claim ∷ []) (joined name t) (joined name t) (keeps_refl (joined name t)) in
+    let put : PutsOn 1 (with_newcomer name t) (queued k (untagged claim) (with_newcomer name t)) = puts k (untagged claim ∷ []) (with_newcomer name t) (with_newcomer name t) (keeps_refl (with_newcomer name t)) in
     let more = joined_units t name (station_lives a stands) in
     let lives = ap live_units now ∙ put.units in
     let wires = ap (λ (u : Traffic). length u.wire) now ∙ ap length put.wire in
@@ -48,14 +48,13 @@ invariant_of-self-2 c =
     let ok = c.in_ok-make_room.ensures.ok in
     let fits = ok.0 in
     let room = ok.1 in
-    let n = c.push_reserved-2.ensures.len in
-    let m = c.push_reserved-2.ensures.capacity in
+    let n = c.note_join.ensures.room in
     stands_more a _ (Join name want) stands (record {
       settings = refl;
-      journal = c.push_reserved-2.ensures.items ∙ ap (λ (l : List Event). l ++ Join name want ∷ []) c.make_room.ensures.items;
+      journal = c.note_join.ensures.items ∙ ap (λ (l : List Event). l ++ Join name want ∷ []) c.make_room.ensures.items;
       fits = (ap (λ (u : Traffic). join_refusal name u) (sym stands.traffic) ∙ did.1, small, c.requires);
-      traffic = now ∙ (ap (λ (f : FrameValue). queued k (untagged f) (joined name t)) claims
-          ∙ (ap (λ (u : Traffic). queued (length u.seats) (untagged (claim_frame_value name (Some want))) (joined name u)) stands.traffic ∙ sym (ap (λ (v : State). v.traffic) is)));
+      traffic = now ∙ (ap (λ (f : FrameValue). queued k (untagged f) (with_newcomer name t)) claims
+          ∙ (ap (λ (u : Traffic). queued (length u.seats) (untagged (claim_frame_value name (Some want))) (with_newcomer name u)) stands.traffic ∙ sym (ap (λ (v : State). v.traffic) is)));
       station = stands.station ∙ sym (ap (λ (v : State). v.station) is);
       units = ap (map unit_of) items ∙ (map_push unit_of a.places.items p ∙ (ap (λ (u : UnitState). map unit_of a.places.items ++ u ∷ []) (ap (λ (x : NodeValue). record { node = x; session_message = 0 }) c.new-node.ensures)
           ∙ (ap (λ (us : List UnitState). us ++ new_unit name want ∷ []) stands.units ∙ sym (ap (λ (v : State). v.units) is))));
@@ -78,12 +77,12 @@ invariant_of-self-2 c =
 pub returns-clause-ok : goal.returns-clause-ok
 returns-clause-ok c =
     let a = c.self.inside in
-    let b : Inside = (record { name = a.name; address = a.address; window = a.window; grant = a.grant; limit = a.limit; bus = c.queue_frames.new.bus; station = a.station; places = c.push_reserved.new.self; begun = a.begun; live = a.live + 1; injected = a.injected; journal = c.push_reserved-2.new.self }) in
+    let b : Inside = (record { name = a.name; address = a.address; window = a.window; grant = a.grant; limit = a.limit; bus = c.queue_frames.new.bus; station = a.station; places = c.push_reserved.new.self; begun = a.begun; live = a.live + 1; injected = a.injected; journal = c.note_join.new.self }) in
     let stands = c.self.invariant in
     let did = c.in_ok-seat.ensures.ok in
-    let small : c.args.name < 2 ^ 64 = (let e = c.number-number.ensures in let b = c.number-number.type_inv in omega arith) in
+    let small : c.args.name < 2 ^ 64 = subst (λ (n : ℕ). n < 2 ^ 64) (ap (λ (n : NodeValue). n.claimer.name) c.new-node.ensures) c.start-claim.ensures.name_fits in
     let at : c.in_ok-seat.seat ≡ length (state a).traffic.seats = did.0 ∙ ap (λ (u : Traffic). length u.seats) stands.traffic in
-    let journal = c.push_reserved-2.ensures.items ∙ ap (λ (l : List Event). l ++ Join c.args.name c.args.want ∷ []) c.make_room.ensures.items in (
+    let journal = c.note_join.ensures.items ∙ ap (λ (l : List Event). l ++ Join c.args.name c.args.want ∷ []) c.make_room.ensures.items in (
       at ∙ ap (λ (v : GarageValue). length (state_of v).traffic.seats) c.self.view_is,
       added a b c.args.self.now (Join c.args.name c.args.want) c.self.view_is refl journal (ap (λ (u : Traffic). join_refusal c.args.name u) (sym stands.traffic) ∙ did.1, small, c.requires),
       seated_join a b c.args.name c.args.want c.in_ok-seat.seat stands refl journal at,

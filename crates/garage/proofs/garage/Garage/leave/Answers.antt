@@ -2,7 +2,7 @@ use Rattle.std.proofs.Common.{arith, refl, ap, ◌∙◌, sym, ◌+◌, ◌-◌,
 use Rattle.std.proofs.lemmas.List.{length-set}
 use Rattle.bus_ledger.specs.BusValue.{Traffic, seat_at}
 use Rattle.bus_ledger.specs.Changes.{left}
-use Rattle.bus_ledger.specs.Joining.{live_units}
+use Rattle.bus_ledger.specs.Newcomers.{live_units}
 use Rattle.journal.specs.State.{State}
 use Rattle.journal.specs.Journal.{one_more}
 use Rattle.journal.specs.declared.event.Event.TheVariants.{Leave}
@@ -36,8 +36,8 @@ overflow_sub-self c =
     let s = some_live a.bus.traffic c.args.seat (station_lives a c.self.invariant) u in
     let l = c.self.invariant.live in omega arith
 
-pub push_reserved-requires : goal.push_reserved-requires
-push_reserved-requires c =
+pub note_leave-requires : goal.note_leave-requires
+note_leave-requires c =
     let a = c.self.inside in
     let u = bus_unit a c.args.seat c.self.invariant (unit_now a c.args.self.now c.args.seat c.self.view_is c.requires) in
     let s = some_live a.bus.traffic c.args.seat (station_lives a c.self.invariant) u in
@@ -58,11 +58,10 @@ invariant_of-self c =
     let lives = ap live_units c.leave.ensures.traffic in
     let wires = ap (λ (t : Traffic). length t.wire) c.leave.ensures.traffic in
     let many = ap (λ (t : Traffic). length t.seats) c.leave.ensures.traffic in
-    let n = c.push_reserved.ensures.len in
-    let m = c.push_reserved.ensures.capacity in
+    let n = c.note_leave.ensures.room in
     stands_more a _ (Leave c.args.seat) stands (record {
       settings = refl;
-      journal = c.push_reserved.ensures.items;
+      journal = c.note_leave.ensures.items;
       fits = u;
       traffic = c.leave.ensures.traffic ∙ (ap (left c.args.seat) stands.traffic ∙ sym (ap (λ (s : State). s.traffic) (leave_is c.args.seat _)));
       station = stands.station ∙ sym (ap (λ (s : State). s.station) (leave_is c.args.seat _));
@@ -86,4 +85,4 @@ invariant_of-self c =
 pub returns-clause-lists : goal.returns-clause-lists
 returns-clause-lists c =
     let a = c.self.inside in
-    lists_pushed a c.args.self.now _ _ (Leave c.args.seat) c.self.view_is c.self.invariant refl c.push_reserved.ensures.items (unit_now a c.args.self.now c.args.seat c.self.view_is c.requires)
+    lists_pushed a c.args.self.now _ _ (Leave c.args.seat) c.self.view_is c.self.invariant refl c.note_leave.ensures.items (unit_now a c.args.self.now c.args.seat c.self.view_is c.requires)

@@ -1,6 +1,6 @@
 use Rattle.std.proofs.Common.{◌≡◌, arith, refl, ap, ◌∙◌, sym, subst, List, ◌++◌, ◌∷◌, [], length, Result, IfOk}
 use Rattle.bus_ledger.specs.BusValue.{Traffic, IsLive, seat_at}
-use Rattle.bus_ledger.specs.Joining.{live_units}
+use Rattle.bus_ledger.specs.Newcomers.{live_units}
 use Rattle.station_table.specs.declared.error.StationError.{StationError}
 use Rattle.station_table.specs.declared.reaction.Reaction.{Reaction}
 use Rattle.journal.specs.State.{State}
@@ -42,11 +42,10 @@ invariant_of-self-2 c =
     let many = ap (λ (t : Traffic). length t.seats) done ∙ kept.seats in
     let wires = ap (λ (t : Traffic). length t.wire) done ∙ kept.wire in
     let lives = ap live_units done ∙ kept.units in
-    let n = c.push_reserved.ensures.len in
-    let m = c.push_reserved.ensures.capacity in
+    let n = c.note_order.ensures.room in
     stands_more a _ (Ordered c.args.order) stands (record {
       settings = refl;
-      journal = c.push_reserved.ensures.items ∙ ap (λ (l : List Event). l ++ Ordered c.args.order ∷ []) c.make_room-2.ensures.items;
+      journal = c.note_order.ensures.items ∙ ap (λ (l : List Event). l ++ Ordered c.args.order ∷ []) c.make_room-2.ensures.items;
       fits = (r, obeys.queues);
       traffic = done ∙ (ap (reacted r) stands.traffic ∙ sym (ap (λ (s : State). s.traffic) is));
       station = stands.station ∙ sym (ap (λ (s : State). s.station) is);
@@ -74,4 +73,4 @@ returns-clause-lists c =
     subst (λ (x : Result Reaction StationError). IfOk x (Obeys (state_of c.args.self.now).station c.args.order)) c.in-Ok.is c.requires in
     let obeys : Obeys (state a).station c.args.order r =
     subst (λ (g : GarageValue). Obeys (state_of g).station c.args.order r) (sym c.self.view_is) now in
-    lists_pushed a c.args.self.now _ _ (Ordered c.args.order) c.self.view_is c.self.invariant refl (c.push_reserved.ensures.items ∙ ap (λ (l : List Event). l ++ Ordered c.args.order ∷ []) c.make_room-2.ensures.items) (r, obeys.queues)
+    lists_pushed a c.args.self.now _ _ (Ordered c.args.order) c.self.view_is c.self.invariant refl (c.note_order.ensures.items ∙ ap (λ (l : List Event). l ++ Ordered c.args.order ∷ []) c.make_room-2.ensures.items) (r, obeys.queues)

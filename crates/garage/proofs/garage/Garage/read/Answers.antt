@@ -1,11 +1,11 @@
 use Rattle.std.proofs.Common.{arith, refl, ap, ◌∙◌, sym, subst, List, ◌++◌, ◌∷◌, [], length}
 use Rattle.bus_ledger.specs.BusValue.{Traffic, IsLive, seat_at}
-use Rattle.bus_ledger.specs.Joining.{live_units}
-use Rattle.bus_ledger.specs.Reception.{next_reading, after_reading}
+use Rattle.bus_ledger.specs.Newcomers.{live_units}
+use Rattle.bus_ledger.specs.Reception.{next_reading, reading_taken}
 use Rattle.can_frame.specs.declared.reading.Reading.{Reading}
 use Rattle.station_table.specs.StationValue.{StationValue}
 use Rattle.station_table.specs.Steps.{after_reading as station_after}
-use Rattle.station_table.specs.Reactions.{reaction}
+use Rattle.station_table.specs.Reactions.{station_reaction}
 use Rattle.station_table.specs.declared.reaction.Reaction.{Reaction}
 use Rattle.journal.specs.State.{State}
 use Rattle.journal.specs.Steps.{reacted}
@@ -37,24 +37,23 @@ invariant_of-self-2 c =
     let few = c.in_ok-reaction.ensures.few in
     let kept = c.reserve.ensures.traffic in
     let same = c.tap_next.ensures.reading ∙ (ap next_reading kept ∙ sym c.tap_peek-reading.ensures.reading) in
-    let taken = c.tap_next.ensures.traffic ∙ (ap (λ (x : Reading). after_reading x c.reserve.new.self.traffic) same ∙ ap (after_reading r) kept) in
+    let taken = c.tap_next.ensures.traffic ∙ (ap (λ (x : Reading). reading_taken x c.reserve.new.self.traffic) same ∙ ap (reading_taken r) kept) in
     let now = c.react.ensures ∙ ap (reacted rx) taken in
     let is = read_is r s in
-    let puts = puts_reacted rx t (after_reading r t) (keeps_read r t) in
+    let puts = puts_reacted rx t (reading_taken r t) (keeps_read r t) in
     let many = ap (λ (u : Traffic). length u.seats) now in
     let wires = ap (λ (u : Traffic). length u.wire) now ∙ ap length puts.wire in
     let lives = ap live_units now ∙ puts.units in
     let ok = c.in_ok-make_room.ensures.ok in
     let fits = ok.0 in
     let room = ok.1 in
-    let n = c.push_reserved.ensures.len in
-    let m = c.push_reserved.ensures.capacity in
+    let n = c.note_read.ensures.room in
     stands_more a _ (Read r) stands (record {
       settings = refl;
-      journal = c.push_reserved.ensures.items ∙ ap (λ (l : List Event). l ++ Read r ∷ []) c.make_room.ensures.items;
+      journal = c.note_read.ensures.items ∙ ap (λ (l : List Event). l ++ Read r ∷ []) c.make_room.ensures.items;
       fits = (c.tap_peek-reading.ensures.reading ∙ ap next_reading stands.traffic, c.if-is_empty.ensures);
-      traffic = now ∙ (ap (λ (x : Reaction). reacted x (after_reading r t)) c.in_ok-reaction.ensures.reaction ∙ (ap (λ (x : StationValue). reacted (reaction x r) (after_reading r t)) stands.station
-          ∙ (ap (λ (u : Traffic). reacted (reaction s.station r) (after_reading r u)) stands.traffic ∙ sym (ap (λ (v : State). v.traffic) is))));
+      traffic = now ∙ (ap (λ (x : Reaction). reacted x (reading_taken r t)) c.in_ok-reaction.ensures.reaction ∙ (ap (λ (x : StationValue). reacted (station_reaction x r) (reading_taken r t)) stands.station
+          ∙ (ap (λ (u : Traffic). reacted (station_reaction s.station r) (reading_taken r u)) stands.traffic ∙ sym (ap (λ (v : State). v.traffic) is))));
       station = c.in_ok-reaction.ensures.step ∙ (ap (λ (x : StationValue). station_after x r) stands.station ∙ sym (ap (λ (v : State). v.station) is));
       units = stands.units ∙ sym (ap (λ (v : State). v.units) is);
       begun = stands.begun ∙ sym (ap (λ (v : State). length v.begun) is);
@@ -76,5 +75,5 @@ pub returns-clause-lists : goal.returns-clause-lists
 returns-clause-lists c =
     let a = c.self.inside in
     let r = c.tap_peek-reading.result in
-    lists_pushed a c.args.self.now _ _ (Read r) c.self.view_is c.self.invariant refl (c.push_reserved.ensures.items ∙ ap (λ (l : List Event). l ++ Read r ∷ []) c.make_room.ensures.items)
+    lists_pushed a c.args.self.now _ _ (Read r) c.self.view_is c.self.invariant refl (c.note_read.ensures.items ∙ ap (λ (l : List Event). l ++ Read r ∷ []) c.make_room.ensures.items)
     (c.tap_peek-reading.ensures.reading ∙ ap next_reading c.self.invariant.traffic, c.if-is_empty.ensures)

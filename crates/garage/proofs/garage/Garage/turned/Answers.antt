@@ -37,7 +37,7 @@ invariant_of-self-2 c =
     let fits = ok.0 in
     stands_more a _ (Turned c.args.seat) stands (record {
       settings = refl;
-      journal = c.push_reserved.ensures.items ∙ ap (λ (l : List Event). l ++ Turned c.args.seat ∷ []) c.make_room.ensures.items;
+      journal = c.note_turned.ensures.items ∙ ap (λ (l : List Event). l ++ Turned c.args.seat ∷ []) c.make_room.ensures.items;
       fits = u;
       traffic = stands.traffic;
       station = stands.station;
@@ -51,7 +51,7 @@ invariant_of-self-2 c =
       seats = (let s = stands.seats in omega (arith, length-set a.places.items k));
       live = stands.live;
       within = (let w = stands.within in omega arith);
-      room = (let n = c.push_reserved.ensures.len in let m = c.push_reserved.ensures.capacity in omega arith);
+      room = (let n = c.note_turned.ensures.room in omega arith);
       wire = (let w = stands.wire in omega arith);
       queued = λ j. (let w = stands.queued j in omega arith);
       messages = (let w = stands.messages in omega arith);

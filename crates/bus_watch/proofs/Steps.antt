@@ -1,0 +1,62 @@
+-- A watch after one more line stands for the lines with it.
+use Rattle.std.proofs.Common.{◌≡◌, ℕ, Bool, List, ◌∷◌, Option, Some, OnOk, Result, Ok, Err, subst, sym, ap, ◌∙◌}
+use Rattle.address_claim.specs.Frames.{claim_frame_value}
+use Rattle.bus_model.specs.Heard.{address_heard}
+use Rattle.can_frame.specs.declared.reading.Reading.{Reading}
+use Rattle.can_frame.specs.declared.reading.Reading.TheVariants.{Frame}
+use Rattle.candump_line.specs.declared.line.Line.{Line}
+use Rattle.station_table.specs.StandsFor.{StandsFor}
+use Rattle.parameter_group.specs.Group.{Group}
+use Rattle.bus_watch.specs.Followed.{after_frame, followed_by_group, followed_after, is_late, is_withheld, reading_by}
+use Rattle.bus_watch.specs.Told.{Assumed, Beginning, Read, StandsForAll, Told, all_said}
+use Rattle.bus_watch.specs.WatchValue.{Takes, WatchValue}
+
+-- the address that the station holds is the one that it heard of
+held_as_said : (b : Beginning) (ts : List Told) (w : WatchValue) → StandsForAll b ts w → w.station.claimer.held ≡ address_heard b.station (all_said b ts).readings
+unfolding address_heard
+held_as_said b ts w s = ap (λ c. c.held) s.station.claims
+
+-- a line: its reading is taken, and what is known of the bus goes on
+pub stands_for_line : (old mid new : WatchValue) (l : Line) (x : Reading)
+    → x ≡ reading_by old.station.claimer.held old.followed l
+    → mid ≡ record old { followed = followed_after old.station.claimer.held old.followed l }
+    → Takes mid new x
+    → (b : Beginning) (ts : List Told) → StandsForAll b ts old → StandsForAll b (Read l ∷ ts) new
+stands_for_line old mid new l x ex em takes b ts s =
+    let readings = (all_said b ts).readings in
+    let held = address_heard b.station readings in
+    let h : old.station.claimer.held ≡ held = held_as_said b ts old s in
+    let e : x ≡ reading_by held (all_said b ts).followed l =
+    ex ∙ ap (λ k. reading_by k old.followed l) h ∙ ap (λ f. reading_by held f l) s.followed in
+    let same : old.station ≡ mid.station = sym (ap (λ w. w.station) em) in
+    let before = subst (λ t. StandsFor b.station 255 t readings) same s.station in
+    record {
+      station = subst (λ y. StandsFor b.station 255 new.station (y ∷ readings)) e (takes.stands b.station readings before);
+      followed = takes.followed ∙ ap (λ w. w.followed) em
+          ∙ ap (λ k. followed_after k old.followed l) h ∙ ap (λ f. followed_after held f l) s.followed;
+    }
+
+-- an assumed claim is read, and nothing else
+pub stands_for_assumed : (old new : WatchValue) (name address : ℕ) (x : Reading)
+    → x ≡ Frame (claim_frame_value name (Some address)) → Takes old new x
+    → (b : Beginning) (ts : List Told) → StandsForAll b ts old → StandsForAll b (Assumed name address ∷ ts) new
+stands_for_assumed old new name address x e takes b ts s = record {
+  station = subst (λ y. StandsFor b.station 255 new.station (y ∷ (all_said b ts).readings)) e (takes.stands b.station (all_said b ts).readings s.station);
+  followed = takes.followed ∙ s.followed;
+}
+
+pub on_ok : {T E P Q : Type 0} (r : Result T E) → (P → Q) → OnOk r P → OnOk r Q
+on_ok (Ok v) f h = f h
+on_ok (Err e) f h = tt
+
+-- where late packets are looked at, what is known after a frame is what is known after its group
+pub frame_followed : (w new : WatchValue) (silence : Option ℕ) (most : ℕ) (time : Option ℕ) (told g : Group) → silence ≡ Some most → told ≡ g
+    → new ≡ record w { followed = followed_by_group most w.station.claimer.held time told w.followed }
+    → new ≡ record w { followed = after_frame silence w.station.claimer.held time g w.followed }
+frame_followed w new silence most time told g es eg h = rw (es, ← eg) h
+
+-- and a frame is withheld where its group is a late packet
+pub frame_withheld : (w : WatchValue) (silence : Option ℕ) (most : ℕ) (time : Option ℕ) (told g : Group) (result : Bool) → silence ≡ Some most → told ≡ g
+    → result ≡ is_late most w.station.claimer.held time told w.followed
+    → result ≡ is_withheld silence w.station.claimer.held time g w.followed
+frame_withheld w silence most time told g result es eg h = rw (es, ← eg) h

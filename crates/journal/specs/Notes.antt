@@ -1,0 +1,78 @@
+-- How the journal keeps events: a fault memory is told by the number of its stored copy.
+use Rattle.std.specs.Prelude.{◌≡◌, ℕ, ◌+◌, ◌<◌, List, [], ◌∷◌, ◌++◌, length, slice_index_or}
+use Rattle.can_frame.specs.FrameValue.{frame}
+use Rattle.can_frame.specs.declared.reading.Reading.TheVariants as reading
+use Rattle.fault_memory.specs.Memory.{MemoryValue, new_memory}
+use Rattle.station_table.specs.declared.reaction.Ask.{Ask as Asked}
+use Rattle.station_table.specs.declared.reaction.Ask.TheVariants as asked
+use Rattle.journal.specs.declared.event.Event.{Event}
+use Rattle.journal.specs.declared.event.Event.TheVariants.{Join, Hear, Begin, Turned, Carry, Read, Ordered, Leave, Inject}
+use Rattle.journal.specs.declared.note.Note.{Note}
+use Rattle.journal.specs.declared.note.Note.TheVariants as note
+use Rattle.journal.specs.declared.note.ShortAsk.{ShortAsk}
+use Rattle.journal.specs.declared.note.ShortAsk.TheVariants as short
+use Rattle.journal.specs.declared.order.Order.TheVariants.{Ask, AskAll, Command}
+
+-- a journal as contracts see it: its events, the oldest first, the copies of fault memories, and how many more events there
+-- is room for
+pub record JournalValue : Type 0 where
+  pub items : List Event
+  pub memories : List MemoryValue
+  pub room : ℕ
+
+-- the copy of this number
+abbrev pub memory_at : List MemoryValue → ℕ → MemoryValue
+memory_at memories n = slice_index_or memories n new_memory
+
+-- the copy of this number is there, and is this memory
+pub record IsStored (memories : List MemoryValue) (n : ℕ) (memory : MemoryValue) : Type 0 where
+  pub there : n < length memories
+  pub value : memory_at memories n ≡ memory
+
+-- what was asked for
+abbrev pub ask_of : ShortAsk → Asked
+ask_of short.Dm1 = asked.Dm1
+ask_of short.Dm2 = asked.Dm2
+ask_of short.Dm3 = asked.Dm3
+ask_of short.Dm11 = asked.Dm11
+ask_of short.Claim = asked.Claim
+
+-- the event that a note tells
+abbrev pub event_of : List MemoryValue → Note → Event
+event_of memories (note.Join address name) = Join name address
+event_of memories (note.Hear answered k n) = Hear k (memory_at memories n) answered
+event_of memories (note.Begin k n) = Begin k (memory_at memories n)
+event_of memories (note.Turned k) = Turned k
+event_of memories (note.Carry k) = Carry k
+event_of memories (note.Frame bytes id) = Read (reading.Frame (frame id bytes))
+event_of memories (note.Gap missed) = Read (reading.Gap missed)
+event_of memories note.Empty = Read reading.Empty
+event_of memories (note.Ask ask name) = Ordered (Ask name (ask_of ask))
+event_of memories (note.AskOther group name) = Ordered (Ask name (asked.Other group))
+event_of memories (note.AskAll ask) = Ordered (AskAll ask)
+event_of memories (note.Command address name) = Ordered (Command name address)
+event_of memories (note.Leave k) = Leave k
+event_of memories (note.Inject bytes id) = Inject (frame id bytes)
+
+-- a note of one of this many copies, or of none
+abbrev pub IsNoted : ℕ → Note → Type 0
+IsNoted many (note.Hear answered k n) = n < many
+IsNoted many (note.Begin k n) = n < many
+IsNoted many (note.Join address name) = Unit {0}
+IsNoted many (note.Turned k) = Unit {0}
+IsNoted many (note.Carry k) = Unit {0}
+IsNoted many (note.Frame bytes id) = Unit {0}
+IsNoted many (note.Gap missed) = Unit {0}
+IsNoted many note.Empty = Unit {0}
+IsNoted many (note.Ask ask name) = Unit {0}
+IsNoted many (note.AskOther group name) = Unit {0}
+IsNoted many (note.AskAll ask) = Unit {0}
+IsNoted many (note.Command address name) = Unit {0}
+IsNoted many (note.Leave k) = Unit {0}
+IsNoted many (note.Inject bytes id) = Unit {0}
+
+-- a call that takes this event into room that there was
+pub record Gains (old : JournalValue) (e : Event) (new : JournalValue) : Type 0 where
+  pub items : new.items ≡ old.items ++ e ∷ []
+  pub memories : new.memories ≡ old.memories
+  pub room : new.room + 1 ≡ old.room

@@ -1,0 +1,176 @@
+ghost use Rattle.std.specs.Prelude.{◌≡◌, ◌≤◌, ℕ, List, length};
+ghost use Rattle.fault_memory.specs.Memory.{MemoryValue};
+ghost use Rattle.journal.specs.declared.event.Event.TheVariants.{Ordered};
+ghost use Rattle.journal.specs.declared.order.Order.TheVariants as order;
+ghost use Rattle.journal.specs.Notes.{IsNoted, event_of};
+
+use can_frame::{Id, Pgn};
+use name_field::Name;
+use node_core::Answer;
+use station_table::Ask;
+use std::marker::Model;
+
+/// A NAME in two halves, so that a note of 16 bytes has room for it.
+#[derive(Drop)]
+pub(crate) struct SplitName {
+    high: u32,
+    low: u32,
+}
+
+impl Model for SplitName {
+    ghost use Rattle.std.specs.Prelude.{ℕ, ◌+◌, ◌*◌, ◌^◌};
+
+    ghost Value = { ℕ };
+
+    ghost view = { λ n. n.high * 2 ^ 32 + n.low };
+}
+
+impl SplitName {
+    /// The two halves of a NAME.
+    pub(crate) fn of(name: Name) -> SplitName
+        ensures { result ≡ name }
+    {
+        let number = name.number();
+        SplitName {
+            high: (number >> 32) as u32,
+            low: (number & 0xFFFF_FFFF) as u32,
+        }
+    }
+}
+
+/// The bytes of a frame, at most eight.
+#[derive(Drop)]
+pub(crate) struct FrameBytes {
+    len: u8,
+    room: [u8; 8],
+}
+
+impl Model for FrameBytes {
+    ghost use Rattle.std.specs.Prelude.{List, ℕ, ◌≤◌, take};
+
+    ghost Value = { List ℕ };
+
+    ghost view = { λ b. take b.len b.room };
+
+    ghost invariant = { λ b. b.len ≤ 8 };
+}
+
+impl FrameBytes {
+    /// These bytes.
+    pub(crate) fn of(bytes: &[u8]) -> FrameBytes
+        requires { length bytes.now ≤ 8 }
+        ensures { result ≡ bytes.now }
+    {
+        let len = bytes.len();
+        let mut room = [0; 8];
+        room[..len].copy_from_slice(bytes);
+        FrameBytes {
+            len: len as u8,
+            room,
+        }
+    }
+}
+
+/// What the station can ask for but a group that has no name of its own (`Ask::Other`).
+#[derive(Drop)]
+pub(crate) enum ShortAsk {
+    /// The active codes.
+    Dm1,
+    /// The previously active codes.
+    Dm2,
+    /// To clear the previously active codes.
+    Dm3,
+    /// To clear the active codes.
+    Dm11,
+    /// The address that is claimed.
+    Claim,
+}
+
+/// An event as the journal keeps it, in 16 bytes: a fault memory is told by the number of its copy.
+#[derive(Drop)]
+pub(crate) enum Note {
+    /// A unit joined.
+    Join {
+        address: u8,
+        name: SplitName,
+    },
+    /// A unit heard its next frame.
+    Hear {
+        answer: Answer,
+        seat: u32,
+        memory: u32,
+    },
+    /// A unit began a DM1.
+    Begin {
+        seat: u32,
+        memory: u32,
+    },
+    /// A turn of a unit was over.
+    Turned {
+        seat: u32,
+    },
+    /// The first frame of a seat's queue was carried.
+    Carry {
+        seat: u32,
+    },
+    /// The station read a frame.
+    Frame {
+        bytes: FrameBytes,
+        id: Id,
+    },
+    /// The station missed this many frames.
+    Gap {
+        missed: u32,
+    },
+    /// The station found nothing to read.
+    Empty,
+    /// The station asked the unit of a NAME.
+    Ask {
+        ask: ShortAsk,
+        name: SplitName,
+    },
+    /// The station asked the unit of a NAME for a group that has no name of its own (`Ask::Other`).
+    AskOther {
+        group: Pgn,
+        name: SplitName,
+    },
+    /// The station asked all.
+    AskAll {
+        ask: Ask,
+    },
+    /// The station commanded the unit of a NAME to hold an address.
+    Command {
+        address: u8,
+        name: SplitName,
+    },
+    /// A unit went.
+    Leave {
+        seat: u32,
+    },
+    /// A frame was put on the wire from outside.
+    Inject {
+        bytes: FrameBytes,
+        id: Id,
+    },
+}
+
+impl Note {
+    /// The station asked the unit of this NAME.
+    pub(crate) fn ask(name: Name, ask: Ask) -> Note
+        ensures event { (memories : List MemoryValue) → event_of memories result ≡ Ordered (order.Ask name ask) }
+        ensures noted { (many : ℕ) → IsNoted many result }
+    {
+        let name = SplitName::of(name);
+        let ask = match ask {
+            Ask::Dm1 => ShortAsk::Dm1,
+            Ask::Dm2 => ShortAsk::Dm2,
+            Ask::Dm3 => ShortAsk::Dm3,
+            Ask::Dm11 => ShortAsk::Dm11,
+            Ask::Claim => ShortAsk::Claim,
+            Ask::Other(group) => return Note::AskOther { group, name },
+        };
+        Note::Ask { ask, name }
+    }
+}
+
+const _: () = prove!(size_of::<Note>() == 16);

@@ -1,0 +1,241 @@
+ghost use Rattle.std.specs.Prelude.{◌≡◌, [], ◌<◌, ◌≤◌, length, IfOk, IsTrue, OnOk};
+ghost use Rattle.fault_memory.specs.Memory.{IsLawfulMemory};
+ghost use Rattle.journal.specs.declared.event.Event.TheVariants as event;
+ghost use Rattle.journal.specs.Notes.{Gains, IsNoted, IsStored, event_of, memory_at};
+
+use crate::note::{FrameBytes, Note, SplitName};
+use crate::order::Order;
+use can_frame::{Frame, Reading};
+use fault_memory::FaultMemory;
+use name_field::Name;
+use node_core::Answer;
+use std::alloc::{AllocError, Global};
+use std::marker::Model;
+
+/// The number of no copy.
+const NO_COPY: u32 = u32::MAX;
+
+/// The journal: all events, the oldest first, each in 16 bytes.
+///
+/// What a unit's fault memory was at an event is kept once, as long as it stays the same: the event has the number of a stored
+/// copy. Contracts see the events themselves (`Event`), the stored copies, and how many more events there is room for.
+#[derive(Drop)]
+pub struct Journal {
+    notes: Vec<Note>,
+    memories: Vec<FaultMemory>,
+    // the number of each seat's last copy
+    last: Vec<u32>,
+}
+
+impl Model for Journal {
+    ghost use Rattle.std.specs.Prelude.{◌-◌, map, length, vec_len, vec_capacity};
+    ghost use Rattle.std.specs.List.{All};
+    ghost use Rattle.journal.specs.Notes.{JournalValue, IsNoted, event_of};
+
+    ghost Value = { JournalValue };
+
+    ghost view = { λ j. record {
+      items = map (event_of j.memories.items) j.notes.items;
+      memories = j.memories.items;
+      room = vec_capacity j.notes - vec_len j.notes;
+    } };
+
+    ghost invariant = { λ j. All (IsNoted (length j.memories.items)) j.notes.items };
+}
+
+impl Journal {
+    /// No event yet. It takes no memory.
+    pub fn new(alloc: Global) -> Journal
+        ensures { result.items ≡ [] }
+    {
+        Journal {
+            notes: Vec::new(alloc),
+            memories: Vec::new(alloc),
+            last: Vec::new(alloc),
+        }
+    }
+
+    /// How many events there are.
+    pub fn len(&self) -> usize
+        ensures { result ≡ length self.now.items }
+    {
+        self.notes.len()
+    }
+
+    /// Makes room for `count` more events. Where memory is refused there is the room that there was.
+    pub fn reserve(&mut self, count: u32) -> Result<(), AllocError>
+        ensures items { self.new.items ≡ self.old.items }
+        ensures memories { self.new.memories ≡ self.old.memories }
+        ensures grows { self.old.room ≤ self.new.room }
+        ensures ok { OnOk result (count ≤ self.new.room) }
+    {
+        self.notes.reserve(count as usize)
+    }
+
+    /// The number of a copy of the memory that the unit on a seat has now: of the seat's last one, where it is the same, else
+    /// of a new one. No event changes by it.
+    ///
+    /// Refused where there is no memory for the copy, and where 2^32 are stored.
+    pub fn remember(&mut self, seat: u32, memory: &FaultMemory) -> Result<u32, AllocError>
+        ensures items { self.new.items ≡ self.old.items }
+        ensures room { self.new.room ≡ self.old.room }
+        ensures stored { IfOk result (λ n. IsStored self.new.memories n memory.now) }
+        ensures lawful { OnOk result (IsLawfulMemory memory.now) }
+    {
+        let last = last_of(&self.last, seat);
+        if is_copy(&self.memories, last, memory) {
+            return Ok(last);
+        }
+        let number = next_number(&self.memories)?;
+        let copy = memory.copy()?;
+        self.memories.reserve(1)?;
+        set_last(&mut self.last, seat, number)?;
+        self.memories.push_reserved(copy);
+        Ok(number)
+    }
+
+    /// A unit of this NAME got the next seat and claims this address.
+    pub fn note_join(&mut self, name: Name, address: u8)
+        requires { 0 < self.old.room }
+        ensures { Gains self.old (event.Join name address) self.new }
+    {
+        self.push(Note::Join {
+            address,
+            name: SplitName::of(name),
+        });
+    }
+
+    /// A unit heard its next frame. Its memory was that of this number, and this is what it answered.
+    pub fn note_hear(&mut self, seat: u32, memory: u32, answer: Answer)
+        requires room { 0 < self.old.room }
+        requires stored { memory < length self.old.memories }
+        ensures { Gains self.old (event.Hear seat (memory_at self.old.memories memory) answer) self.new }
+    {
+        self.push(Note::Hear {
+            answer,
+            seat,
+            memory,
+        });
+    }
+
+    /// A unit began a DM1 of the memory of this number.
+    pub fn note_begin(&mut self, seat: u32, memory: u32)
+        requires room { 0 < self.old.room }
+        requires stored { memory < length self.old.memories }
+        ensures { Gains self.old (event.Begin seat (memory_at self.old.memories memory)) self.new }
+    {
+        self.push(Note::Begin { seat, memory });
+    }
+
+    /// A turn of a unit was over.
+    pub fn note_turned(&mut self, seat: u32)
+        requires { 0 < self.old.room }
+        ensures { Gains self.old (event.Turned seat) self.new }
+    {
+        self.push(Note::Turned { seat });
+    }
+
+    /// The first frame of this seat's queue was carried.
+    pub fn note_carry(&mut self, seat: u32)
+        requires { 0 < self.old.room }
+        ensures { Gains self.old (event.Carry seat) self.new }
+    {
+        self.push(Note::Carry { seat });
+    }
+
+    /// The station took this reading.
+    pub fn note_read(&mut self, reading: Reading)
+        requires { 0 < self.old.room }
+        ensures { Gains self.old (event.Read reading) self.new }
+    {
+        match reading {
+            Reading::Frame(frame) => self.push(Note::Frame {
+                bytes: FrameBytes::of(frame.bytes()),
+                id: frame.id(),
+            }),
+            Reading::Gap(missed) => self.push(Note::Gap { missed }),
+            Reading::Empty => self.push(Note::Empty),
+        }
+    }
+
+    /// The station queued what it was told to send.
+    pub fn note_order(&mut self, order: Order)
+        requires { 0 < self.old.room }
+        ensures { Gains self.old (event.Ordered order) self.new }
+    {
+        match order {
+            Order::Ask { name, ask } => self.push(Note::ask(name, ask)),
+            Order::AskAll { ask } => self.push(Note::AskAll { ask }),
+            Order::Command { name, address } => self.push(Note::Command {
+                address,
+                name: SplitName::of(name),
+            }),
+        }
+    }
+
+    /// A unit went.
+    pub fn note_leave(&mut self, seat: u32)
+        requires { 0 < self.old.room }
+        ensures { Gains self.old (event.Leave seat) self.new }
+    {
+        self.push(Note::Leave { seat });
+    }
+
+    /// A frame that no seat sent was put on the wire from outside.
+    pub fn note_inject(&mut self, frame: Frame)
+        requires { 0 < self.old.room }
+        ensures { Gains self.old (event.Inject frame) self.new }
+    {
+        self.push(Note::Inject {
+            bytes: FrameBytes::of(frame.bytes()),
+            id: frame.id(),
+        });
+    }
+
+    /// One event more, for which there is room.
+    fn push(&mut self, note: Note)
+        requires room { 0 < self.old.room }
+        requires noted { IsNoted (length self.old.memories) note }
+        ensures { Gains self.old (event_of self.old.memories note) self.new }
+    {
+        self.notes.push_reserved(note);
+    }
+}
+
+/// The number of a seat's last copy; that of none, where the seat has none.
+fn last_of(last: &[u32], seat: u32) -> u32 {
+    match last.get(seat as usize) {
+        Some(number) => *number,
+        None => NO_COPY,
+    }
+}
+
+/// Whether the copy of this number is there, and is the same as the memory.
+fn is_copy(memories: &[FaultMemory], number: u32, memory: &FaultMemory) -> bool
+    ensures { IsTrue result → (IsStored memories.now number memory.now × IsLawfulMemory memory.now) }
+{
+    match memories.get(number as usize) {
+        Some(copy) => memory.is_same(copy),
+        None => false,
+    }
+}
+
+/// The number of the next copy; refused where all numbers are given.
+fn next_number(memories: &[FaultMemory]) -> Result<u32, AllocError>
+    ensures { IfOk result (λ n. n ≡ length memories.now) }
+{
+    match u32::try_from(memories.len()) {
+        Ok(number) => Ok(number),
+        Err(_) => Err(AllocError),
+    }
+}
+
+/// Makes this number that of the seat's last copy.
+fn set_last(last: &mut Vec<u32>, seat: u32, number: u32) -> Result<(), AllocError> {
+    let place = seat as usize;
+    if last.len() <= place {
+        last.resize(place + 1, NO_COPY)?;
+    }
+    last[place] = number;
+    Ok(())
+}

@@ -1,0 +1,2 @@
+pub mod PartialLemmas
+pub mod TableLemmas

@@ -1,0 +1,3 @@
+pub mod Partials
+pub mod TableLaws
+pub mod Tables

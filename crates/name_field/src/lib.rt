@@ -81,7 +81,7 @@ impl Name {
         ensures accepted { IsOk result ↔ IsInRange fields.now }
         ensures field_too_large { IsErrOf result NameError.FieldTooLarge ↔ (IsInRange fields.now → ⊥) }
     {
-        if !is_in_range(fields) {
+        if !is_in_range(*fields) {
             return Err(NameError::FieldTooLarge);
         }
         Ok(Name {
@@ -154,10 +154,9 @@ impl fmt::Display for Name {
     }
 }
 
-fn is_in_range(f: &NameFields) -> bool
-    ensures { IsTrue result ↔ IsInRange f.now }
+fn is_in_range(f: NameFields) -> bool
+    ensures { IsTrue result ↔ IsInRange f }
 {
-    let _function = f.function;
     f.arbitrary_capable < 2
         && f.industry_group < 8
         && f.system_instance < 16

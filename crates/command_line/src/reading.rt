@@ -8,6 +8,9 @@ use clap::error::ErrorKind;
 use clap::{ArgMatches, Command};
 use std::alloc::{AllocError, Global};
 
+/// The program's name.
+const PROGRAM: &str = "j1939bench";
+
 /// Reads the words of a command line, the program's name first.
 ///
 /// # Errors
@@ -25,12 +28,13 @@ pub fn read_line(alloc: Global, words: &[String]) -> Result<Job, LineFault>
     job_of(&matches)
 }
 
-/// The page that the words ask for, of help or of the version; `None` where they ask for neither.
+/// The page that the words ask for, of help or of the version; `None` where they ask for neither. The program's name in it
+/// is `j1939bench`, whatever the first word is.
 ///
 /// # Errors
 /// - memory ran out.
 pub fn page(alloc: Global, words: &[String]) -> Result<Option<String>, AllocError> {
-    let command = bench_command(alloc)?;
+    let command = bench_command(alloc)?.bin_name(PROGRAM)?;
     let error = match command.try_get_matches_from(words) {
         Ok(_) => return Ok(None),
         Err(error) => error,
@@ -86,7 +90,7 @@ fn bench_command<'a>(alloc: Global) -> Result<Command<'a>, AllocError>
 fn with_garage<'a>(alloc: Global) -> Result<Command<'a>, AllocError>
     ensures { IfOk result (λ c. app_of c ≡ garage_app) }
 {
-    Command::new(alloc, "j1939bench")
+    Command::new(alloc, PROGRAM)
         .version("1.0")
         .about("A diagnostic station for SAE J1939 with simulated control units")
         .after_help(threads::VEHICLE)

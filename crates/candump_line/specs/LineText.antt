@@ -4,12 +4,15 @@ use Rattle.std.specs.Fmt.{decimal}
 use Rattle.std.specs.List.{flat_map}
 use Rattle.can_frame.specs.FrameValue.{FrameValue}
 use Rattle.can_frame.specs.FrameText.{id_text}
-use Rattle.hex_text.specs.Hex.{hex_digits}
+use Rattle.hex_text.specs.Hex.{fixed_digits, hex_digits}
+
+-- the digit of a number below 10
+abbrev pub decimal_digit : ℕ → ℕ
+decimal_digit d = 48 + d
 
 -- the last `count` decimal digits of a number, and then `rest`
 abbrev pub decimal_digits : ℕ → ℕ → List ℕ → List ℕ
-decimal_digits zero n rest = rest
-decimal_digits (suc count) n rest = decimal_digits count (n / 10) ((48 + n % 10) ∷ rest)
+decimal_digits = fixed_digits 10 decimal_digit
 
 -- microseconds as seconds, a point and six digits
 unfoldable pub time_text : ℕ → List ℕ

@@ -1,5 +1,5 @@
 use crate::group::{AddressWords, ByteWords, GroupWords};
-use can_frame::Frame;
+use can_frame::{Frame, Pgn};
 use dm_messages::{Kind, ReadError, read};
 use dm_words::{CodeWords, LampWords};
 use name_field::Name;
@@ -96,6 +96,13 @@ fn write_diagnostic<W: Write>(
 
 /// Connection management of the transport protocol (SAE J1939-21).
 fn write_control<W: Write>(writer: &mut W, control: Control) -> io::Result<()> {
+    write!(writer, "TP.CM: ")?;
+    let group = GroupWords(write_step(writer, control)?);
+    write!(writer, " of {group}")
+}
+
+/// Writes what a message of connection management tells, and answers the group that it is of.
+fn write_step<W: Write>(writer: &mut W, control: Control) -> io::Result<Pgn> {
     match control {
         Control::Rts {
             size,
@@ -103,36 +110,24 @@ fn write_control<W: Write>(writer: &mut W, control: Control) -> io::Result<()> {
             most,
             pgn,
         } => {
-            let group = GroupWords(pgn);
-            write!(
-                writer,
-                "TP.CM: RTS {size} bytes in {packets} packets, at most {most} at once, of {group}"
-            )
+            write!(writer, "RTS {size} bytes in {packets} packets, at most {most} at once,")?;
+            Ok(pgn)
         }
         Control::Cts { granted, next, pgn } => {
-            let group = GroupWords(pgn);
-            write!(
-                writer,
-                "TP.CM: CTS {granted} packets from {next} on, of {group}"
-            )
+            write!(writer, "CTS {granted} packets from {next} on,")?;
+            Ok(pgn)
         }
         Control::EndAck { size, packets, pgn } => {
-            let group = GroupWords(pgn);
-            write!(
-                writer,
-                "TP.CM: all {size} bytes in {packets} packets came, of {group}"
-            )
+            write!(writer, "all {size} bytes in {packets} packets came,")?;
+            Ok(pgn)
         }
         Control::Bam { size, packets, pgn } => {
-            let group = GroupWords(pgn);
-            write!(
-                writer,
-                "TP.CM: BAM {size} bytes in {packets} packets of {group}"
-            )
+            write!(writer, "BAM {size} bytes in {packets} packets")?;
+            Ok(pgn)
         }
         Control::Abort { reason, pgn } => {
-            let group = GroupWords(pgn);
-            write!(writer, "TP.CM: abort for reason {reason}, of {group}")
+            write!(writer, "abort for reason {reason},")?;
+            Ok(pgn)
         }
     }
 }

@@ -6,10 +6,14 @@ use Rattle.std.specs.Str.Parse.{digits_value}
 abbrev pub hex_digit : ℕ → ℕ
 hex_digit d = if nat_lt d 10 then 48 + d else 55 + d
 
+-- the last `count` digits of a number to a base, each by its glyph, and then `rest`
+abbrev pub fixed_digits : ℕ → (ℕ → ℕ) → ℕ → ℕ → List ℕ → List ℕ
+fixed_digits base glyph zero n rest = rest
+fixed_digits base glyph (suc count) n rest = fixed_digits base glyph count (n / base) (glyph (n % base) ∷ rest)
+
 -- the last `count` hexadecimal digits of a number, in upper case, and then `rest`
 abbrev pub hex_digits : ℕ → ℕ → List ℕ → List ℕ
-hex_digits zero n rest = rest
-hex_digits (suc count) n rest = hex_digits count (n / 16) (hex_digit (n % 16) ∷ rest)
+hex_digits = fixed_digits 16 hex_digit
 
 -- exactly `count` hexadecimal digits, of either case
 pub record IsHexText (count : ℕ) (text : List ℕ) : Type 0 where

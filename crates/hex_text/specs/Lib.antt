@@ -1,3 +1,4 @@
+pub mod Digits
 pub mod Hex
 pub mod Printed
 pub mod ReadBack

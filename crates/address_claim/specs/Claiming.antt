@@ -1,6 +1,6 @@
 -- By which rules an address is kept, defended, moved or lost (SAE J1939-81, address management).
 use Rattle.std.specs.Prelude.{ℕ, ◌+◌, ◌≤◌, Bool, true, false, not, ◌||◌, nat_eq, nat_lt, if◌then◌else◌, List, Option, Some, None, option_map, replicate, position, slice_range, slice_set}
-use Rattle.can_frame.specs.declared.address.TheConstants.{GREATEST_ADDRESS, NULL_ADDRESS}
+use Rattle.can_frame.specs.declared.address.TheConstants.{GREATEST_ADDRESS, HOLDABLE_ADDRESSES, NULL_ADDRESS}
 use Rattle.name_field.specs.Fields.{arbitrary_capable_of}
 use Rattle.address_claim.specs.declared.claimer.ClaimStep.{ClaimStep}
 use Rattle.address_claim.specs.declared.claimer.ClaimStep.TheVariants.{Nothing, Defend, Move, CannotClaim}
@@ -13,7 +13,7 @@ pub record ClaimerValue : Type 0 where
 
 -- a NAME that claims the address that it wants, and has heard no claim
 abbrev pub new_claimer : ℕ → ℕ → ClaimerValue
-new_claimer name want = record { name = name; held = Some want; noted = replicate 254 None }
+new_claimer name want = record { name = name; held = Some want; noted = replicate HOLDABLE_ADDRESSES None }
 
 -- the claims noted after one more; 254 and 255 are no addresses
 abbrev pub noted_after : ℕ → ℕ → List (Option ℕ) → List (Option ℕ)

@@ -1,4 +1,5 @@
 ghost use Rattle.std.specs.Prelude.{◌≡◌, ℕ, ◌≤◌, ◌<◌, ◌^◌, ◌↔◌, Option, Some, None, IfOk, IsOk, IsErrOf, IfSome, length};
+ghost use Rattle.can_frame.specs.declared.address.TheConstants.{GREATEST_ADDRESS};
 ghost use Rattle.address_claim.specs.Frames.{IsClaimFrame, claim_of, claim_source, claim_frame_value};
 
 use crate::error::ClaimError;
@@ -20,7 +21,7 @@ pub struct Claim {
 /// The frame by which a NAME claims an address, 0 to 253; with no address, the one by which it says that
 /// it cannot claim. It goes to all with priority 6; its eight bytes are the NAME's 64 bits.
 pub fn claim_frame(name: Name, address: Option<u8>) -> Frame
-    requires { IfSome address (λ a. a ≤ 253) }
+    requires { IfSome address (λ a. a ≤ GREATEST_ADDRESS) }
     ensures frame { result ≡ claim_frame_value name address }
     ensures name_fits { name < 2 ^ 64 }
 {
@@ -38,8 +39,8 @@ pub fn read_claim(frame: &Frame) -> Result<Claim, ClaimError>
     ensures value { IfOk result (λ c. c ≡ claim_of frame.now) }
     ensures accepted { IsOk result ↔ IsClaimFrame frame.now }
     ensures not_this { IsErrOf result ClaimError.NotThis ↔ (IsClaimFrame frame.now → ⊥) }
-    ensures source { IfOk result (λ c. c.source ≤ 254) }
-    ensures reads_back { (name : ℕ) (address : Option ℕ) → name < 2 ^ 64 → IfSome address (λ a. a ≤ 253) → frame.now ≡ claim_frame_value name address → result ≡ Ok (record { source = claim_source address; name = name }) }
+    ensures source { IfOk result (λ c. c.source ≤ NULL_ADDRESS) }
+    ensures reads_back { (name : ℕ) (address : Option ℕ) → name < 2 ^ 64 → IfSome address (λ a. a ≤ GREATEST_ADDRESS) → frame.now ≡ claim_frame_value name address → result ≡ Ok (record { source = claim_source address; name = name }) }
 {
     let id = frame.id();
     let source = id.source();

@@ -2,7 +2,7 @@ ghost use Rattle.std.specs.Prelude.{◌≡◌, ℕ, ◌≤◌, ◌<◌, ◌↔�
 ghost use Rattle.address_claim.specs.Claiming.{ClaimerValue, new_claimer, claim_step, after_claim, after_command, is_free, free_address, noted_after, next_address, IsOwnChoice, IsLawfulStep};
 
 use crate::error::ClaimError;
-use can_frame::{GREATEST_ADDRESS, NULL_ADDRESS};
+use can_frame::{GREATEST_ADDRESS, HOLDABLE_ADDRESSES, NULL_ADDRESS};
 use name_field::Name;
 use std::marker::Model;
 
@@ -24,30 +24,31 @@ pub enum ClaimStep {
 pub struct Claimer {
     name: Name,
     held: Option<u8>,
-    noted: [Option<Name>; 254],
+    noted: [Option<Name>; HOLDABLE_ADDRESSES],
 }
 
 impl Model for Claimer {
     ghost use Rattle.std.specs.Prelude.{◌≤◌, IfSome};
+    ghost use Rattle.can_frame.specs.declared.address.TheConstants.{GREATEST_ADDRESS};
     ghost use Rattle.address_claim.specs.Claiming.{ClaimerValue};
 
     ghost Value = { ClaimerValue };
 
     ghost view = { λ c. record { name = c.name; held = c.held; noted = c.noted } };
 
-    ghost invariant = { λ c. IfSome c.held (λ a. a ≤ 253) };
+    ghost invariant = { λ c. IfSome c.held (λ a. a ≤ GREATEST_ADDRESS) };
 }
 
 impl Claimer {
     /// A claimer of this NAME that holds the address it wants, 0 to 253, and has heard no claim.
     pub fn new(name: Name, want: u8) -> Claimer
-        requires { want ≤ 253 }
+        requires { want ≤ GREATEST_ADDRESS }
         ensures { result ≡ new_claimer name want }
     {
         Claimer {
             name,
             held: Some(want),
-            noted: [None; 254],
+            noted: [None; HOLDABLE_ADDRESSES],
         }
     }
 
@@ -61,14 +62,14 @@ impl Claimer {
     /// The address held, 0 to 253.
     pub fn held(&self) -> Option<u8>
         ensures value { result ≡ self.now.held }
-        ensures bound { IfSome result (λ a. a ≤ 253) }
+        ensures bound { IfSome result (λ a. a ≤ GREATEST_ADDRESS) }
     {
         self.held
     }
 
     /// The NAME in the last claim of an address, 0 to 253, that was heard.
     pub fn last_claim(&self, address: u8) -> Option<Name>
-        requires { address ≤ 253 }
+        requires { address ≤ GREATEST_ADDRESS }
         ensures { result ≡ slice_index_or self.now.noted address None }
     {
         self.noted[address as usize]
@@ -112,10 +113,10 @@ impl Claimer {
 
     /// Holds this address from now on; `NotAnAddress`, with nothing changed, where it is 254 or 255.
     pub fn command(&mut self, address: u8) -> Result<(), ClaimError>
-        ensures accepted { IsOk result ↔ (address ≤ 253) }
+        ensures accepted { IsOk result ↔ (address ≤ GREATEST_ADDRESS) }
         ensures ok { OnOk result (self.new ≡ after_command address self.old) }
         ensures err { OnErr result (self.new ≡ self.old) }
-        ensures not_an_address { IsErrOf result ClaimError.NotAnAddress ↔ (254 ≤ address) }
+        ensures not_an_address { IsErrOf result ClaimError.NotAnAddress ↔ (NULL_ADDRESS ≤ address) }
     {
         if address > GREATEST_ADDRESS {
             return Err(ClaimError::NotAnAddress);
@@ -126,7 +127,7 @@ impl Claimer {
 
     /// Holds this address, 0 to 253, from now on.
     pub fn hold(&mut self, address: u8)
-        requires { address ≤ 253 }
+        requires { address ≤ GREATEST_ADDRESS }
         ensures { self.new ≡ after_command address self.old }
     {
         self.held = Some(address);
@@ -134,14 +135,14 @@ impl Claimer {
 
     /// Where it moves to when it loses its address to this claim.
     fn next_address(&self, source: u8, name: Name) -> Option<u8>
-        requires { source ≤ 253 }
+        requires { source ≤ GREATEST_ADDRESS }
         ensures value { result ≡ next_address self.now.name (noted_after source name self.now.noted) }
         ensures bound { IfSome result IsOwnChoice }
     {
         if self.name.fields().arbitrary_capable != 1 {
             return None;
         }
-        let mut noted = [None; 254];
+        let mut noted = [None; HOLDABLE_ADDRESSES];
         noted.copy_from_slice(&self.noted);
         noted[source as usize] = Some(name);
         free_address(self.name, &noted)
@@ -150,7 +151,7 @@ impl Claimer {
 
 /// The least address from 128 to 247 that is free for a NAME.
 fn free_address(own: Name, noted: &[Option<Name>]) -> Option<u8>
-    requires { length noted.now ≡ 254 }
+    requires { length noted.now ≡ HOLDABLE_ADDRESSES }
     ensures value { result ≡ free_address own noted.now }
     ensures bound { IfSome result IsOwnChoice }
 {

@@ -4,6 +4,9 @@ use crate::id::{Id, IdTooLarge};
 use std::marker::Model;
 use thiserror::Error;
 
+/// What the bytes of a frame are written as that carry nothing (SAE J1939-21).
+pub const FILLER: u8 = 0xFF;
+
 /// Why a frame was refused.
 #[derive(Clone, Copy, Debug, PartialEq, Eq, Error)]
 pub enum FrameError {

@@ -10,8 +10,8 @@ mod id;
 mod pgn;
 mod reading;
 
-pub use address::{GLOBAL_ADDRESS, GREATEST_ADDRESS, NULL_ADDRESS};
-pub use frame::{Frame, FrameError};
+pub use address::{GLOBAL_ADDRESS, GREATEST_ADDRESS, HOLDABLE_ADDRESSES, NULL_ADDRESS};
+pub use frame::{FILLER, Frame, FrameError};
 pub use frames::Frames;
 pub use id::{Id, IdTooLarge};
 pub use pgn::{Pgn, PgnTooLarge};

@@ -1,5 +1,6 @@
 use Rattle.std.specs.Prelude.{◌≡◌, ℕ, Bool, true, false, ◌+◌, ◌*◌, ◌/◌, ◌%◌, ◌≤◌, ◌⊎◌, ◌&&◌, ◌||◌, ◌==◌, nat_le, nat_lt, List, [], ◌∷◌, ◌++◌, length, take, drop, if◌then◌else◌, Option, Some, None}
 use Rattle.std.specs.List.{All, list_all}
+use Rattle.can_frame.specs.declared.frame.TheConstants.{FILLER}
 use Rattle.can_frame.specs.declared.group_numbers.TheConstants.{DM1, DM2}
 use Rattle.trouble_code.specs.Code.{Code, code, IsCode, EncodesCode, code_bytes}
 use Rattle.trouble_code.specs.LampBytes.{LampsValue, lamps_value, lamps_bytes, IsLamps}
@@ -56,8 +57,8 @@ codes_bytes (c ∷ cs) = code_bytes c ++ codes_bytes cs
 
 -- the bytes that are written after the lamps: fewer than two codes are filled to six bytes
 abbrev pub written_codes : List Code → List ℕ
-written_codes [] = 0 ∷ 0 ∷ 0 ∷ 0 ∷ 255 ∷ 255 ∷ []
-written_codes (c ∷ []) = code_bytes c ++ 255 ∷ 255 ∷ []
+written_codes [] = 0 ∷ 0 ∷ 0 ∷ 0 ∷ FILLER ∷ FILLER ∷ []
+written_codes (c ∷ []) = code_bytes c ++ FILLER ∷ FILLER ∷ []
 written_codes (c ∷ d ∷ cs) = codes_bytes (c ∷ d ∷ cs)
 
 -- the one encoding that is written

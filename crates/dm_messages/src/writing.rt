@@ -3,6 +3,7 @@ ghost use Rattle.std.specs.List.{All};
 ghost use Rattle.dm_messages.specs.View.{view, encoding, decoding, codes_of_kind, written_codes, codes_bytes};
 
 use crate::kind::Kind;
+use can_frame::FILLER;
 use fault_memory::FaultMemory;
 use std::alloc::{AllocError, Global};
 use transport::Payload;
@@ -38,10 +39,10 @@ fn write_codes(payload: &mut Payload, codes: &[Dtc]) -> Result<(), AllocError>
     ensures { OnOk result (payload.new ≡ payload.old ++ written_codes codes.now) }
 {
     match codes {
-        [] => payload.extend_from_slice(&[0x00, 0x00, 0x00, 0x00, 0xFF, 0xFF]),
+        [] => payload.extend_from_slice(&[0x00, 0x00, 0x00, 0x00, FILLER, FILLER]),
         [code] => {
             payload.extend_from_slice(&code.to_bytes())?;
-            payload.extend_from_slice(&[0xFF, 0xFF])
+            payload.extend_from_slice(&[FILLER, FILLER])
         }
         _ => write_groups(payload, codes),
     }

@@ -3,6 +3,7 @@ use Rattle.std.specs.Prelude.{ℕ, ◌≡◌, ◌≤◌, ◌<◌, ◌^◌, ◌+�
 use Rattle.std.specs.Int.{to_le_bytes, from_le_bytes, w64}
 use Rattle.can_frame.specs.Fields.{source_of, pgn_of, pdu_specific_of, pdu1_number, pgn_bytes, pgn_of_bytes}
 use Rattle.can_frame.specs.FrameValue.{FrameValue, frame}
+use Rattle.can_frame.specs.declared.frame.TheConstants.{FILLER}
 use Rattle.can_frame.specs.declared.group_numbers.TheConstants.{REQUEST, ACKNOWLEDGMENT}
 use Rattle.requests.specs.declared.request.Request.{Request}
 use Rattle.requests.specs.declared.acknowledgment.Ack.{Ack}
@@ -33,7 +34,7 @@ pub record IsRequest (r : Request) : Type 0 where
 
 -- an acknowledgment as it is written: group 59392 of priority 6, with eight bytes
 abbrev pub ack_frame_value : Ack → FrameValue
-ack_frame_value a = frame (pdu1_number 6 ACKNOWLEDGMENT a.dest a.source) (a.control ∷ 255 ∷ 255 ∷ 255 ∷ a.requester ∷ pgn_bytes a.pgn)
+ack_frame_value a = frame (pdu1_number 6 ACKNOWLEDGMENT a.dest a.source) (a.control ∷ FILLER ∷ FILLER ∷ FILLER ∷ a.requester ∷ pgn_bytes a.pgn)
 
 -- a frame that is read as an acknowledgment: of that group, of any priority, with eight bytes
 pub record IsAckFrame (f : FrameValue) : Type 0 where

@@ -2,11 +2,9 @@ ghost use Rattle.std.specs.Prelude.{◌≡◌, ◌↔◌, IfOk, IsOk, IsErr};
 ghost use Rattle.requests.specs.Layouts.{IsAck, IsAckFrame, ack_frame_value, ack_of};
 
 use crate::not_this::NotThis;
-use can_frame::{Frame, Id, Pgn};
+use can_frame::{FILLER, Frame, Id, Pgn};
 
 const PRIORITY: u8 = 6;
-
-const FILLER: u8 = 0xFF;
 
 /// An acknowledgment: how the source answers the requester's request for a parameter group.
 #[derive(Clone, Copy, Debug, PartialEq, Eq)]

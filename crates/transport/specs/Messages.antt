@@ -6,6 +6,7 @@ use Rattle.can_frame.specs.declared.address.TheConstants.{GLOBAL_ADDRESS}
 use Rattle.can_frame.specs.declared.group_numbers.TheConstants.{DATA_TRANSFER, CONNECTION_MANAGEMENT}
 use Rattle.transport.specs.Pieces.{packet_count, packet}
 use Rattle.transport.specs.ControlMessage.{control_bytes}
+use Rattle.transport.specs.declared.control.TheConstants.Control.{NO_LIMIT}
 use Rattle.transport.specs.declared.control.Control.{Control}
 use Rattle.transport.specs.declared.control.Control.TheVariants.{Rts, Bam}
 
@@ -20,7 +21,7 @@ packet_frame bytes source destination = frame (pdu1_number 7 DATA_TRANSFER desti
 -- what announces a payload: to all a Bam, else an Rts with no limit
 abbrev pub announcement : ℕ → ℕ → ℕ → Control
 announcement size pgn destination =
-    if nat_eq destination GLOBAL_ADDRESS then Bam size (packet_count size) pgn else Rts size (packet_count size) 255 pgn
+    if nat_eq destination GLOBAL_ADDRESS then Bam size (packet_count size) pgn else Rts size (packet_count size) NO_LIMIT pgn
 
 -- part 0 of a message: the one frame to all if the payload has eight bytes, else the announcement
 abbrev pub first_part : List ℕ → ℕ → ℕ → ℕ → FrameValue

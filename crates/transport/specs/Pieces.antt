@@ -1,6 +1,7 @@
 -- How a payload is cut into pieces of seven bytes, and joined again (SAE J1939-21, transport protocol).
 use Rattle.std.specs.Prelude.{◌≡◌, ℕ, zero, suc, ◌+◌, ◌-◌, ◌*◌, ◌/◌, ◌<◌, ◌≤◌, Bool, ◌&&◌, nat_le, nat_eq, List, [], ◌∷◌, ◌++◌, length, take, drop, replicate, slice_index}
 use Rattle.std.specs.List.{concat}
+use Rattle.can_frame.specs.declared.frame.TheConstants.{FILLER}
 
 -- how many packets carry this many bytes: seven to a packet, rounded up
 abbrev pub packet_count : ℕ → ℕ
@@ -18,7 +19,7 @@ is_message_size size packets = nat_le 9 size && (nat_le size 1785 && nat_eq pack
 
 -- the first seven bytes, filled with FF
 abbrev pub first_piece : List ℕ → List ℕ
-first_piece bytes = take 7 (bytes ++ replicate 7 255)
+first_piece bytes = take 7 (bytes ++ replicate 7 FILLER)
 
 -- the first pieces, this many of them
 abbrev pub first_pieces : ℕ → List ℕ → List (List ℕ)

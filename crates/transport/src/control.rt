@@ -3,8 +3,23 @@ ghost use Rattle.can_frame.specs.Fields.{pgn_bytes};
 ghost use Rattle.transport.specs.Pieces.{IsMessageSize};
 
 use crate::pieces::packets;
-use can_frame::Pgn;
+use can_frame::{FILLER, Pgn};
 use thiserror::Error;
+
+/// The first byte of a request to send.
+pub const REQUEST_TO_SEND: u8 = 16;
+
+/// The first byte of a clear to send.
+pub const CLEAR_TO_SEND: u8 = 17;
+
+/// The first byte of an end of message acknowledgment.
+pub const END_OF_MESSAGE: u8 = 19;
+
+/// The first byte of a broadcast announcement.
+pub const BROADCAST_ANNOUNCEMENT: u8 = 32;
+
+/// The first byte of a connection abort.
+pub const CONNECTION_ABORT: u8 = 255;
 
 /// Why bytes were not read as a connection management message.
 #[derive(Clone, Copy, Debug, PartialEq, Eq, Error)]
@@ -75,6 +90,9 @@ impl Control {
     /// The reason of an abort for want of resources, which another task needs.
     pub const RESOURCES_NEEDED: u8 = 2;
 
+    /// What a request to send says where it sets no limit to the packets of a clear to send; 0 says the same.
+    pub const NO_LIMIT: u8 = 255;
+
     /// The message that these bytes carry; fillers are not looked at.
     ///
     /// Refused BadControl where there are not eight bytes or the first is none of 16, 17, 19, 32 and 255; then BadSize
@@ -91,28 +109,28 @@ impl Control {
         };
         let pgn = Pgn::from_bytes([low, middle, high]);
         match kind {
-            16 => Ok(Control::Rts {
+            REQUEST_TO_SEND => Ok(Control::Rts {
                 size: read_size(a, b, c)?,
                 packets: c,
                 most: d,
                 pgn,
             }),
-            17 => Ok(Control::Cts {
+            CLEAR_TO_SEND => Ok(Control::Cts {
                 granted: a,
                 next: b,
                 pgn,
             }),
-            19 => Ok(Control::EndAck {
+            END_OF_MESSAGE => Ok(Control::EndAck {
                 size: read_size(a, b, c)?,
                 packets: c,
                 pgn,
             }),
-            32 => Ok(Control::Bam {
+            BROADCAST_ANNOUNCEMENT => Ok(Control::Bam {
                 size: read_size(a, b, c)?,
                 packets: c,
                 pgn,
             }),
-            255 => Ok(Control::Abort { reason: a, pgn }),
+            CONNECTION_ABORT => Ok(Control::Abort { reason: a, pgn }),
             _ => Err(ControlError::BadControl),
         }
     }
@@ -128,11 +146,31 @@ impl Control {
                 packets,
                 most,
                 pgn,
-            } => sized_bytes(16, size, packets, most, pgn),
-            Control::Cts { granted, next, pgn } => all_bytes(17, [granted, next, 0xFF, 0xFF], pgn),
-            Control::EndAck { size, packets, pgn } => sized_bytes(19, size, packets, 0xFF, pgn),
-            Control::Bam { size, packets, pgn } => sized_bytes(32, size, packets, 0xFF, pgn),
-            Control::Abort { reason, pgn } => all_bytes(255, [reason, 0xFF, 0xFF, 0xFF], pgn),
+            } => sized_bytes(REQUEST_TO_SEND, size, packets, most, pgn),
+            Control::Cts { granted, next, pgn } => all_bytes(
+                CLEAR_TO_SEND,
+                [granted, next, FILLER, FILLER],
+                pgn,
+            ),
+            Control::EndAck { size, packets, pgn } => sized_bytes(
+                END_OF_MESSAGE,
+                size,
+                packets,
+                FILLER,
+                pgn,
+            ),
+            Control::Bam { size, packets, pgn } => sized_bytes(
+                BROADCAST_ANNOUNCEMENT,
+                size,
+                packets,
+                FILLER,
+                pgn,
+            ),
+            Control::Abort { reason, pgn } => all_bytes(
+                CONNECTION_ABORT,
+                [reason, FILLER, FILLER, FILLER],
+                pgn,
+            ),
         }
     }
 }

@@ -81,7 +81,7 @@ fn announcement(size: u16, pgn: Pgn, dest: u8) -> Control
         Control::Rts {
             size,
             packets,
-            most: 255,
+            most: Control::NO_LIMIT,
             pgn,
         }
     }

@@ -1,6 +1,8 @@
 ghost use Rattle.std.specs.Prelude.{◌≡◌, ℕ, ◌-◌, ◌≤◌, List, [], length, drop, slice_index_or};
 ghost use Rattle.transport.specs.Pieces.{packet_count, pieces, packet};
 
+use can_frame::FILLER;
+
 /// The number of packets that carry this many bytes, 9 to 1,785: seven to a packet, 2 to 255 packets.
 #[tactic(auto, using(crate::proofs::Steps::length_of_pieces))]
 pub fn packets(size: u16) -> u8
@@ -25,7 +27,7 @@ pub fn part(payload: &[u8], number: u8) -> [u8; 8]
 {
     let start = 7 * (usize::from(number) - 1);
     let piece = &payload[start..payload.len().min(start + 7)];
-    let mut bytes = [0xFF; 8];
+    let mut bytes = [FILLER; 8];
     bytes[0] = number;
     bytes[1..=piece.len()].copy_from_slice(piece);
     bytes

@@ -4,6 +4,7 @@ use Rattle.can_frame.specs.declared.address.TheConstants.{GREATEST_ADDRESS, GLOB
 use Rattle.can_frame.specs.declared.group_numbers.TheConstants.{COMMANDED_ADDRESS}
 use Rattle.requests.specs.Layouts.{commanded_of}
 use Rattle.requests.specs.declared.commanded.Commanded.{Commanded}
+use Rattle.node_core.specs.declared.commanding.TheConstants.{COMMAND_SIZE}
 use Rattle.node_core.specs.declared.commanding.HalfCommand.{HalfCommand}
 use Rattle.node_core.specs.declared.commanding.HalfCommand.TheVariants.{Nothing, Started, First}
 
@@ -13,7 +14,7 @@ is_packet number bytes = (length bytes == 8) && (slice_index bytes 0 == number)
 
 -- what an announced broadcast starts: a commanded address, if it is one
 abbrev pub command_started : ℕ → ℕ → HalfCommand
-command_started size pgn = if (size == 9) && (pgn == COMMANDED_ADDRESS) then Started else Nothing
+command_started size pgn = if (size == COMMAND_SIZE) && (pgn == COMMANDED_ADDRESS) then Started else Nothing
 
 -- what is half joined after a packet: one that is not the next one drops it, and so does the last one
 abbrev pub continued : HalfCommand → List ℕ → HalfCommand

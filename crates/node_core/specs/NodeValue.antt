@@ -1,5 +1,6 @@
 -- What a unit on the bus keeps.
 use Rattle.std.specs.Prelude.{ℕ, Bool, true, false, ◌==◌, List, replicate, Option, Some, None}
+use Rattle.can_frame.specs.declared.address.TheConstants.{HOLDABLE_ADDRESSES}
 use Rattle.address_claim.specs.Claiming.{ClaimerValue, new_claimer, is_held}
 use Rattle.dm_messages.specs.declared.kind.Kind.{Kind}
 use Rattle.dm_messages.specs.declared.kind.Kind.TheVariants.{Dm1, Dm2}
@@ -31,4 +32,4 @@ is_destination session address = is_held (open_address session) address
 
 -- a unit of that NAME that holds the address it wants, and has heard nothing
 abbrev pub new_node : ℕ → ℕ → NodeValue
-new_node name want = record { claimer = new_claimer name want; half_commands = replicate 254 Nothing; session = None }
+new_node name want = record { claimer = new_claimer name want; half_commands = replicate HOLDABLE_ADDRESSES Nothing; session = None }

@@ -1,11 +1,11 @@
 ghost use Rattle.std.specs.Prelude.{◌≡◌, ◌≤◌, [], ◌∷◌, ◌++◌, length, IfSome};
 ghost use Rattle.node_core.specs.Commanding as commanding;
 
-use can_frame::Pgn;
+use can_frame::{GLOBAL_ADDRESS, GREATEST_ADDRESS, Pgn};
 use name_field::Name;
 use requests::Commanded;
 
-/// A commanded address has nine bytes.
+/// How many bytes a commanded address has.
 const COMMAND_SIZE: u16 = 9;
 
 /// What a unit has of a commanded address (SAE J1939-81) that one source broadcasts.
@@ -101,16 +101,16 @@ fn is_packet(number: u8, bytes: &[u8]) -> bool
 pub fn is_broadcast(destination: u8, source: u8) -> bool
     ensures { result ≡ commanding.is_to_all destination source }
 {
-    destination == 255 && source <= 253
+    destination == GLOBAL_ADDRESS && source <= GREATEST_ADDRESS
 }
 
 /// The command, if it is for this NAME and its address can be held.
 pub fn for_name(name: Name, command: Option<Commanded>) -> Option<Commanded>
     ensures value { result ≡ commanding.for_name name command }
-    ensures fits { IfSome result (λ c. c.address ≤ 253) }
+    ensures fits { IfSome result (λ c. c.address ≤ GREATEST_ADDRESS) }
 {
     let command = command?;
-    if command.name == name && command.address <= 253 {
+    if command.name == name && command.address <= GREATEST_ADDRESS {
         Some(command)
     } else {
         None

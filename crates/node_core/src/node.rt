@@ -1,4 +1,5 @@
 ghost use Rattle.std.specs.Prelude.{◌≡◌, ◌<◌, ◌≤◌, ◌^◌, ◌↔◌, IfOk, IfErr, OnErr, IfSome, IsSome, IsErrOf, IsNone, Ok, length, option_map, true, false};
+ghost use Rattle.can_frame.specs.declared.address.TheConstants.{GREATEST_ADDRESS};
 ghost use Rattle.address_claim.specs.Frames.{claim_frame_value};
 
 use crate::commanding::HalfCommand;
@@ -8,7 +9,7 @@ use crate::out::Outs;
 use crate::parts::parts_to_all;
 use crate::session::OpenSession;
 use address_claim::{Claimer, claim_frame};
-use can_frame::Frame;
+use can_frame::{Frame, GLOBAL_ADDRESS, HOLDABLE_ADDRESSES};
 use dm_messages::{Kind, payload};
 use name_field::Name;
 use parameter_group::ParameterGroup;
@@ -26,7 +27,7 @@ mod sessions;
 #[derive(Drop)]
 pub struct Node {
     claimer: Claimer,
-    half_commands: [HalfCommand; 254],
+    half_commands: [HalfCommand; HOLDABLE_ADDRESSES],
     session: Option<OpenSession>,
 }
 
@@ -48,12 +49,12 @@ impl Node {
 
     /// A unit of this NAME that holds the address it wants, 0 to 253. It has heard nothing. Takes no memory.
     pub fn new(name: Name, want: u8) -> Node
-        requires { want ≤ 253 }
+        requires { want ≤ GREATEST_ADDRESS }
         ensures { result ≡ new_node name want }
     {
         Node {
             claimer: Claimer::new(name, want),
-            half_commands: [HalfCommand::Nothing; 254],
+            half_commands: [HalfCommand::Nothing; HOLDABLE_ADDRESSES],
             session: None,
         }
     }
@@ -69,7 +70,7 @@ impl Node {
     /// The address that the unit holds, 0 to 253.
     pub fn held(&self) -> Option<u8>
         ensures value { result ≡ self.now.claimer.held }
-        ensures bound { IfSome result (λ a. a ≤ 253) }
+        ensures bound { IfSome result (λ a. a ≤ GREATEST_ADDRESS) }
     {
         self.claimer.held()
     }
@@ -105,7 +106,7 @@ impl Node {
         let begun = Begun {
             kind,
             source,
-            dest: 255,
+            dest: GLOBAL_ADDRESS,
         };
         let put = parts_to_all(alloc, payload, begun)?;
         Ok(Started::Begun { begun, put })

@@ -16,7 +16,7 @@ use transport::{Payload, Run, message_part, packets};
 pub fn parts_to_all(alloc: Global, payload: Payload, begun: Begun) -> Result<Outs, AllocError>
     requires least { 8 ≤ length payload }
     requires most { length payload ≤ 1785 }
-    requires to_all { begun.dest ≡ 255 }
+    requires to_all { begun.dest ≡ GLOBAL_ADDRESS }
     ensures parts { IfOk result (λ o. o ≡ parts_begun payload (pgn_of_kind begun.kind) begun.source begun.dest) }
     ensures few { IfOk result (λ o. length o ≤ 256) }
 {
@@ -34,7 +34,7 @@ pub fn parts_to_all(alloc: Global, payload: Payload, begun: Begun) -> Result<Out
 pub fn first_part(alloc: Global, payload: &[u8], begun: Begun) -> Result<Outs, AllocError>
     requires least { 8 ≤ length payload.now }
     requires most { length payload.now ≤ 1785 }
-    requires alone { begun.dest ≡ 255 → length payload.now ≡ 8 }
+    requires alone { begun.dest ≡ GLOBAL_ADDRESS → length payload.now ≡ 8 }
     ensures parts { IfOk result (λ o. o ≡ parts_begun payload.now (pgn_of_kind begun.kind) begun.source begun.dest) }
     ensures few { IfOk result (λ o. length o ≤ 256) }
 {

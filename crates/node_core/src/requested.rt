@@ -3,7 +3,7 @@ ghost use Rattle.node_core.specs.Asking.{memory_answered, IsAsked};
 ghost use Rattle.node_core.specs.Requested.{wanted_by, counts_from, acknowledgment};
 
 use crate::heard::Answer;
-use can_frame::{Frame, Pgn};
+use can_frame::{Frame, GLOBAL_ADDRESS, GREATEST_ADDRESS, Pgn};
 use dm_messages::Kind;
 use requests::Ack;
 use unit_trait::{Clear, Question, Unit};
@@ -39,7 +39,7 @@ impl Wanted {
 pub fn counts_from(address: u8, source: u8) -> bool
     ensures { result ≡ counts_from address source }
 {
-    source <= 253 && source != address
+    source <= GREATEST_ADDRESS && source != address
 }
 
 /// Puts a question to the unit, by the one call that is for it.
@@ -69,7 +69,7 @@ pub fn acknowledgment(control: u8, requester: u8, pgn: Pgn, address: u8) -> Fram
         control,
         requester,
         pgn,
-        dest: 255,
+        dest: GLOBAL_ADDRESS,
         source: address,
     }
     .frame()

@@ -3,6 +3,7 @@
 
 ghost use Rattle.std.specs.Prelude.{◌≡◌};
 ghost use Rattle.can_frame.specs.Fields.{pgn_of};
+ghost use Rattle.can_frame.specs.declared.group_numbers.TheConstants.{ACKNOWLEDGMENT, ADDRESS_CLAIMED, REQUEST};
 ghost use Rattle.parameter_group.specs.Group.{group_of};
 ghost use Rattle.parameter_group.specs.Said.{IsLawfulGroup, said};
 ghost use Rattle.parameter_group.specs.Written.{ReadsBack};
@@ -100,7 +101,7 @@ impl<'a> ParameterGroup<'a> {
 /// A claim or a cannot claim.
 #[tactic(auto, using(crate::proofs::Cases::of_claim, crate::proofs::Cases::to_one))]
 fn claimed(frame: &Frame) -> ParameterGroup<'static>
-    requires { pgn_of frame.now.id ≡ 60928 }
+    requires { pgn_of frame.now.id ≡ ADDRESS_CLAIMED }
     ensures value { said result ≡ group_of frame.now }
     ensures lawful { IsLawfulGroup result }
 {
@@ -118,7 +119,7 @@ fn claimed(frame: &Frame) -> ParameterGroup<'static>
 
 #[tactic(auto, using(crate::proofs::Cases::of_request, crate::proofs::Cases::to_one))]
 fn requested(frame: &Frame) -> ParameterGroup<'static>
-    requires { pgn_of frame.now.id ≡ 59904 }
+    requires { pgn_of frame.now.id ≡ REQUEST }
     ensures value { said result ≡ group_of frame.now }
     ensures lawful { IsLawfulGroup result }
 {
@@ -130,7 +131,7 @@ fn requested(frame: &Frame) -> ParameterGroup<'static>
 
 #[tactic(auto, using(crate::proofs::Cases::of_acknowledgment, crate::proofs::Cases::to_one))]
 fn acknowledged(frame: &Frame) -> ParameterGroup<'static>
-    requires { pgn_of frame.now.id ≡ 59392 }
+    requires { pgn_of frame.now.id ≡ ACKNOWLEDGMENT }
     ensures value { said result ≡ group_of frame.now }
     ensures lawful { IsLawfulGroup result }
 {

@@ -108,10 +108,8 @@ impl Sending {
     }
 
     fn packets(&self) -> u8
-        ensures count { result ≡ packet_count (length self.now.payload) }
-        ensures queued { self.now.queued ≤ result }
+        ensures { result ≡ packet_count (length self.now.payload) }
     {
-        let _queued = self.queued;
         packets(self.payload.len() as u16)
     }
 }

@@ -1,4 +1,6 @@
 ghost use Rattle.std.specs.Prelude.{◌≡◌, ◌≤◌, IfOk, IfErr, OnOk, OnErr, Some, length, if◌then◌else◌};
+ghost use Rattle.can_frame.specs.declared.address.TheConstants.{GREATEST_ADDRESS};
+ghost use Rattle.requests.specs.declared.acknowledgment.TheConstants.Ack.{POSITIVE, NEGATIVE, CANNOT_RESPOND};
 ghost use Rattle.node_core.specs.Deed.{Replies, begin_answer, heard_of};
 ghost use Rattle.node_core.specs.Asking.{is_agreed, memory_answered, IsAnswerTo, IsAsked};
 ghost use Rattle.node_core.specs.Requested.{put_by};
@@ -11,20 +13,13 @@ use crate::out::{Out, Outs, Room};
 use crate::parts::{first_part, parts_to_all};
 use crate::requested::{Wanted, acknowledgment, counts_from, put};
 use crate::session::OpenSession;
-use can_frame::Pgn;
+use can_frame::{GLOBAL_ADDRESS, Pgn};
 use dm_messages::{Kind, payload};
 use fault_memory::FaultMemory;
-use requests::Request;
+use requests::{Ack, Request};
 use std::alloc::Global;
 use transport::Sending;
 use unit_trait::{Clear, Question, Unit};
-
-/// Acknowledged: done.
-const POSITIVE: u8 = 0;
-/// Not acknowledged: refused, or not supported.
-const NEGATIVE: u8 = 1;
-/// Cannot respond now.
-const BUSY: u8 = 3;
 
 impl Node {
     ghost use Rattle.node_core.specs.Deed.{after_deed};
@@ -63,7 +58,7 @@ impl Node {
             return Ok(Heard::nothing(alloc));
         }
         let wanted = Wanted::by(request.pgn);
-        if request.dest == 255 {
+        if request.dest == GLOBAL_ADDRESS {
             self.asked_of_all(alloc, wanted, address, unit)
         } else {
             self.asked_at_address(alloc, wanted, request, address, unit)
@@ -74,7 +69,7 @@ impl Node {
     fn is_concerned(&self, destination: u8) -> bool
         ensures { result ≡ is_concerned self.now.claimer.held destination }
     {
-        destination == 255 || self.is_held(destination)
+        destination == GLOBAL_ADDRESS || self.is_held(destination)
     }
 
     /// Asked of all for more than the claim.
@@ -128,7 +123,7 @@ impl Node {
         let begun = Begun {
             kind,
             source: address,
-            dest: 255,
+            dest: GLOBAL_ADDRESS,
         };
         Ok(message_begun(parts_to_all(alloc, payload, begun)?, begun))
     }
@@ -142,7 +137,7 @@ impl Node {
         address: u8,
         unit: &mut dyn Unit,
     ) -> Result<Heard, NodeError>
-        requires { request.source ≤ 253 }
+        requires { request.source ≤ GREATEST_ADDRESS }
         ensures name { name_of unit.new ≡ name_of unit.old }
         ensures heard { IfOk result (λ h. h ≡ heard_of h.answer (asked_at_address self.old (memory_of unit.old) h.answer request.pgn address request.source wanted)) }
         ensures node { IfOk result (λ h. self.new ≡ after_deed self.old (asked_at_address self.old (memory_of unit.old) h.answer request.pgn address request.source wanted)) }
@@ -165,7 +160,7 @@ impl Node {
             Wanted::Clear(which) => asked_to_clear(alloc, which, request, address, unit),
             Wanted::Unsupported => Ok(Heard::replies(
                 alloc,
-                acknowledgment(NEGATIVE, request.source, request.pgn, address),
+                acknowledgment(Ack::NEGATIVE, request.source, request.pgn, address),
             )?),
         }
     }
@@ -181,7 +176,7 @@ impl Node {
         address: u8,
         memory: &FaultMemory,
     ) -> Result<Heard, NodeError>
-        requires { request.source ≤ 253 }
+        requires { request.source ≤ GREATEST_ADDRESS }
         ensures heard { IfOk result (λ h. h ≡ heard_of Answer.NotAsked (asked_for_message self.old.session kind memory.now request.pgn address request.source)) }
         ensures node { OnOk result (self.new ≡ after_deed self.old (asked_for_message self.old.session kind memory.now request.pgn address request.source)) }
         ensures few { IfOk result (λ h. length h.put ≤ 256) }
@@ -196,7 +191,7 @@ impl Node {
             let begun = Begun {
                 kind,
                 source: address,
-                dest: 255,
+                dest: GLOBAL_ADDRESS,
             };
             return Ok(message_begun(parts_to_all(alloc, payload, begun)?, begun));
         }
@@ -224,7 +219,7 @@ fn asked_to_clear(
     unit: &mut dyn Unit,
 ) -> Result<Heard, NodeError>
     ensures name { name_of unit.new ≡ name_of unit.old }
-    ensures heard { IfOk result (λ h. h ≡ heard_of h.answer (Replies (requested.acknowledgment (if is_agreed h.answer then 0 else 1) request.source request.pgn address))) }
+    ensures heard { IfOk result (λ h. h ≡ heard_of h.answer (Replies (requested.acknowledgment (if is_agreed h.answer then POSITIVE else NEGATIVE) request.source request.pgn address))) }
     ensures memory { IfOk result (λ h. memory_of unit.new ≡ memory_answered (Some (Question.Clear which)) h.answer (memory_of unit.old)) }
     ensures refused { IfErr result (λ e. e ≡ NodeError.OutOfMemory) }
     ensures unasked { OnErr result (unit.new ≡ unit.old) }
@@ -234,9 +229,9 @@ fn asked_to_clear(
     let room = Room::new(alloc)?;
     let answer = put(Question::Clear(which), unit);
     let control = if answer == Answer::Agreed {
-        POSITIVE
+        Ack::POSITIVE
     } else {
-        NEGATIVE
+        Ack::NEGATIVE
     };
     let out = Out {
         frame: acknowledgment(control, request.source, request.pgn, address),
@@ -252,12 +247,12 @@ fn asked_to_clear(
 
 /// The unit cannot respond now.
 fn busy(alloc: Global, request: Request, address: u8) -> Result<Heard, NodeError>
-    ensures heard { IfOk result (λ h. h ≡ heard_of Answer.NotAsked (Replies (requested.acknowledgment 3 request.source request.pgn address))) }
+    ensures heard { IfOk result (λ h. h ≡ heard_of Answer.NotAsked (Replies (requested.acknowledgment CANNOT_RESPOND request.source request.pgn address))) }
     ensures refused { IfErr result (λ e. e ≡ NodeError.OutOfMemory) }
 {
     Ok(Heard::replies(
         alloc,
-        acknowledgment(BUSY, request.source, request.pgn, address),
+        acknowledgment(Ack::CANNOT_RESPOND, request.source, request.pgn, address),
     )?)
 }
 

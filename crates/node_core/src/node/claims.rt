@@ -1,4 +1,5 @@
 ghost use Rattle.std.specs.Prelude.{◌≡◌, ◌≤◌, IfOk, OnOk, OnErr, length, slice_index_or, None};
+ghost use Rattle.can_frame.specs.declared.address.TheConstants.{GREATEST_ADDRESS};
 
 use crate::commanding::HalfCommand;
 use crate::heard::{Answer, Heard, Withdraw};
@@ -20,7 +21,7 @@ impl Node {
         source: u8,
         name: Name,
     ) -> Result<Heard, AllocError>
-        requires { source ≤ 253 }
+        requires { source ≤ GREATEST_ADDRESS }
         ensures heard { IfOk result (λ h. h ≡ heard_of Answer.NotAsked (on_claim self.old source name)) }
         ensures node { OnOk result (self.new ≡ after_deed (noted_from self.old (AddressClaimed source name)) (on_claim self.old source name)) }
         ensures few { IfOk result (λ h. length h.put ≤ 256) }
@@ -37,7 +38,7 @@ impl Node {
 
     /// Takes note of a claim; a half command from an address that was last claimed under another NAME is dropped.
     fn note_claim(&mut self, source: u8, name: Name)
-        requires { source ≤ 253 }
+        requires { source ≤ GREATEST_ADDRESS }
         ensures { self.new ≡ noted_from self.old (AddressClaimed source name) }
     {
         let is_of_another = self.is_of_another(source, name);
@@ -50,7 +51,7 @@ impl Node {
 
     /// Whether the address was last claimed under another NAME.
     fn is_of_another(&self, source: u8, name: Name) -> bool
-        requires { source ≤ 253 }
+        requires { source ≤ GREATEST_ADDRESS }
         ensures { result ≡ is_of_another (slice_index_or self.now.claimer.noted source None) name }
     {
         match self.claimer.last_claim(source) {

@@ -6,7 +6,7 @@ use crate::heard::{Answer, Heard, Withdraw};
 use crate::node::Node;
 use crate::out::{Outs, Room};
 use crate::requested::put;
-use can_frame::Pgn;
+use can_frame::{GREATEST_ADDRESS, Pgn};
 use requests::Commanded;
 use std::alloc::Global;
 use unit_trait::{Question, Unit};
@@ -67,7 +67,7 @@ impl Node {
     /// The command for this NAME that a packet makes whole.
     fn command_heard(&self, source: u8, destination: u8, bytes: &[u8]) -> Option<Commanded>
         ensures value { result ≡ command_heard self.now source destination bytes.now }
-        ensures fits { IfSome result (λ c. c.address ≤ 253) }
+        ensures fits { IfSome result (λ c. c.address ≤ GREATEST_ADDRESS) }
     {
         if !is_broadcast(destination, source) {
             return None;
@@ -89,7 +89,7 @@ impl Node {
 
     /// Holds the address from now on, and claims it.
     fn obey(&mut self, address: u8, room: Room) -> Heard
-        requires { address ≤ 253 }
+        requires { address ≤ GREATEST_ADDRESS }
         ensures heard { result ≡ heard_of Answer.Agreed (Claims self.old.claimer.name (Some address)) }
         ensures node { self.new ≡ after_deed self.old (Claims self.old.claimer.name (Some address)) }
     {

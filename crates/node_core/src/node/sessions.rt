@@ -1,17 +1,15 @@
 ghost use Rattle.std.specs.Prelude.{◌≡◌, ◌≤◌, ◌&&◌, nat_le, IfOk, OnOk, OnErr, if◌then◌else◌, length, option_map};
 ghost use Rattle.transport.specs.Messages as message;
 ghost use Rattle.transport.specs.Sending.{packets_granted};
+ghost use Rattle.transport.specs.declared.control.TheConstants.Control.{RESOURCES_NEEDED};
 ghost use Rattle.transport.specs.declared.control.Control.TheVariants as control;
 
 use crate::heard::{Answer, Heard, Withdraw};
 use crate::node::Node;
 use crate::parts::parts_of_session;
-use can_frame::Pgn;
+use can_frame::{GREATEST_ADDRESS, Pgn};
 use std::alloc::{AllocError, Global};
 use transport::{Control, control_frame};
-
-/// Why a request to send is refused: resources are needed elsewhere.
-const RESOURCES_NEEDED: u8 = 2;
 
 impl Node {
     ghost use Rattle.address_claim.specs.Claiming.{is_held};
@@ -54,14 +52,14 @@ impl Node {
         destination: u8,
         pgn: Pgn,
     ) -> Result<Heard, AllocError>
-        ensures heard { IfOk result (λ h. h ≡ heard_of Answer.NotAsked (if is_held self.now.claimer.held destination && nat_le source 253 then Replies (message.control_frame (control.Abort 2 pgn) destination source) else Nothing)) }
+        ensures heard { IfOk result (λ h. h ≡ heard_of Answer.NotAsked (if is_held self.now.claimer.held destination && nat_le source GREATEST_ADDRESS then Replies (message.control_frame (control.Abort RESOURCES_NEEDED pgn) destination source) else Nothing)) }
         ensures few { IfOk result (λ h. length h.put ≤ 256) }
     {
-        if !self.is_held(destination) || source > 253 {
+        if !self.is_held(destination) || source > GREATEST_ADDRESS {
             return Ok(Heard::nothing(alloc));
         }
         let abort = Control::Abort {
-            reason: RESOURCES_NEEDED,
+            reason: Control::RESOURCES_NEEDED,
             pgn,
         };
         Heard::replies(alloc, control_frame(abort, destination, source))

@@ -8,26 +8,14 @@ use Rattle.bus_model.proofs.Bridge.{says_part}
 use Rattle.bus_model.proofs.Lawful.{Continues, Lawful, last_of, sess, tag_of}
 use Rattle.bus_model.proofs.Lookback.{EachTag, Every, HasTag, InSession, IsFrom, IsMine, every_append, every_rest, every_weaker}
 use Rattle.bus_model.proofs.Seats.{claimed_parts, is_of_self, last_of_others, next_lawful, part_from, part_no_claim, parts_lawful, sess_others, sess_self}
-use Rattle.bus_model.proofs.SeatLaw.{IsBooked, Numbered, OpenLaw, SeatLaw, number_below}
+use Rattle.bus_model.proofs.SeatLaw.{IsBooked, Numbered, OpenLaw, SeatLaw, number_below, open_as}
 
 -- one message more was begun
 pub booked_more : (m : Message) (begun : List Message) (xs : List Item) → Every (IsBooked begun) xs → Every (IsBooked (m ∷ begun)) xs
 booked_more m begun xs h = every_weaker (IsBooked begun) (IsBooked (m ∷ begun)) xs (λ x g t i. inr (g t i)) h
 
 pub open_more : (m : Message) (begun : List Message) (s : Seat) (t : Tag) → OpenLaw begun s t → OpenLaw (m ∷ begun) s t
-open_more m begun s t p = record {
-  dest = p.dest;
-  way = p.way;
-  proper = p.proper;
-  upto = p.upto;
-  apart = p.apart;
-  seat = p.seat;
-  name = p.name;
-  held = p.held;
-  booked = inr p.booked;
-  last = p.last;
-  sofar = p.sofar;
-}
+open_more m begun s t p = open_as begun (m ∷ begun) s s.queue s.heard s.session t p (inr p.booked) p.last p.sofar
 
 pub seat_more : (st : ℕ) (wire : List Item) (m : Message) (begun : List Message) (s : Seat) → SeatLaw st wire begun s → SeatLaw st wire (m ∷ begun) s
 seat_more st wire m begun s law = record {
@@ -102,43 +90,18 @@ pub not_open : (o : Option Tag) (k : Kind) (t : Tag) → IsNotOpen o k → o ≡
 not_open None k t h e = cc
 not_open (Some u) k t h e = let g : u ≡ t = cc in subst (λ (v : Tag). v.message.kind ≢ k) g h
 
+-- the open session beside frames of a message of another kind that opens none
+open_beside : (begun : List Message) (s : Seat) (m : Message) (j : ℕ) (t : Tag) → IsProper m → j ≤ last_part_of m → is_session (way_of m) ≡ false → OpenLaw begun s t → t.message.kind ≢ m.kind
+    → OpenLaw (m ∷ begun) (record s { queue = parts_upto s.number m j ++ s.queue }) t
+open_beside begun s m j t ok le nos p ne =
+    let shape = append_assoc (parts_upto s.number m j) s.queue s.heard in
+    open_as begun (m ∷ begun) s (parts_upto s.number m j ++ s.queue) s.heard s.session t p (inr p.booked)
+    (ap (last_of t.message.name t.message.kind) shape ∙ (last_of_others s.number t.message.name t.message.kind m j (s.queue ++ s.heard) (λ g. ne (sym g)) ∙ p.last))
+    (ap (sess t.message.name t.message.source p.dest) shape ∙ (sess_others s.number t.message.name t.message.source p.dest m j (s.queue ++ s.heard) ok le nos ∙ p.sofar))
+
 pub open_begun : (begun : List Message) (s : Seat) (m : Message) (w : Way) (t : Tag) (st : ℕ) → IsProper m → (way_of m) ≡ w → m.seat ≡ s.number → m.name ≡ s.name → s.held ≡ Some m.source → IsNotOpen s.session m.kind → ((d : ℕ) → w ≡ Session d → OpensAt st s m d) → ((t : Tag) → s.session ≡ Some t → OpenLaw begun s t) → session_opened w m s.session ≡ Some t → OpenLaw (m ∷ begun) (record s { queue = parts_upto s.number m (last_part_at_first w m) ++ s.queue; session = session_opened w m s.session }) t
-open_begun begun s m One t st ok e seat name held none opens law o = others begun s m (last_part_of m) t ok (le_refl (last_part_of m)) (ap is_session e) none (law t o) (not_open s.session m.kind t none o)
-  where
-    others : (begun : List Message) (s : Seat) (m : Message) (j : ℕ) (t : Tag) → IsProper m → j ≤ last_part_of m → is_session (way_of m) ≡ false → IsNotOpen s.session m.kind → OpenLaw begun s t → t.message.kind ≢ m.kind → OpenLaw (m ∷ begun) (record s { queue = parts_upto s.number m j ++ s.queue; session = s.session }) t
-    others begun s m j t ok le nos none p ne =
-        let shape = append_assoc (parts_upto s.number m j) s.queue s.heard in
-        record {
-          dest = p.dest;
-          way = p.way;
-          proper = p.proper;
-          upto = p.upto;
-          apart = p.apart;
-          seat = p.seat;
-          name = p.name;
-          held = p.held;
-          booked = inr p.booked;
-          last = ap (last_of t.message.name t.message.kind) shape ∙ (last_of_others s.number t.message.name t.message.kind m j (s.queue ++ s.heard) (λ g. ne (sym g)) ∙ p.last);
-          sofar = ap (sess t.message.name t.message.source p.dest) shape ∙ (sess_others s.number t.message.name t.message.source p.dest m j (s.queue ++ s.heard) ok le nos ∙ p.sofar);
-        }
-open_begun begun s m Broadcast t st ok e seat name held none opens law o =
-    let p = law t o in
-    let ne = not_open s.session m.kind t none o in
-    let nos : is_session (way_of m) ≡ false = ap is_session e in
-    let shape = append_assoc (parts_upto s.number m (last_part_of m)) s.queue s.heard in
-    record {
-      dest = p.dest;
-      way = p.way;
-      proper = p.proper;
-      upto = p.upto;
-      apart = p.apart;
-      seat = p.seat;
-      name = p.name;
-      held = p.held;
-      booked = inr p.booked;
-      last = ap (last_of t.message.name t.message.kind) shape ∙ (last_of_others s.number t.message.name t.message.kind m (last_part_of m) (s.queue ++ s.heard) (λ g. ne (sym g)) ∙ p.last);
-      sofar = ap (sess t.message.name t.message.source p.dest) shape ∙ (sess_others s.number t.message.name t.message.source p.dest m (last_part_of m) (s.queue ++ s.heard) ok (le_refl (last_part_of m)) nos ∙ p.sofar);
-    }
+open_begun begun s m One t st ok e seat name held none opens law o = open_beside begun s m (last_part_of m) t ok (le_refl (last_part_of m)) (ap is_session e) (law t o) (not_open s.session m.kind t none o)
+open_begun begun s m Broadcast t st ok e seat name held none opens law o = open_beside begun s m (last_part_of m) t ok (le_refl (last_part_of m)) (ap is_session e) (law t o) (not_open s.session m.kind t none o)
 open_begun begun s m (Session d) t st ok e seat name held none opens law o =
     let i : tag_of m 0 ≡ t = cc in
     let q = opens d refl in

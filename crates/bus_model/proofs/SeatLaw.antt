@@ -1,5 +1,5 @@
 -- What holds of a live seat, and what an unheard frame leaves of it.
-use Rattle.std.proofs.Common.{◌≡◌, ◌≢◌, ℕ, ◌<◌, ◌≤◌, ◌+◌, ◌^◌, ◌&&◌, ◌==◌, List, [], ◌∷◌, ◌++◌, length, Some, if◌then◌else◌, sym, ◌∙◌, subst, inl, inr, arith, append_assoc}
+use Rattle.std.proofs.Common.{◌≡◌, ◌≢◌, ℕ, ◌<◌, ◌≤◌, ◌+◌, ◌^◌, ◌&&◌, ◌==◌, List, [], ◌∷◌, ◌++◌, length, Option, Some, if◌then◌else◌, sym, ◌∙◌, subst, inl, inr, arith, append_assoc}
 use Rattle.std.proofs.lemmas.List.{append_cancel_right}
 use Rattle.address_claim.specs.Claiming.{CanHold}
 use Rattle.bus_model.specs.Machine.{Seat, IsCalmAt, with_heard}
@@ -76,27 +76,34 @@ calm_apart st s e allowed ne calm = record {
   uncut = λ t d o w. uncut_is s.session (says e) t d calm.uncut o w;
 }
 
+-- the open session of a seat of which only frames changed, where the last part queued is still the last and nothing broke it
+pub open_as : (begun begun' : List Message) (s : Seat) (q h : List Item) (o : Option Tag) (t : Tag) (p : OpenLaw begun s t) → IsAmong t.message begun'
+    → last_of t.message.name t.message.kind (q ++ h) ≡ Some t → sess t.message.name t.message.source p.dest (q ++ h) ≡ Some t
+    → OpenLaw begun' (record s { queue = q; heard = h; session = o }) t
+open_as begun begun' s q h o t p booked last sofar = record {
+  dest = p.dest;
+  way = p.way;
+  proper = p.proper;
+  upto = p.upto;
+  apart = p.apart;
+  seat = p.seat;
+  name = p.name;
+  held = p.held;
+  booked = booked;
+  last = last;
+  sofar = sofar;
+}
+
 -- the open session after a frame that is apart
 pub open_heard : (begun : List Message) (s : Seat) (e : Item) (t : Tag) → IsApart s.name s.held s.session e → s.session ≡ Some t → OpenLaw begun s t → OpenLaw begun (with_heard s e) t
 open_heard begun s e t apart o law =
     let tags : IsNotOf t.message.name e = λ u i j. apart.tags u i (j ∙ law.name) in
-    record {
-      dest = law.dest;
-      way = law.way;
-      proper = law.proper;
-      upto = law.upto;
-      apart = law.apart;
-      seat = law.seat;
-      name = law.name;
-      held = law.held;
-      booked = law.booked;
-      last = last_of_skip t.message.name t.message.kind s.queue e s.heard (of_apart t.message.name t.message.kind e.tag tags) ∙ law.last;
-      sofar =
-          sess_skip t.message.name t.message.source law.dest s.queue e s.heard
-          (breaks_from_claim t.message.name t.message.source law.dest e.name (says e) (apart.quiet t.message.source law.held) (apart.uncut t law.dest o law.way) (λ i. apart.name (i ∙ law.name)))
-          (sess_apart t.message.name e.tag tags)
-          ∙ law.sofar;
-    }
+    open_as begun begun s s.queue (e ∷ s.heard) s.session t law law.booked
+    (last_of_skip t.message.name t.message.kind s.queue e s.heard (of_apart t.message.name t.message.kind e.tag tags) ∙ law.last)
+    (sess_skip t.message.name t.message.source law.dest s.queue e s.heard
+        (breaks_from_claim t.message.name t.message.source law.dest e.name (says e) (apart.quiet t.message.source law.held) (apart.uncut t law.dest o law.way) (λ i. apart.name (i ∙ law.name)))
+        (sess_apart t.message.name e.tag tags)
+        ∙ law.sofar)
 
 -- the frame heard, with what stood ahead of the seat
 pub heard_rest : (st : ℕ) (wire ahead heard : List Item) (e : Item) → Lawful st wire → wire ≡ ahead ++ e ∷ heard → Lawful st (e ∷ heard)

@@ -12,7 +12,7 @@ use Rattle.bus_model.proofs.Bridge.{claim_group, says_claim}
 use Rattle.bus_model.proofs.Lawful.{Lawful, last_of, sess}
 use Rattle.bus_model.proofs.Lookback.{Every, InSession, IsFrom, IsMine, claimed_skip, every_front, insert}
 use Rattle.bus_model.proofs.Seats.{IsReply, claim_from, claim_honest, claim_owns, claim_plain, claim_voiced, claimed_kept, kept_each, lawful_kept, reply_breaks_none, reply_from, reply_honest, reply_owns, reply_plain, reply_voiced, sent_allowed, uncontested}
-use Rattle.bus_model.proofs.SeatLaw.{IsBooked, SeatLaw, calm_apart, heard_rest, next_heard, open_heard}
+use Rattle.bus_model.proofs.SeatLaw.{IsBooked, SeatLaw, calm_apart, heard_rest, next_heard, open_heard, open_as}
 
 -- the frame heard contests nothing and cuts nothing
 pub heard_quiet : (st : ℕ) (wire : List Item) (begun : List Message) (s : Seat) (ahead : List Item) (e : Item) → Lawful st wire → SeatLaw st wire begun s → wire ≡ ahead ++ e ∷ s.heard → IsCalmAt s (says e) → SeatLaw st wire begun (with_heard s e)
@@ -112,19 +112,8 @@ replied st wire begun s f law may = record {
   booked = (λ t g. cc, law.booked);
   session = λ t o.
       let p = law.session t o in
-      record {
-        dest = p.dest;
-        way = p.way;
-        proper = p.proper;
-        upto = p.upto;
-        apart = p.apart;
-        seat = p.seat;
-        name = p.name;
-        held = p.held;
-        booked = p.booked;
-        last = p.last;
-        sofar = rw (reply_breaks_none s (group_of f) t p.dest may o p.way p.held p.apart p.name) p.sofar;
-      };
+      open_as begun begun s (plain_item s.number s.name f ∷ s.queue) s.heard s.session t p p.booked p.last
+      (rw (reply_breaks_none s (group_of f) t p.dest may o p.way p.held p.apart p.name) p.sofar);
 }
 
 -- the seat carries its first frame
@@ -144,19 +133,9 @@ carries st wire begun s e rest law q h =
       booked = every_front (IsBooked begun) rest (e ∷ []) (subst (Every (IsBooked begun)) q law.booked);
       session = λ t o.
           let p = law.session t o in
-          record {
-            dest = p.dest;
-            way = p.way;
-            proper = p.proper;
-            upto = p.upto;
-            apart = p.apart;
-            seat = p.seat;
-            name = p.name;
-            held = p.held;
-            booked = p.booked;
-            last = ap (last_of t.message.name t.message.kind) (sym shape) ∙ p.last;
-            sofar = ap (sess t.message.name t.message.source p.dest) (sym shape) ∙ p.sofar;
-          };
+          open_as begun begun s rest (e ∷ wire) s.session t p p.booked
+          (ap (last_of t.message.name t.message.kind) (sym shape) ∙ p.last)
+          (ap (sess t.message.name t.message.source p.dest) (sym shape) ∙ p.sofar);
     }
   where
     both : {xs ys us vs : List Item} → xs ≡ ys → us ≡ vs → xs ++ us ≡ ys ++ vs

@@ -1,4 +1,5 @@
 ghost use Rattle.std.specs.Prelude.{◌≡◌, ◌≤◌, ℕ, List, reverse};
+ghost use Rattle.can_frame.specs.declared.address.TheConstants.{GREATEST_ADDRESS};
 ghost use Rattle.dm_messages.specs.declared.kind.Kind.{Kind};
 ghost use Rattle.bus_model.specs.Expected.{expected};
 ghost use Rattle.bus_model.specs.Machine.{Event as Step, Run, Seat, start};
@@ -45,5 +46,5 @@ pub fn path_is_marked()
 
 /// A command that fits is to an address that can be held, 0 to 253.
 pub fn commanded_addresses_can_be_held()
-    ensures { (s : State) (name address : ℕ) → Fits s (Ordered (Command name address)) → address ≤ 253 }
+    ensures { (s : State) (name address : ℕ) → Fits s (Ordered (Command name address)) → address ≤ GREATEST_ADDRESS }
 {}

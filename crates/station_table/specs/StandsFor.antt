@@ -6,6 +6,7 @@ use Rattle.can_frame.specs.declared.reading.Reading.TheVariants.{Frame, Gap, Emp
 use Rattle.can_frame.specs.declared.address.TheConstants.{GLOBAL_ADDRESS}
 use Rattle.dm_messages.specs.declared.kind.Kind.{Kind}
 use Rattle.dm_messages.specs.declared.shown.Shown.{Shown}
+use Rattle.transport.specs.declared.control.TheConstants.Control.{NO_LIMIT}
 use Rattle.transport.specs.declared.control.Control.TheVariants.{Rts}
 use Rattle.parameter_group.specs.Group.{Group, ConnectionManagement, group_of}
 use Rattle.reassembly.specs.Tables.{at}
@@ -23,7 +24,7 @@ most_after a _ held own before = before
 
 -- how many packets at once the sender of the last session that was started from the address takes
 abbrev pub most_heard : StationSettings → ℕ → List Reading → ℕ
-most_heard r a [] = 255
+most_heard r a [] = NO_LIMIT
 most_heard r a (Gap n ∷ older) = most_heard r a older
 most_heard r a (Empty ∷ older) = most_heard r a older
 most_heard r a (Frame f ∷ older) = most_after a (group_of f) (address_heard r older) (owner_heard a older) (most_heard r a older)

@@ -6,6 +6,7 @@ use Rattle.can_frame.specs.declared.address.TheConstants.{GLOBAL_ADDRESS}
 use Rattle.dm_messages.specs.declared.kind.Kind.{Kind}
 use Rattle.dm_messages.specs.declared.shown.Shown.{Shown}
 use Rattle.dm_messages.specs.View.{decoding}
+use Rattle.transport.specs.declared.control.TheConstants.Control.{NO_LIMIT}
 use Rattle.transport.specs.declared.control.Control.TheVariants.{Rts, Bam, Abort}
 use Rattle.parameter_group.specs.Group.{Group, AddressClaimed, CannotClaim, Acknowledgment, Diagnostic, ConnectionManagement, DataTransfer, group_of}
 use Rattle.address_claim.specs.Claiming.{is_held, new_claimer, claim_step, after_claim}
@@ -21,7 +22,7 @@ use Rattle.station_table.specs.StationValue.{StationValue}
 
 -- no sender told how many packets it takes at once
 unfoldable pub no_limits : List ℕ
-no_limits = replicate 256 255
+no_limits = replicate 256 NO_LIMIT
 
 -- whose a diagnostic message is that starts, from an address with an owner
 abbrev pub origin_of : Option Kind → Option ℕ → Option Origin

@@ -1,6 +1,7 @@
 ghost use Rattle.std.specs.Prelude.{◌≡◌, ℕ, ◌<◌, ◌≤◌, ◌^◌, [], ◌∷◌, length, map, reverse, slice_get, List, IfOk, IfSome, OnOk, OnErr};
 ghost use Rattle.std.specs.Option.{option_map};
 ghost use Rattle.can_frame.specs.declared.reading.Reading.{Reading as AnyReading};
+ghost use Rattle.can_frame.specs.declared.address.TheConstants.{GREATEST_ADDRESS};
 ghost use Rattle.address_claim.specs.Claiming.{ClaimerValue};
 ghost use Rattle.bus_model.specs.Heard.{StationSettings, address_heard, names_heard, row_heard, entries_heard, missed_count, unread_count};
 ghost use Rattle.station_table.specs.Reactions.{own_claim};
@@ -16,6 +17,7 @@ use name_field::Name;
 use reassembly::{AddressTable, Partials};
 use std::alloc::Global;
 use std::marker::Model;
+use transport::Control;
 
 mod answers;
 mod claims;
@@ -72,7 +74,7 @@ impl Station {
     /// It has read nothing.
     #[tactic(auto, using(crate::proofs::Stands::stands_new))]
     pub fn new(alloc: Global, name: Name, address: u8, grant: u8) -> Station
-        requires address_fits { address ≤ 253 }
+        requires address_fits { address ≤ GREATEST_ADDRESS }
         requires grants { 0 < grant }
         ensures value { result ≡ new_station name address grant }
         ensures stands { StandsFor (record { name = name; address = address }) grant result [] }
@@ -103,7 +105,7 @@ impl Station {
     pub fn held(&self) -> Option<u8>
         ensures value { result ≡ self.now.claimer.held }
         ensures heard { (r : StationSettings) (grant : ℕ) (h : List AnyReading) → StandsFor r grant self.now h → result ≡ address_heard r h }
-        ensures bound { IfSome result (λ a. a ≤ 253) }
+        ensures bound { IfSome result (λ a. a ≤ GREATEST_ADDRESS) }
     {
         self.claimer.held()
     }
@@ -180,5 +182,5 @@ impl Station {
 fn no_limits() -> [u8; 256]
     ensures { result ≡ no_limits }
 {
-    [255; 256]
+    [Control::NO_LIMIT; 256]
 }

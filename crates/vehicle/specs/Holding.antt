@@ -6,6 +6,7 @@ use Rattle.hex_text.specs.Hex.{hex_value}
 use Rattle.toml.specs.Data.{Data, Items, no_items, item, get, as_integer, as_str, as_array}
 use Rattle.script_line.specs.declared.command.UnitKind.{UnitKind}
 use Rattle.script_line.specs.declared.command.UnitKind.TheVariants.{Plain, Guarded, Flicker}
+use Rattle.vehicle.specs.declared.read.TheConstants.{MOST_UNREAD, MOST_GRANTED, MOST_EVENTS, HIGHEST_SPN, HIGHEST_FMI}
 use Rattle.vehicle.specs.declared.Station.{Station}
 use Rattle.vehicle.specs.declared.UnitLine.{UnitLine}
 use Rattle.vehicle.specs.declared.Vehicle.{Vehicle}
@@ -30,16 +31,16 @@ HasName d name = (text : List ℕ) × (text_at (codes "name") d ≡ Some text) �
 pub record HoldsStation (d : Data) (s : Station) : Type 0 where
   pub name : HasName d s.name
   pub address : HasNumber d (codes "address") s.address 0 GREATEST_ADDRESS
-  pub window : HasNumber d (codes "window") s.window 1 4096
-  pub grant : HasNumber d (codes "grant") s.grant 1 255
-  pub limit : HasNumber d (codes "limit") s.limit 1 16777216
+  pub window : HasNumber d (codes "window") s.window 1 MOST_UNREAD
+  pub grant : HasNumber d (codes "grant") s.grant 1 MOST_GRANTED
+  pub limit : HasNumber d (codes "limit") s.limit 1 MOST_EVENTS
 
 -- the word at the key "kind", and a flicker's two numbers
 abbrev pub HoldsKind : Data → UnitKind → Type 0
 HoldsKind d Plain = text_at (codes "kind") d ≡ Some (codes "plain")
 HoldsKind d Guarded = text_at (codes "kind") d ≡ Some (codes "guarded")
 HoldsKind d (Flicker spn fmi) = (text_at (codes "kind") d ≡ Some (codes "flicker"))
-    × HasNumber d (codes "spn") spn 0 524287 × HasNumber d (codes "fmi") fmi 0 31
+    × HasNumber d (codes "spn") spn 0 HIGHEST_SPN × HasNumber d (codes "fmi") fmi 0 HIGHEST_FMI
 
 -- a unit's NAME, its address and its kind
 pub record HoldsUnit (d : Data) (u : UnitLine) : Type 0 where

@@ -120,7 +120,7 @@ fn read_name(value: &Value) -> Result<Name, VehicleFault>
 }
 
 fn read_address(value: &Value) -> Result<u8, VehicleFault>
-    ensures { IfOk result (λ a. HasNumber (view value.now) (codes "address") a 0 253) }
+    ensures { IfOk result (λ a. HasNumber (view value.now) (codes "address") a 0 GREATEST_ADDRESS) }
 {
     Ok(read_number(value, "address", 0, u32::from(GREATEST_ADDRESS))? as u8)
 }

@@ -113,7 +113,7 @@ impl Station {
         requires least { 9 ≤ announced.size }
         requires most { announced.size ≤ 1785 }
         ensures ok { OnOk result (self.new ≡ with_session self.old source announced.most (heard.started (heard.kind_of announced.pgn) announced.size (at self.old.owners source))) }
-        ensures reaction { IfOk result (λ x. x ≡ (if nat_lt source 254 then reactions.answering (message.control_frame
+        ensures reaction { IfOk result (λ x. x ≡ (if nat_lt source NULL_ADDRESS then reactions.answering (message.control_frame
             (reactions.start_reaction (heard.started (heard.kind_of announced.pgn) announced.size (at self.old.owners source)) (packets_at_once self.old.grant announced.most) announced.packets announced.pgn)
             dest source) else reactions.silent)) }
         ensures err { OnErr result (self.new ≡ self.old) }

@@ -1,5 +1,6 @@
 -- Each call keeps what was listed.
-use Rattle.std.proofs.Common.{ℕ, ◌≡◌, Bool, List, [], ◌∷◌, ◌++◌, reverse, ap, ◌∙◌, subst}
+use Rattle.std.proofs.Common.{ℕ, ◌≡◌, ◌<◌, ◌^◌, Bool, List, [], ◌∷◌, ◌++◌, length, reverse, arith, ap, ◌∙◌, subst}
+use Rattle.std.proofs.lemmas.List.{length-reverse}
 use Rattle.fault_memory.specs.Memory.{MemoryValue}
 use Rattle.unit_trait.specs.declared.question.Question.{Question}
 use Rattle.journal.specs.Fits.{Fits}
@@ -17,6 +18,15 @@ use Rattle.garage.specs.declared.steps.HeardOne.{HeardOne}
 use Rattle.garage.specs.declared.steps.HeardOne.TheVariants as heard
 use Rattle.garage.specs.declared.steps.Begin.{Begin as Began}
 use Rattle.garage.specs.declared.steps.Begin.TheVariants as began
+
+-- a journal has room for 2^24 events at most
+pub few_events : (a : Inside) (g : GarageValue) → garage_value_of a ≡ g → Stands a → length g.journal < 2 ^ 32
+few_events a g is stands =
+    let long : length (reverse a.journal.items) ≡ length g.journal = ap (λ (v : GarageValue). length v.journal) is in
+    let same = length-reverse a.journal.items in
+    let within = stands.within in
+    let limit = stands.few in
+    omega arith
 
 -- nothing changed
 pub lists_same : (old new : GarageValue) → new ≡ old → KeepsLists old new

@@ -4,15 +4,17 @@ use Rattle.can_frame.specs.declared.address.TheConstants.{GREATEST_ADDRESS}
 use Rattle.journal.specs.State.{Settings}
 use Rattle.journal.specs.Journal.{GarageValue}
 use Rattle.journal.specs.declared.tally.Tally.{Tally}
+use Rattle.garage.specs.declared.garage.TheConstants.{MOST_EVENTS}
+use Rattle.garage.specs.declared.opening.TheConstants.{MOST_UNREAD}
 
 -- an address that can be held, a window of 1 to 4,096 frames, a grant of at least one packet, a journal of 1 to 2^24 events
 pub record IsSetting (r : Settings) : Type 0 where
   pub address : r.address ≤ GREATEST_ADDRESS
   pub some_window : 1 ≤ r.window
-  pub window : r.window ≤ 4096
+  pub window : r.window ≤ MOST_UNREAD
   pub some_grant : 1 ≤ r.grant
   pub some_limit : 1 ≤ r.limit
-  pub limit : r.limit ≤ 16777216
+  pub limit : r.limit ≤ MOST_EVENTS
 
 -- nothing has happened
 abbrev pub new_garage : Settings → GarageValue

@@ -5,13 +5,11 @@ use crate::error::GarageError;
 use crate::garage::{Garage, MOST_EVENTS};
 use crate::queueing::queue_frames;
 use bus_ledger::Bus;
+use can_frame::GREATEST_ADDRESS;
 use journal::Journal;
 use name_field::Name;
 use station_table::Station;
 use std::alloc::Global;
-
-/// The highest address that can be held.
-const HIGHEST_ADDRESS: u8 = 253;
 
 /// The largest window of unread frames.
 const MOST_UNREAD: u32 = 4096;
@@ -66,7 +64,7 @@ impl Garage {
 fn is_setting(address: u8, window: u32, grant: u8, limit: u32) -> bool
     ensures { IsTrue result ↔ IsSetting (record { name = 0; address = address; window = window; grant = grant; limit = limit }) }
 {
-    address <= HIGHEST_ADDRESS
+    address <= GREATEST_ADDRESS
         && window >= 1
         && window <= MOST_UNREAD
         && grant >= 1

@@ -1,4 +1,5 @@
 ghost use Rattle.std.specs.Prelude.{◌≡◌, ◌≢◌, ◌≤◌, ◌<◌, ◌⊎◌, ◌↔◌, length, Result, Some, Err, IfOk, IsSome, IsNone, IsErrOf, IsOkUnless, OnOk, OnErr, IfErr};
+ghost use Rattle.can_frame.specs.declared.address.TheConstants.{GREATEST_ADDRESS};
 ghost use Rattle.station_table.specs.declared.error.StationError.{StationError as AnyRefusal};
 ghost use Rattle.journal.specs.declared.order.Order.TheVariants as order;
 ghost use Rattle.garage.specs.Refusals.{of_station};
@@ -65,9 +66,9 @@ impl Garage {
     #[tactic(auto, using(crate::proofs::OrderLemmas::obeys_command))]
     pub fn command(&mut self, alloc: Global, name: Name, address: u8) -> Result<(), GarageError>
         ensures ok { OnOk result (Adds self.old (Ordered (order.Command name address)) self.new) }
-        ensures not_an_address { IsErrOf result GarageError.NotAnAddress ↔ (253 < address) }
-        ensures not_held { IsErrOf result GarageError.NotHeld ↔ ((address ≤ 253) × IsNone (own_address self.old)) }
-        ensures full { IsErrOf result GarageError.BookFull ↔ ((address ≤ 253) × IsSome (own_address self.old) × IsFull self.old) }
+        ensures not_an_address { IsErrOf result GarageError.NotAnAddress ↔ (GREATEST_ADDRESS < address) }
+        ensures not_held { IsErrOf result GarageError.NotHeld ↔ ((address ≤ GREATEST_ADDRESS) × IsNone (own_address self.old)) }
+        ensures full { IsErrOf result GarageError.BookFull ↔ ((address ≤ GREATEST_ADDRESS) × IsSome (own_address self.old) × IsFull self.old) }
         ensures only { IfErr result (λ e. (e ≡ GarageError.NotAnAddress) ⊎ (e ≡ GarageError.NotHeld) ⊎ (e ≡ GarageError.BookFull) ⊎ (e ≡ GarageError.OutOfMemory)) }
         ensures err { OnErr result (self.new ≡ self.old) }
         ensures lists { KeepsLists self.old self.new }

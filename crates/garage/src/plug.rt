@@ -1,4 +1,4 @@
-ghost use Rattle.std.specs.Prelude.{◌≡◌, ◌<◌, ◌≤◌, ◌+◌, ◌↔◌, ◌⊎◌, false, true, IfOk, IfErr, IsErr, IsErrOf, IsNone, IsSome, IsTrue, None, OnErr, OnOk, Some, length};
+ghost use Rattle.std.specs.Prelude.{◌≡◌, ◌<◌, ◌≤◌, ◌+◌, ◌^◌, ◌↔◌, ◌⊎◌, false, true, IfOk, IfErr, IsErr, IsErrOf, IsNone, IsSome, IsTrue, None, OnErr, OnOk, Some, length};
 ghost use Rattle.std.specs.Borrow.{sem, RestsIfErr};
 ghost use Rattle.bus_ledger.specs.BusValue.{IsUnit};
 ghost use Rattle.bus_ledger.specs.Newcomers.{join_refusal};
@@ -18,6 +18,7 @@ ghost use Rattle.garage.specs.contracts.garage.Garage.{the_row};
 use crate::error::GarageError;
 use crate::garage::Garage;
 use crate::steps::{Begin, HeardOne};
+use can_frame::GREATEST_ADDRESS;
 use fault_memory::{FaultChange, FaultError, FaultMemory};
 use name_field::Name;
 use std::alloc::Global;
@@ -122,15 +123,15 @@ impl Garage {
     ) -> Result<Parked, (Box<dyn Unit>, GarageError)>
         requires { Unit {0} }
         ensures ok { IfOk result (λ p. Adds self.old (Join (name_of unit) want) self.new × (p.unit ≡ unit) × (p.seat ≡ length (state_of self.old).traffic.seats) × IsSeated self.new p.seat (name_of unit) p.events) }
-        ensures not_an_address { (result ≡ Err (unit, GarageError.NotAnAddress)) ↔ (253 < want) }
-        ensures name_in_use { (result ≡ Err (unit, GarageError.NameInUse)) ↔ ((want ≤ 253) × (join_refusal (name_of unit) (state_of self.old).traffic ≡ Some bus.NameInUse)) }
-        ensures too_many { (result ≡ Err (unit, GarageError.TooManySeats)) ↔ ((want ≤ 253) × (join_refusal (name_of unit) (state_of self.old).traffic ≡ Some bus.TooManySeats)) }
-        ensures full { (result ≡ Err (unit, GarageError.BookFull)) ↔ ((want ≤ 253) × (join_refusal (name_of unit) (state_of self.old).traffic ≡ None) × IsFullForJoin self.old) }
+        ensures not_an_address { (result ≡ Err (unit, GarageError.NotAnAddress)) ↔ (GREATEST_ADDRESS < want) }
+        ensures name_in_use { (result ≡ Err (unit, GarageError.NameInUse)) ↔ ((want ≤ GREATEST_ADDRESS) × (join_refusal (name_of unit) (state_of self.old).traffic ≡ Some bus.NameInUse)) }
+        ensures too_many { (result ≡ Err (unit, GarageError.TooManySeats)) ↔ ((want ≤ GREATEST_ADDRESS) × (join_refusal (name_of unit) (state_of self.old).traffic ≡ Some bus.TooManySeats)) }
+        ensures full { (result ≡ Err (unit, GarageError.BookFull)) ↔ ((want ≤ GREATEST_ADDRESS) × (join_refusal (name_of unit) (state_of self.old).traffic ≡ None) × IsFullForJoin self.old) }
         ensures only { IfErr result (λ e. (e.1 ≡ GarageError.NotAnAddress) ⊎ IsJoinRefusal e.1) }
         ensures err { IfErr result (λ e. (e.0 ≡ unit) × (self.new ≡ self.old)) }
         ensures lists { KeepsLists self.old self.new }
     {
-        if want > 253 {
+        if want > GREATEST_ADDRESS {
             return Err((unit, GarageError::NotAnAddress));
         }
         let name = name_in(&unit);
@@ -232,6 +233,8 @@ impl<'a> Plug<'a> {
         ensures kept { (self.new.seat ≡ self.old.seat) × (self.new.name ≡ self.old.name) × (name_of self.new.unit ≡ name_of self.old.unit) }
         ensures ok { IfOk result (λ h. (u : _) × (self.new.unit ≡ record self.old.unit { value = u }) × Hears self.old.garage.now self.old.seat (memory_of self.old.unit) (Answers self.old.unit) self.old.unit.value h self.new.garage.now (memory_of self.new.unit) u) }
         ensures counted { IfOk result (λ h. self.new.events ≡ counted_hearing self.old.events h) }
+        // Hearing ends by this count.
+        ensures few { OnOk result (self.new.events < 2 ^ 32) }
         ensures nothing { (result ≡ Ok HeardOne.Nothing) ↔ (next_for (state_of self.old.garage.now) self.old.seat ≡ None) }
         ensures full { IsErrOf result GarageError.BookFull ↔ (IsSome (next_for (state_of self.old.garage.now) self.old.seat) × IsFull self.old.garage.now) }
         ensures only { IfErr result (λ e. (e ≡ GarageError.BookFull) ⊎ (e ≡ GarageError.OutOfMemory)) }

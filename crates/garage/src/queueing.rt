@@ -12,49 +12,51 @@ use node_core::{Heard, Outs, Part, Piece, Withdraw};
 use station_table::Reaction;
 use transport::Run;
 
+/// To which messages the frames belong that a unit puts.
+#[derive(Clone, Copy, Debug, PartialEq, Eq)]
+pub(crate) struct Numbering {
+    /// The number of the message that begins with them.
+    pub(crate) begun: u32,
+    /// Whether that message is a session.
+    pub(crate) is_session: bool,
+    /// The number of the message of the last session.
+    pub(crate) session: u32,
+}
+
 /// Queues what a unit puts, in order. The room is there.
-pub(crate) fn queue_outs(
-    bus: &mut Bus,
-    seat: u32,
-    mut put: Outs,
-    number: u32,
-    session: bool,
-    session_number: u32,
-)
+pub(crate) fn queue_outs(bus: &mut Bus, seat: u32, mut put: Outs, numbering: Numbering)
     requires live { IsLive bus.old.traffic seat }
     requires spare { length put ≤ spare_at bus.old seat }
     requires few { (seat_at bus.old.traffic seat).queued + length put < 2 ^ 32 }
-    ensures { bus.new.traffic ≡ put_all seat (map (tagged number session session_number) put) bus.old.traffic }
+    ensures { bus.new.traffic ≡ put_all seat (map (tagged numbering.begun numbering.is_session numbering.session) put) bus.old.traffic }
 {
     while let Some(piece) = put.take_piece() {
-        queue_piece(bus, seat, piece, number, session, session_number);
+        queue_piece(bus, seat, piece, numbering);
     }
 }
 
 /// Queues one frame that a unit puts, or the parts of a run. The room for it is there.
 #[tactic(auto, using(crate::proofs::Pieces::put_begun, crate::proofs::Pieces::put_session))]
-fn queue_piece(
-    bus: &mut Bus,
-    seat: u32,
-    piece: Piece,
-    number: u32,
-    session: bool,
-    session_number: u32,
-)
+fn queue_piece(bus: &mut Bus, seat: u32, piece: Piece, numbering: Numbering)
     requires live { IsLive bus.old.traffic seat }
     requires spare { 0 < spare_at bus.old seat }
     requires few { (seat_at bus.old.traffic seat).queued + length (outs_of piece) < 2 ^ 32 }
-    ensures traffic { bus.new.traffic ≡ put_all seat (map (tagged number session session_number) (outs_of piece)) bus.old.traffic }
+    ensures traffic { bus.new.traffic ≡ put_all seat (map (tagged numbering.begun numbering.is_session numbering.session) (outs_of piece)) bus.old.traffic }
     ensures spare { spare_at bus.old seat ≤ spare_at bus.new seat + 1 }
 {
     match piece {
         Piece::One(out) => {
-            let tag = tag_of(number, session, session_number, out.part);
+            let tag = tag_of(numbering, out.part);
             bus.queue_reserved(seat, out.frame, tag);
         }
         Piece::Many { run, part } => match part {
-            Part::Begun(_) => bus.queue_run_reserved(seat, run, number, session),
-            Part::Session(_) => bus.queue_run_reserved(seat, run, session_number, true),
+            Part::Begun(_) => bus.queue_run_reserved(
+                seat,
+                run,
+                numbering.begun,
+                numbering.is_session,
+            ),
+            Part::Session(_) => bus.queue_run_reserved(seat, run, numbering.session, true),
         },
     }
 }
@@ -72,18 +74,18 @@ pub(crate) fn queue_frames(bus: &mut Bus, seat: u32, frames: &[Frame])
 }
 
 /// Which message and part a frame is.
-fn tag_of(number: u32, session: bool, session_number: u32, part: Option<Part>) -> Option<Tag>
-    ensures { result ≡ steps.tag_of number session session_number part }
+fn tag_of(numbering: Numbering, part: Option<Part>) -> Option<Tag>
+    ensures { result ≡ steps.tag_of numbering.begun numbering.is_session numbering.session part }
 {
     match part {
         None => None,
         Some(Part::Begun(part)) => Some(Tag {
-            message: number,
+            message: numbering.begun,
             part,
-            session,
+            session: numbering.is_session,
         }),
         Some(Part::Session(part)) => Some(Tag {
-            message: session_number,
+            message: numbering.session,
             part,
             session: true,
         }),
@@ -130,22 +132,15 @@ fn withdraw_if(bus: &mut Bus, withdraw: bool)
 }
 
 /// Marks a unit's next frame as heard, and withdraws and queues what the unit withdraws and queues. The room is there.
-pub(crate) fn do_heard(
-    bus: &mut Bus,
-    seat: u32,
-    heard: Heard,
-    number: u32,
-    session: bool,
-    session_number: u32,
-)
+pub(crate) fn do_heard(bus: &mut Bus, seat: u32, heard: Heard, numbering: Numbering)
     requires unit { IsUnit bus.old.traffic seat }
     requires next { (seat_at bus.old.traffic seat).heard < length bus.old.traffic.wire }
     requires spare { length heard.put ≤ spare_at bus.old seat }
     requires few { (seat_at bus.old.traffic seat).queued + length heard.put < 2 ^ 32 }
-    ensures { bus.new.traffic ≡ put_all seat (map (tagged number session session_number) heard.put) (withdrawn_by seat heard.withdraw (heard_more seat 1 bus.old.traffic)) }
+    ensures { bus.new.traffic ≡ put_all seat (map (tagged numbering.begun numbering.is_session numbering.session) heard.put) (withdrawn_by seat heard.withdraw (heard_more seat 1 bus.old.traffic)) }
 {
     let Heard { withdraw, put, .. } = heard;
     bus.mark_heard(seat);
     withdraw_by(bus, seat, withdraw);
-    queue_outs(bus, seat, put, number, session, session_number);
+    queue_outs(bus, seat, put, numbering);
 }

@@ -50,7 +50,7 @@ pub(crate) fn make_ready(
     ensures memory { IfOk result (λ n. IsStored journal.new.memories n (memory_of unit.now)) }
     ensures lawful { OnOk result (IsLawfulMemory (memory_of unit.now)) }
     ensures room { OnOk result ((length journal.old.items + count ≤ limit) × (count ≤ journal.new.room)) }
-    ensures spare { OnOk result (256 ≤ spare_at bus.new seat) }
+    ensures spare { OnOk result (MOST_OUTS ≤ spare_at bus.new seat) }
     ensures full { IsErrOf result GarageError.BookFull ↔ (limit < length journal.old.items + count) }
     ensures only { IfErr result (λ e. (e ≡ GarageError.BookFull) ⊎ (e ≡ GarageError.OutOfMemory)) }
 {

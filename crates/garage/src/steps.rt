@@ -1,14 +1,15 @@
 ghost use Rattle.std.specs.Prelude.{◌≡◌, ◌≢◌, ◌+◌, ◌<◌, ◌^◌};
 ghost use Rattle.std.specs.Bool.{MatchBool};
+ghost use Rattle.can_frame.specs.declared.address.TheConstants.{GREATEST_ADDRESS};
 ghost use Rattle.can_frame.specs.declared.reading.Reading.TheVariants.{Empty};
 ghost use Rattle.journal.specs.Steps.{begins_session, session_message_after};
 ghost use Rattle.garage.specs.Answers.{count_with_begun};
 
 use crate::error::GarageError;
 use crate::garage::{Garage, Place};
-use crate::queueing::{do_heard, queue_frames, queue_outs, react};
+use crate::queueing::{Numbering, do_heard, queue_frames, queue_outs, react};
 use crate::room::{make_ready, make_room};
-use can_frame::{Frame, Reading};
+use can_frame::{Frame, GLOBAL_ADDRESS, Reading};
 use dm_messages::Kind;
 use journal::Tally;
 use name_field::Name;
@@ -59,7 +60,7 @@ impl Garage {
     /// where there is no memory; then nothing changed.
     #[tactic(auto, using(crate::proofs::Lists::lists_same, crate::proofs::Lists::lists_added))]
     pub(crate) fn join(&mut self, alloc: Global, name: Name, want: u8) -> Result<u32, GarageError>
-        requires { want ≤ 253 }
+        requires { want ≤ GREATEST_ADDRESS }
         ensures ok { IfOk result (λ k. (k ≡ length (state_of self.old).traffic.seats) × Adds self.old (Join name want) self.new × IsSeated self.new k name 1) }
         ensures name_in_use { IsErrOf result GarageError.NameInUse ↔ (join_refusal name (state_of self.old).traffic ≡ Some bus.NameInUse) }
         ensures too_many { IsErrOf result GarageError.TooManySeats ↔ (join_refusal name (state_of self.old).traffic ≡ Some bus.TooManySeats) }
@@ -125,17 +126,14 @@ impl Garage {
         let session = begins_session(heard.begun);
         place.session_message = last_session(place.session_message, self.begun, heard.begun);
         place.tally.events += 1;
-        let session_number = place.session_message;
+        let numbering = Numbering {
+            begun: self.begun,
+            is_session: session,
+            session: place.session_message,
+        };
         let begun = begun_count(self.begun, heard.begun);
         let answer = heard.answer;
-        do_heard(
-            &mut self.bus,
-            seat,
-            heard,
-            self.begun,
-            session,
-            session_number,
-        );
+        do_heard(&mut self.bus, seat, heard, numbering);
         self.begun = begun;
         self.journal.note_hear(seat, memory, answer);
         Ok(HeardOne::Frame(frame))
@@ -197,8 +195,12 @@ impl Garage {
         )?;
         let place = &mut self.places[seat as usize - 1];
         place.tally.events += 1;
-        let session_number = place.session_message;
-        queue_outs(&mut self.bus, seat, put, self.begun, false, session_number);
+        let numbering = Numbering {
+            begun: self.begun,
+            is_session: false,
+            session: place.session_message,
+        };
+        queue_outs(&mut self.bus, seat, put, numbering);
         self.begun += 1;
         self.journal.note_begin(seat, memory);
         Ok(())
@@ -240,9 +242,11 @@ impl Garage {
     /// The station takes its next reading; there is no event where it is empty.
     ///
     /// Refused, where there is a reading, where the journal has no room, then where there is no memory; then nothing changed.
-    #[tactic(auto, using(crate::proofs::Lists::lists_same, crate::proofs::Lists::lists_added))]
+    #[tactic(auto, using(crate::proofs::Lists::lists_same, crate::proofs::Lists::lists_added, crate::proofs::Lists::few_events))]
     pub fn read(&mut self, alloc: Global) -> Result<Reading, GarageError>
         ensures ok { IfOk result (λ r. Reads self.old r self.new) }
+        // Readings end by this count.
+        ensures few { length self.old.journal < 2 ^ 32 }
         ensures empty { (result ≡ Ok Reading.Empty) ↔ (next_reading (state_of self.old).traffic ≡ Reading.Empty) }
         ensures full { IsErrOf result GarageError.BookFull ↔ ((next_reading (state_of self.old).traffic ≢ Reading.Empty) × IsFull self.old) }
         ensures only { IfErr result (λ e. (e ≡ GarageError.BookFull) ⊎ (e ≡ GarageError.OutOfMemory)) }
@@ -268,7 +272,7 @@ fn begins_session(begun: Option<Begun>) -> bool
     ensures { result ≡ begins_session begun }
 {
     match begun {
-        Some(begun) => begun.dest != 255,
+        Some(begun) => begun.dest != GLOBAL_ADDRESS,
         None => false,
     }
 }

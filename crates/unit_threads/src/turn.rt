@@ -75,7 +75,6 @@ fn read_all(alloc: Global, garage: &mut Garage) -> Result<(), GarageError>
     ensures want { IfErr result IsWant }
 {
     loop {
-        let _count = garage.events();
         match garage.read(alloc)? {
             Reading::Empty => return Ok(()),
             Reading::Frame(_) | Reading::Gap(_) => {}
@@ -163,7 +162,6 @@ fn hear_all(alloc: Global, plug: &mut Plug<'_>) -> Result<(), GarageError>
     ensures want { IfErr result IsWant }
 {
     loop {
-        let _count = plug.events();
         match plug.hear(alloc)? {
             HeardOne::Nothing => return Ok(()),
             HeardOne::Frame(_) => {}

@@ -19,7 +19,7 @@ queue_piece-requires c =
 
 pub loop-piece-preserved : goal.loop-piece-preserved
 loop-piece-preserved c =
-    let tag = tagged c.args.number c.args.session c.args.session_number in
+    let tag = tagged c.args.numbering.begun c.args.numbering.is_session c.args.numbering.session in
     let seat = c.args.seat in
     let piece = c.in-Some.piece in
     let t = c.loop-piece.bus.traffic in
@@ -47,5 +47,5 @@ loop-piece-smaller c =
 
 pub returns : goal.returns
 returns c =
-    let tag = tagged c.args.number c.args.session c.args.session_number in
+    let tag = tagged c.args.numbering.begun c.args.numbering.is_session c.args.numbering.session in
     sym (ap (λ (l : List Out). put_all c.args.seat (map tag l) c.loop-piece.bus.traffic) c.in_default.ensures.pieces) ∙ c.loop-piece.invariant.traffic

@@ -5,7 +5,7 @@ use Rattle.garage.proofs.queueing.queue_outs.Given as goal
 
 abbrev pub invariant-loop-piece : goal.invariant-loop-piece
 invariant-loop-piece l = record {
-  traffic : put_all l.seat (map (tagged l.number l.session l.session_number) l.put) l.bus.traffic ≡ put_all l.seat (map (tagged l.number l.session l.session_number) l.fn.put) l.fn.bus.traffic;
+  traffic : put_all l.seat (map (tagged l.numbering.begun l.numbering.is_session l.numbering.session) l.put) l.bus.traffic ≡ put_all l.seat (map (tagged l.numbering.begun l.numbering.is_session l.numbering.session) l.fn.put) l.fn.bus.traffic;
   spare : length l.put ≤ spare_at l.bus l.seat;
   live : IsLive l.bus.traffic l.seat;
   few : (seat_at l.bus.traffic l.seat).queued + length l.put < 2 ^ 32;

@@ -3,6 +3,7 @@ pub mod Inside
 pub mod Carrying
 pub mod Room
 pub mod Causes
+pub mod Calls
 pub mod Answers
 pub mod Obeying
 pub mod Opening

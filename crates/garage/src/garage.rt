@@ -1,15 +1,11 @@
 ghost use Rattle.std.specs.Prelude.{◌≡◌};
 
-use crate::error::GarageError;
-use crate::room::make_room;
-use bus_ledger::{Bus, Carried, Counts};
-use can_frame::{Frame, Reading};
-use dm_messages::{Kind, Shown};
+use bus_ledger::{Bus, Counts};
+use can_frame::Frame;
 use journal::{Journal, Tally};
 use name_field::Name;
 use node_core::Node;
 use station_table::Station;
-use std::alloc::Global;
 use std::marker::Model;
 
 /// The most events that a journal may hold.
@@ -56,106 +52,15 @@ impl Model for Garage {
 }
 
 impl Garage {
-    ghost use Rattle.std.specs.Prelude.{◌≡◌, ℕ, ◌+◌, ◌<◌, ◌≤◌, ◌⊎◌, ◌^◌, ◌↔◌, length, reverse, slice_get, false, true, Err, IfOk, IfSome, IfErr, IsErrOf, OnErr, Ok, Some};
+    ghost use Rattle.std.specs.Prelude.{◌≡◌, ◌+◌, length, slice_get, false, IfSome};
+    ghost use Rattle.std.specs.List.{count_by};
     ghost use Rattle.std.specs.Option.{option_map};
-    ghost use Rattle.bus_ledger.specs.Carrying.{CanCarry, IsIdle, IsWaiting};
     ghost use Rattle.bus_ledger.specs.BusValue.{seat_at};
     ghost use Rattle.bus_ledger.specs.Ledger.{counts_of, is_from};
-    ghost use Rattle.std.specs.List.{count_by};
     ghost use Rattle.bus_ledger.specs.Newcomers.{live_units};
-    ghost use Rattle.bus_ledger.specs.Reception.{next_reading};
-    ghost use Rattle.station_table.specs.KeptValue.{entries_under};
-    ghost use Rattle.bus_model.specs.Heard.{entries_heard, missed_count, unread_count};
-    ghost use Rattle.bus_model.specs.ClearPath.{IsOnClearPath, NoneMissed};
-    ghost use Rattle.bus_model.specs.Expected.{is_clear};
     ghost use Rattle.bus_model.specs.LawfulTraffic.{IsLawfulTraffic};
-    ghost use Rattle.bus_model.specs.Messages.{Message, IsAmong};
-    ghost use Rattle.bus_model.specs.Whole.{received_whole};
-    ghost use Rattle.journal.specs.Journal.{injected_of, state_of, tally_of, readings_of, shown_of, Adds};
-    ghost use Rattle.journal.specs.Promises.{IsFromOwner, IsLawful, KeepsLists, wire_of};
-    ghost use Rattle.journal.specs.Worlds.{station_of};
-    ghost use Rattle.journal.specs.declared.event.Event.TheVariants.{Carry, Read};
-    ghost use Rattle.garage.specs.Carrying.{AddsCarry};
-    ghost use Rattle.garage.specs.Room.{IsFull};
-
-    /// Carries one frame; nothing changes where the answer is `Idle` or `Waiting`.
-    ///
-    /// Refused, where a frame could be carried, where the journal has no room, then where there is no memory; then nothing changed.
-    #[tactic(auto, using(crate::proofs::Lists::lists_same, crate::proofs::Lists::lists_added))]
-    pub fn carry(&mut self) -> Result<Carried, GarageError>
-        ensures ok { IfOk result (λ c. AddsCarry self.old c self.new) }
-        ensures idle { (result ≡ Ok Carried.Idle) ↔ IsIdle (state_of self.old).traffic }
-        ensures waiting { (result ≡ Ok Carried.Waiting) ↔ IsWaiting (state_of self.old).traffic }
-        ensures full { IsErrOf result GarageError.BookFull ↔ (CanCarry (state_of self.old).traffic × IsFull self.old) }
-        ensures err { IfErr result (λ e. (self.new ≡ self.old) × ((e ≡ GarageError.BookFull) ⊎ (e ≡ GarageError.OutOfMemory))) }
-        ensures lists { KeepsLists self.old self.new }
-    {
-        match make_room(&mut self.journal, self.live + 1, self.limit) {
-            Ok(()) => {}
-            Err(refusal) => return self.uncarried(refusal),
-        }
-        let carried = self.bus.carry()?;
-        let Carried::Frame { seat, frame: _ } = carried else {
-            return Ok(carried);
-        };
-        self.journal.note_carry(seat);
-        Ok(carried)
-    }
-
-    /// What a carry answers for which there is no room: the refusal where a frame could be carried.
-    fn uncarried(&self, refusal: GarageError) -> Result<Carried, GarageError>
-        ensures ok { IfOk result (λ c. AddsCarry self.now c self.now) }
-        ensures idle { (result ≡ Ok Carried.Idle) ↔ IsIdle (state_of self.now).traffic }
-        ensures waiting { (result ≡ Ok Carried.Waiting) ↔ IsWaiting (state_of self.now).traffic }
-        ensures err { (result ≡ Err refusal) ↔ CanCarry (state_of self.now).traffic }
-        ensures only { IfErr result (λ e. e ≡ refusal) }
-    {
-        match self.bus.carry_peek() {
-            Carried::Frame { seat: _, frame: _ } => Err(refusal),
-            Carried::Idle => Ok(Carried::Idle),
-            Carried::Waiting => Ok(Carried::Waiting),
-        }
-    }
-
-    /// The entries of a kind under a NAME, the oldest first; none where the NAME was never seen.
-    ///
-    /// Where no frame came from outside (`injected` answers 0) they are exactly the views of the fault memories with which units
-    /// of that NAME began messages of that kind whose frames were all read on a clear path, in the order begun (`expected`).
-    ///
-    /// - `heard`: whoever sent the frames, they are what was heard of the readings: what the frames read say, under the NAME that
-    ///   the last claim read gave.
-    /// - `quiet`: where nothing was missed they are the views of all messages whose last part was read; so in particular where
-    ///   each address was claimed under one NAME only.
-    /// - `looks_back`: what a clear path is, said without the walk of `expected`.
-    #[tactic(auto, using(crate::proofs::Headline::shown_expected, crate::proofs::Headline::shown_heard, crate::proofs::Headline::shown_quiet, crate::proofs::Headline::path_looks_back))]
-    pub fn shown(&self, name: Name, kind: Kind) -> &[Shown]
-        ensures expected { injected_of self.now.journal ≡ 0 → result.now ≡ shown_of self.now name kind }
-        ensures heard { result.now ≡ reverse (entries_heard (station_of self.now.settings) name kind (readings_of self.now.journal)) }
-        ensures quiet { injected_of self.now.journal ≡ 0 → NoneMissed (state_of self.now).path → result.now ≡ reverse (received_whole name kind (state_of self.now).begun (state_of self.now).path) }
-        ensures looks_back { injected_of self.now.journal ≡ 0 → (m : Message) → IsAmong m (state_of self.now).begun → (is_clear m (state_of self.now).path ≡ true) ↔ IsOnClearPath m (state_of self.now).path }
-        ensures kept { result.now ≡ entries_under (state_of self.now).station.rows name kind }
-    {
-        self.station.shown(name, kind)
-    }
-
-    /// How many frames the station was told of as missed.
-    #[tactic(auto, using(crate::proofs::Headline::missed_heard))]
-    pub fn missed(&self) -> u64
-        ensures heard { result ≡ missed_count (readings_of self.now.journal) }
-        ensures kept { result ≡ (state_of self.now).station.missed }
-    {
-        self.station.missed()
-    }
-
-    /// How many messages the station could not read: none where no frame came from outside.
-    #[tactic(auto, using(crate::proofs::Headline::none_unread, crate::proofs::Headline::unread_heard))]
-    pub fn unread(&self) -> u64
-        ensures none { injected_of self.now.journal ≡ 0 → result ≡ 0 }
-        ensures heard { result ≡ unread_count (station_of self.now.settings) (readings_of self.now.journal) }
-        ensures kept { result ≡ (state_of self.now).station.unread }
-    {
-        self.station.unread()
-    }
+    ghost use Rattle.journal.specs.Journal.{injected_of, state_of};
+    ghost use Rattle.journal.specs.Promises.{IsFromOwner, IsLawful, wire_of};
 
     /// What became of the frames that a seat queued; nothing where the seat was never given.
     ///

@@ -1,6 +1,7 @@
 //! The bus of one vehicle with its units and its station, and the journal of all that happens on it.
 #![tactic(auto)]
 
+mod carrying;
 mod error;
 mod garage;
 mod opening;
@@ -9,7 +10,10 @@ mod outside;
 mod plug;
 mod queries;
 mod queueing;
+mod readings;
 mod room;
+mod seats;
+mod shown;
 mod snapshot;
 mod steps;
 

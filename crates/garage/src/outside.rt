@@ -2,6 +2,7 @@ ghost use Rattle.std.specs.Prelude.{◌≡◌, ◌⊎◌, ◌↔◌, IfErr, IsEr
 ghost use Rattle.journal.specs.Journal.{injected_of, Adds};
 ghost use Rattle.journal.specs.Promises.{KeepsLists};
 ghost use Rattle.journal.specs.declared.event.Event.TheVariants.{Inject};
+ghost use Rattle.garage.specs.Calls.{IsWant};
 ghost use Rattle.garage.specs.Room.{IsFull};
 
 use crate::error::GarageError;
@@ -20,7 +21,7 @@ impl Garage {
     pub fn inject(&mut self, frame: Frame) -> Result<(), GarageError>
         ensures ok { OnOk result (Adds self.old (Inject frame) self.new) }
         ensures full { IsErrOf result GarageError.BookFull ↔ IsFull self.old }
-        ensures only { IfErr result (λ e. (e ≡ GarageError.BookFull) ⊎ (e ≡ GarageError.OutOfMemory)) }
+        ensures only { IfErr result IsWant }
         ensures err { OnErr result (self.new ≡ self.old) }
         ensures lists { KeepsLists self.old self.new }
     {

@@ -1,18 +1,15 @@
 ghost use Rattle.std.specs.Prelude.{◌≡◌, ◌<◌, ◌≤◌, ◌+◌, ◌^◌, ◌↔◌, ◌⊎◌, false, true, IfOk, IfErr, IsErr, IsErrOf, IsNone, IsSome, IsTrue, None, OnErr, OnOk, Some, length};
 ghost use Rattle.std.specs.Borrow.{sem, RestsIfErr};
 ghost use Rattle.bus_ledger.specs.BusValue.{IsUnit};
-ghost use Rattle.bus_ledger.specs.Newcomers.{join_refusal};
-ghost use Rattle.bus_ledger.specs.declared.error.BusError.TheVariants as bus;
 ghost use Rattle.fault_memory.specs.Changes.{changed, Grows};
 ghost use Rattle.fault_memory.specs.declared.error.FaultError.{FaultError as AnyFault};
 ghost use Rattle.journal.specs.Journal.{state_of, tally_of, Adds, IsSeated};
 ghost use Rattle.journal.specs.Promises.{IsLawful, KeepsLists};
 ghost use Rattle.journal.specs.declared.event.Event.TheVariants.{Join, Turned, Leave};
-ghost use Rattle.journal.specs.Steps.{next_for};
 ghost use Rattle.garage.specs.Answers.{Hears, Begins, counted_hearing, counted_beginning};
-ghost use Rattle.garage.specs.Causes.{held_at, has_open_dm1};
+ghost use Rattle.garage.specs.Calls.{BeginsFull, BeginsHeld, BeginsUnclaimed, HasNameInUse, HasNoRoomFor, HasTooMany, HearsFull, HearsNothing, IsBeginRefusal, IsWant};
 ghost use Rattle.garage.specs.Refusals.{IsJoinRefusal};
-ghost use Rattle.garage.specs.Room.{IsFull, IsFullForJoin};
+ghost use Rattle.garage.specs.Room.{IsFull};
 ghost use Rattle.garage.specs.contracts.garage.Garage.{the_row};
 
 use crate::error::GarageError;
@@ -124,9 +121,9 @@ impl Garage {
         requires { Unit {0} }
         ensures ok { IfOk result (λ p. Adds self.old (Join (name_of unit) want) self.new × (p.unit ≡ unit) × (p.seat ≡ length (state_of self.old).traffic.seats) × IsSeated self.new p.seat (name_of unit) p.events) }
         ensures not_an_address { (result ≡ Err (unit, GarageError.NotAnAddress)) ↔ (GREATEST_ADDRESS < want) }
-        ensures name_in_use { (result ≡ Err (unit, GarageError.NameInUse)) ↔ ((want ≤ GREATEST_ADDRESS) × (join_refusal (name_of unit) (state_of self.old).traffic ≡ Some bus.NameInUse)) }
-        ensures too_many { (result ≡ Err (unit, GarageError.TooManySeats)) ↔ ((want ≤ GREATEST_ADDRESS) × (join_refusal (name_of unit) (state_of self.old).traffic ≡ Some bus.TooManySeats)) }
-        ensures full { (result ≡ Err (unit, GarageError.BookFull)) ↔ ((want ≤ GREATEST_ADDRESS) × (join_refusal (name_of unit) (state_of self.old).traffic ≡ None) × IsFullForJoin self.old) }
+        ensures name_in_use { (result ≡ Err (unit, GarageError.NameInUse)) ↔ ((want ≤ GREATEST_ADDRESS) × HasNameInUse self.old (name_of unit)) }
+        ensures too_many { (result ≡ Err (unit, GarageError.TooManySeats)) ↔ ((want ≤ GREATEST_ADDRESS) × HasTooMany self.old (name_of unit)) }
+        ensures full { (result ≡ Err (unit, GarageError.BookFull)) ↔ ((want ≤ GREATEST_ADDRESS) × HasNoRoomFor self.old (name_of unit)) }
         ensures only { IfErr result (λ e. (e.1 ≡ GarageError.NotAnAddress) ⊎ IsJoinRefusal e.1) }
         ensures err { IfErr result (λ e. (e.0 ≡ unit) × (self.new ≡ self.old)) }
         ensures lists { KeepsLists self.old self.new }
@@ -235,9 +232,9 @@ impl<'a> Plug<'a> {
         ensures counted { IfOk result (λ h. self.new.events ≡ counted_hearing self.old.events h) }
         // Hearing ends by this count.
         ensures few { OnOk result (self.new.events < 2 ^ 32) }
-        ensures nothing { (result ≡ Ok HeardOne.Nothing) ↔ (next_for (state_of self.old.garage.now) self.old.seat ≡ None) }
-        ensures full { IsErrOf result GarageError.BookFull ↔ (IsSome (next_for (state_of self.old.garage.now) self.old.seat) × IsFull self.old.garage.now) }
-        ensures only { IfErr result (λ e. (e ≡ GarageError.BookFull) ⊎ (e ≡ GarageError.OutOfMemory)) }
+        ensures nothing { HearsNothing self.old.garage.now self.old.seat result }
+        ensures full { HearsFull self.old.garage.now self.old.seat result }
+        ensures only { IfErr result IsWant }
         ensures err { OnErr result ((self.new.garage.now ≡ self.old.garage.now) × (self.new.events ≡ self.old.events)) }
         ensures unasked { OnErr result (self.new.unit ≡ self.old.unit) }
         ensures lists { KeepsLists self.old.garage.now self.new.garage.now }
@@ -258,10 +255,10 @@ impl<'a> Plug<'a> {
         ensures kept { (self.new.seat ≡ self.old.seat) × (self.new.name ≡ self.old.name) × (self.new.unit ≡ self.old.unit) }
         ensures ok { IfOk result (λ b. Begins self.old.garage.now self.old.seat (memory_of self.old.unit) b self.new.garage.now) }
         ensures counted { IfOk result (λ b. self.new.events ≡ counted_beginning self.old.events b) }
-        ensures unclaimed { IsErrOf result GarageError.Unclaimed ↔ IsNone (held_at self.old.garage.now self.old.seat) }
-        ensures held { (result ≡ Ok Begin.Held) ↔ (IsSome (held_at self.old.garage.now self.old.seat) × (has_open_dm1 self.old.garage.now self.old.seat ≡ true)) }
-        ensures full { IsErrOf result GarageError.BookFull ↔ (IsSome (held_at self.old.garage.now self.old.seat) × (has_open_dm1 self.old.garage.now self.old.seat ≡ false) × IsFull self.old.garage.now) }
-        ensures only { IfErr result (λ e. (e ≡ GarageError.Unclaimed) ⊎ (e ≡ GarageError.BookFull) ⊎ (e ≡ GarageError.OutOfMemory)) }
+        ensures unclaimed { BeginsUnclaimed self.old.garage.now self.old.seat result }
+        ensures held { BeginsHeld self.old.garage.now self.old.seat result }
+        ensures full { BeginsFull self.old.garage.now self.old.seat result }
+        ensures only { IfErr result IsBeginRefusal }
         ensures err { OnErr result ((self.new.garage.now ≡ self.old.garage.now) × (self.new.events ≡ self.old.events)) }
         ensures lists { KeepsLists self.old.garage.now self.new.garage.now }
     {
@@ -281,7 +278,7 @@ impl<'a> Plug<'a> {
         ensures ok { OnOk result (Adds self.old.garage.now (Turned self.old.seat) self.new.garage.now) }
         ensures counted { OnOk result (self.new.events ≡ self.old.events + 1) }
         ensures full { IsErrOf result GarageError.BookFull ↔ IsFull self.old.garage.now }
-        ensures only { IfErr result (λ e. (e ≡ GarageError.BookFull) ⊎ (e ≡ GarageError.OutOfMemory)) }
+        ensures only { IfErr result IsWant }
         ensures err { OnErr result ((self.new.garage.now ≡ self.old.garage.now) × (self.new.events ≡ self.old.events)) }
         ensures lists { KeepsLists self.old.garage.now self.new.garage.now }
     {

@@ -2,6 +2,7 @@ ghost use Rattle.std.specs.Prelude.{◌≡◌, ◌+◌, ◌<◌, ◌≤◌, ◌^
 ghost use Rattle.fault_memory.specs.Memory.{IsLawfulMemory};
 ghost use Rattle.bus_ledger.specs.BusValue.{IsLive, spare_at};
 ghost use Rattle.journal.specs.Notes.{IsStored};
+ghost use Rattle.garage.specs.Calls.{IsWant};
 
 use crate::error::GarageError;
 use bus_ledger::Bus;
@@ -52,7 +53,7 @@ pub(crate) fn make_ready(
     ensures room { OnOk result ((length journal.old.items + count ≤ limit) × (count ≤ journal.new.room)) }
     ensures spare { OnOk result (MOST_OUTS ≤ spare_at bus.new seat) }
     ensures full { IsErrOf result GarageError.BookFull ↔ (limit < length journal.old.items + count) }
-    ensures only { IfErr result (λ e. (e ≡ GarageError.BookFull) ⊎ (e ≡ GarageError.OutOfMemory)) }
+    ensures only { IfErr result IsWant }
 {
     make_room(journal, count, limit)?;
     let memory = journal.remember(seat, unit.memory())?;

@@ -3,10 +3,11 @@ use Rattle.std.specs.Prelude.{ℕ, ◌≡◌, ◌≢◌, ◌⊎◌, ◌<◌, ◌
 use Rattle.journal.specs.Journal.{joins, tally_of}
 use Rattle.journal.specs.declared.event.Event.{Event}
 use Rattle.journal.specs.declared.tally.Tally.{Tally}
+use Rattle.garage.specs.Calls.{IsWant}
 use Rattle.garage.specs.Opening.{no_events}
 use Rattle.garage.specs.Refusals.{IsJoinRefusal, garage_error_number}
 use Rattle.garage.specs.declared.error.GarageError.{GarageError}
-use Rattle.garage.specs.declared.error.GarageError.TheVariants.{NotAnAddress, BookFull, OutOfMemory, Stranger}
+use Rattle.garage.specs.declared.error.GarageError.TheVariants.{NotAnAddress, Stranger}
 use Rattle.unit_threads.specs.declared.ended.Ended.{Ended}
 use Rattle.unit_threads.specs.declared.ended.EndReason.{EndReason}
 use Rattle.unit_threads.specs.declared.ended.EndReason.TheVariants as reason
@@ -15,10 +16,6 @@ use Rattle.unit_threads.specs.declared.ended.EndReason.TheVariants as reason
 abbrev pub number_of_end : EndReason → ℕ
 number_of_end (reason.Garage e) = garage_error_number e
 number_of_end reason.NoThread = 27
-
--- the journal had no room, or there was no memory
-abbrev pub IsWant : GarageError → Type 0
-IsWant e = (e ≡ BookFull) ⊎ (e ≡ OutOfMemory)
 
 -- what a mount is refused with
 abbrev pub IsMountRefusal : GarageError → Type 0

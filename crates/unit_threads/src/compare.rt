@@ -1,6 +1,7 @@
 ghost use Rattle.std.specs.Prelude.{◌≡◌, ◌≢◌, false, true, Some, length, vec_len};
 ghost use Rattle.std.specs.List.{All};
-ghost use Rattle.unit_threads.specs.Ends.{Agrees, AgreesAt, HaveOwnSeats, IsMountRefusal, IsStrangerAt, IsUnseated, IsWant};
+ghost use Rattle.garage.specs.Calls.{IsWant};
+ghost use Rattle.unit_threads.specs.Ends.{Agrees, AgreesAt, HaveOwnSeats, IsMountRefusal, IsStrangerAt, IsUnseated};
 
 use crate::ended::{EndReason, Ended};
 use garage::{Garage, GarageError};

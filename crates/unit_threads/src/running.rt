@@ -1,6 +1,7 @@
 ghost use Rattle.std.specs.Prelude.{◌≡◌, ◌+◌, ◌^◌, ◌<◌, ◌≤◌, IfErr, IfOk, IfSome, vec_capacity, vec_len};
 ghost use Rattle.std.specs.List.{All};
-ghost use Rattle.unit_threads.specs.Ends.{Agrees, HaveOwnSeats, IsWant};
+ghost use Rattle.garage.specs.Calls.{IsWant};
+ghost use Rattle.unit_threads.specs.Ends.{Agrees, HaveOwnSeats};
 
 use crate::compare::compared_ends;
 use crate::ended::{EndReason, Ended};

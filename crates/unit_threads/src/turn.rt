@@ -2,7 +2,7 @@ ghost use Rattle.std.specs.Prelude.{◌≡◌, ◌⊎◌, ◌↔◌, ◌<◌, �
 ghost use Rattle.journal.specs.Journal.{IsSeated, with_event};
 ghost use Rattle.journal.specs.declared.event.Event.TheVariants.{Leave};
 ghost use Rattle.unit_threads.specs.Turns.{CarriesAll, CarriesSome, GrowsBy, HasHeardAll, HasReadAll, IsHearOf, IsOneRead, IsOneTurn, IsPartOfRead, IsPartOfTurn, IsRead, IsTurnInSeat, KeepsSeats, LeavesAfterSome, LeftTurn, begun_by};
-ghost use Rattle.unit_threads.specs.Ends.{IsWant};
+ghost use Rattle.garage.specs.Calls.{IsWant};
 
 use can_frame::Reading;
 use garage::{Carried, Garage, GarageError, HeardOne, Parked, Plug};

@@ -1,0 +1,55 @@
+ghost use Rattle.std.specs.Prelude.{◌≡◌, ◌↔◌, reverse, true};
+ghost use Rattle.bus_model.specs.ClearPath.{IsOnClearPath, NoneMissed};
+ghost use Rattle.bus_model.specs.Expected.{is_clear};
+ghost use Rattle.bus_model.specs.Heard.{entries_heard, missed_count, unread_count};
+ghost use Rattle.bus_model.specs.Messages.{Message, IsAmong};
+ghost use Rattle.bus_model.specs.Whole.{received_whole};
+ghost use Rattle.journal.specs.Journal.{injected_of, state_of, readings_of, shown_of};
+ghost use Rattle.journal.specs.Worlds.{station_of};
+ghost use Rattle.station_table.specs.KeptValue.{entries_under};
+
+use crate::garage::Garage;
+use dm_messages::{Kind, Shown};
+use name_field::Name;
+
+impl Garage {
+    /// The entries of a kind under a NAME, the oldest first; none where the NAME was never seen.
+    ///
+    /// Where no frame came from outside (`injected` answers 0) they are exactly the views of the fault memories with which units
+    /// of that NAME began messages of that kind whose frames were all read on a clear path, in the order begun (`expected`).
+    ///
+    /// - `heard`: whoever sent the frames, they are what was heard of the readings: what the frames read say, under the NAME that
+    ///   the last claim read gave.
+    /// - `quiet`: where nothing was missed they are the views of all messages whose last part was read; so in particular where
+    ///   each address was claimed under one NAME only.
+    /// - `looks_back`: what a clear path is, said without the walk of `expected`.
+    #[tactic(auto, using(crate::proofs::Headline::shown_expected, crate::proofs::Headline::shown_heard, crate::proofs::Headline::shown_quiet, crate::proofs::Headline::path_looks_back))]
+    pub fn shown(&self, name: Name, kind: Kind) -> &[Shown]
+        ensures expected { injected_of self.now.journal ≡ 0 → result.now ≡ shown_of self.now name kind }
+        ensures heard { result.now ≡ reverse (entries_heard (station_of self.now.settings) name kind (readings_of self.now.journal)) }
+        ensures quiet { injected_of self.now.journal ≡ 0 → NoneMissed (state_of self.now).path → result.now ≡ reverse (received_whole name kind (state_of self.now).begun (state_of self.now).path) }
+        ensures looks_back { injected_of self.now.journal ≡ 0 → (m : Message) → IsAmong m (state_of self.now).begun → (is_clear m (state_of self.now).path ≡ true) ↔ IsOnClearPath m (state_of self.now).path }
+        ensures kept { result.now ≡ entries_under (state_of self.now).station.rows name kind }
+    {
+        self.station.shown(name, kind)
+    }
+
+    /// How many frames the station was told of as missed.
+    #[tactic(auto, using(crate::proofs::Headline::missed_heard))]
+    pub fn missed(&self) -> u64
+        ensures heard { result ≡ missed_count (readings_of self.now.journal) }
+        ensures kept { result ≡ (state_of self.now).station.missed }
+    {
+        self.station.missed()
+    }
+
+    /// How many messages the station could not read: none where no frame came from outside.
+    #[tactic(auto, using(crate::proofs::Headline::none_unread, crate::proofs::Headline::unread_heard))]
+    pub fn unread(&self) -> u64
+        ensures none { injected_of self.now.journal ≡ 0 → result ≡ 0 }
+        ensures heard { result ≡ unread_count (station_of self.now.settings) (readings_of self.now.journal) }
+        ensures kept { result ≡ (state_of self.now).station.unread }
+    {
+        self.station.unread()
+    }
+}

@@ -1,0 +1,206 @@
+/* The proved diagnostic station for SAE J1939, for programs in C11 and C++.
+ *
+ * A program hands over the frames that it reads of one bus, in their order, sends what the station replies, and asks for the lists
+ * by NAME. What each call does is proved of the library (crate station_c), as long as the C side does its part:
+ *
+ *  - A station is held in a `hidzgula_station`, which begins as HIDZGULA_EMPTY (all its bytes 0). Its members are the library's:
+ *    nobody else reads or writes them, and it is never copied or moved, from `hidzgula_open` to `hidzgula_close`.
+ *  - A station is given to one call at a time, and stays on the thread that opened it. Several stations are independent.
+ *  - Each pointer points to what its type says: aligned, large enough, not NULL, and no two of one call overlap. Only `bytes` may
+ *    be anything that is not NULL where `length` is 0. What is written to need not have been set.
+ *  - `malloc`, `realloc` and `free` are of one allocator, and align a block of 16 bytes or more to 16.
+ *  - No call comes from a signal handler, or from the forked child of a process with threads.
+ *  - A call has 64 KB of stack.
+ *
+ * Whatever the state of its station and whatever the numbers that it is given, each call then returns. It answers HIDZGULA_DONE, or
+ * why it was refused; refused, it has changed nothing: neither the station nor what the other pointers point to. Where two reasons
+ * hold, the one told is the first in the list at the call.
+ */
+#ifndef HIDZGULA_STATION_H
+#define HIDZGULA_STATION_H
+
+#include <stdbool.h>
+#include <stddef.h>
+#include <stdint.h>
+
+#ifdef __cplusplus
+extern "C" {
+#define HIDZGULA_LAYOUT(holds) static_assert(holds, #holds)
+#else
+#define HIDZGULA_LAYOUT(holds) _Static_assert(holds, #holds)
+#endif
+
+/* What a call answers. */
+enum {
+    HIDZGULA_DONE = 0,
+    HIDZGULA_ID_TOO_LARGE = 1,   /* an identifier of 2^29 or more */
+    HIDZGULA_TOO_LONG = 2,       /* more than 8 bytes in a frame */
+    HIDZGULA_NOT_AN_ADDRESS = 7, /* 254 or 255 where an address to hold is asked for */
+    HIDZGULA_NO_ADDRESS = 22,    /* the station knows no address of that NAME */
+    HIDZGULA_NOT_HELD = 23,      /* the station holds no address of its own */
+    HIDZGULA_BAD_SETTING = 24,   /* an address above 253, or a grant of 0 */
+    HIDZGULA_PGN_TOO_LARGE = 28, /* a parameter group number of 2^24 or more */
+    HIDZGULA_NO_STATION = 29,    /* the handle is empty: not opened, or closed */
+    HIDZGULA_HAS_STATION = 30,   /* the handle has an open station */
+    HIDZGULA_NO_PLACE = 31,      /* no row, entry or code at that place */
+    HIDZGULA_NO_KIND = 32,       /* a kind that is neither HIDZGULA_DM1 nor HIDZGULA_DM2 */
+    HIDZGULA_OUT_OF_MEMORY = 33  /* memory was refused */
+};
+
+/* The kinds of diagnostic messages. */
+enum {
+    HIDZGULA_DM1 = 1, /* lamps and active trouble codes */
+    HIDZGULA_DM2 = 2  /* lamps and previously active trouble codes */
+};
+
+/* Parameter groups to ask for. */
+enum {
+    HIDZGULA_PGN_ADDRESS_CLAIMED = 60928, /* the address that is claimed */
+    HIDZGULA_PGN_DM1 = 65226,             /* the active codes */
+    HIDZGULA_PGN_DM2 = 65227,             /* the previously active codes */
+    HIDZGULA_PGN_DM3 = 65228,             /* to clear the previously active codes */
+    HIDZGULA_PGN_DM11 = 65235             /* to clear the active codes */
+};
+
+/* Room for a station. */
+typedef struct {
+    void *at;
+    bool full;
+} hidzgula_station;
+
+#define HIDZGULA_EMPTY { NULL, false }
+
+/* A frame to send: an identifier of 29 bits, and `length` bytes, 0 to 8. */
+typedef struct {
+    uint32_t id;
+    uint8_t length;
+    uint8_t bytes[8];
+} hidzgula_frame;
+
+/* What the station answers: where `withdraw` is 1 and not 0, the frames of earlier replies that were not sent yet are not to be
+ * sent; then the first `count` of `frames` are to be sent, 0 to 3, in their order. */
+typedef struct {
+    uint8_t withdraw;
+    uint8_t count;
+    hidzgula_frame frames[3];
+} hidzgula_reply;
+
+/* What is known of a NAME: its address where `has_address` is 1, 0 to 253, and its last acknowledgment to the station where `has_ack`
+ * is 1: the control byte (0 positive, 1 negative, 2 access denied, 3 cannot respond now) and the parameter group. A flag that is not
+ * 1 is 0, and so is what it stands for. */
+typedef struct {
+    uint64_t name;
+    uint8_t has_address;
+    uint8_t address;
+    uint8_t has_ack;
+    uint8_t ack_control;
+    uint32_t ack_pgn;
+} hidzgula_row_out;
+
+/* A message of a NAME: the first two bytes of DM1 and DM2, which are the states of the lamps (from the highest bits: malfunction
+ * indicator, red stop, amber warning, protect) and how they flash; and how many trouble codes it has. */
+typedef struct {
+    uint8_t lamps;
+    uint8_t flashes;
+    size_t codes;
+} hidzgula_entry_out;
+
+/* A trouble code: SPN up to 524,287, FMI up to 31, occurrence count up to 127, which stands for not available. */
+typedef struct {
+    uint32_t spn;
+    uint8_t fmi;
+    uint8_t count;
+} hidzgula_code_out;
+
+HIDZGULA_LAYOUT(sizeof(size_t) == 8);
+HIDZGULA_LAYOUT(sizeof(bool) == 1);
+HIDZGULA_LAYOUT(sizeof(hidzgula_station) == 16);
+HIDZGULA_LAYOUT(offsetof(hidzgula_station, full) == 8);
+HIDZGULA_LAYOUT(sizeof(hidzgula_frame) == 16);
+HIDZGULA_LAYOUT(offsetof(hidzgula_frame, length) == 4);
+HIDZGULA_LAYOUT(offsetof(hidzgula_frame, bytes) == 5);
+HIDZGULA_LAYOUT(sizeof(hidzgula_reply) == 52);
+HIDZGULA_LAYOUT(offsetof(hidzgula_reply, count) == 1);
+HIDZGULA_LAYOUT(offsetof(hidzgula_reply, frames) == 4);
+HIDZGULA_LAYOUT(sizeof(hidzgula_row_out) == 16);
+HIDZGULA_LAYOUT(offsetof(hidzgula_row_out, has_address) == 8);
+HIDZGULA_LAYOUT(offsetof(hidzgula_row_out, address) == 9);
+HIDZGULA_LAYOUT(offsetof(hidzgula_row_out, has_ack) == 10);
+HIDZGULA_LAYOUT(offsetof(hidzgula_row_out, ack_control) == 11);
+HIDZGULA_LAYOUT(offsetof(hidzgula_row_out, ack_pgn) == 12);
+HIDZGULA_LAYOUT(sizeof(hidzgula_entry_out) == 16);
+HIDZGULA_LAYOUT(offsetof(hidzgula_entry_out, flashes) == 1);
+HIDZGULA_LAYOUT(offsetof(hidzgula_entry_out, codes) == 8);
+HIDZGULA_LAYOUT(sizeof(hidzgula_code_out) == 8);
+HIDZGULA_LAYOUT(offsetof(hidzgula_code_out, fmi) == 4);
+HIDZGULA_LAYOUT(offsetof(hidzgula_code_out, count) == 5);
+#undef HIDZGULA_LAYOUT
+
+/* Opens a station of this NAME, which holds `address`, 0 to 253, and lets a sender send at most `grant` packets at once, 1 to 255.
+ * It has read nothing. A gateway that sends begins with the frame of `hidzgula_claim`.
+ * BAD_SETTING, HAS_STATION, OUT_OF_MEMORY. */
+uint32_t hidzgula_open(hidzgula_station *station, uint64_t name, uint8_t address, uint8_t grant);
+
+/* Closes a station and frees all its memory; does nothing where there is none. */
+void hidzgula_close(hidzgula_station *station);
+
+/* The station takes a frame that was read of the bus: its 29-bit identifier, and `length` bytes. Frames with 11-bit identifiers,
+ * remote frames and error frames are not handed over; nor are the station's own, which it knows.
+ * ID_TOO_LARGE, TOO_LONG, NO_STATION, OUT_OF_MEMORY. After OUT_OF_MEMORY the frame may be handed over again, or be counted as
+ * missed by `hidzgula_take_gap`. */
+uint32_t hidzgula_take_frame(hidzgula_station *station, uint32_t id, const uint8_t *bytes, size_t length, hidzgula_reply *reply);
+
+/* The station is told that `count` frames of the bus were missed: it forgets which NAME owns which address, and all messages that
+ * are half read, until units claim again. Its reply is a claim, and a request for the claims of all.
+ * NO_STATION, OUT_OF_MEMORY. */
+uint32_t hidzgula_take_gap(hidzgula_station *station, uint32_t count, hidzgula_reply *reply);
+
+/* The station's claim of its address, or its cannot claim where it holds none: what a station sends first.
+ * NO_STATION. */
+uint32_t hidzgula_claim(hidzgula_station *station, hidzgula_frame *frame);
+
+/* The station's own address: `has` is 1 and `address` is 0 to 253 where it holds one, else both are 0.
+ * NO_STATION. */
+uint32_t hidzgula_held(hidzgula_station *station, uint8_t *has, uint8_t *address);
+
+/* Asks the unit of a NAME for a parameter group, below 2^24: `reply` has the request. A group to clear codes clears them at units
+ * that agree.
+ * PGN_TOO_LARGE, NO_STATION, NOT_HELD, NO_ADDRESS, OUT_OF_MEMORY. */
+uint32_t hidzgula_ask(hidzgula_station *station, uint64_t name, uint32_t pgn, hidzgula_reply *reply);
+
+/* Asks all units for a parameter group, below 2^24: `reply` has the request.
+ * PGN_TOO_LARGE, NO_STATION, NOT_HELD, OUT_OF_MEMORY. */
+uint32_t hidzgula_ask_all(hidzgula_station *station, uint32_t pgn, hidzgula_reply *reply);
+
+/* Commands the unit of a NAME to hold an address, 0 to 253: `reply` has three frames, of a broadcast of nine bytes.
+ * NO_STATION, NOT_AN_ADDRESS, NOT_HELD, OUT_OF_MEMORY. */
+uint32_t hidzgula_command(hidzgula_station *station, uint64_t name, uint8_t address, hidzgula_reply *reply);
+
+/* How many NAMEs have a row: those whose claims were read.
+ * NO_STATION. */
+uint32_t hidzgula_rows(hidzgula_station *station, size_t *count);
+
+/* The row at a place, from 0, in the order of the NAMEs' first claims.
+ * NO_STATION, NO_PLACE. */
+uint32_t hidzgula_row(hidzgula_station *station, size_t place, hidzgula_row_out *row);
+
+/* How many messages of a kind stand under a NAME; 0 for a NAME that has no row.
+ * NO_KIND, NO_STATION. */
+uint32_t hidzgula_entries(hidzgula_station *station, uint64_t name, uint8_t kind, size_t *count);
+
+/* The message at a place of that list, from 0, the oldest first.
+ * NO_KIND, NO_STATION, NO_PLACE. */
+uint32_t hidzgula_entry(hidzgula_station *station, uint64_t name, uint8_t kind, size_t place, hidzgula_entry_out *entry);
+
+/* The trouble code at a place of the message at the place `entry`, both from 0, in the order of the message.
+ * NO_KIND, NO_STATION, NO_PLACE. */
+uint32_t hidzgula_code(hidzgula_station *station, uint64_t name, uint8_t kind, size_t entry, size_t place, hidzgula_code_out *code);
+
+/* How many frames were missed, and how many messages ended that could not be read; each up to the greatest 64-bit number.
+ * NO_STATION. */
+uint32_t hidzgula_counts(hidzgula_station *station, uint64_t *missed, uint64_t *unread);
+
+#ifdef __cplusplus
+}
+#endif
+#endif

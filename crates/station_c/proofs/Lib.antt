@@ -1,0 +1,5 @@
+pub mod Answered
+pub mod HandleValues
+pub mod MachineValues
+pub mod Named
+pub mod ThreeFrames

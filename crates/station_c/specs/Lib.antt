@@ -1,0 +1,5 @@
+pub mod Handles
+pub mod Held
+pub mod Orders
+pub mod Records
+pub mod Statuses

@@ -1,0 +1,53 @@
+//! A station is opened in a handle, and closed.
+ghost use Rattle.std.specs.Prelude.{◌≡◌, ◌⊎◌, ◌↔◌, ◌<◌, ◌≤◌, true, false, []};
+ghost use Rattle.station_c.specs.Handles.{HoldsSame, HoldsReadings};
+ghost use Rattle.station_c.specs.Statuses.{Answers, DoneUnlessMemory};
+
+use crate::handle::StationHandle;
+use crate::status::Status;
+use can_frame::GREATEST_ADDRESS;
+use name_field::Name;
+use station_table::Station;
+use std::alloc::Global;
+
+/// Opens a station of this NAME, which holds this address, 0 to 253, and grants at most this many packets at once, at least one.
+/// It has read nothing.
+///
+/// Refused, in this order: `BadSetting` for an address above 253 or a grant of 0, `HasStation`, `OutOfMemory`; the handle
+/// is then as it was.
+#[unsafe(no_mangle)]
+pub extern "C" fn hidzgula_open(
+    alloc: Global,
+    handle: &mut StationHandle,
+    name: u64,
+    address: u8,
+    grant: u8,
+) -> u32
+    ensures opened { Answers result Status.Done → HoldsReadings (record { name = name; address = address }) grant handle.new [] }
+    ensures kept { ¬ Answers result Status.Done → HoldsSame handle.old handle.new }
+    ensures bad_setting { Answers result Status.BadSetting ↔ ((253 < address) ⊎ (grant ≡ 0)) }
+    ensures has_station { Answers result Status.HasStation ↔ ((address ≤ 253) × (0 < grant) × (handle.old.full ≡ true)) }
+    ensures done { (address ≤ 253) → (0 < grant) → (handle.old.full ≡ false) → DoneUnlessMemory result }
+{
+    if address > GREATEST_ADDRESS || grant == 0 {
+        return Status::BadSetting.number();
+    }
+    if let Some(station) = handle.lift(alloc) {
+        handle.put(station);
+        return Status::HasStation.number();
+    }
+    let station = Station::new(alloc, Name::from_number(name), address, grant);
+    let Ok(station) = Box::new(alloc, station) else {
+        return Status::OutOfMemory.number();
+    };
+    handle.put(station);
+    Status::Done.number()
+}
+
+/// Closes the station of a handle, if it has one, and frees its memory.
+#[unsafe(no_mangle)]
+pub extern "C" fn hidzgula_close(alloc: Global, handle: &mut StationHandle)
+    ensures { handle.new.full ≡ false }
+{
+    let _station = handle.lift(alloc);
+}

@@ -1,0 +1,17 @@
+//! The diagnostic station for programs in C and C++, as a static library.
+//!
+//! A C program holds a `StationHandle`, which is empty at first, and gives it to one call at a time: `exports` has a function
+//! for each. Each answers the number of a `Status`; a call that is not done changes nothing. `c/hidzgula_station.h` tells the
+//! C side's half.
+#![tactic(auto)]
+
+mod exports;
+mod handle;
+mod raw_box;
+mod records;
+mod replies;
+mod status;
+
+pub use handle::StationHandle;
+pub use records::{CodeRecord, EntryRecord, FrameRecord, ReplyRecord, RowRecord};
+pub use status::Status;

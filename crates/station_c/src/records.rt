@@ -1,0 +1,151 @@
+//! What a call writes for C, in C's layout. `c/hidzgula_station.h` has the same structs.
+ghost use Rattle.std.specs.Prelude.{◌≡◌, ℕ, ◌≤◌, Some, length, slice_get};
+ghost use Rattle.can_frame.specs.FrameValue.{FrameValue};
+
+use can_frame::Frame;
+use station_table::Reaction;
+
+/// A frame to send.
+#[repr(C)]
+#[derive(Clone, Copy, Debug)]
+pub struct FrameRecord {
+    /// The identifier, 29 bits.
+    pub id: u32,
+    /// How many bytes it has, 0 to 8.
+    pub len: u8,
+    /// The bytes, and 0 after them.
+    pub bytes: [u8; 8],
+}
+
+/// What the station does in answer: what is to be withdrawn, and up to three frames to send.
+#[repr(C)]
+#[derive(Clone, Copy, Debug)]
+pub struct ReplyRecord {
+    /// 1 where the frames of earlier replies that were not sent yet are withdrawn, else 0.
+    pub withdraw: u8,
+    /// How many frames there are to send, 0 to 3.
+    pub count: u8,
+    /// The frames in their order.
+    pub frames: [FrameRecord; 3],
+}
+
+/// What is known of a NAME.
+#[repr(C)]
+#[derive(Clone, Copy, Debug)]
+pub struct RowRecord {
+    /// The NAME.
+    pub name: u64,
+    /// 1 where its address is known, else 0.
+    pub has_address: u8,
+    /// Its address; 0 where none is known.
+    pub address: u8,
+    /// 1 where it acknowledged something to the station, else 0.
+    pub has_ack: u8,
+    /// What it acknowledged with: 0 positive, 1 negative, 2 access denied, 3 cannot respond now, or another number.
+    pub ack_control: u8,
+    /// The parameter group that was acknowledged.
+    pub ack_pgn: u32,
+}
+
+/// A message of a NAME: its lamps, and how many codes.
+#[repr(C)]
+#[derive(Clone, Copy, Debug)]
+pub struct EntryRecord {
+    /// The byte of the lamps' states.
+    pub lamps: u8,
+    /// The byte that tells how they flash.
+    pub flashes: u8,
+    /// How many codes the message has.
+    pub codes: usize,
+}
+
+/// A trouble code.
+#[repr(C)]
+#[derive(Clone, Copy, Debug)]
+pub struct CodeRecord {
+    /// The suspect parameter number, at most 524,287.
+    pub spn: u32,
+    /// The failure mode identifier, at most 31.
+    pub fmi: u8,
+    /// The occurrence count, at most 127; 127 stands for not available.
+    pub count: u8,
+}
+
+const _: () = prove!(size_of::<FrameRecord>() == 16);
+
+const _: () = prove!(size_of::<ReplyRecord>() == 52);
+
+const _: () = prove!(size_of::<RowRecord>() == 16);
+
+const _: () = prove!(size_of::<EntryRecord>() == 16);
+
+const _: () = prove!(size_of::<CodeRecord>() == 8);
+
+const _: () = prove!(align_of::<FrameRecord>() == 4);
+
+const _: () = prove!(align_of::<ReplyRecord>() == 4);
+
+const _: () = prove!(align_of::<RowRecord>() == 8);
+
+const _: () = prove!(align_of::<EntryRecord>() == 8);
+
+const _: () = prove!(align_of::<CodeRecord>() == 4);
+
+impl FrameRecord {
+    ghost use Rattle.station_c.specs.Records.{frame_recorded};
+
+    /// A place of no frame.
+    fn none() -> FrameRecord {
+        FrameRecord {
+            id: 0,
+            len: 0,
+            bytes: [0; 8],
+        }
+    }
+
+    /// The record of a frame.
+    pub fn of(frame: &Frame) -> FrameRecord
+        ensures { frame_recorded result ≡ frame.now }
+    {
+        let from = frame.bytes();
+        let mut bytes = [0; 8];
+        bytes[..from.len()].copy_from_slice(from);
+        FrameRecord {
+            id: frame.id().number(),
+            len: from.len() as u8,
+            bytes,
+        }
+    }
+
+    /// The record of the frame at this place, if there is one.
+    fn at(frames: &[Frame], place: usize) -> FrameRecord
+        ensures { (f : FrameValue) → slice_get frames.now place ≡ Some f → frame_recorded result ≡ f }
+    {
+        match frames.get(place) {
+            Some(frame) => FrameRecord::of(frame),
+            None => FrameRecord::none(),
+        }
+    }
+}
+
+impl ReplyRecord {
+    ghost use Rattle.station_c.specs.Records.{TellsReaction};
+
+    /// The record of a reaction of at most three frames.
+    #[tactic(auto, using(crate::proofs::ThreeFrames::three_at_most))]
+    pub fn of(reaction: &Reaction) -> ReplyRecord
+        requires { length reaction.now.put ≤ 3 }
+        ensures { TellsReaction result reaction.now }
+    {
+        let frames = reaction.put.as_slice();
+        ReplyRecord {
+            withdraw: u8::from(reaction.withdraw),
+            count: frames.len() as u8,
+            frames: [
+                FrameRecord::at(frames, 0),
+                FrameRecord::at(frames, 1),
+                FrameRecord::at(frames, 2),
+            ],
+        }
+    }
+}

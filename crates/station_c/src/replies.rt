@@ -1,0 +1,22 @@
+ghost use Rattle.std.specs.Prelude.{◌≡◌, ◌≤◌, length, IfOk, IfErr};
+ghost use Rattle.station_c.specs.Records.{TellsReaction};
+ghost use Rattle.station_c.specs.Statuses.{status_of_station};
+
+use crate::records::ReplyRecord;
+use crate::status::Status;
+use station_table::{Reaction, StationError};
+
+/// Writes what the station answered, and says how the call went. The reply stays as it was where the station refused.
+pub fn reply_with(answer: Result<Reaction, StationError>, reply: &mut ReplyRecord) -> Status
+    requires { IfOk answer (λ x. length x.put ≤ 3) }
+    ensures done { IfOk answer (λ x. (result ≡ Status.Done) × TellsReaction reply.new x) }
+    ensures refused { IfErr answer (λ e. (result ≡ status_of_station e) × (reply.new ≡ reply.old)) }
+{
+    match answer {
+        Ok(reaction) => {
+            *reply = ReplyRecord::of(&reaction);
+            Status::Done
+        }
+        Err(refusal) => Status::of_station(refusal),
+    }
+}

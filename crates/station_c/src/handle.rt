@@ -21,6 +21,10 @@ pub struct StationHandle {
     pub ghost value: { StationValue },
 }
 
+const _: () = prove!(size_of::<StationHandle>() == 16);
+
+const _: () = prove!(align_of::<StationHandle>() == 8);
+
 impl Model for StationHandle {
     ghost also_owns = { λ h. held h.full h.at h.value };
 }

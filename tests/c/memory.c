@@ -1,0 +1,240 @@
+/* Refuses each request for memory in turn. The calls are: open, the frames of the candump log on standard input with a gap and the
+ * three orders after every 200, close. In run N the Nth request is refused: the call that made it must answer OUT_OF_MEMORY and write
+ * nothing, and what the station tells after it must be what a station tells that did the calls before it alone. The call is then made
+ * again, and the rest of the calls; at the end the station must tell the same as one that was refused nothing, and all memory must
+ * have been given back.
+ *
+ * Linked with --wrap for malloc, realloc and free, which the archive calls. */
+#include "hidzgula_station.h"
+
+#include <inttypes.h>
+#include <stdio.h>
+#include <stdlib.h>
+#include <string.h>
+
+void *__real_malloc(size_t size);
+void *__real_realloc(void *block, size_t size);
+void __real_free(void *block);
+
+/* how many requests there were, which one is refused, how many blocks are held, and whether requests count now */
+static size_t requests, refused_one, live;
+static bool counts, was_refused;
+
+static bool refuse(void)
+{
+    if (!counts || ++requests != refused_one) return false;
+    was_refused = true;
+    return true;
+}
+
+void *__wrap_malloc(size_t size)
+{
+    void *block = refuse() ? NULL : __real_malloc(size);
+    if (block) live++;
+    return block;
+}
+
+void *__wrap_realloc(void *block, size_t size)
+{
+    void *moved = refuse() ? NULL : __real_realloc(block, size);
+    if (moved && !block) live++;
+    return moved;
+}
+
+void __wrap_free(void *block)
+{
+    if (block) live--;
+    __real_free(block);
+}
+
+enum { MOST = 1 << 13 };
+
+static struct step {
+    enum { FRAME, GAP, ASK, ASK_ALL, COMMAND } what;
+    uint32_t id;
+    size_t length;
+    uint8_t bytes[8];
+} steps[MOST];
+
+static size_t step_count;
+
+static uint32_t done(hidzgula_station *station, const struct step *step, hidzgula_reply *reply)
+{
+    uint32_t answer = HIDZGULA_DONE;
+    counts = true;
+    switch (step->what) {
+    case FRAME:
+        answer = hidzgula_take_frame(station, step->id, step->bytes, step->length, reply);
+        break;
+    case GAP:
+        answer = hidzgula_take_gap(station, 1, reply);
+        break;
+    case ASK:
+        answer = hidzgula_ask(station, 0x1000000001419907, HIDZGULA_PGN_DM2, reply);
+        break;
+    case ASK_ALL:
+        answer = hidzgula_ask_all(station, HIDZGULA_PGN_DM2, reply);
+        break;
+    case COMMAND:
+        answer = hidzgula_command(station, 0x1000000001419907, 100, reply);
+        break;
+    }
+    counts = false;
+    return answer;
+}
+
+/* a sum over all that a station tells */
+static uint64_t sum, told;
+
+static void add(uint64_t value)
+{
+    sum = (sum ^ value) * 0x100000001B3u;
+    told++;
+}
+
+static void add_list(hidzgula_station *station, uint64_t name, uint8_t kind)
+{
+    size_t entries = 0;
+    hidzgula_entries(station, name, kind, &entries);
+    add(entries);
+    for (size_t i = 0; i < entries; i++) {
+        hidzgula_entry_out entry = { 0, 0, 0 };
+        add(hidzgula_entry(station, name, kind, i, &entry));
+        add(entry.lamps * 256u + entry.flashes);
+        for (size_t j = 0; j < entry.codes; j++) {
+            hidzgula_code_out code = { 0, 0, 0 };
+            add(hidzgula_code(station, name, kind, i, j, &code));
+            add(code.spn * 65536u + code.fmi * 256u + code.count);
+        }
+    }
+}
+
+static uint64_t all_told(hidzgula_station *station)
+{
+    size_t rows = 0;
+    uint64_t missed = 0, unread = 0;
+    uint8_t has = 0, address = 0;
+    hidzgula_frame claim = { 0, 0, { 0 } };
+    sum = 0xCBF29CE484222325u;
+    counts = true;
+    refused_one = 0; /* what only tells must take no memory: a request here would be one too many in the count */
+    size_t before = requests;
+    add(hidzgula_rows(station, &rows));
+    add(rows);
+    for (size_t i = 0; i < rows; i++) {
+        hidzgula_row_out row = { 0, 0, 0, 0, 0, 0 };
+        add(hidzgula_row(station, i, &row));
+        add(row.name);
+        add(((row.has_address * 256u + row.address) * 256u + row.has_ack) * 256u + row.ack_control);
+        add(row.ack_pgn);
+        add_list(station, row.name, HIDZGULA_DM1);
+        add_list(station, row.name, HIDZGULA_DM2);
+    }
+    add(hidzgula_counts(station, &missed, &unread));
+    add(missed);
+    add(unread);
+    add(hidzgula_held(station, &has, &address));
+    add(has * 256u + address);
+    add(hidzgula_claim(station, &claim));
+    add(claim.id);
+    if (requests != before) add(1);
+    counts = false;
+    return sum;
+}
+
+/* what a station tells that did the first calls, and was refused nothing */
+static uint64_t told_after(size_t calls)
+{
+    hidzgula_station station = HIDZGULA_EMPTY;
+    hidzgula_reply reply;
+    size_t one = refused_one;
+    refused_one = 0;
+    if (hidzgula_open(&station, 1, 248, 255) != HIDZGULA_DONE) abort();
+    for (size_t i = 0; i < calls; i++) done(&station, &steps[i], &reply);
+    uint64_t result = all_told(&station);
+    hidzgula_close(&station);
+    refused_one = one;
+    return result;
+}
+
+static uint32_t opened(hidzgula_station *station)
+{
+    counts = true;
+    uint32_t answer = hidzgula_open(station, 1, 248, 255);
+    counts = false;
+    return answer;
+}
+
+/* one run, in which one request is refused; NULL where all is well. `all` is what is told at the end. */
+static const char *run(size_t one, uint64_t *all, size_t *at)
+{
+    hidzgula_station station = HIDZGULA_EMPTY;
+    hidzgula_reply reply, filled;
+    requests = live = 0;
+    refused_one = one;
+    was_refused = false;
+    memset(&filled, 0xA5, sizeof filled);
+    *at = 0;
+    if (opened(&station) != HIDZGULA_DONE) {
+        if (!was_refused || station.full || station.at) return "open was refused otherwise, or wrote to the handle";
+        if (hidzgula_counts(&station, &(uint64_t){ 0 }, &(uint64_t){ 0 }) != HIDZGULA_NO_STATION) return "open left a station";
+        if (opened(&station) != HIDZGULA_DONE) return "open was refused twice";
+    } else if (was_refused) {
+        return "open was done without memory";
+    }
+    bool seen = was_refused;
+    for (size_t i = 0; i < step_count; i++) {
+        reply = filled;
+        uint32_t answer = done(&station, &steps[i], &reply);
+        if (was_refused && !seen) {
+            seen = true;
+            *at = i;
+            if (answer != HIDZGULA_OUT_OF_MEMORY) return "a call without memory answers something else";
+            if (memcmp(&reply, &filled, sizeof reply) != 0) return "a refused call writes to the reply";
+            if (all_told(&station) != told_after(i)) return "a refused call changes what is told";
+            answer = done(&station, &steps[i], &reply);
+        }
+        if (answer == HIDZGULA_OUT_OF_MEMORY) return "memory was refused by nobody";
+    }
+    refused_one = 0;
+    *all = all_told(&station);
+    hidzgula_close(&station);
+    return live ? "memory was not given back" : NULL;
+}
+
+static void read_log(void)
+{
+    char line[512], digits[17];
+    for (size_t frames = 0; fgets(line, sizeof line, stdin) && step_count + 5 < MOST;) {
+        struct step step = { FRAME, 0, 0, { 0 } };
+        digits[0] = 0;
+        if (sscanf(line, "(%*[^)]) %*s %8" SCNx32 "#%16[0-9A-Fa-f]", &step.id, digits) < 1 || step.id >= 1u << 29) continue;
+        for (; digits[2 * step.length]; step.length++) sscanf(digits + 2 * step.length, "%2" SCNx8, &step.bytes[step.length]);
+        steps[step_count++] = step;
+        if (++frames % 200 == 0)
+            for (int what = ASK; what <= COMMAND; what++) steps[step_count++].what = what;
+        if (frames % 1000 == 0) steps[step_count++].what = GAP;
+    }
+}
+
+int main(void)
+{
+    uint64_t whole = 0, all = 0;
+    size_t at = 0, passed = 0, failed = 0;
+    read_log();
+    const char *wrong = run(0, &whole, &at);
+    size_t total = requests;
+    if (wrong) printf("without refusal: %s\n", wrong);
+    if (wrong || total < 50 || whole != told_after(step_count)) failed++;
+    else passed++;
+    for (size_t one = 1; one <= total; one++) {
+        wrong = run(one, &all, &at);
+        if (!wrong && !was_refused) wrong = "the request was not made";
+        if (!wrong && all != whole) wrong = "the end differs";
+        if (wrong) printf("request %zu, at call %zu: %s\n", one, at, wrong);
+        if (wrong) failed++;
+        else passed++;
+    }
+    printf("%zu passed, %zu failed\n", passed, failed);
+    return failed != 0;
+}

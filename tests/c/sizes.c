@@ -1,0 +1,138 @@
+/* What a station takes: the stack of each call, seen on a thread's stack that was painted before, and the memory, by counting what
+ * malloc and realloc give. The candump log comes on standard input. A line for each figure. */
+#define _GNU_SOURCE
+#include "hidzgula_station.h"
+
+#include <inttypes.h>
+#include <malloc.h>
+#include <pthread.h>
+#include <stdio.h>
+#include <stdlib.h>
+#include <string.h>
+#include <sys/mman.h>
+
+void *__real_malloc(size_t size);
+void *__real_realloc(void *block, size_t size);
+void __real_free(void *block);
+
+static size_t live, most, requests;
+
+static void *given(void *block)
+{
+    requests++;
+    live += malloc_usable_size(block);
+    if (live > most) most = live;
+    return block;
+}
+
+void *__wrap_malloc(size_t size) { return given(__real_malloc(size)); }
+
+void *__wrap_realloc(void *block, size_t size)
+{
+    live -= malloc_usable_size(block);
+    return given(__real_realloc(block, size));
+}
+
+void __wrap_free(void *block)
+{
+    live -= malloc_usable_size(block);
+    __real_free(block);
+}
+
+enum { MOST = 1 << 13, STACK = 1 << 20 };
+
+static hidzgula_station station = HIDZGULA_EMPTY;
+static struct {
+    uint32_t id;
+    size_t length;
+    uint8_t bytes[8];
+} frames[MOST];
+static size_t frame_count;
+
+static void *nothing(void *unused) { return unused; }
+
+static void *open_one(void *unused)
+{
+    if (hidzgula_open(&station, 1, 248, 255) != HIDZGULA_DONE) abort();
+    return unused;
+}
+
+static void *take_all(void *unused)
+{
+    hidzgula_reply reply;
+    for (size_t i = 0; i < frame_count; i++)
+        if (hidzgula_take_frame(&station, frames[i].id, frames[i].bytes, frames[i].length, &reply) != HIDZGULA_DONE) abort();
+    return unused;
+}
+
+static void *order(void *unused)
+{
+    hidzgula_reply reply;
+    hidzgula_ask_all(&station, HIDZGULA_PGN_DM1, &reply);
+    hidzgula_ask(&station, 0x1000000001419907, HIDZGULA_PGN_DM1, &reply);
+    hidzgula_command(&station, 0x1000000001419907, 100, &reply);
+    return unused;
+}
+
+static void *ask_for_lists(void *unused)
+{
+    hidzgula_row_out row;
+    hidzgula_entry_out entry;
+    hidzgula_code_out code;
+    hidzgula_row(&station, 0, &row);
+    hidzgula_entry(&station, row.name, HIDZGULA_DM1, 0, &entry);
+    hidzgula_code(&station, row.name, HIDZGULA_DM1, 0, 0, &code);
+    return unused;
+}
+
+static void *miss(void *unused)
+{
+    hidzgula_reply reply;
+    if (hidzgula_take_gap(&station, 1, &reply) != HIDZGULA_DONE) abort();
+    return unused;
+}
+
+static void *close_it(void *unused)
+{
+    hidzgula_close(&station);
+    return unused;
+}
+
+/* how many bytes of its stack a thread with this work touched */
+static size_t stack_of(void *(*work)(void *))
+{
+    unsigned char *stack = mmap(NULL, STACK, PROT_READ | PROT_WRITE, MAP_PRIVATE | MAP_ANONYMOUS, -1, 0);
+    pthread_attr_t attributes;
+    pthread_t thread;
+    size_t untouched = 0;
+    if (stack == MAP_FAILED) abort();
+    memset(stack, 0xA5, STACK);
+    if (pthread_attr_init(&attributes) || pthread_attr_setstack(&attributes, stack, STACK) || pthread_create(&thread, &attributes, work, NULL)
+        || pthread_join(thread, NULL))
+        abort();
+    while (untouched < STACK && stack[untouched] == 0xA5) untouched++;
+    munmap(stack, STACK);
+    return STACK - untouched;
+}
+
+int main(void)
+{
+    static const struct {
+        const char *name;
+        void *(*work)(void *);
+    } works[] = { { "open", open_one }, { "take_frame", take_all }, { "queries", ask_for_lists }, { "orders", order }, { "take_gap", miss }, { "close", close_it } };
+    char line[512], digits[17];
+    while (fgets(line, sizeof line, stdin) && frame_count < MOST) {
+        size_t length = 0;
+        digits[0] = 0;
+        if (sscanf(line, "(%*[^)]) %*s %8" SCNx32 "#%16[0-9A-Fa-f]", &frames[frame_count].id, digits) < 1 || frames[frame_count].id >= 1u << 29) continue;
+        for (; digits[2 * length]; length++) sscanf(digits + 2 * length, "%2" SCNx8, &frames[frame_count].bytes[length]);
+        frames[frame_count++].length = length;
+    }
+    size_t base = stack_of(nothing);
+    for (size_t i = 0; i < sizeof works / sizeof works[0]; i++) {
+        size_t stack = stack_of(works[i].work);
+        printf("%s: stack %zu, memory %zu after it, %zu at most, in %zu requests so far\n", works[i].name, stack > base ? stack - base : 0, live, most, requests);
+    }
+    return live != 0;
+}

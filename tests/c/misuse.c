@@ -104,6 +104,8 @@ static void fields(void)
     is("a claim", hidzgula_take_frame(&station, 0x18EEFF07, bytes, 8, &out.reply), HIDZGULA_DONE);
     is("is not answered", out.reply.count, 0);
     is("no bytes", hidzgula_take_frame(&station, 0x18FECA07, bytes, 0, &out.reply), HIDZGULA_DONE);
+    /* no pointer for no bytes: nothing is proved of it, and nothing is read */
+    is("no bytes at NULL", hidzgula_take_frame(&station, 0x18FEF107, NULL, 0, &out.reply), HIDZGULA_DONE);
     is("a DM1", hidzgula_take_frame(&station, 0x18FECA07, dm1, 8, &out.reply), HIDZGULA_DONE);
     is("an acknowledgment", hidzgula_take_frame(&station, 0x18E8FF07, ack, 8, &out.reply), HIDZGULA_DONE);
     is("rows", hidzgula_rows(&station, &out.count), HIDZGULA_DONE);
@@ -169,6 +171,11 @@ static void orders(void)
 int main(void)
 {
     on_empty("empty");
+    station.full = true; /* no program writes there; a station is where the pointer is not NULL, whatever stands beside it */
+    on_empty("a flag alone");
+    memset(&station, 0xFF, sizeof station);
+    station.at = NULL;
+    on_empty("no pointer");
     is("address 254", hidzgula_open(&station, 1, 254, 1), HIDZGULA_BAD_SETTING);
     is("grant 0", hidzgula_open(&station, 1, 253, 0), HIDZGULA_BAD_SETTING);
     on_empty("refused");

@@ -1,7 +1,7 @@
 //! What a C program holds of its station.
-ghost use Rattle.std.specs.Prelude.{◌≡◌, ◌↔◌, true, false, IfSome, IsNone};
+ghost use Rattle.std.specs.Prelude.{◌≡◌, ◌↔◌, true, false, not, IfSome, IsNone};
 ghost use Rattle.station_table.specs.StationValue.{StationValue};
-ghost use Rattle.station_c.specs.Held.{held};
+ghost use Rattle.station_c.specs.Held.{held, is_there};
 
 use crate::raw_box::RawBox;
 use station_table::Station;
@@ -10,14 +10,14 @@ use std::marker::Model;
 
 /// A station in memory of its own, or none: 16 bytes that a C program holds, never copies, and never reads or writes itself.
 ///
-/// All of its bytes are 0 where it is empty, as it is at first.
+/// All of its bytes are 0 at first. It has a station where its pointer is not null, whatever its flag says.
 #[repr(C)]
 #[derive(Drop)]
 pub struct StationHandle {
     at: *mut u8,
-    /// Whether it has a station.
-    pub full: bool,
-    /// The station, where it has one.
+    /// Whether the library put a station in. It is never looked at.
+    full: bool,
+    /// The station, where there is one.
     pub ghost value: { StationValue },
 }
 
@@ -26,13 +26,13 @@ const _: () = prove!(size_of::<StationHandle>() == 16);
 const _: () = prove!(align_of::<StationHandle>() == 8);
 
 impl Model for StationHandle {
-    ghost also_owns = { λ h. held h.full h.at h.value };
+    ghost also_owns = { λ h. held h.at h.value };
 }
 
 impl StationHandle {
     /// The handle of this station.
-    pub fn of(station: RawBox<Station, Global>) -> StationHandle
-        ensures full { result.full ≡ true }
+    fn of(station: RawBox<Station, Global>) -> StationHandle
+        ensures open { is_there result.at ≡ true }
         ensures value { result.value ≡ station.value }
     {
         let RawBox { at, alloc: _ } = station;
@@ -43,8 +43,8 @@ impl StationHandle {
     }
 
     /// A handle of no station.
-    pub fn empty() -> StationHandle
-        ensures { result.full ≡ false }
+    fn empty() -> StationHandle
+        ensures { is_there result.at ≡ false }
     {
         StationHandle {
             at: std::ptr::null_mut(),
@@ -53,8 +53,8 @@ impl StationHandle {
     }
 
     /// The station of a handle that has one.
-    pub fn into_raw_box(self, alloc: Global) -> RawBox<Station, Global>
-        requires { self.full ≡ true }
+    fn into_raw_box(self, alloc: Global) -> RawBox<Station, Global>
+        requires { is_there self.at ≡ true }
         ensures { result.value ≡ self.value }
     {
         let StationHandle { at, full: _ } = self;
@@ -64,24 +64,25 @@ impl StationHandle {
         }
     }
 
-    /// The same handle, and whether it has a station.
-    pub fn told(self) -> (StationHandle, bool)
+    /// The same handle, and whether it has no station.
+    fn told(self) -> (StationHandle, bool)
         ensures same { result.0 ≡ self }
-        ensures full { result.1 ≡ self.full }
+        ensures empty { result.1 ≡ not (is_there self.at) }
     {
         let StationHandle { at, full } = self;
-        (StationHandle { at, full }, full)
+        let is_empty = at.is_null();
+        (StationHandle { at, full }, is_empty)
     }
 
     /// Takes the station out, where there is one; the handle is empty until `put`.
     pub fn lift(&mut self, alloc: Global) -> Option<Box<Station>>
         ensures value { IfSome result (λ b. b.value ≡ self.old.value) }
-        ensures full { IfSome result (λ _. self.old.full ≡ true) }
-        ensures none { IsNone result ↔ (self.old.full ≡ false) }
-        ensures empty { self.new.full ≡ false }
+        ensures open { IfSome result (λ _. is_there self.old.at ≡ true) }
+        ensures none { IsNone result ↔ (is_there self.old.at ≡ false) }
+        ensures empty { is_there self.new.at ≡ false }
     {
-        let (taken, full) = std::mem::replace(self, StationHandle::empty()).told();
-        if !full {
+        let (taken, is_empty) = std::mem::replace(self, StationHandle::empty()).told();
+        if is_empty {
             return None;
         }
         Some(taken.into_raw_box(alloc).into_box())
@@ -89,7 +90,7 @@ impl StationHandle {
 
     /// Puts a station in.
     pub fn put(&mut self, station: Box<Station>)
-        ensures full { self.new.full ≡ true }
+        ensures open { is_there self.new.at ≡ true }
         ensures value { self.new.value ≡ station.value }
     {
         *self = StationHandle::of(RawBox::of(station));

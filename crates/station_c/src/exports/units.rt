@@ -4,7 +4,7 @@ ghost use Rattle.bus_model.specs.Heard.{StationSettings, address_heard, missed_c
 ghost use Rattle.can_frame.specs.declared.reading.Reading.{Reading as AnyReading};
 ghost use Rattle.station_table.specs.Reactions.{own_claim};
 ghost use Rattle.station_table.specs.StandsFor.{StandsFor};
-ghost use Rattle.station_c.specs.Handles.{HoldsSame, HoldsReadings};
+ghost use Rattle.station_c.specs.Handles.{HoldsSame, HoldsReadings, is_open};
 ghost use Rattle.station_c.specs.Records.{address_under, frame_recorded, row_in};
 ghost use Rattle.station_c.specs.Statuses.{Answers};
 
@@ -26,8 +26,8 @@ pub extern "C" fn hidzgula_claim(
     ensures told { Answers result Status.Done → frame_recorded frame.new ≡ own_claim handle.old.value.claimer }
     ensures untold { ¬ Answers result Status.Done → frame.new ≡ frame.old }
     ensures kept { HoldsSame handle.old handle.new }
-    ensures no_station { Answers result Status.NoStation ↔ (handle.old.full ≡ false) }
-    ensures done { Answers result Status.Done ↔ (handle.old.full ≡ true) }
+    ensures no_station { Answers result Status.NoStation ↔ (is_open handle.old ≡ false) }
+    ensures done { Answers result Status.Done ↔ (is_open handle.old ≡ true) }
 {
     let Some(station) = handle.lift(alloc) else {
         return Status::NoStation.number();
@@ -51,8 +51,8 @@ pub extern "C" fn hidzgula_held(
         → address_under has.new address.new ≡ address_heard r h }
     ensures untold { ¬ Answers result Status.Done → (has.new ≡ has.old) × (address.new ≡ address.old) }
     ensures kept { HoldsSame handle.old handle.new }
-    ensures no_station { Answers result Status.NoStation ↔ (handle.old.full ≡ false) }
-    ensures done { Answers result Status.Done ↔ (handle.old.full ≡ true) }
+    ensures no_station { Answers result Status.NoStation ↔ (is_open handle.old ≡ false) }
+    ensures done { Answers result Status.Done ↔ (is_open handle.old ≡ true) }
 {
     let Some(station) = handle.lift(alloc) else {
         return Status::NoStation.number();
@@ -76,8 +76,8 @@ pub extern "C" fn hidzgula_counts(
         → (missed.new ≡ missed_count h) × (unread.new ≡ unread_count r h) }
     ensures untold { ¬ Answers result Status.Done → (missed.new ≡ missed.old) × (unread.new ≡ unread.old) }
     ensures kept { HoldsSame handle.old handle.new }
-    ensures no_station { Answers result Status.NoStation ↔ (handle.old.full ≡ false) }
-    ensures done { Answers result Status.Done ↔ (handle.old.full ≡ true) }
+    ensures no_station { Answers result Status.NoStation ↔ (is_open handle.old ≡ false) }
+    ensures done { Answers result Status.Done ↔ (is_open handle.old ≡ true) }
 {
     let Some(station) = handle.lift(alloc) else {
         return Status::NoStation.number();
@@ -97,8 +97,8 @@ pub extern "C" fn hidzgula_rows(alloc: Global, handle: &mut StationHandle, count
         → count.new ≡ length (names_heard h) }
     ensures untold { ¬ Answers result Status.Done → count.new ≡ count.old }
     ensures kept { HoldsSame handle.old handle.new }
-    ensures no_station { Answers result Status.NoStation ↔ (handle.old.full ≡ false) }
-    ensures done { Answers result Status.Done ↔ (handle.old.full ≡ true) }
+    ensures no_station { Answers result Status.NoStation ↔ (is_open handle.old ≡ false) }
+    ensures done { Answers result Status.Done ↔ (is_open handle.old ≡ true) }
 {
     let Some(station) = handle.lift(alloc) else {
         return Status::NoStation.number();
@@ -124,8 +124,8 @@ pub extern "C" fn hidzgula_row(
         → length (names_heard h) ≤ place }
     ensures untold { ¬ Answers result Status.Done → row.new ≡ row.old }
     ensures kept { HoldsSame handle.old handle.new }
-    ensures no_station { Answers result Status.NoStation ↔ (handle.old.full ≡ false) }
-    ensures done { handle.old.full ≡ true → (Answers result Status.Done) ⊎ (Answers result Status.NoPlace) }
+    ensures no_station { Answers result Status.NoStation ↔ (is_open handle.old ≡ false) }
+    ensures done { is_open handle.old ≡ true → (Answers result Status.Done) ⊎ (Answers result Status.NoPlace) }
 {
     let Some(station) = handle.lift(alloc) else {
         return Status::NoStation.number();

@@ -9,4 +9,4 @@ pub returns-clause-taken : goal.returns-clause-taken
 returns-clause-taken c = λ done r grant h held.
     let took = done_is_ok _ _ c.take-answer.result c.reply_with.result c.reply_with.ensures.refused done c.take-answer.ensures.stands in
     let before = subst (λ (v : StationValue). StandsFor r grant v h) (sym (c.deref_mut.ensures.value ∙ c.in-Some.ensures.value)) held.1 in
-    (c.put.ensures.full, subst (λ (v : StationValue). StandsFor r grant v (c.args.reading ∷ h)) (sym c.put.ensures.value) (took r grant h before))
+    (c.put.ensures.open, subst (λ (v : StationValue). StandsFor r grant v (c.args.reading ∷ h)) (sym c.put.ensures.value) (took r grant h before))

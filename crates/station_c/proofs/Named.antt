@@ -1,5 +1,5 @@
 -- Each NAME in the list of rows has a row.
-use Rattle.std.proofs.Common.{◌≡◌, ℕ, zero, suc, Bool, true, false, nat_eq, eq-eqb, cond, List, [], ◌∷◌, Option, Some, None, map, slice_get, refl, sym, ap, ◌∙◌}
+use Rattle.std.proofs.Common.{◌≡◌, ℕ, zero, suc, Bool, true, false, nat_eq, eq-eqb, cond, List, [], ◌∷◌, Option, Some, None, map, slice_get, refl}
 use Rattle.station_table.specs.KeptValue.{KeptValue, kept_under}
 use Rattle.station_table.specs.StandsFor.{row_of}
 

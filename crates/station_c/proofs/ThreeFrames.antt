@@ -1,5 +1,5 @@
 -- The frames of a reply are those of the reaction.
-use Rattle.std.proofs.Common.{◌≡◌, ◌≤◌, ℕ, List, [], ◌∷◌, Some, take, map, length, slice_get, refl, ap, ◌∙◌, arith}
+use Rattle.std.proofs.Common.{◌≡◌, ◌≤◌, List, [], ◌∷◌, Some, take, map, length, slice_get, refl, ap, ◌∙◌, arith}
 use Rattle.can_frame.specs.FrameValue.{FrameValue}
 use Rattle.station_c.specs.declared.records.FrameRecord.{FrameRecord}
 use Rattle.station_c.specs.Records.{frame_recorded}

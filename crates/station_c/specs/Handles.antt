@@ -7,13 +7,13 @@ use Rattle.station_c.specs.Held.{is_there}
 use Rattle.station_c.specs.declared.handle.StationHandle.{StationHandle}
 
 -- it has a station: its pointer is not null, whatever its flag says
-abbrev pub is_open : StationHandle → Bool
-is_open handle = is_there handle.at
+abbrev pub has_station : StationHandle → Bool
+has_station handle = is_there handle.at
 
 -- it holds what it held: none, or the same station
 abbrev pub HoldsSame : StationHandle → StationHandle → Type 0
-HoldsSame before after = (is_open after ≡ is_open before) × (is_open before ≡ true → after.value ≡ before.value)
+HoldsSame before after = (has_station after ≡ has_station before) × (has_station before ≡ true → after.value ≡ before.value)
 
 -- it holds a station that stands for these readings
 abbrev pub HoldsReadings : StationSettings → ℕ → StationHandle → List Reading → Type 0
-HoldsReadings r grant handle h = (is_open handle ≡ true) × StandsFor r grant handle.value h
+HoldsReadings r grant handle h = (has_station handle ≡ true) × StandsFor r grant handle.value h

@@ -3,7 +3,7 @@ ghost use Rattle.std.specs.Prelude.{◌≡◌, ◌↔◌, ◌⊎◌, ℕ, List, 
 ghost use Rattle.bus_model.specs.Heard.{StationSettings, entries_heard};
 ghost use Rattle.can_frame.specs.declared.reading.Reading.{Reading as AnyReading};
 ghost use Rattle.dm_messages.specs.declared.kind.Kind.{Kind as AnyKind};
-ghost use Rattle.station_c.specs.Handles.{HoldsSame, HoldsReadings, is_open};
+ghost use Rattle.station_c.specs.Handles.{HoldsSame, HoldsReadings, has_station};
 ghost use Rattle.station_c.specs.Records.{entry_told, code_told, kind_numbered};
 ghost use Rattle.station_c.specs.Statuses.{Answers};
 
@@ -31,8 +31,8 @@ pub extern "C" fn hidzgula_entries(
     ensures untold { ¬ Answers result Status.Done → count.new ≡ count.old }
     ensures kept { HoldsSame handle.old handle.new }
     ensures no_kind { Answers result Status.NoKind ↔ IsNone (kind_numbered kind) }
-    ensures no_station { Answers result Status.NoStation ↔ (IsSome (kind_numbered kind) × (is_open handle.old ≡ false)) }
-    ensures done { Answers result Status.Done ↔ (IsSome (kind_numbered kind) × (is_open handle.old ≡ true)) }
+    ensures no_station { Answers result Status.NoStation ↔ (IsSome (kind_numbered kind) × (has_station handle.old ≡ false)) }
+    ensures done { Answers result Status.Done ↔ (IsSome (kind_numbered kind) × (has_station handle.old ≡ true)) }
 {
     let Some(kind) = kind_of(kind) else {
         return Status::NoKind.number();
@@ -67,8 +67,8 @@ pub extern "C" fn hidzgula_entry(
     ensures untold { ¬ Answers result Status.Done → entry.new ≡ entry.old }
     ensures kept { HoldsSame handle.old handle.new }
     ensures no_kind { Answers result Status.NoKind ↔ IsNone (kind_numbered kind) }
-    ensures no_station { Answers result Status.NoStation ↔ (IsSome (kind_numbered kind) × (is_open handle.old ≡ false)) }
-    ensures done { IsSome (kind_numbered kind) → is_open handle.old ≡ true → (Answers result Status.Done) ⊎ (Answers result Status.NoPlace) }
+    ensures no_station { Answers result Status.NoStation ↔ (IsSome (kind_numbered kind) × (has_station handle.old ≡ false)) }
+    ensures done { IsSome (kind_numbered kind) → has_station handle.old ≡ true → (Answers result Status.Done) ⊎ (Answers result Status.NoPlace) }
 {
     let Some(kind) = kind_of(kind) else {
         return Status::NoKind.number();
@@ -110,8 +110,8 @@ pub extern "C" fn hidzgula_code(
     ensures untold { ¬ Answers result Status.Done → code.new ≡ code.old }
     ensures kept { HoldsSame handle.old handle.new }
     ensures no_kind { Answers result Status.NoKind ↔ IsNone (kind_numbered kind) }
-    ensures no_station { Answers result Status.NoStation ↔ (IsSome (kind_numbered kind) × (is_open handle.old ≡ false)) }
-    ensures done { IsSome (kind_numbered kind) → is_open handle.old ≡ true → (Answers result Status.Done) ⊎ (Answers result Status.NoPlace) }
+    ensures no_station { Answers result Status.NoStation ↔ (IsSome (kind_numbered kind) × (has_station handle.old ≡ false)) }
+    ensures done { IsSome (kind_numbered kind) → has_station handle.old ≡ true → (Answers result Status.Done) ⊎ (Answers result Status.NoPlace) }
 {
     let Some(kind) = kind_of(kind) else {
         return Status::NoKind.number();

@@ -1,6 +1,6 @@
 //! A station is opened in a handle, and closed.
 ghost use Rattle.std.specs.Prelude.{◌≡◌, ◌⊎◌, ◌↔◌, ◌<◌, ◌≤◌, true, false, []};
-ghost use Rattle.station_c.specs.Handles.{HoldsSame, HoldsReadings, is_open};
+ghost use Rattle.station_c.specs.Handles.{HoldsSame, HoldsReadings, has_station};
 ghost use Rattle.station_c.specs.Statuses.{Answers, DoneUnlessMemory};
 
 use crate::handle::StationHandle;
@@ -26,8 +26,8 @@ pub extern "C" fn hidzgula_open(
     ensures opened { Answers result Status.Done → HoldsReadings (record { name = name; address = address }) grant handle.new [] }
     ensures kept { ¬ Answers result Status.Done → HoldsSame handle.old handle.new }
     ensures bad_setting { Answers result Status.BadSetting ↔ ((253 < address) ⊎ (grant ≡ 0)) }
-    ensures has_station { Answers result Status.HasStation ↔ ((address ≤ 253) × (0 < grant) × (is_open handle.old ≡ true)) }
-    ensures done { (address ≤ 253) → (0 < grant) → (is_open handle.old ≡ false) → DoneUnlessMemory result }
+    ensures already_open { Answers result Status.HasStation ↔ ((address ≤ 253) × (0 < grant) × (has_station handle.old ≡ true)) }
+    ensures done { (address ≤ 253) → (0 < grant) → (has_station handle.old ≡ false) → DoneUnlessMemory result }
 {
     if address > GREATEST_ADDRESS || grant == 0 {
         return Status::BadSetting.number();
@@ -47,7 +47,7 @@ pub extern "C" fn hidzgula_open(
 /// Closes the station of a handle, if it has one, and frees its memory.
 #[unsafe(no_mangle)]
 pub extern "C" fn hidzgula_close(alloc: Global, handle: &mut StationHandle)
-    ensures { is_open handle.new ≡ false }
+    ensures { has_station handle.new ≡ false }
 {
     let _station = handle.lift(alloc);
 }

@@ -5,7 +5,7 @@ ghost use Rattle.can_frame.specs.declared.reading.Reading.{Reading as AnyReading
 ghost use Rattle.station_table.specs.Orders.{ask_answer, ask_all_answer, command_answer};
 ghost use Rattle.station_table.specs.declared.reaction.Ask.TheVariants.{Other};
 ghost use Rattle.station_table.specs.declared.reaction.Reaction.{Reaction as AnyReaction};
-ghost use Rattle.station_c.specs.Handles.{HoldsSame, HoldsReadings, is_open};
+ghost use Rattle.station_c.specs.Handles.{HoldsSame, HoldsReadings, has_station};
 ghost use Rattle.station_c.specs.Orders.{OrderAsks, OrderAsksAll, OrderCommands};
 ghost use Rattle.station_c.specs.Records.{TellsReaction};
 ghost use Rattle.station_c.specs.Statuses.{Answers};
@@ -35,7 +35,7 @@ pub extern "C" fn hidzgula_ask(
     ensures unanswered { ¬ Answers result Status.Done → reply.new ≡ reply.old }
     ensures kept { HoldsSame handle.old handle.new }
     ensures pgn_too_large { Answers result Status.PgnTooLarge ↔ (2 ^ 24 ≤ pgn) }
-    ensures no_station { Answers result Status.NoStation ↔ ((pgn < 2 ^ 24) × (is_open handle.old ≡ false)) }
+    ensures no_station { Answers result Status.NoStation ↔ ((pgn < 2 ^ 24) × (has_station handle.old ≡ false)) }
     ensures heard { pgn < 2 ^ 24 → (r : StationSettings) (grant : ℕ) (h : List AnyReading) → HoldsReadings r grant handle.old h
         → OrderAsks (address_heard r h) (address_known r name h) result }
 {
@@ -65,7 +65,7 @@ pub extern "C" fn hidzgula_ask_all(
     ensures unanswered { ¬ Answers result Status.Done → reply.new ≡ reply.old }
     ensures kept { HoldsSame handle.old handle.new }
     ensures pgn_too_large { Answers result Status.PgnTooLarge ↔ (2 ^ 24 ≤ pgn) }
-    ensures no_station { Answers result Status.NoStation ↔ ((pgn < 2 ^ 24) × (is_open handle.old ≡ false)) }
+    ensures no_station { Answers result Status.NoStation ↔ ((pgn < 2 ^ 24) × (has_station handle.old ≡ false)) }
     ensures heard { pgn < 2 ^ 24 → (r : StationSettings) (grant : ℕ) (h : List AnyReading) → HoldsReadings r grant handle.old h
         → OrderAsksAll (address_heard r h) result }
 {
@@ -96,7 +96,7 @@ pub extern "C" fn hidzgula_command(
     ensures replied { Answers result Status.Done → (x : AnyReaction) × (command_answer handle.old.value name address ≡ Ok x) × TellsReaction reply.new x }
     ensures unanswered { ¬ Answers result Status.Done → reply.new ≡ reply.old }
     ensures kept { HoldsSame handle.old handle.new }
-    ensures no_station { Answers result Status.NoStation ↔ (is_open handle.old ≡ false) }
+    ensures no_station { Answers result Status.NoStation ↔ (has_station handle.old ≡ false) }
     ensures heard { (r : StationSettings) (grant : ℕ) (h : List AnyReading) → HoldsReadings r grant handle.old h
         → OrderCommands (address_heard r h) address result }
 {

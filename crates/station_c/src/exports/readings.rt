@@ -4,7 +4,7 @@ ghost use Rattle.bus_model.specs.Heard.{StationSettings};
 ghost use Rattle.can_frame.specs.FrameValue.{frame};
 ghost use Rattle.can_frame.specs.declared.reading.Reading.{Reading as AnyReading};
 ghost use Rattle.station_table.specs.Reactions.{station_reaction};
-ghost use Rattle.station_c.specs.Handles.{HoldsSame, HoldsReadings, is_open};
+ghost use Rattle.station_c.specs.Handles.{HoldsSame, HoldsReadings, has_station};
 ghost use Rattle.station_c.specs.Records.{TellsReaction};
 ghost use Rattle.station_c.specs.Statuses.{Answers, DoneUnlessMemory};
 
@@ -34,8 +34,8 @@ pub extern "C" fn hidzgula_take_frame(
     ensures unanswered { ¬ Answers result Status.Done → reply.new ≡ reply.old }
     ensures id_too_large { Answers result Status.IdTooLarge ↔ (2 ^ 29 ≤ id) }
     ensures too_long { Answers result Status.TooLong ↔ ((id < 2 ^ 29) × (8 < length bytes.now)) }
-    ensures no_station { Answers result Status.NoStation ↔ ((id < 2 ^ 29) × (length bytes.now ≤ 8) × (is_open handle.old ≡ false)) }
-    ensures done { (id < 2 ^ 29) → (length bytes.now ≤ 8) → (is_open handle.old ≡ true) → DoneUnlessMemory result }
+    ensures no_station { Answers result Status.NoStation ↔ ((id < 2 ^ 29) × (length bytes.now ≤ 8) × (has_station handle.old ≡ false)) }
+    ensures done { (id < 2 ^ 29) → (length bytes.now ≤ 8) → (has_station handle.old ≡ true) → DoneUnlessMemory result }
 {
     match Frame::new(id, bytes) {
         Ok(frame) => take(alloc, handle, Reading::Frame(frame), reply).number(),
@@ -59,8 +59,8 @@ pub extern "C" fn hidzgula_take_gap(
     ensures replied { Answers result Status.Done → TellsReaction reply.new (station_reaction handle.old.value (Reading.Gap count)) }
     ensures kept { ¬ Answers result Status.Done → HoldsSame handle.old handle.new }
     ensures unanswered { ¬ Answers result Status.Done → reply.new ≡ reply.old }
-    ensures no_station { Answers result Status.NoStation ↔ (is_open handle.old ≡ false) }
-    ensures done { (is_open handle.old ≡ true) → DoneUnlessMemory result }
+    ensures no_station { Answers result Status.NoStation ↔ (has_station handle.old ≡ false) }
+    ensures done { (has_station handle.old ≡ true) → DoneUnlessMemory result }
 {
     take(alloc, handle, Reading::Gap(count), reply).number()
 }
@@ -77,7 +77,7 @@ fn take(
     ensures replied { result ≡ Status.Done → TellsReaction reply.new (station_reaction handle.old.value reading) }
     ensures kept { ¬ (result ≡ Status.Done) → HoldsSame handle.old handle.new }
     ensures unanswered { ¬ (result ≡ Status.Done) → reply.new ≡ reply.old }
-    ensures no_station { (result ≡ Status.NoStation) ↔ (is_open handle.old ≡ false) }
+    ensures no_station { (result ≡ Status.NoStation) ↔ (has_station handle.old ≡ false) }
     ensures only { (result ≡ Status.Done) ⊎ (result ≡ Status.OutOfMemory) ⊎ (result ≡ Status.NoStation) }
 {
     let Some(mut station) = handle.lift(alloc) else {

@@ -1,10 +1,10 @@
 //! What the station of a handle knows of NAMEs, of its own address, and of what it could not read.
 ghost use Rattle.std.specs.Prelude.{◌≡◌, ◌↔◌, ◌⊎◌, ◌≤◌, ℕ, List, Some, IfSome, IsNone, length, slice_get, true, false};
-ghost use Rattle.bus_model.specs.Heard.{StationSettings, address_heard, missed_count, names_heard, row_heard, unread_count};
+ghost use Rattle.bus_model.specs.Heard.{StationSettings, address_heard, claimer_heard, missed_count, names_heard, row_heard, unread_count};
 ghost use Rattle.can_frame.specs.declared.reading.Reading.{Reading as AnyReading};
 ghost use Rattle.station_table.specs.Reactions.{own_claim};
 ghost use Rattle.station_table.specs.StandsFor.{StandsFor};
-ghost use Rattle.station_c.specs.Handles.{HoldsSame, HoldsReadings, is_open};
+ghost use Rattle.station_c.specs.Handles.{HoldsSame, HoldsReadings, has_station};
 ghost use Rattle.station_c.specs.Records.{address_under, frame_recorded, row_in};
 ghost use Rattle.station_c.specs.Statuses.{Answers};
 
@@ -23,11 +23,12 @@ pub extern "C" fn hidzgula_claim(
     handle: &mut StationHandle,
     frame: &mut FrameRecord,
 ) -> u32
-    ensures told { Answers result Status.Done → frame_recorded frame.new ≡ own_claim handle.old.value.claimer }
+    ensures heard { Answers result Status.Done → (r : StationSettings) (grant : ℕ) (h : List AnyReading) → HoldsReadings r grant handle.old h
+        → frame_recorded frame.new ≡ own_claim (claimer_heard r h) }
     ensures untold { ¬ Answers result Status.Done → frame.new ≡ frame.old }
     ensures kept { HoldsSame handle.old handle.new }
-    ensures no_station { Answers result Status.NoStation ↔ (is_open handle.old ≡ false) }
-    ensures done { Answers result Status.Done ↔ (is_open handle.old ≡ true) }
+    ensures no_station { Answers result Status.NoStation ↔ (has_station handle.old ≡ false) }
+    ensures done { Answers result Status.Done ↔ (has_station handle.old ≡ true) }
 {
     let Some(station) = handle.lift(alloc) else {
         return Status::NoStation.number();
@@ -51,8 +52,8 @@ pub extern "C" fn hidzgula_held(
         → address_under has.new address.new ≡ address_heard r h }
     ensures untold { ¬ Answers result Status.Done → (has.new ≡ has.old) × (address.new ≡ address.old) }
     ensures kept { HoldsSame handle.old handle.new }
-    ensures no_station { Answers result Status.NoStation ↔ (is_open handle.old ≡ false) }
-    ensures done { Answers result Status.Done ↔ (is_open handle.old ≡ true) }
+    ensures no_station { Answers result Status.NoStation ↔ (has_station handle.old ≡ false) }
+    ensures done { Answers result Status.Done ↔ (has_station handle.old ≡ true) }
 {
     let Some(station) = handle.lift(alloc) else {
         return Status::NoStation.number();
@@ -76,8 +77,8 @@ pub extern "C" fn hidzgula_counts(
         → (missed.new ≡ missed_count h) × (unread.new ≡ unread_count r h) }
     ensures untold { ¬ Answers result Status.Done → (missed.new ≡ missed.old) × (unread.new ≡ unread.old) }
     ensures kept { HoldsSame handle.old handle.new }
-    ensures no_station { Answers result Status.NoStation ↔ (is_open handle.old ≡ false) }
-    ensures done { Answers result Status.Done ↔ (is_open handle.old ≡ true) }
+    ensures no_station { Answers result Status.NoStation ↔ (has_station handle.old ≡ false) }
+    ensures done { Answers result Status.Done ↔ (has_station handle.old ≡ true) }
 {
     let Some(station) = handle.lift(alloc) else {
         return Status::NoStation.number();
@@ -97,8 +98,8 @@ pub extern "C" fn hidzgula_rows(alloc: Global, handle: &mut StationHandle, count
         → count.new ≡ length (names_heard h) }
     ensures untold { ¬ Answers result Status.Done → count.new ≡ count.old }
     ensures kept { HoldsSame handle.old handle.new }
-    ensures no_station { Answers result Status.NoStation ↔ (is_open handle.old ≡ false) }
-    ensures done { Answers result Status.Done ↔ (is_open handle.old ≡ true) }
+    ensures no_station { Answers result Status.NoStation ↔ (has_station handle.old ≡ false) }
+    ensures done { Answers result Status.Done ↔ (has_station handle.old ≡ true) }
 {
     let Some(station) = handle.lift(alloc) else {
         return Status::NoStation.number();
@@ -124,8 +125,8 @@ pub extern "C" fn hidzgula_row(
         → length (names_heard h) ≤ place }
     ensures untold { ¬ Answers result Status.Done → row.new ≡ row.old }
     ensures kept { HoldsSame handle.old handle.new }
-    ensures no_station { Answers result Status.NoStation ↔ (is_open handle.old ≡ false) }
-    ensures done { is_open handle.old ≡ true → (Answers result Status.Done) ⊎ (Answers result Status.NoPlace) }
+    ensures no_station { Answers result Status.NoStation ↔ (has_station handle.old ≡ false) }
+    ensures done { has_station handle.old ≡ true → (Answers result Status.Done) ⊎ (Answers result Status.NoPlace) }
 {
     let Some(station) = handle.lift(alloc) else {
         return Status::NoStation.number();

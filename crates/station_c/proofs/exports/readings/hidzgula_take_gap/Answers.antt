@@ -1,4 +1,4 @@
-use Rattle.std.proofs.Common.{◌≡◌, sym, ◌∙◌}
+use Rattle.std.proofs.Common.{sym, ◌∙◌}
 use Rattle.station_c.proofs.Answered.{done_by_number}
 use Rattle.station_c.proofs.exports.readings.hidzgula_take_gap.Goals as goal
 

@@ -1,4 +1,4 @@
-use Rattle.std.proofs.Common.{◌≡◌, sym, subst, ◌∙◌}
+use Rattle.std.proofs.Common.{sym, subst, ◌∙◌}
 use Rattle.station_table.specs.StationValue.{StationValue}
 use Rattle.station_table.specs.StandsFor.{StandsFor}
 use Rattle.station_c.proofs.exports.units.hidzgula_row.Goals as goal

@@ -2,13 +2,11 @@
 use Rattle.std.proofs.Common.{◌≡◌, List, [], ◌∷◌, ◌++◌, refl, sym, ap, ◌∙◌, subst}
 use mathlib.Core.Bool.{false, true}
 use mir.Val.{Val, vptr, vbool}
-use base.Logic.{SProp, ent, emp, id⊢, never, fst∗}
+use base.Logic.{SProp, ent, emp, id⊢}
 use base.Fml.{ftrue}
 use prog.Wp.{WpFn}
-use types.Logic.{sem}
-use mir.Raw.{raw as bare}
 use mir.Syntax.{impl, tnil, dnil}
-use types.Kit.{‵, raw, ◌⊛◌, ◌$◌, ◌∵◌, !, qed, by, move, keep, split, fsplit, fjoin, rewrite, suffices, use0}
+use types.Kit.{‵, raw, ◌⊛◌, ◌$◌, ◌∵◌, !, qed, by, move, keep, split, fsplit, fjoin, suffices, use0}
 use types.Run.{stop, fld, of_opd, no_more, and_then, returns, enter}
 use types.ByLocal.{alloc_all, pass_all, free_all, look_at, get, get_in, sets}
 use types.Part.{agg, sub, whole}
@@ -17,8 +15,7 @@ use contract.Running.{tables}
 use denote.Exit.{yes}
 use denote.RattleType.{RattleType, owns}
 use denote.Signature.{types_at, plain}
-use denote.RawPtr.{block_ptr, null_ptr, ptr_val, in_a_block}
-use denote.Memory.{lone}
+use denote.RawPtr.{block_ptr}
 use denote.Steps.{nothing, heard}
 use denote.Triple.Walked.{Stays, stay_dropped, walk_of, Goes-dropped}
 use Rattle.std.proofs.raw_atomic.Walks.{proved_at, leaves}
@@ -26,7 +23,6 @@ use Rattle.std.proofs.alloc.Calls.{Al, handle_tells}
 use Rattle.std.specs.contracts.alloc.Global as heap
 use Rattle.std.proofs.alloc.Global.TheLaws as heap_laws
 use Rattle.std.specs.contracts.impls.GlobalAllocator.TheImpl.{ghosts}
-use Rattle.std_alloc.specs.Box.Ownership.{box_owns}
 use Rattle.station_table.specs.contracts.station.Station as station
 use Rattle.station_c.specs.Held.{is_there}
 use Rattle.station_c.proofs.MachineValues.{both, raw_good, raw_in}

@@ -1,20 +1,34 @@
 -- A watch after one more line stands for the lines with it.
-use Rattle.std.proofs.Common.{◌≡◌, ℕ, Bool, List, ◌∷◌, Option, Some, OnOk, Result, Ok, Err, subst, sym, ap, ◌∙◌}
+use Rattle.std.proofs.Common.{◌≡◌, ℕ, Bool, List, [], ◌∷◌, Option, Some, OnOk, Result, Ok, Err, subst, sym, ap, ◌∙◌}
 use Rattle.address_claim.specs.Frames.{claim_frame_value}
-use Rattle.bus_model.specs.Heard.{address_heard}
+use Rattle.bus_model.specs.Heard.{StationSettings, address_heard}
 use Rattle.can_frame.specs.declared.reading.Reading.{Reading}
 use Rattle.can_frame.specs.declared.reading.Reading.TheVariants.{Frame}
 use Rattle.candump_line.specs.declared.line.Line.{Line}
-use Rattle.station_table.specs.StandsFor.{StandsFor}
+use Rattle.station_table.specs.StandsFor.{StandsFor, none_taken}
 use Rattle.parameter_group.specs.Group.{Group}
-use Rattle.bus_watch.specs.Followed.{after_frame, followed_by_group, followed_after, is_late, is_withheld, reading_by}
-use Rattle.bus_watch.specs.Told.{Assumed, Beginning, Read, StandsForAll, Told, all_said}
-use Rattle.bus_watch.specs.WatchValue.{Takes, WatchValue}
+use Rattle.bus_watch.specs.Followed.{Followed, after_frame, followed_by_group, followed_after, is_late, is_withheld, reading_by}
+use Rattle.bus_watch.specs.Told.{Assumed, Beginning, Read, StandsForAll, Told, all_said, nothing_said}
+use Rattle.bus_watch.specs.Runs.{entries_in}
+use Rattle.bus_watch.specs.WatchValue.{StandsInRuns, Takes, WatchValue}
+use Rattle.bus_watch.proofs.Moving.{same_lists, nothing_listed}
 
 -- the address that the station holds is the one that it heard of
 held_as_said : (b : Beginning) (ts : List Told) (w : WatchValue) → StandsForAll b ts w → w.station.claimer.held ≡ address_heard b.station (all_said b ts).readings
 unfolding address_heard
-held_as_said b ts w s = ap (λ c. c.held) s.station.claims
+held_as_said b ts w s = ap (λ c. c.held) s.heard.beside.claims
+
+-- what was heard does not rest on what is known of the bus
+in_runs_still : (r : StationSettings) (w : WatchValue) (h : List Reading) (f : Followed) → StandsInRuns r w h → StandsInRuns r (record w { followed = f }) h
+in_runs_still r w h f s = record { beside = s.beside; alone = s.alone }
+
+-- a watch that was told nothing
+pub opened : (b : Beginning) (w : WatchValue) → StandsFor b.station 255 w.station [] → w.lists ≡ record { dm1 = []; dm2 = [] } → w.followed ≡ (nothing_said b).followed
+    → StandsForAll b [] w
+opened b w st none f = record {
+  heard = record { beside = same_lists none_taken (entries_in w.lists) (λ n k. nothing_listed w.lists n k none) b.station w.station [] st; alone = st.entries };
+  followed = f;
+}
 
 -- a line: its reading is taken, and what is known of the bus goes on
 pub stands_for_line : (old mid new : WatchValue) (l : Line) (x : Reading)
@@ -28,10 +42,9 @@ stands_for_line old mid new l x ex em takes b ts s =
     let h : old.station.claimer.held ≡ held = held_as_said b ts old s in
     let e : x ≡ reading_by held (all_said b ts).followed l =
     ex ∙ ap (λ k. reading_by k old.followed l) h ∙ ap (λ f. reading_by held f l) s.followed in
-    let same : old.station ≡ mid.station = sym (ap (λ w. w.station) em) in
-    let before = subst (λ t. StandsFor b.station 255 t readings) same s.station in
+    let before = subst (λ w. StandsInRuns b.station w readings) (sym em) (in_runs_still b.station old readings (followed_after old.station.claimer.held old.followed l) s.heard) in
     record {
-      station = subst (λ y. StandsFor b.station 255 new.station (y ∷ readings)) e (takes.stands b.station readings before);
+      heard = subst (λ y. StandsInRuns b.station new (y ∷ readings)) e (takes.stands b.station readings before);
       followed = takes.followed ∙ ap (λ w. w.followed) em
           ∙ ap (λ k. followed_after k old.followed l) h ∙ ap (λ f. followed_after held f l) s.followed;
     }
@@ -41,7 +54,7 @@ pub stands_for_assumed : (old new : WatchValue) (name address : ℕ) (x : Readin
     → x ≡ Frame (claim_frame_value name (Some address)) → Takes old new x
     → (b : Beginning) (ts : List Told) → StandsForAll b ts old → StandsForAll b (Assumed name address ∷ ts) new
 stands_for_assumed old new name address x e takes b ts s = record {
-  station = subst (λ y. StandsFor b.station 255 new.station (y ∷ (all_said b ts).readings)) e (takes.stands b.station (all_said b ts).readings s.station);
+  heard = subst (λ y. StandsInRuns b.station new (y ∷ (all_said b ts).readings)) e (takes.stands b.station (all_said b ts).readings s.heard);
   followed = takes.followed ∙ s.followed;
 }
 
@@ -60,3 +73,7 @@ pub frame_withheld : (w : WatchValue) (silence : Option ℕ) (most : ℕ) (time 
     → result ≡ is_late most w.station.claimer.held time told w.followed
     → result ≡ is_withheld silence w.station.claimer.held time g w.followed
 frame_withheld w silence most time told g result es eg h = rw (es, ← eg) h
+
+pub whatever : {T E P : Type 0} (r : Result T E) → P → OnOk r P
+whatever (Ok v) h = h
+whatever (Err e) h = tt

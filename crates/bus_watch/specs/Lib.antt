@@ -1,4 +1,5 @@
 pub mod Transfers
 pub mod Followed
+pub mod Runs
 pub mod WatchValue
 pub mod Told

@@ -5,10 +5,9 @@ use Rattle.bus_model.specs.Heard.{StationSettings, address_heard}
 use Rattle.can_frame.specs.declared.reading.Reading.{Reading}
 use Rattle.can_frame.specs.declared.reading.Reading.TheVariants.{Frame}
 use Rattle.candump_line.specs.declared.line.Line.{Line}
-use Rattle.station_table.specs.StandsFor.{StandsFor}
 use Rattle.reassembly.specs.Tables.{empty_table}
 use Rattle.bus_watch.specs.Followed.{Followed, reading_by, followed_after}
-use Rattle.bus_watch.specs.WatchValue.{WatchValue}
+use Rattle.bus_watch.specs.WatchValue.{WatchValue, StandsInRuns}
 
 -- a line, or that a NAME is taken to hold an address
 pub data Told : Type 0 where
@@ -47,5 +46,5 @@ all_said b (t ∷ older) = said_with b t (all_said b older)
 
 -- a watch that began so, and was told this
 pub record StandsForAll (b : Beginning) (told : List Told) (w : WatchValue) : Type 0 where
-  pub station : StandsFor b.station 255 w.station (all_said b told).readings
+  pub heard : StandsInRuns b.station w (all_said b told).readings
   pub followed : w.followed ≡ (all_said b told).followed

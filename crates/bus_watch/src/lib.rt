@@ -1,14 +1,18 @@
 //! A diagnostic reader over the lines of a log or of a live bus: the station reads them, and what changes is told.
 //!
-//! Each line is at most one reading of the station: its frame, or frames that were missed. After every line the station
-//! stands for the readings of the lines so far, so each list under a NAME is what was heard of them.
+//! Each line is at most one reading of the station: its frame, or frames that were missed. What a reading lists under a
+//! NAME is taken out of the station and kept as runs of equal entries, so memory grows by what changes. After every line
+//! each list is what was heard of the readings of the lines so far.
 #![tactic(auto)]
 
 mod change;
 mod counts;
+mod lists;
 mod owners;
 mod packets;
 mod run;
+mod run_list;
+mod run_table;
 mod watch;
 
 pub use change::Change;

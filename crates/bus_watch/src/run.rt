@@ -1,8 +1,10 @@
+ghost use Rattle.std.specs.Prelude.{◌≡◌, ◌+◌, ◌<◌, ◌^◌, ◌∷◌, [], ◌++◌, true, if◌then◌else◌, OnOk, OnErr};
+ghost use Rattle.bus_watch.specs.Runs.{unrolled};
+
 use candump_line::Time;
-use dm_messages::{Kind, Shown};
-use indexmap::IndexMap;
-use name_field::Name;
-use std::alloc::{AllocError, Global};
+use dm_messages::Shown;
+use std::alloc::AllocError;
+use trouble_code::Codes;
 
 /// Equal entries that came one after the other under a NAME.
 #[derive(Debug, Drop)]
@@ -18,78 +20,63 @@ pub struct Run {
     pub contested: bool,
 }
 
-impl Run {
-    /// Whether one more entry is equal to these.
-    pub(crate) fn goes_on(&self, shown: &Shown, contested: bool) -> bool {
-        self.contested == contested && is_same(&self.shown, shown)
-    }
-
-    /// One entry more, at this time.
-    pub(crate) fn add(&mut self, time: Option<Time>) {
-        self.times = self.times.saturating_add(1);
-        self.last = time;
-    }
-}
-
 /// Whether two entries show the same lamps and codes.
-fn is_same(one: &Shown, other: &Shown) -> bool {
-    one.lamps == other.lamps && one.codes.as_slice() == other.codes.as_slice()
+fn is_same(one: &Shown, other: &Shown) -> bool
+    ensures { result ≡ true → one.now ≡ other.now }
+{
+    one.lamps == other.lamps && is_same_codes(&one.codes, &other.codes)
 }
 
-/// The runs of entries under a NAME, oldest first.
-#[derive(Debug, Drop)]
-pub(crate) struct Unit {
-    pub dm1: Vec<Run>,
-    pub dm2: Vec<Run>,
+fn is_same_codes(one: &Codes, other: &Codes) -> bool
+    ensures { result ≡ true → one.now ≡ other.now }
+{
+    one.as_slice() == other.as_slice()
 }
 
-/// Puts an entry to the runs of a NAME. Tells whether it begins a run.
-pub(crate) fn add_entry(
-    alloc: Global,
-    units: &mut IndexMap<Name, Unit>,
-    name: Name,
-    kind: Kind,
-    shown: &Shown,
-    time: Option<Time>,
-    contested: bool,
-) -> Result<bool, AllocError> {
-    if !units.contains_key(&name) {
-        let unit = Unit {
-            dm1: Vec::new(alloc),
-            dm2: Vec::new(alloc),
-        };
-        units.insert(name, unit)?;
-    }
-    match units.get_mut(&name) {
-        Some(unit) => match kind {
-            Kind::Dm1 => add_to(&mut unit.dm1, shown, time, contested),
-            Kind::Dm2 => add_to(&mut unit.dm2, shown, time, contested),
-        },
-        None => Ok(false),
-    }
+/// Whether an entry can be counted to a run.
+fn goes_on(run: &Run, shown: &Shown, contested: bool) -> bool
+    ensures shown { result ≡ true → run.now.shown ≡ shown.now }
+    ensures room { result ≡ true → run.now.times + 1 < 2 ^ 64 }
+{
+    run.times < u64::MAX && run.contested == contested && is_same(&run.shown, shown)
 }
 
-/// Puts an entry to the newest run, or begins one.
-fn add_to(
-    runs: &mut Vec<Run>,
-    shown: &Shown,
-    time: Option<Time>,
-    contested: bool,
-) -> Result<bool, AllocError> {
-    if let Some(newest) = runs.last_mut() {
-        if newest.goes_on(shown, contested) {
-            newest.add(time);
-            return Ok(false);
+/// Counts an entry to the newest run, where it goes on with it. Tells whether it does.
+#[tactic(auto, using(crate::proofs::Runs::one_more))]
+fn lengthen(runs: &mut Vec<Run>, shown: &Shown, time: Option<Time>, contested: bool) -> bool
+    ensures { unrolled runs.new.items ≡ (if result then unrolled runs.old.items ++ shown.now ∷ [] else unrolled runs.old.items) }
+{
+    match runs.last_mut() {
+        Some(newest) if goes_on(newest, shown, contested) => {
+            newest.times += 1;
+            newest.last = time;
+            true
         }
+        _ => false,
+    }
+}
+
+/// Puts an entry to the newest run, or begins one. Tells whether it begins one. Where memory is refused, nothing changes.
+#[tactic(auto, using(crate::proofs::Runs::one_run_more))]
+pub(crate) fn add_to(
+    runs: &mut Vec<Run>,
+    shown: Shown,
+    time: Option<Time>,
+    contested: bool,
+) -> Result<bool, AllocError>
+    ensures ok { OnOk result (unrolled runs.new.items ≡ unrolled runs.old.items ++ shown ∷ []) }
+    ensures err { OnErr result (unrolled runs.new.items ≡ unrolled runs.old.items) }
+{
+    let first = time;
+    let last = time;
+    if lengthen(runs, &shown, time, contested) {
+        return Ok(false);
     }
     runs.push(Run {
-        shown: Shown {
-            lamps: shown.lamps,
-            codes: shown.codes.copy()?,
-        },
+        shown,
         times: 1,
-        first: time,
-        last: time,
+        first,
+        last,
         contested,
     })?;
     Ok(true)

@@ -1,13 +1,16 @@
-ghost use Rattle.std.specs.Prelude.{◌≤◌, [], IfOk, option_map};
-ghost use Rattle.bus_watch.specs.Told.{StandsForAll};
+ghost use Rattle.std.specs.Prelude.{◌≡◌, ◌≤◌, [], List, length, reverse, slice_get, IfOk, option_map};
+ghost use Rattle.bus_model.specs.Heard.{counted, entries_heard, missed_count, names_heard, row_heard, unread_count};
+ghost use Rattle.bus_watch.specs.Runs.{unrolled};
+ghost use Rattle.bus_watch.specs.Told.{Beginning, StandsForAll, Told, all_said};
+ghost use Rattle.station_table.specs.StandsFor.{row_heard_as};
 
 use crate::counts::Counts;
+use crate::lists::Lists;
 use crate::owners::Owners;
 use crate::packets::Packets;
-use crate::run::{Run, Unit};
+use crate::run::Run;
 use candump_line::Time;
-use dm_messages::{Kind, Shown};
-use indexmap::IndexMap;
+use dm_messages::Kind;
 use name_field::Name;
 use station_table::{Row, Station};
 use std::alloc::{AllocError, Global};
@@ -30,7 +33,7 @@ pub struct Settings {
     ghost address_fits: { address ≤ 253 },
 }
 
-/// A station that reads the lines of a log or of a live bus.
+/// A station that reads the lines of a log or of a live bus. What it lists is taken out of it, and kept as runs of equal entries.
 #[derive(Drop)]
 pub struct Watch {
     settings: Settings,
@@ -39,12 +42,12 @@ pub struct Watch {
     owners: Owners,
     broadcasts: Packets,
     sessions: Packets,
-    units: IndexMap<Name, Unit>,
+    lists: Lists,
     counts: Counts,
     now: Option<Time>,
 }
 
-/// Seen as its station, and what it knows of the bus that it follows.
+/// Seen as its station, the lists that were taken out of it, and what it knows of the bus that it follows.
 impl Model for Watch {
     ghost use Rattle.std.specs.Prelude.{option_map, string_bytes};
     ghost use Rattle.bus_watch.specs.WatchValue.{WatchValue};
@@ -53,6 +56,7 @@ impl Model for Watch {
 
     ghost view = { λ w. record {
       station = w.station;
+      lists = w.lists;
       followed = record {
         skips_bad = w.settings.skips_bad;
         silence = w.settings.silence;
@@ -68,6 +72,7 @@ const GRANT: u8 = 255;
 
 impl Watch {
     /// A watch that has read nothing, of the bus of this name, or of the first that a line names.
+    #[tactic(auto, using(crate::proofs::Steps::opened))]
     pub fn new(alloc: Global, settings: Settings, bus: Option<&str>) -> Result<Watch, AllocError>
         ensures { IfOk result (λ w. StandsForAll (record {
           station = record { name = settings.name; address = settings.address };
@@ -87,7 +92,7 @@ impl Watch {
             owners: Owners::new(),
             broadcasts: Packets::new(),
             sessions: Packets::new(),
-            units: IndexMap::new(alloc),
+            lists: Lists::new(alloc),
             counts: Counts::default(),
             now: None,
         })
@@ -104,41 +109,60 @@ impl Watch {
     }
 
     /// How many NAMEs have a row.
-    pub fn names(&self) -> usize {
+    #[tactic(auto, using(crate::proofs::Queries::names_as_heard))]
+    pub fn names(&self) -> usize
+        ensures heard { (b : Beginning) (ts : List Told) → StandsForAll b ts self.entry.now → result ≡ length (names_heard (all_said b ts).readings) }
+    {
         self.station.names()
     }
 
     /// The NAME of the row at this place, from 0, in the order of the NAMEs' first claims.
-    pub fn name_at(&self, place: usize) -> Option<Name> {
+    #[tactic(auto, using(crate::proofs::Queries::name_as_heard))]
+    pub fn name_at(&self, place: usize) -> Option<Name>
+        ensures heard { (b : Beginning) (ts : List Told) → StandsForAll b ts self.entry.now → result ≡ slice_get (names_heard (all_said b ts).readings) place }
+    {
         self.station.name_at(place)
     }
 
-    /// What is known of a NAME.
-    pub fn row(&self, name: Name) -> Option<Row> {
+    /// What is known of a NAME; none before its first claim.
+    #[tactic(auto, using(crate::proofs::Queries::row_as_heard))]
+    pub fn row(&self, name: Name) -> Option<Row>
+        ensures heard { (b : Beginning) (ts : List Told) → StandsForAll b ts self.entry.now → option_map row_heard_as result ≡ row_heard b.station name (all_said b ts).readings }
+    {
         self.station.row(name)
     }
 
-    /// The entries of a kind under a NAME, oldest first.
-    pub fn shown(&self, name: Name, kind: Kind) -> &[Shown] {
-        self.station.shown(name, kind)
+    /// The entries of a kind under a NAME as runs of equal ones, oldest first.
+    ///
+    /// One after the other, their entries are the list that was heard.
+    #[tactic(auto, using(crate::proofs::Queries::runs_as_heard))]
+    pub fn runs(&self, name: Name, kind: Kind) -> &[Run]
+        ensures heard { (b : Beginning) (ts : List Told) → StandsForAll b ts self.entry.now → unrolled result.now ≡ reverse (entries_heard b.station name kind (all_said b ts).readings) }
+    {
+        self.lists.runs(name, kind)
     }
 
-    /// The runs of equal entries of a kind under a NAME, oldest first.
-    pub fn runs(&self, name: Name, kind: Kind) -> &[Run] {
-        match (self.units.get(&name), kind) {
-            (Some(unit), Kind::Dm1) => unit.dm1.as_slice(),
-            (Some(unit), Kind::Dm2) => unit.dm2.as_slice(),
-            (None, _) => &[],
-        }
+    /// How many entries of a kind are under a NAME, up to the greatest 64-bit number.
+    #[tactic(auto, using(crate::proofs::Queries::entries_as_heard))]
+    pub fn entries(&self, name: Name, kind: Kind) -> u64
+        ensures heard { (b : Beginning) (ts : List Told) → StandsForAll b ts self.entry.now → result ≡ counted (length (entries_heard b.station name kind (all_said b ts).readings)) }
+    {
+        self.lists.entries(name, kind)
     }
 
-    /// How many frames were missed.
-    pub fn missed(&self) -> u64 {
+    /// How many frames were missed, up to the greatest 64-bit number.
+    #[tactic(auto, using(crate::proofs::Queries::missed_as_heard))]
+    pub fn missed(&self) -> u64
+        ensures heard { (b : Beginning) (ts : List Told) → StandsForAll b ts self.entry.now → result ≡ missed_count (all_said b ts).readings }
+    {
         self.station.missed()
     }
 
-    /// How many messages could not be read.
-    pub fn unread(&self) -> u64 {
+    /// How many messages could not be read, up to the greatest 64-bit number.
+    #[tactic(auto, using(crate::proofs::Queries::unread_as_heard))]
+    pub fn unread(&self) -> u64
+        ensures heard { (b : Beginning) (ts : List Told) → StandsForAll b ts self.entry.now → result ≡ unread_count b.station (all_said b ts).readings }
+    {
         self.station.unread()
     }
 }

@@ -86,8 +86,7 @@ fn put_entry(
     if let Some(run) = watch.runs(name, kind).last() {
         put_shown(json, alloc, run)?;
     }
-    let entries = watch.shown(name, kind).len();
-    put_number(json, "entry", entries as u64)
+    put_number(json, "entry", watch.entries(name, kind))
 }
 
 /// The lamps, the codes, and whether the entry is contested.

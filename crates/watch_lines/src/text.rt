@@ -90,13 +90,13 @@ fn write_row<W: Write>(writer: &mut W, watch: &Watch, name: Name) -> io::Result<
         },
         None => write!(writer, "none ")?,
     }
-    let dm1 = watch.shown(name, Kind::Dm1).len();
-    let dm2 = watch.shown(name, Kind::Dm2).len();
+    let dm1 = watch.entries(name, Kind::Dm1);
+    let dm2 = watch.entries(name, Kind::Dm2);
     write!(writer, "{dm1:>6} {dm2:>6} ")?;
-    match watch.shown(name, Kind::Dm1).last() {
+    match watch.runs(name, Kind::Dm1).last() {
         Some(newest) => {
-            let [lamps, flashes] = newest.lamps.to_bytes();
-            let codes = newest.codes.as_slice().len();
+            let [lamps, flashes] = newest.shown.lamps.to_bytes();
+            let codes = newest.shown.codes.as_slice().len();
             write!(writer, "{lamps:02X}{flashes:02X} {codes:>4}")
         }
         None => write!(writer, "----    -"),

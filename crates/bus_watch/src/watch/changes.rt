@@ -1,9 +1,9 @@
 ghost use Rattle.std.specs.Prelude.{◌≡◌, OnOk};
-ghost use Rattle.bus_watch.specs.WatchValue.{Takes};
+ghost use Rattle.bus_watch.specs.WatchValue.{Moves, Takes};
 ghost use Rattle.can_frame.specs.declared.reading.Reading.TheVariants.{Frame as FrameRead, Gap as GapRead};
+ghost use Rattle.station_table.specs.Steps.{after_reading};
 
 use crate::change::Change;
-use crate::run::add_entry;
 use crate::watch::Watch;
 use can_frame::{Frame, Pgn, Reading};
 use dm_messages::Kind;
@@ -12,14 +12,6 @@ use parameter_group::ParameterGroup;
 use station_table::AckSeen;
 use std::alloc::{AllocError, Global};
 use transport::Control;
-
-/// How many entries and unreadable messages there were.
-#[derive(Clone, Copy)]
-struct Listed {
-    dm1: usize,
-    dm2: usize,
-    unread: u64,
-}
 
 impl Watch {
     /// Has the station take a reading, and tells what it changed.
@@ -42,7 +34,7 @@ impl Watch {
 
     /// Has the station take a reading. What it would send is only counted.
     fn read(&mut self, alloc: Global, reading: Reading) -> Result<(), AllocError>
-        ensures { OnOk result (Takes self.old self.new reading) }
+        ensures { OnOk result (self.new ≡ record self.old { station = after_reading self.old.station reading }) }
     {
         match self.station.take(alloc, reading) {
             Ok(reaction) => {
@@ -59,6 +51,43 @@ impl Watch {
         self.counts.not_sent = self.counts.not_sent.saturating_add(frames as u64);
     }
 
+    /// Has the station take a frame, and moves the entry that it lists by it, if any, to the runs. Tells of an entry that begins
+    /// a run.
+    fn read_frame(&mut self, alloc: Global, frame: Frame) -> Result<Option<Change>, AllocError>
+        ensures { OnOk result (Takes self.old self.new (FrameRead frame)) }
+    {
+        let list = self.station.list_of(&Reading::Frame(frame));
+        self.read(alloc, Reading::Frame(frame))?;
+        match list {
+            Some((name, kind)) => self.move_entry(alloc, frame.id().source(), name, kind),
+            None => Ok(None),
+        }
+    }
+
+    /// Moves the oldest entry of a list, if there is one, from the station to the runs. It came from this address. Tells of it
+    /// where it begins a run.
+    fn move_entry(
+        &mut self,
+        alloc: Global,
+        source: u8,
+        name: Name,
+        kind: Kind,
+    ) -> Result<Option<Change>, AllocError>
+        ensures { OnOk result (Moves self.old self.new name kind) }
+    {
+        let Some(shown) = self.station.take_oldest(name, kind) else {
+            return Ok(None);
+        };
+        let contested = self.owners.is_contested(source, self.now);
+        if self
+            .lists
+            .add(alloc, name, kind, shown, self.now, contested)?
+        {
+            return Ok(Some(Change::Entry { name, kind }));
+        }
+        Ok(None)
+    }
+
     /// Frames were missed.
     fn take_gap(&mut self, alloc: Global, count: u32) -> Result<Vec<Change>, AllocError>
         ensures { OnOk result (Takes self.old self.new (GapRead count)) }
@@ -68,7 +97,7 @@ impl Watch {
         one_change(alloc, Change::Missed { count })
     }
 
-    /// A frame.
+    /// A frame. One that says nothing to the station is not handed to it.
     fn take_frame(&mut self, alloc: Global, frame: Frame) -> Result<Vec<Change>, AllocError>
         ensures { OnOk result (Takes self.old self.new (FrameRead frame)) }
     {
@@ -91,10 +120,11 @@ impl Watch {
             ParameterGroup::DataTransfer { source, .. } => {
                 self.take_message(alloc, frame, source, false)
             }
-            _ => {
-                self.read(alloc, Reading::Frame(frame))?;
+            ParameterGroup::Request(_) => {
+                self.read_frame(alloc, frame)?;
                 Ok(Vec::new(alloc))
             }
+            ParameterGroup::Other => Ok(Vec::new(alloc)),
         }
     }
 
@@ -112,7 +142,7 @@ impl Watch {
         match self.owners.claim(source, name, self.now) {
             Some(other) => self.take_contest(alloc, frame, name, before, other),
             None => {
-                self.read(alloc, Reading::Frame(frame))?;
+                self.read_frame(alloc, frame)?;
                 won(alloc, name, before, self.address_of(name))
             }
         }
@@ -130,7 +160,7 @@ impl Watch {
         ensures { OnOk result (Takes self.old self.new (FrameRead frame)) }
     {
         let other_before = self.address_of(other);
-        self.read(alloc, Reading::Frame(frame))?;
+        self.read_frame(alloc, frame)?;
         let mut changes = won(alloc, name, before, self.address_of(name))?;
         if other_before.is_some() && self.address_of(other).is_none() {
             changes.insert(0, Change::NoAddress { name: other })?;
@@ -149,7 +179,7 @@ impl Watch {
     {
         let is_new = self.station.row(name).is_none();
         let before = self.address_of(name);
-        self.read(alloc, Reading::Frame(frame))?;
+        self.read_frame(alloc, frame)?;
         if is_new || before.is_some() {
             return one_change(alloc, Change::NoAddress { name });
         }
@@ -166,11 +196,11 @@ impl Watch {
         ensures { OnOk result (Takes self.old self.new (FrameRead frame)) }
     {
         let Some(name) = self.owners.owner(source) else {
-            self.read(alloc, Reading::Frame(frame))?;
+            self.read_frame(alloc, frame)?;
             return Ok(Vec::new(alloc));
         };
         let before = self.ack_of(name);
-        self.read(alloc, Reading::Frame(frame))?;
+        self.read_frame(alloc, frame)?;
         acknowledged(alloc, name, before, self.ack_of(name))
     }
 
@@ -184,39 +214,26 @@ impl Watch {
     ) -> Result<Vec<Change>, AllocError>
         ensures { OnOk result (Takes self.old self.new (FrameRead frame)) }
     {
-        let Some(name) = self.owners.owner(source) else {
-            self.read(alloc, Reading::Frame(frame))?;
+        let unread = self.station.unread();
+        let entry = self.read_frame(alloc, frame)?;
+        if self.owners.owner(source).is_none() {
             return self.unowned_changes(alloc, source, begins);
-        };
-        let before = self.listed(name);
-        self.read(alloc, Reading::Frame(frame))?;
-        self.message_changes(alloc, name, source, before)
+        }
+        self.message_changes(alloc, entry, unread)
     }
 
-    /// What a message of a NAME changed.
+    /// What a message of a NAME changed, with this entry, and this count of unreadable ones before it.
     fn message_changes(
-        &mut self,
+        &self,
         alloc: Global,
-        name: Name,
-        source: u8,
-        before: Listed,
-    ) -> Result<Vec<Change>, AllocError>
-        ensures { self.new ≡ self.old }
-    {
+        entry: Option<Change>,
+        unread: u64,
+    ) -> Result<Vec<Change>, AllocError> {
         let mut changes = Vec::new(alloc);
-        if self.is_listed(alloc, name, Kind::Dm1, before.dm1, source)? {
-            changes.push(Change::Entry {
-                name,
-                kind: Kind::Dm1,
-            })?;
+        if let Some(entry) = entry {
+            changes.push(entry)?;
         }
-        if self.is_listed(alloc, name, Kind::Dm2, before.dm2, source)? {
-            changes.push(Change::Entry {
-                name,
-                kind: Kind::Dm2,
-            })?;
-        }
-        if self.station.unread() != before.unread {
+        if self.station.unread() != unread {
             changes.push(Change::Unread)?;
         }
         Ok(changes)
@@ -239,44 +256,6 @@ impl Watch {
             return one_change(alloc, Change::Unowned { source });
         }
         Ok(Vec::new(alloc))
-    }
-
-    /// Puts the newest entry of a NAME to its runs, where the list has more than before. Tells whether it begins a run.
-    fn is_listed(
-        &mut self,
-        alloc: Global,
-        name: Name,
-        kind: Kind,
-        before: usize,
-        source: u8,
-    ) -> Result<bool, AllocError>
-        ensures { self.new ≡ self.old }
-    {
-        let contested = self.owners.is_contested(source, self.now);
-        let shown = self.station.shown(name, kind);
-        if shown.len() <= before {
-            return Ok(false);
-        }
-        match shown.last() {
-            Some(newest) => add_entry(
-                alloc,
-                &mut self.units,
-                name,
-                kind,
-                newest,
-                self.now,
-                contested,
-            ),
-            None => Ok(false),
-        }
-    }
-
-    fn listed(&self, name: Name) -> Listed {
-        Listed {
-            dm1: self.station.shown(name, Kind::Dm1).len(),
-            dm2: self.station.shown(name, Kind::Dm2).len(),
-            unread: self.station.unread(),
-        }
     }
 
     fn address_of(&self, name: Name) -> Option<u8> {

@@ -1,0 +1,55 @@
+-- What is read from a watch is what was heard of the lines.
+use Rattle.std.proofs.Common.{◌≡◌, ℕ, List, ◌++◌, Option, Some, None, length, map, reverse, refl, sym, ap, ◌∙◌}
+use Rattle.std.specs.Prelude.{slice_get}
+use Rattle.std.specs.Option.{option_map}
+use Rattle.std.proofs.lemmas.List.{length-map, length-reverse, append-nil}
+use Rattle.dm_messages.specs.declared.kind.Kind.{Kind}
+use Rattle.dm_messages.specs.declared.shown.Shown.{Shown}
+use Rattle.bus_model.specs.Heard.{StationSettings, counted, entries_heard, missed_count, names_heard, row_heard, unread_count}
+use Rattle.station_table.specs.declared.row.Row.{Row}
+use Rattle.station_table.specs.KeptValue.{KeptValue, kept_under}
+use Rattle.station_table.specs.StandsFor.{row_heard_as, row_known, row_of}
+use Rattle.station_table.proofs.RowLemmas.{named}
+use Rattle.bus_watch.specs.Runs.{entries_in, runs_under, unrolled}
+use Rattle.bus_watch.specs.Told.{Beginning, StandsForAll, Told, all_said}
+use Rattle.bus_watch.specs.WatchValue.{WatchValue}
+use Rattle.bus_watch.specs.declared.run.Run.{Run}
+
+pub names_as_heard : (w : WatchValue) (b : Beginning) (ts : List Told) (n : ℕ) → n ≡ length w.station.rows → StandsForAll b ts w → n ≡ length (names_heard (all_said b ts).readings)
+names_as_heard w b ts n e s = e ∙ (sym (length-map w.station.rows named) ∙ ap (λ (l : List ℕ). length l) s.heard.beside.names)
+
+pub name_as_heard : (w : WatchValue) (b : Beginning) (ts : List Told) (place : ℕ) (o : Option ℕ)
+    → o ≡ slice_get (map named w.station.rows) place → StandsForAll b ts w → o ≡ slice_get (names_heard (all_said b ts).readings) place
+name_as_heard w b ts place o e s = e ∙ ap (λ (l : List ℕ). slice_get l place) s.heard.beside.names
+
+row_words : (owners : List (Option ℕ)) (name : ℕ) (k : Option KeptValue) → option_map row_heard_as (row_of owners name k) ≡ row_known owners name k
+row_words owners name None = refl
+row_words owners name (Some k) = refl
+
+pub row_as_heard : (w : WatchValue) (b : Beginning) (ts : List Told) (name : ℕ) (o : Option Row)
+    → o ≡ row_of w.station.owners name (kept_under w.station.rows name) → StandsForAll b ts w → option_map row_heard_as o ≡ row_heard b.station name (all_said b ts).readings
+row_as_heard w b ts name o e s =
+    ap (option_map row_heard_as) e ∙ (row_words w.station.owners name (kept_under w.station.rows name) ∙ s.heard.beside.rows name)
+
+-- the entries of the runs are the whole list
+listed : (w : WatchValue) (b : Beginning) (ts : List Told) (name : ℕ) (kind : Kind) → StandsForAll b ts w
+    → entries_in w.lists name kind ≡ reverse (entries_heard b.station name kind (all_said b ts).readings)
+listed w b ts name kind s =
+    sym (append-nil (entries_in w.lists name kind))
+    ∙ (ap (λ (l : List Shown). entries_in w.lists name kind ++ l) (sym (s.heard.alone name kind)) ∙ s.heard.beside.entries name kind)
+
+pub runs_as_heard : (w : WatchValue) (b : Beginning) (ts : List Told) (name : ℕ) (kind : Kind) (l : List Run) → l ≡ runs_under w.lists name kind → StandsForAll b ts w
+    → unrolled l ≡ reverse (entries_heard b.station name kind (all_said b ts).readings)
+runs_as_heard w b ts name kind l e s = ap unrolled e ∙ listed w b ts name kind s
+
+pub entries_as_heard : (w : WatchValue) (b : Beginning) (ts : List Told) (name : ℕ) (kind : Kind) (n : ℕ) → n ≡ counted (length (entries_in w.lists name kind)) → StandsForAll b ts w
+    → n ≡ counted (length (entries_heard b.station name kind (all_said b ts).readings))
+entries_as_heard w b ts name kind n e s =
+    e ∙ ap (λ (l : List Shown). counted (length l)) (listed w b ts name kind s)
+    ∙ ap counted (length-reverse (entries_heard b.station name kind (all_said b ts).readings))
+
+pub missed_as_heard : (w : WatchValue) (b : Beginning) (ts : List Told) (n : ℕ) → n ≡ w.station.missed → StandsForAll b ts w → n ≡ missed_count (all_said b ts).readings
+missed_as_heard w b ts n e s = e ∙ s.heard.beside.missed
+
+pub unread_as_heard : (w : WatchValue) (b : Beginning) (ts : List Told) (n : ℕ) → n ≡ w.station.unread → StandsForAll b ts w → n ≡ unread_count b.station (all_said b ts).readings
+unread_as_heard w b ts n e s = e ∙ s.heard.beside.unread

@@ -1,0 +1,60 @@
+-- One more entry of a run, or one more run.
+use Rattle.std.proofs.Common.{◌≡◌, ℕ, zero, suc, ◌+◌, ◌-◌, ◌<◌, Bool, true, false, List, [], ◌∷◌, ◌++◌, length, replicate, Option, Some, None, refl, sym, ap, ◌∙◌, subst, arith, rules, append-nil}
+use Rattle.std.specs.Prelude.{nat_eq, ◌==◌, if◌then◌else◌, slice_index_or, slice_set, min, ◌^◌}
+use Rattle.std.proofs.lemmas.List.{append_assoc, length-append, replicate-append-replicate}
+use Rattle.bus_watch.specs.Runs.{unrolled, runs_of}
+use Rattle.bus_model.specs.Heard.{counted}
+use Rattle.std.specs.Map.{lookup}
+use Rattle.std.specs.Option.{unwrap_or}
+use Rattle.std.proofs.lemmas.Bool.{eqb-true}
+use Rattle.bus_watch.specs.declared.run.Run.{Run}
+use Rattle.dm_messages.specs.declared.shown.Shown.{Shown}
+
+-- one more of equal entries stands behind them
+one_behind : (n : ℕ) (v : Shown) → replicate (n + 1) v ≡ replicate n v ++ v ∷ []
+one_behind n v = sym (replicate-append-replicate n 1 v)
+
+last_more : (a r : Run) (v : Shown) → r.shown ≡ v → r.times ≡ a.times + 1 → a.shown ≡ v → unrolled (r ∷ []) ≡ unrolled (a ∷ []) ++ v ∷ []
+last_more a r v shown times same =
+    append-nil (replicate r.times r.shown)
+    ∙ ((rw (shown, times) (one_behind a.times v))
+    ∙ ap (λ (s : Shown). replicate a.times s ++ v ∷ []) (sym same))
+    ∙ ap (λ (l : List Shown). l ++ v ∷ []) (sym (append-nil (replicate a.times a.shown)))
+
+-- the newest run with one more entry
+pub one_more : (runs : List Run) (i : ℕ) (r : Run) (v : Shown) → i + 1 ≡ length runs
+    → r.shown ≡ v → r.times ≡ (slice_index_or runs i r).times + 1 → (slice_index_or runs i r).shown ≡ v
+    → unrolled (slice_set runs i r) ≡ unrolled runs ++ v ∷ []
+one_more [] i r v e shown times same = absurd (omega (arith, e))
+one_more (a ∷ []) zero r v e shown times same = last_more a r v shown times same
+one_more (a ∷ []) (suc j) r v e shown times same = absurd (omega (arith, e))
+one_more (a ∷ b ∷ runs) zero r v e shown times same = absurd (omega (arith, e))
+one_more (a ∷ b ∷ runs) (suc j) r v e shown times same =
+    ap (λ (l : List Shown). replicate a.times a.shown ++ l) (one_more (b ∷ runs) j r v (omega (arith, e)) shown times same)
+    ∙ sym (append_assoc (replicate a.times a.shown) (unrolled (b ∷ runs)) (v ∷ []))
+
+-- one run more, of one entry
+pub one_run_more : (runs : List Run) (r : Run) (v : Shown) → r.shown ≡ v → r.times ≡ 1 → unrolled (runs ++ r ∷ []) ≡ unrolled runs ++ v ∷ []
+one_run_more [] r v shown times = rw (shown, times) refl
+one_run_more (a ∷ runs) r v shown times =
+    ap (λ (l : List Shown). replicate a.times a.shown ++ l) (one_run_more runs r v shown times)
+    ∙ sym (append_assoc (replicate a.times a.shown) (unrolled runs) (v ∷ []))
+
+-- how many entries there are with one more
+pub counted_more : (before after : List Shown) (v : Shown) (n m : ℕ) → n ≡ counted (length before) → m ≡ min (n + 1) (2 ^ 64 - 1) → after ≡ before ++ v ∷ []
+    → m ≡ counted (length after)
+counted_more before after v n m was now e = rw (e, length-append before (v ∷ [])) (omega (arith, was, now))
+
+-- the first entry of a list
+pub begun : (before after : List (ℕ × List Run)) (name : ℕ) (list : List Run) (v : Shown) → lookup (nat_eq name) before ≡ None
+    → ((q : ℕ) → lookup (nat_eq q) after ≡ (if name == q then Some list else lookup (nat_eq q) before)) → unrolled list ≡ v ∷ []
+    → (n : ℕ) → unrolled (runs_of after n) ≡ (if name == n then unrolled (runs_of before n) ++ v ∷ [] else unrolled (runs_of before n))
+begun before after name list v none found one n =
+    ap (λ (o : Option (List Run)). unrolled (unwrap_or o [])) (found n) ∙ go (name == n) refl
+  where
+    go : (b : Bool) → (name == n) ≡ b → unrolled (unwrap_or (if b then Some list else lookup (nat_eq n) before) [])
+        ≡ (if b then unrolled (runs_of before n) ++ v ∷ [] else unrolled (runs_of before n))
+    go false e = refl
+    go true e =
+        let here : lookup (nat_eq n) before ≡ None = subst (λ (m : ℕ). lookup (nat_eq m) before ≡ None) (eqb-true name n e) none in
+        one ∙ ap (λ (o : Option (List Run)). unrolled (unwrap_or o []) ++ v ∷ []) (sym here)

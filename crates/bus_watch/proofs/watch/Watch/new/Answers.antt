@@ -1,0 +1,6 @@
+use Rattle.std.proofs.Common.{rules}
+use Rattle.bus_watch.proofs.Steps.{opened}
+use Rattle.bus_watch.proofs.watch.Watch.new.Goals as goal
+
+pub returns : goal.returns
+returns c = opened _ _ c.new.ensures.stands c.new-5.ensures (search rules)

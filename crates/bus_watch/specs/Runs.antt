@@ -1,0 +1,31 @@
+-- Runs of equal entries, and the lists that they stand for.
+use Rattle.std.specs.Prelude.{ℕ, List, [], ◌∷◌, ◌++◌, nat_eq, replicate}
+use Rattle.std.specs.Option.{unwrap_or}
+use Rattle.std.specs.Map.{lookup}
+use Rattle.bus_watch.specs.declared.run.Run.{Run}
+use Rattle.dm_messages.specs.declared.kind.Kind.{Kind}
+use Rattle.dm_messages.specs.declared.kind.Kind.TheVariants.{Dm1, Dm2}
+use Rattle.dm_messages.specs.declared.shown.Shown.{Shown}
+
+-- the entries of some runs, one run after another
+abbrev pub unrolled : List Run → List Shown
+unrolled [] = []
+unrolled (r ∷ later) = replicate r.times r.shown ++ unrolled later
+
+-- the runs under a NAME, none where it has none
+abbrev pub runs_of : List (ℕ × List Run) → ℕ → List Run
+runs_of table name = unwrap_or (lookup (nat_eq name) table) []
+
+-- the runs of each kind, by NAME
+pub record ListsValue : Type 0 where
+  pub dm1 : List (ℕ × List Run)
+  pub dm2 : List (ℕ × List Run)
+
+-- the runs of a kind under a NAME
+abbrev pub runs_under : ListsValue → ℕ → Kind → List Run
+runs_under lists name Dm1 = runs_of lists.dm1 name
+runs_under lists name Dm2 = runs_of lists.dm2 name
+
+-- and their entries
+abbrev pub entries_in : ListsValue → ℕ → Kind → List Shown
+entries_in lists name kind = unrolled (runs_under lists name kind)

@@ -1,0 +1,71 @@
+ghost use Rattle.std.specs.Prelude.{◌≡◌, ◌∷◌, [], ◌++◌, length, OnOk, OnErr};
+ghost use Rattle.bus_watch.specs.Runs.{unrolled};
+ghost use Rattle.bus_model.specs.Heard.{counted};
+
+use crate::run::{Run, add_to};
+use candump_line::Time;
+use dm_messages::Shown;
+use std::alloc::{AllocError, Global};
+use std::marker::Model;
+
+/// The runs of a list of entries, oldest first, and how many entries they are.
+#[derive(Debug, Drop)]
+pub(crate) struct RunList {
+    runs: Vec<Run>,
+    entries: u64,
+}
+
+impl Model for RunList {
+    ghost use Rattle.std.specs.Prelude.{◌≡◌, List, length};
+    ghost use Rattle.bus_watch.specs.declared.run.Run.{Run};
+    ghost use Rattle.bus_watch.specs.Runs.{unrolled};
+    ghost use Rattle.bus_model.specs.Heard.{counted};
+
+    ghost Value = { List Run };
+
+    ghost view = { λ l. l.runs.items };
+
+    ghost invariant = { λ l. l.entries ≡ counted (length (unrolled l.runs.items)) };
+}
+
+impl RunList {
+    /// No runs.
+    pub(crate) fn new(alloc: Global) -> RunList
+        ensures { result ≡ [] }
+    {
+        RunList {
+            runs: Vec::new(alloc),
+            entries: 0,
+        }
+    }
+
+    /// The runs.
+    pub(crate) fn runs(&self) -> &[Run]
+        ensures { result.now ≡ self.now }
+    {
+        self.runs.as_slice()
+    }
+
+    /// How many entries they are, up to the greatest 64-bit number.
+    pub(crate) fn entries(&self) -> u64
+        ensures { result ≡ counted (length (unrolled self.now)) }
+    {
+        self.entries
+    }
+
+    /// Adds an entry. Tells whether it begins a run. Where memory is refused, no entry comes or goes.
+    #[tactic(auto, using(crate::proofs::Runs::counted_more))]
+    pub(crate) fn add(
+        &mut self,
+        shown: Shown,
+        time: Option<Time>,
+        contested: bool,
+    ) -> Result<bool, AllocError>
+        ensures ok { OnOk result (unrolled self.new ≡ unrolled self.old ++ shown ∷ []) }
+        ensures err { OnErr result (unrolled self.new ≡ unrolled self.old) }
+    {
+        let begins = add_to(&mut self.runs, shown, time, contested)?;
+        self.entries = self.entries.saturating_add(1);
+        Ok(begins)
+    }
+}

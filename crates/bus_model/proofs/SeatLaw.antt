@@ -101,9 +101,9 @@ open_heard begun s e t apart o law =
     open_as begun begun s s.queue (e ∷ s.heard) s.session t law law.booked
     (last_of_skip t.message.name t.message.kind s.queue e s.heard (of_apart t.message.name t.message.kind e.tag tags) ∙ law.last)
     (sess_skip t.message.name t.message.source law.dest s.queue e s.heard
-        (breaks_from_claim t.message.name t.message.source law.dest e.name (says e) (apart.quiet t.message.source law.held) (apart.uncut t law.dest o law.way) (λ i. apart.name (i ∙ law.name)))
-        (sess_apart t.message.name e.tag tags)
-        ∙ law.sofar)
+    (breaks_from_claim t.message.name t.message.source law.dest e.name (says e) (apart.quiet t.message.source law.held) (apart.uncut t law.dest o law.way) (λ i. apart.name (i ∙ law.name)))
+    (sess_apart t.message.name e.tag tags)
+    ∙ law.sofar)
 
 -- the frame heard, with what stood ahead of the seat
 pub heard_rest : (st : ℕ) (wire ahead heard : List Item) (e : Item) → Lawful st wire → wire ≡ ahead ++ e ∷ heard → Lawful st (e ∷ heard)

@@ -110,7 +110,10 @@ fn write_step<W: Write>(writer: &mut W, control: Control) -> io::Result<Pgn> {
             most,
             pgn,
         } => {
-            write!(writer, "RTS {size} bytes in {packets} packets, at most {most} at once,")?;
+            write!(
+                writer,
+                "RTS {size} bytes in {packets} packets, at most {most} at once,"
+            )?;
             Ok(pgn)
         }
         Control::Cts { granted, next, pgn } => {

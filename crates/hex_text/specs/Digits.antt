@@ -58,7 +58,7 @@ padded_digits base upper glyph g (suc k) (suc j) n rest hk h le =
     (λ (ne : n / base ≢ 0).
     let test : (n / base == 0) ≡ false = grind (arith, nat_tests) in
     let again = padded_digits base upper glyph g k j (n / base) (digit_glyph upper (n % base) ∷ rest)
-          (more_digits base k n g.more h ne) (one_digit_less base k n g.more h) (omega arith) in
+    (more_digits base k n g.more h ne) (one_digit_less base k n g.more h) (omega arith) in
     let e : suc k + length rest ≡ k + suc (length rest) = omega arith in
     rw (test, e) (again ∙ ap (λ d. fixed_digits base glyph k (n / base) (d ∷ rest)) same))
     (cases_eq (n / base) 0)

@@ -198,6 +198,27 @@ impl Garage {
         } = parked;
         unit
     }
+
+    /// Takes a unit off the bus and lets it go: it takes its seat, and its plug is dropped.
+    ///
+    /// Refused with `Stranger` exactly where `attach` is; nothing changed then, but the unit is let go too. Takes no memory.
+    #[tactic(auto, using(crate::proofs::Lists::lists_same))]
+    pub fn dismiss(&mut self, parked: Parked) -> Result<(), GarageError>
+        ensures stranger { IsErr result ↔ (¬ IsSeated self.old parked.seat (name_of parked.unit) parked.events) }
+        ensures ok { OnOk result (Adds self.old (Leave parked.seat) self.new) }
+        ensures err { IfErr result (λ e. (e ≡ GarageError.Stranger) × (self.new ≡ self.old)) }
+        ensures lists { KeepsLists self.old self.new }
+    {
+        let (parked, error) = match self.attach(parked) {
+            Ok(plug) => {
+                drop(plug);
+                return Ok(());
+            }
+            Err(refusal) => refusal,
+        };
+        drop(self.disown(parked));
+        Err(error)
+    }
 }
 
 impl<'a> Plug<'a> {

@@ -5,7 +5,7 @@ ghost use Rattle.unit_threads.specs.Ends.{Agrees, HaveOwnSeats};
 
 use crate::compare::compared_ends;
 use crate::ended::{EndReason, Ended};
-use crate::turn::{leave, one_read, one_turn};
+use crate::turn::{one_read, one_turn};
 use garage::{Garage, GarageError};
 use std::alloc::{AllocError, Global};
 use std::sync::{Mutex, Wait};
@@ -146,7 +146,7 @@ fn drive<R: Wait, G: Gate>(
         };
     }
     let events = parked.events().saturating_add(1);
-    let left = leave(&mut *shared.lock(rt), parked);
+    let left = Garage::dismiss(&mut *shared.lock(rt), parked);
     match left {
         Ok(()) => Ended {
             seat: Some(seat),

@@ -1,6 +1,5 @@
 ghost use Rattle.std.specs.Prelude.{◌≡◌, ◌⊎◌, ◌↔◌, ◌<◌, ◌≤◌, ℕ, Err, None, IfErr, IfOk, IsErr, MatchResult, OnErr, OnOk};
-ghost use Rattle.journal.specs.Journal.{IsSeated, with_event};
-ghost use Rattle.journal.specs.declared.event.Event.TheVariants.{Leave};
+ghost use Rattle.journal.specs.Journal.{IsSeated};
 ghost use Rattle.unit_threads.specs.Turns.{CarriesAll, CarriesSome, GrowsBy, HasHeardAll, HasReadAll, IsHearOf, IsOneRead, IsOneTurn, IsPartOfRead, IsPartOfTurn, IsRead, IsTurnInSeat, KeepsSeats, LeavesAfterSome, LeftTurn, begun_by};
 ghost use Rattle.garage.specs.Calls.{IsWant};
 
@@ -50,23 +49,6 @@ pub fn one_read(alloc: Global, garage: &mut Garage) -> Result<(), GarageError>
     carry_some(garage)
 }
 
-/// Takes a unit off the bus: its plug is dropped. Refused with `Stranger` where it has no seat here; then it is let go.
-pub(crate) fn leave(garage: &mut Garage, parked: Parked) -> Result<(), GarageError>
-    ensures stranger { IsErr result ↔ (¬ IsSeated garage.old parked.seat ((⟦<dyn Unit as Unit>⟧ parked.unit.vtable).name_of parked.unit.value) parked.events) }
-    ensures ok { OnOk result (garage.new ≡ with_event (Leave parked.seat) garage.old) }
-    ensures err { IfErr result (λ e. (e ≡ GarageError.Stranger) × (garage.new ≡ garage.old)) }
-{
-    let (parked, error) = match garage.attach(parked) {
-        Ok(plug) => {
-            drop(plug);
-            return Ok(());
-        }
-        Err(refusal) => refusal,
-    };
-    drop(garage.disown(parked));
-    Err(error)
-}
-
 /// Takes readings until there is none.
 #[tactic(auto, using(crate::proofs::Turning::reads_more, crate::proofs::Turning::grows_none, crate::proofs::Turning::grown_same))]
 fn read_all(alloc: Global, garage: &mut Garage) -> Result<(), GarageError>
@@ -110,7 +92,7 @@ fn carried_after(garage: &mut Garage, parked: Parked) -> Result<Parked, GarageEr
     match carry_some(garage) {
         Ok(()) => Ok(parked),
         Err(error) => {
-            let _ = leave(garage, parked);
+            let _ = garage.dismiss(parked);
             Err(error)
         }
     }

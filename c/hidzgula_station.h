@@ -8,7 +8,8 @@
  *  - A station is given to one call at a time, and stays on the thread that opened it. Several stations are independent.
  *  - Each pointer points to what its type says: aligned, large enough, not NULL, and no two of one call overlap. Only `bytes` may
  *    be anything that is not NULL where `length` is 0. What is written to need not have been set.
- *  - `malloc`, `realloc` and `free` are of one allocator, and align a block of 16 bytes or more to 16.
+ *  - `malloc`, `realloc` and `free` are of one allocator, which aligns a block to each power of two up to 16 that divides its size, as
+ *    the C library's does, and nobody else frees what it gave to a station.
  *  - No call comes from a signal handler, or from the forked child of a process with threads.
  *  - A call has 64 KB of stack.
  *

@@ -1,6 +1,5 @@
 -- The lists of a watch after a reading: what the station lists by it goes to the runs.
 use Rattle.std.proofs.Common.{◌≡◌, ℕ, Bool, true, false, ◌==◌, ◌&&◌, List, [], ◌∷◌, ◌++◌, drop, Option, Some, None, if◌then◌else◌, refl, sym, ap, ◌∙◌, subst, inl, inr, append-nil}
-use Rattle.std.specs.Prelude.{◌⊎◌, option_to_list}
 use Rattle.std.proofs.lemmas.Bool.{eqb-true, eq-eqb}
 use Rattle.bus_model.specs.Heard.{StationSettings}
 use Rattle.can_frame.specs.FrameValue.{FrameValue}

@@ -5,7 +5,7 @@ use Rattle.std.specs.Option.{option_map}
 use Rattle.std.proofs.lemmas.List.{length-map, length-reverse, append-nil}
 use Rattle.dm_messages.specs.declared.kind.Kind.{Kind}
 use Rattle.dm_messages.specs.declared.shown.Shown.{Shown}
-use Rattle.bus_model.specs.Heard.{StationSettings, counted, entries_heard, missed_count, names_heard, row_heard, unread_count}
+use Rattle.bus_model.specs.Heard.{counted, entries_heard, missed_count, names_heard, row_heard, unread_count}
 use Rattle.station_table.specs.declared.row.Row.{Row}
 use Rattle.station_table.specs.KeptValue.{KeptValue, kept_under}
 use Rattle.station_table.specs.StandsFor.{row_heard_as, row_known, row_of}

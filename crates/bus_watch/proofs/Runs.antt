@@ -1,5 +1,5 @@
 -- One more entry of a run, or one more run.
-use Rattle.std.proofs.Common.{◌≡◌, ℕ, zero, suc, ◌+◌, ◌-◌, ◌<◌, Bool, true, false, List, [], ◌∷◌, ◌++◌, length, replicate, Option, Some, None, refl, sym, ap, ◌∙◌, subst, arith, rules, append-nil}
+use Rattle.std.proofs.Common.{◌≡◌, ℕ, zero, suc, ◌+◌, ◌-◌, Bool, true, false, List, [], ◌∷◌, ◌++◌, length, replicate, Option, Some, None, refl, sym, ap, ◌∙◌, subst, arith, append-nil}
 use Rattle.std.specs.Prelude.{nat_eq, ◌==◌, if◌then◌else◌, slice_index_or, slice_set, min, ◌^◌}
 use Rattle.std.proofs.lemmas.List.{append_assoc, length-append, replicate-append-replicate}
 use Rattle.bus_watch.specs.Runs.{unrolled, runs_of}

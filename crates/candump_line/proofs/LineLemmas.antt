@@ -1,4 +1,4 @@
-use Rattle.std.proofs.Common.{◌≡◌, ◌≢◌, ℕ, zero, suc, ◌+◌, ◌-◌, ◌*◌, ◌/◌, ◌%◌, ◌^◌, ◌<◌, ◌≤◌, true, false, List, [], ◌∷◌, ◌++◌, Option, Some, None, Result, Ok, Err, Bor, length, get_or, take, drop, subst, arith, refl, sym, ap, ◌∙◌, lit<, lit≤, append_assoc}
+use Rattle.std.proofs.Common.{◌≡◌, ℕ, ◌+◌, ◌-◌, ◌*◌, ◌/◌, ◌%◌, ◌^◌, ◌<◌, ◌≤◌, true, false, List, [], ◌∷◌, ◌++◌, Option, Some, None, Result, Ok, Err, Bor, length, take, drop, subst, arith, refl, ap, ◌∙◌, lit<, lit≤}
 use Rattle.std.specs.Prelude.{All}
 use Rattle.std.specs.Char.{IsAsciiHexdigit}
 use Rattle.std.specs.Fmt.{padded_integral, format_spec, digits, decimal}
@@ -22,7 +22,7 @@ use Rattle.can_frame.specs.FrameText.{id_text}
 use Rattle.can_frame.specs.FrameValue.{FrameValue, frame}
 use Rattle.hex.specs.declared.error.FromHexError.{FromHexError}
 use Rattle.std.specs.Prelude.{MatchResult}
-use Rattle.hex.specs.Hex.{decode_pairs, decode_sized, hex_digit_value, pair_value}
+use Rattle.hex.specs.Hex.{decode_pairs, decode_sized, hex_digit_value}
 use Rattle.hex_text.specs.Hex.{hex_digit, hex_digits}
 use Rattle.hex_text.specs.Printed.{padded_hex}
 use Rattle.hex_text.specs.ReadBack.{IsHexText-hex_digits}

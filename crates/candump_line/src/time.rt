@@ -6,6 +6,9 @@ ghost use Rattle.candump_line.specs.LineText.{time_text};
 use std::fmt;
 use std::marker::Model;
 
+/// The least number with eleven digits.
+const LIMIT: u64 = 10_000_000_000;
+
 /// A point in time in microseconds, with at most ten digits of seconds.
 ///
 /// In a log it mostly counts from the start of the year 1970, in one that was made from the start of the run.
@@ -64,15 +67,25 @@ impl Time {
     }
 }
 
-/// The number below 2^64 that decimal digits alone spell; none for any other word.
-#[tactic(auto, using(crate::proofs::TimeLemmas::plus_is_no_digit))]
+/// The number below 10^10 that decimal digits alone spell; none for any other word.
+#[tactic(auto, using(std::proofs::lemmas::Int::Digits::digits_more, std::proofs::lemmas::Int::Digits::digits_value_more))]
 fn read_decimal(word: &str) -> Option<u64>
-    ensures { SomeIff result (IsNumeral 10 word.now × (digits_value 10 word.now < 2 ^ 64)) (digits_value 10 word.now) }
+    ensures { SomeIff result (IsNumeral 10 word.now × (digits_value 10 word.now < 10 ^ 10)) (digits_value 10 word.now) }
 {
-    if word.as_bytes().first() == Some(&b'+') {
+    if word.is_empty() {
         return None;
     }
-    word.parse::<u64>().ok()
+    let mut value = 0u64;
+    for byte in word.as_bytes() {
+        if !byte.is_ascii_digit() {
+            return None;
+        }
+        value = value * 10 + u64::from(*byte - b'0');
+        if value >= LIMIT {
+            return None;
+        }
+    }
+    Some(value)
 }
 
 /// Seconds, a point and six digits.

@@ -79,10 +79,10 @@ impl Watch {
             return Ok(None);
         };
         let contested = self.owners.is_contested(source, self.now);
-        if self
+        let begins = self
             .lists
-            .add(alloc, name, kind, shown, self.now, contested)?
-        {
+            .add(alloc, name, kind, shown, self.now, contested)?;
+        if begins {
             return Ok(Some(Change::Entry { name, kind }));
         }
         Ok(None)

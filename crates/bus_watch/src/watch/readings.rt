@@ -23,6 +23,7 @@ impl Watch {
     ///
     /// The station takes one reading: the frame of a line of the watched bus, but for a packet that came too late; so many
     /// missed frames where the line tells of them, and one where it is bad and bad lines count; else the empty reading.
+    /// An entry that the station lists by it is moved to the runs.
     ///
     /// # Errors
     /// Memory was refused. The station may have read the line, and the watch is not to be used any more.

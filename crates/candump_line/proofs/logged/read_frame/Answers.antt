@@ -1,4 +1,4 @@
-use Rattle.std.proofs.Common.{◌≡◌, ℕ, ◌∙◌, length, arith, ap}
+use Rattle.std.proofs.Common.{◌≡◌, ◌∙◌, length, arith, ap}
 use Rattle.candump_line.proofs.LineLemmas.{length-data, decoded, data_made}
 use Rattle.std.proofs.lemmas.Grind.{common_steps}
 use Rattle.candump_line.proofs.logged.read_frame.Goals as goal

@@ -1,4 +1,4 @@
-use Rattle.std.proofs.Common.{◌≡◌, ℕ, ◌∙◌, length, arith, ap, sym}
+use Rattle.std.proofs.Common.{length, arith, ap, sym}
 use Rattle.std.proofs.lemmas.Bool.{eqb-true}
 use Rattle.candump_line.proofs.LineLemmas.{at_paren, at_time, at_space, at_bus, at_id, some_same, three_same}
 use Rattle.candump_line.proofs.logged.read_logged.Goals as goal

@@ -1,6 +1,5 @@
 use Rattle.std.proofs.Common.{◌∙◌, refl}
 use Rattle.std.specs.Int.{to_be_bytes, w32}
-use Rattle.std.proofs.lemmas.Nat.{from_be_bytes-to_be_bytes_4}
 use Rattle.candump_line.proofs.LineLemmas.{bytes_of_id, decoded, id_reads, small_bytes, some_of}
 use Rattle.candump_line.proofs.logged.read_number.Goals as goal
 

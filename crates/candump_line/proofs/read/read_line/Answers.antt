@@ -1,4 +1,4 @@
-use Rattle.std.proofs.Common.{◌≡◌, ℕ, List, ◌∙◌, length, arith, ap, sym, subst}
+use Rattle.std.proofs.Common.{◌∙◌, length, arith, ap, sym, subst}
 use Rattle.std.specs.Str.{IsUtf8}
 use Rattle.candump_line.specs.LineText.{line_text}
 use Rattle.candump_line.proofs.LineLemmas.{ascii_line, seen_line, length-line, not_some}

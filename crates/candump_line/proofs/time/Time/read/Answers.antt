@@ -1,4 +1,4 @@
-use Rattle.std.proofs.Common.{◌≡◌, ℕ, ◌/◌, ◌%◌, ◌^◌, ◌∙◌, Some, length, arith, ap}
+use Rattle.std.proofs.Common.{◌%◌, ◌^◌, ◌∙◌, Some, length, arith, ap}
 use Rattle.candump_line.proofs.TimeLemmas.{split_time, length-six, reads_seconds, reads_micros, seconds_value, micros_value}
 use Rattle.candump_line.proofs.time.Time.read.Goals as goal
 use Rattle.candump_line.proofs.time.Time.read.Goals.{then-seconds-ge10000000000-via-then-seconds-ge10000000000, then-seconds-ge10000000000-via-else-seconds-ge10000000000+then-micros-ge1000000}

@@ -1,4 +1,4 @@
-use Rattle.std.proofs.Common.{ℕ, ◌<◌, ◌%◌, ◌^◌, arith}
+use Rattle.std.proofs.Common.{◌<◌, ◌%◌, ◌^◌, arith}
 use Rattle.candump_line.specs.LineText.{time_text}
 use Rattle.candump_line.proofs.TimeLemmas.{six_digits}
 use Rattle.candump_line.proofs.time.TimeDisplay.fmt.Goals as goal

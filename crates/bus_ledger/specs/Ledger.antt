@@ -1,6 +1,7 @@
 -- What becomes of every frame.
 use Rattle.std.specs.Prelude.{ℕ, ◌≡◌, ◌≢◌, ◌+◌, ◌<◌, ◌≤◌, Bool, false, true, ◌==◌, List, [], drop, length, Option, Some, None}
 use Rattle.std.specs.List.{All, count_by}
+use Rattle.bus_ledger.specs.declared.bus.TheConstants.{MOST_UNREAD}
 use Rattle.bus_ledger.specs.declared.traffic.Counts.{Counts}
 use Rattle.bus_ledger.specs.declared.traffic.CarriedFrame.{CarriedFrame}
 use Rattle.bus_ledger.specs.BusValue.{SeatValue, Traffic, seat_at}
@@ -32,6 +33,6 @@ pub record IsBalanced (wire : List CarriedFrame) (k : ℕ) (s : SeatValue) : Typ
 -- what holds of every bus
 pub record IsSound (t : Traffic) : Type 0 where
   pub station : (seat_at t 0).live ≡ true
-  pub window : (0 < t.window) × (t.window ≤ 4096)
+  pub window : (0 < t.window) × (t.window ≤ MOST_UNREAD)
   pub senders : All (λ c. IsGiven (length t.seats) c.seat) t.wire
   pub seats : (k : ℕ) → k < length t.seats → IsBalanced t.wire k (seat_at t k)

@@ -14,6 +14,6 @@ mod seat;
 mod tap;
 mod traffic;
 
-pub use bus::Bus;
+pub use bus::{Bus, MOST_UNREAD};
 pub use error::BusError;
 pub use traffic::{Carried, CarriedFrame, Counts, QueuedFrame, Tag, Which};

@@ -1,11 +1,11 @@
 -- The settings with which a garage is opened.
 use Rattle.std.specs.Prelude.{◌≤◌, []}
+use Rattle.bus_ledger.specs.declared.bus.TheConstants.{MOST_UNREAD}
 use Rattle.can_frame.specs.declared.address.TheConstants.{GREATEST_ADDRESS}
 use Rattle.journal.specs.State.{Settings}
 use Rattle.journal.specs.Journal.{GarageValue}
 use Rattle.journal.specs.declared.tally.Tally.{Tally}
 use Rattle.garage.specs.declared.garage.TheConstants.{MOST_EVENTS}
-use Rattle.garage.specs.declared.opening.TheConstants.{MOST_UNREAD}
 
 -- an address that can be held, a window of 1 to 4,096 frames, a grant of at least one packet, a journal of 1 to 2^24 events
 pub record IsSetting (r : Settings) : Type 0 where

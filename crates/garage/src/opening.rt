@@ -4,15 +4,12 @@ ghost use Rattle.garage.specs.Opening.{new_garage, IsSetting};
 use crate::error::GarageError;
 use crate::garage::{Garage, MOST_EVENTS};
 use crate::queueing::queue_frames;
-use bus_ledger::Bus;
+use bus_ledger::{Bus, MOST_UNREAD};
 use can_frame::GREATEST_ADDRESS;
 use journal::Journal;
 use name_field::Name;
 use station_table::Station;
 use std::alloc::Global;
-
-/// The largest window of unread frames.
-const MOST_UNREAD: u32 = 4096;
 
 impl Garage {
     /// A garage with its station alone, whose claim of its address is queued.

@@ -1,0 +1,69 @@
+ghost use Rattle.std.specs.Prelude.{◌≡◌, ◌≢◌, ◌<◌, Some, length, slice_get};
+ghost use Rattle.std.specs.List.{All};
+ghost use Rattle.std.specs.Option.{option_map};
+ghost use Rattle.bus_ledger.specs.BusValue.{IsUnit, KeepsSpares, seat_at};
+ghost use Rattle.bus_ledger.specs.Changes.{heard_more};
+ghost use Rattle.bus_ledger.specs.Ledger.{IsSound};
+ghost use Rattle.bus_ledger.specs.Reception.{next_reading, not_yet_read, passes, reading_taken};
+
+use crate::bus::Bus;
+use can_frame::{Frame, Reading};
+
+impl Bus {
+    /// The next frame that the seat has not heard, if there is one. It came from another seat.
+    pub fn next_for(&self, seat: u32) -> Option<Frame>
+        requires { IsUnit self.now.traffic seat }
+        ensures frame { result ≡ option_map (λ c. c.frame) (slice_get self.now.traffic.wire (seat_at self.now.traffic seat).heard) }
+        ensures sound { IsSound self.now.traffic }
+    {
+        let heard = self.seats[seat as usize].heard();
+        let next = self.wire.get(heard as usize)?;
+        Some(next.frame)
+    }
+
+    /// The frame that `next_for` gives counts as heard by the seat.
+    pub fn mark_heard(&mut self, seat: u32)
+        requires unit { IsUnit self.old.traffic seat }
+        requires next { (seat_at self.old.traffic seat).heard < length self.old.traffic.wire }
+        ensures traffic { self.new.traffic ≡ heard_more seat 1 self.old.traffic }
+        ensures spares { KeepsSpares self.old self.new }
+    {
+        let place = &mut self.seats[seat as usize];
+        place.hear(1);
+    }
+
+    /// The station's next reading, which stays: a gap where more frames are unread than the window has room for, else
+    /// the oldest unread frame, or that there is none. The station's own frames are no readings.
+    pub fn tap_peek(&self) -> Reading
+        ensures reading { result ≡ next_reading self.now.traffic }
+        ensures others { All (λ c. c.seat ≢ Some 0) (not_yet_read self.now.traffic) }
+        ensures sound { IsSound self.now.traffic }
+    {
+        self.tap.peek()
+    }
+
+    /// Takes the station's next reading. The frames of a gap are passed over.
+    pub fn tap_next(&mut self) -> Reading
+        ensures reading { result ≡ next_reading self.old.traffic }
+        ensures others { All (λ c. c.seat ≢ Some 0) (not_yet_read self.old.traffic) }
+        ensures traffic { self.new.traffic ≡ reading_taken result self.old.traffic }
+        ensures spares { KeepsSpares self.old self.new }
+    {
+        let reading = self.tap.next();
+        let passed = frames_of(&reading);
+        let place = &mut self.seats[0];
+        place.hear(passed);
+        reading
+    }
+}
+
+/// How many frames a reading passes over.
+fn frames_of(reading: &Reading) -> u32
+    ensures { result ≡ passes reading.now }
+{
+    match reading {
+        Reading::Frame(_) => 1,
+        Reading::Gap(count) => *count,
+        Reading::Empty => 0,
+    }
+}

@@ -1,6 +1,5 @@
 //! A scope that a refusal leaves early, with the better part of a broadcast still queued.
 
-use crate::tests::seats::left;
 use crate::tests::told::Told;
 use bus_ledger::Counts;
 use garage::{Garage, GarageError, Parked};
@@ -78,11 +77,11 @@ fn refused(garage: &mut Garage, ended: Result<Parked, Ended>) -> Option<GarageEr
     match ended {
         Err(Ended::Refused(error)) => Some(error),
         Err(Ended::Stranger(parked)) => {
-            let _ = left(garage, parked);
+            let _ = garage.dismiss(parked);
             None
         }
         Ok(parked) => {
-            let _ = left(garage, parked);
+            let _ = garage.dismiss(parked);
             None
         }
     }

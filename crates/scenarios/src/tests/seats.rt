@@ -53,19 +53,6 @@ fn disowned(garage: &mut Garage, parked: Parked) -> Result<(Name, GarageError), 
     Ok((unit.name(), refusal))
 }
 
-/// Has a unit take its seat and leave. Tells why not.
-pub fn left(garage: &mut Garage, parked: Parked) -> Result<(), GarageError> {
-    let (parked, error) = match garage.attach(parked) {
-        Ok(plug) => {
-            drop(plug);
-            return Ok(());
-        }
-        Err(refusal) => refusal,
-    };
-    drop(garage.disown(parked));
-    Err(error)
-}
-
 #[test]
 fn a_stranger_is_refused_and_its_own_garage_takes_it(rt: HostRuntime) -> Result<(), Fail> {
     let mut own = open(rt.alloc(), 100)?;
@@ -81,7 +68,7 @@ fn refused_and_taken(
 ) -> Result<(), Fail> {
     let parked = mounted(alloc, own, 0xA0)?;
     let (parked, refusal) = refused(other, parked)?;
-    assert_eq!(rt; left(own, parked), Ok(()));
+    assert_eq!(rt; own.dismiss(parked), Ok(()));
     assert_eq!(rt; refusal, GarageError::Stranger);
     assert_eq!(rt; refusal.number(), 25);
     assert_eq!(rt; own.live(), 0);
@@ -157,7 +144,7 @@ fn leaves_early(rt: &impl Abort, alloc: Global, garage: &mut Garage) -> Result<(
             Ok(())
         }
         Err((parked, refusal)) => {
-            let _ = left(garage, parked);
+            let _ = garage.dismiss(parked);
             Err(refusal)?
         }
     }

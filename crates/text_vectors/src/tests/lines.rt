@@ -30,7 +30,7 @@ fn reads(rt: &impl Abort, line: &str, wanted: Command) {
 }
 
 #[test]
-fn commands_of_the_bus(rt: HostRuntime) {
+fn commands_that_join(rt: HostRuntime) {
     reads(
         &rt,
         "garage 00000000000000a0 249 64 16 100000",
@@ -63,6 +63,10 @@ fn commands_of_the_bus(rt: HostRuntime) {
             },
         },
     );
+}
+
+#[test]
+fn commands_of_the_bus(rt: HostRuntime) {
     reads(&rt, "carry 0", Command::Carry { most: 0 });
     reads(&rt, "read", Command::Read { most: 1 });
     reads(&rt, "round 4294967295", Command::Round { count: u32::MAX });
@@ -172,52 +176,55 @@ fn frames_from_outside(rt: HostRuntime) {
     reads(&rt, "injected", Command::Injected);
 }
 
+/// Lines that are no command.
+const BAD_LINES: [&str; 42] = [
+    "",
+    "   ",
+    " # no",
+    "fly",
+    "Stats",
+    "stats now",
+    "stats\t",
+    "stats\r",
+    "garage 01 249 64 16",
+    "garage 01 256 64 16 100",
+    "join 01 0",
+    "join 01 0 plain 3",
+    "join 01 0 Plain",
+    "join 01 0 flicker 100",
+    "set 1 100",
+    "set 1 100 256",
+    "set +1 100 1",
+    "set 1 -100 1",
+    "set 1 4294967296 1",
+    "set 1 100 1 1 1",
+    "lamps 1 04F",
+    "lamps 1 04FF0",
+    "lamps 1 +4FF",
+    "round",
+    "hear",
+    "ask dm1",
+    "ask all dm4x",
+    "ask all 4294967296",
+    "shown 00000000000000A0",
+    "shown 00000000000000A0 claim",
+    "command 00000000000000A0 256",
+    "frame",
+    "frame 1 2",
+    "inject",
+    "inject 18FECA0",
+    "inject 018FECA00",
+    "inject +8FECA00",
+    "inject 18FECA00 0",
+    "inject 18FECA00 004",
+    "inject 18FECA00 +4",
+    "inject 20000000 00 00 00 00 00 00 00 00 00 0",
+    "injected 1",
+];
+
 #[test]
 fn bad_lines(rt: HostRuntime) {
-    for line in [
-        "",
-        "   ",
-        " # no",
-        "fly",
-        "Stats",
-        "stats now",
-        "stats\t",
-        "stats\r",
-        "garage 01 249 64 16",
-        "garage 01 256 64 16 100",
-        "join 01 0",
-        "join 01 0 plain 3",
-        "join 01 0 Plain",
-        "join 01 0 flicker 100",
-        "set 1 100",
-        "set 1 100 256",
-        "set +1 100 1",
-        "set 1 -100 1",
-        "set 1 4294967296 1",
-        "set 1 100 1 1 1",
-        "lamps 1 04F",
-        "lamps 1 04FF0",
-        "lamps 1 +4FF",
-        "round",
-        "hear",
-        "ask dm1",
-        "ask all dm4x",
-        "ask all 4294967296",
-        "shown 00000000000000A0",
-        "shown 00000000000000A0 claim",
-        "command 00000000000000A0 256",
-        "frame",
-        "frame 1 2",
-        "inject",
-        "inject 18FECA0",
-        "inject 018FECA00",
-        "inject +8FECA00",
-        "inject 18FECA00 0",
-        "inject 18FECA00 004",
-        "inject 18FECA00 +4",
-        "inject 20000000 00 00 00 00 00 00 00 00 00 0",
-        "injected 1",
-    ] {
+    for line in BAD_LINES {
         assert_eq!(rt; read_command(line), None, "{line}");
     }
 }

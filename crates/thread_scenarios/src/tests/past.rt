@@ -104,19 +104,6 @@ fn ten_rounds(
     Ok(parked)
 }
 
-/// Has a unit take its seat and leave. Tells why not.
-fn left(garage: &mut Garage, parked: Parked) -> Result<(), GarageError> {
-    let (parked, error) = match garage.attach(parked) {
-        Ok(plug) => {
-            drop(plug);
-            return Ok(());
-        }
-        Err(refusal) => refusal,
-    };
-    drop(garage.disown(parked));
-    Err(error)
-}
-
 /// Gives a unit a seat; it wants the address 0.
 fn mounted(alloc: Global, garage: &mut Garage, unit: Box<dyn Unit>) -> Result<Parked, GarageError>
     requires { Unit {0} }
@@ -145,7 +132,7 @@ fn first_run(alloc: Global, garage: &mut Garage, unit: Box<dyn Unit>) -> Result<
     let failed = fail(&mut parked);
     let parked = in_seat(alloc, garage, parked, Deed::Begin)?;
     let parked = ten_rounds(alloc, garage, parked)?;
-    left(garage, parked)?;
+    garage.dismiss(parked)?;
     failed?;
     Ok(())
 }

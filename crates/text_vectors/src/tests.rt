@@ -1,0 +1,4 @@
+mod lines;
+mod vehicles;
+mod watched;
+mod words;

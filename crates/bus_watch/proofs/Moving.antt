@@ -2,19 +2,16 @@
 use Rattle.std.proofs.Common.{◌≡◌, ℕ, Bool, true, false, ◌==◌, ◌&&◌, List, [], ◌∷◌, ◌++◌, drop, Option, Some, None, if◌then◌else◌, refl, sym, ap, ◌∙◌, subst, inl, inr, append-nil}
 use Rattle.std.proofs.lemmas.Bool.{eqb-true, eq-eqb}
 use Rattle.bus_model.specs.Heard.{StationSettings}
-use Rattle.can_frame.specs.FrameValue.{FrameValue}
 use Rattle.can_frame.specs.declared.reading.Reading.{Reading}
-use Rattle.can_frame.specs.declared.reading.Reading.TheVariants.{Frame}
 use Rattle.dm_messages.specs.declared.kind.Kind.{Kind}
 use Rattle.dm_messages.specs.declared.kind.Kind.TheVariants.{Dm1, Dm2}
 use Rattle.dm_messages.specs.declared.shown.Shown.{Shown}
 use Rattle.dm_messages.specs.View.{same_kind}
-use Rattle.parameter_group.specs.Group.{Group, Other, group_of}
 use Rattle.station_table.specs.KeptValue.{entries_under}
 use Rattle.station_table.specs.Lists.{MayAdd, is_list, list_of, with_taken}
 use Rattle.station_table.specs.StandsFor.{StandsBeside}
 use Rattle.station_table.specs.StationValue.{StationValue}
-use Rattle.station_table.specs.Steps.{after_group, after_reading}
+use Rattle.station_table.specs.Steps.{after_reading}
 use Rattle.station_table.proofs.Lists.{one_added}
 use Rattle.station_table.proofs.Stands.{beside_after}
 use Rattle.bus_watch.specs.Runs.{ListsValue, entries_in, runs_of, unrolled}
@@ -52,17 +49,6 @@ takes_none old new x none e = record {
     alone = λ n k. one_added old.station x None n k (sym none) ∙ s.alone n k;
   });
   followed = ap (λ (w : WatchValue). w.followed) e;
-}
-
--- a frame that says nothing to the station
-pub takes_other : (w : WatchValue) (f : FrameValue) (g : Group) → g ≡ group_of f → g ≡ Other → Takes w w (Frame f)
-takes_other w f g eg eo = record {
-  stands = λ r h s. record {
-    beside = subst (λ (t : StationValue). StandsBeside (entries_in w.lists) r 255 t (Frame f ∷ h)) (ap (after_group w.station) (sym eg ∙ eo))
-        (beside_after (entries_in w.lists) r 255 w.station h (Frame f) s.beside);
-    alone = s.alone;
-  };
-  followed = refl;
 }
 
 kinds_same : (k l : Kind) → same_kind k l ≡ true → k ≡ l

@@ -2,7 +2,7 @@ ghost use Rattle.std.specs.Prelude.{◌<◌, OnOk};
 
 use crate::answer::Answer;
 use crate::refusal::Refusal;
-use crate::task::{Task, done_with, left};
+use crate::task::{Task, done_with};
 use garage::{Garage, Parked};
 use std::alloc::{AllocError, Global};
 use std::collections::VecDeque;
@@ -87,7 +87,7 @@ impl Desk {
     /// Takes each unit off the bus.
     pub fn clear(mut self, garage: &mut Garage) {
         while let Some(parked) = self.units.pop_front() {
-            let _ = left(garage, parked);
+            let _ = garage.dismiss(parked);
         }
         let Desk { alloc: _, units } = self;
         units.destroy_empty();

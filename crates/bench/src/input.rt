@@ -1,4 +1,4 @@
-ghost use Rattle.std.specs.Prelude.{◌≡◌, ◌<◌, ◌≤◌, length, IfOk, IfSome};
+ghost use Rattle.std.specs.Prelude.{◌≡◌, ◌<◌, ◌≤◌, length, IfErr, IfOk, IfSome};
 ghost use Rattle.bench.specs.Input.{input_limit};
 
 use crate::fault::Fault;
@@ -40,4 +40,18 @@ pub fn read_input<R: Read>(alloc: Global, reader: &mut R) -> Result<Vec<u8>, Fau
         }
     }
     unreachable!()
+}
+
+/// The text that the bytes of an input are.
+///
+/// # Errors
+/// - `NotUtf8`: they are none.
+pub fn text_of(bytes: &[u8]) -> Result<&str, Fault>
+    ensures text { IfOk result (λ text. text.now ≡ bytes.now) }
+    ensures refused { IfErr result (λ fault. fault ≡ Fault.NotUtf8) }
+{
+    match std::str::from_utf8(bytes) {
+        Ok(text) => Ok(text),
+        Err(_) => Err(Fault::NotUtf8),
+    }
 }

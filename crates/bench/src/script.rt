@@ -1,10 +1,11 @@
 ghost use Rattle.std.specs.Prelude.{◌≡◌, ◌<◌, length, IfErr, IfSome};
+ghost use Rattle.bench.specs.declared.fault.Fault.{Fault as AnyFault};
 ghost use Rattle.bench.specs.Fault.{IsOfInput};
 ghost use Rattle.bench.specs.Input.{input_limit};
 
 use crate::answer::{Answer, write_answer};
 use crate::fault::Fault;
-use crate::input::read_input;
+use crate::input::{read_input, text_of};
 use crate::kinds::Simulated;
 use crate::refusal::Refusal;
 use crate::workshop::Workshop;
@@ -30,9 +31,7 @@ pub fn script<R: Read, W: Write>(alloc: Global, reader: &mut R, writer: &mut W) 
     ensures too_long { result ≡ Err Fault.InputTooLong → IfSome (R.remaining reader.old) (λ bytes. input_limit < length bytes) }
 {
     let input = read_input(alloc, reader)?;
-    let Ok(text) = std::str::from_utf8(input.as_slice()) else {
-        return Err(Fault::NotUtf8);
-    };
+    let text = text_of(input.as_slice())?;
     let Ok(mut writer) = BufWriter::new(alloc, writer) else {
         return Err(Fault::Memory);
     };
@@ -40,19 +39,62 @@ pub fn script<R: Read, W: Write>(alloc: Global, reader: &mut R, writer: &mut W) 
     writer.flush().map_err(|_| Fault::Write)
 }
 
-fn answer_lines<W: Write>(alloc: Global, text: &str, writer: &mut W) -> Result<(), Fault>
-    ensures { IfErr result (λ fault. fault ≡ Fault.Write) }
+/// Whom the lines of a script are answered to. The answers are written into it.
+pub trait Listener: Write {
+    /// The faults by which it ends a script.
+    ghost ends_by: { AnyFault → Type 0 };
+
+    /// Takes note of a line before it is answered. Tells whether it has no answer.
+    fn passes(&mut self, line: &str) -> bool;
+
+    /// Takes note that a line was answered: whether there was a garage before, and whether its answer could be written.
+    fn hear(&mut self, line: &str, has_garage: bool, answered: io::Result<()>) -> Result<(), Fault>
+        ensures { IfErr result ends_by };
+
+    /// Looks at the garage, where there is one, after the last line and before its units leave.
+    fn end(&mut self, workshop: &Workshop) -> Result<(), Fault>
+        ensures { IfErr result ends_by };
+}
+
+/// It is given each answer, and nothing else.
+impl<W: Write + Drop> Listener for BufWriter<W> {
+    ghost use Rattle.std.specs.Prelude.{◌≡◌};
+    ghost use Rattle.bench.specs.declared.fault.Fault.TheVariants as fault;
+
+    ghost ends_by = { λ f. f ≡ fault.Write };
+
+    fn passes(&mut self, line: &str) -> bool {
+        is_silent(line)
+    }
+
+    fn hear(
+        &mut self,
+        _line: &str,
+        _has_garage: bool,
+        answered: io::Result<()>,
+    ) -> Result<(), Fault> {
+        answered.map_err(|_| Fault::Write)
+    }
+
+    fn end(&mut self, _workshop: &Workshop) -> Result<(), Fault> {
+        Ok(())
+    }
+}
+
+/// Answers the lines of a script. At the end each unit that is left on the bus is taken off.
+pub fn answer_lines<L: Listener>(alloc: Global, text: &str, listener: &mut L) -> Result<(), Fault>
+    ensures { IfErr result L.ends_by }
 {
     let mut lines = text.lines();
-    let Some(mut workshop) = opened(alloc, &mut lines, writer)? else {
+    let Some(mut workshop) = opened(alloc, &mut lines, listener)? else {
         return Ok(());
     };
-    let mut written = Ok(());
+    let mut heard = Ok(());
     for line in lines {
-        if is_silent(line) {
+        if listener.passes(line) {
             continue;
         }
-        written = match read_command(line) {
+        let answered = match read_command(line) {
             Some(
                 Command::Join {
                     name: Ok(name),
@@ -64,42 +106,47 @@ fn answer_lines<W: Write>(alloc: Global, text: &str, writer: &mut W) -> Result<(
                     Ok(unit) => workshop.join(unit, address),
                     Err(_) => Err(Refusal::Garage(GarageError::OutOfMemory)),
                 };
-                write_answer(writer, joined)
+                write_answer(listener, joined)
             }
-            Some(command) => workshop.answer(command, writer),
-            None => write_answer(writer, Err(Refusal::BadLine)),
+            Some(command) => workshop.answer(command, listener),
+            None => write_answer(listener, Err(Refusal::BadLine)),
         };
-        if written.is_err() {
+        heard = listener.hear(line, true, answered);
+        if heard.is_err() {
             break;
         }
     }
+    if heard.is_ok() {
+        heard = listener.end(&workshop);
+    }
     workshop.close();
-    written.map_err(|_| Fault::Write)
+    heard
 }
 
 /// Answers lines up to the one that makes a garage, where there is such a line.
-fn opened<W: Write>(
+fn opened<L: Listener>(
     alloc: Global,
     lines: &mut Lines<'_>,
-    writer: &mut W,
+    listener: &mut L,
 ) -> Result<Option<Workshop>, Fault>
-    ensures { IfErr result (λ fault. fault ≡ Fault.Write) }
+    ensures { IfErr result L.ends_by }
 {
     for line in lines {
-        if is_silent(line) {
+        if listener.passes(line) {
             continue;
         }
-        match answer_before(alloc, line, writer) {
+        let answered = match answer_before(alloc, line, listener) {
             Ok(Some(workshop)) => return Ok(Some(workshop)),
-            Ok(None) => {}
-            Err(_) => return Err(Fault::Write),
-        }
+            Ok(None) => Ok(()),
+            Err(error) => Err(error),
+        };
+        listener.hear(line, false, answered)?;
     }
     Ok(None)
 }
 
 /// Answers a line of a script that has no garage yet; it may make one.
-pub fn answer_before<W: Write>(
+fn answer_before<W: Write>(
     alloc: Global,
     line: &str,
     writer: &mut W,

@@ -44,17 +44,10 @@ pub fn done_with(
     }
 }
 
-/// Takes a unit off the bus: its plug is dropped.
-pub fn left(garage: &mut Garage, parked: Parked) -> Result<Answer, Refusal> {
-    let (parked, error) = match garage.attach(parked) {
-        Ok(plug) => {
-            drop(plug);
-            return Ok(Answer::Done);
-        }
-        Err(refusal) => refusal,
-    };
-    drop(garage.disown(parked));
-    Err(Refusal::Garage(error))
+/// Takes a unit off the bus.
+fn left(garage: &mut Garage, parked: Parked) -> Result<Answer, Refusal> {
+    garage.dismiss(parked)?;
+    Ok(Answer::Done)
 }
 
 /// A task for which the unit takes its seat.

@@ -3,7 +3,7 @@ ghost use Rattle.bench.specs.Fault.{IsOfInput};
 ghost use Rattle.bench.specs.Input.{input_limit};
 
 use crate::fault::Fault;
-use crate::input::read_input;
+use crate::input::{read_input, text_of};
 use crate::kinds::Simulated;
 use garage::{Garage, GarageError, Snapshot};
 use journal::Tally;
@@ -71,9 +71,7 @@ fn vehicle_of<I: Read>(alloc: Global, reader: &mut I) -> Result<Vehicle, Fault>
     ensures too_long { result ≡ Err Fault.InputTooLong → IfSome (I.remaining reader.old) (λ bytes. input_limit < length bytes) }
 {
     let input = read_input(alloc, reader)?;
-    let Ok(text) = std::str::from_utf8(input.as_slice()) else {
-        return Err(Fault::NotUtf8);
-    };
+    let text = text_of(input.as_slice())?;
     let vehicle = read_vehicle(alloc, text)?;
     if vehicle.units.len() > MOST_UNITS {
         return Err(Fault::Vehicle);

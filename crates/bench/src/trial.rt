@@ -1,19 +1,16 @@
 //! A script that is carried out for what it does and not for its answers: the lines that are not accepted are told.
 
-use crate::answer::write_answer;
+ghost use Rattle.std.specs.Prelude.{◌≡◌, IfErr};
+
 use crate::fault::Fault;
-use crate::kinds::Simulated;
-use crate::refusal::Refusal;
-use crate::script::answer_before;
+use crate::script::Listener;
 use crate::workshop::Workshop;
 use candump_line::{Time, write_line};
 use command_line::LogWords;
-use garage::GarageError;
-use script_line::{Command, Words, is_silent, read_command, read_number, reason};
+use script_line::{Words, is_silent, read_number, reason};
 use std::alloc::Global;
 use std::io;
 use std::io::Write;
-use std::str::Lines;
 
 /// What is told of a line that is not accepted.
 #[derive(Clone, Copy, Debug, PartialEq, Eq)]
@@ -24,9 +21,9 @@ pub enum Telling {
     Reason,
 }
 
-/// Tells of lines that are not accepted.
+/// Tells of lines that are not accepted, and writes the wire at the end where it is asked for.
 #[derive(Debug, Drop)]
-pub struct Teller {
+pub struct Teller<'a, E, W> {
     telling: Telling,
     /// The number of the line, from 1.
     number: u64,
@@ -36,17 +33,32 @@ pub struct Teller {
     seats: u64,
     /// The answer of the line.
     answer: Vec<u8>,
+    /// Where lines are told.
+    errors: E,
+    /// How the wire is written.
+    wire: Option<LogWords<'a>>,
+    /// Where the wire is written.
+    writer: W,
 }
 
-impl Teller {
+impl<'a, E: Write, W: Write> Teller<'a, E, W> {
     /// One that has told nothing.
-    pub fn new(alloc: Global, telling: Telling) -> Teller {
+    pub fn new(
+        alloc: Global,
+        telling: Telling,
+        errors: E,
+        wire: Option<LogWords<'a>>,
+        writer: W,
+    ) -> Teller<'a, E, W> {
         Teller {
             telling,
             number: 0,
             bad: 0,
             seats: 0,
             answer: Vec::new(alloc),
+            errors,
+            wire,
+            writer,
         }
     }
 
@@ -55,32 +67,8 @@ impl Teller {
         self.bad
     }
 
-    /// Counts a line. Tells whether it has no answer.
-    fn passes(&mut self, line: &str) -> bool {
-        self.number = self.number.saturating_add(1);
-        self.answer.clear();
-        is_silent(line)
-    }
-
-    /// Looks at the answer of a line, and tells of the line where it is not accepted.
-    fn look_at<W: Write>(
-        &mut self,
-        writer: &mut W,
-        line: &str,
-        has_garage: bool,
-        answered: io::Result<()>,
-    ) -> Result<(), Fault> {
-        if answered.is_err() {
-            return Err(Fault::Memory);
-        }
-        match self.tell(writer, line, has_garage) {
-            Ok(()) => Ok(()),
-            Err(_) => Err(Fault::Write),
-        }
-    }
-
     /// Tells of a line where its answer says that it is not accepted.
-    fn tell<W: Write>(&mut self, writer: &mut W, line: &str, has_garage: bool) -> io::Result<()> {
+    fn tell(&mut self, line: &str, has_garage: bool) -> io::Result<()> {
         let answer = std::str::from_utf8(self.answer.as_slice()).unwrap_or("");
         let answer = answer.trim_end_matches('\n');
         if answer.starts_with("seat ") {
@@ -92,11 +80,58 @@ impl Teller {
         self.bad = self.bad.saturating_add(1);
         let number = self.number;
         match self.telling {
-            Telling::Answer => writeln!(writer, "line {number}: {answer}"),
+            Telling::Answer => writeln!(self.errors, "line {number}: {answer}"),
             Telling::Reason => {
-                write!(writer, "{number}: ")?;
-                write_reason(writer, line, answer, has_garage, self.seats)
+                write!(self.errors, "{number}: ")?;
+                write_reason(&mut self.errors, line, answer, has_garage, self.seats)
             }
+        }
+    }
+}
+
+/// What is written is the answer of the line. To flush it flushes what it writes to.
+impl<E: Write, W: Write> Write for Teller<'_, E, W> {
+    fn write(&mut self, buf: &[u8]) -> io::Result<usize> {
+        self.answer.write(buf)
+    }
+
+    fn flush(&mut self) -> io::Result<()> {
+        self.errors.flush()?;
+        self.writer.flush()
+    }
+}
+
+impl<E: Write, W: Write> Listener for Teller<'_, E, W> {
+    ghost use Rattle.std.specs.Prelude.{◌≡◌, ◌⊎◌};
+    ghost use Rattle.bench.specs.declared.fault.Fault.TheVariants as fault;
+
+    ghost ends_by = { λ f. (f ≡ fault.Write) ⊎ (f ≡ fault.Memory) };
+
+    fn passes(&mut self, line: &str) -> bool {
+        self.number = self.number.saturating_add(1);
+        self.answer.clear();
+        is_silent(line)
+    }
+
+    fn hear(
+        &mut self,
+        line: &str,
+        has_garage: bool,
+        answered: io::Result<()>,
+    ) -> Result<(), Fault> {
+        if answered.is_err() {
+            return Err(Fault::Memory);
+        }
+        match self.tell(line, has_garage) {
+            Ok(()) => Ok(()),
+            Err(_) => Err(Fault::Write),
+        }
+    }
+
+    fn end(&mut self, workshop: &Workshop) -> Result<(), Fault> {
+        match self.wire {
+            Some(words) => write_wire(workshop, words, &mut self.writer),
+            None => Ok(()),
         }
     }
 }
@@ -143,66 +178,14 @@ fn seat_in(line: &str) -> Option<u32> {
     read_number(words.next_word()?)
 }
 
-/// Carries out the lines of a script, and tells on `errors` of those that are not accepted. Where it is asked for, the wire
-/// is written at the end.
-///
-/// # Errors
-/// - `Write`: a line could not be told or written.
-/// - `Memory`: memory was refused outside a command.
-pub fn try_lines<E: Write, W: Write>(
-    alloc: Global,
-    text: &str,
-    errors: &mut E,
-    teller: &mut Teller,
-    wire: Option<LogWords<'_>>,
-    writer: &mut W,
-) -> Result<(), Fault> {
-    let mut lines = text.lines();
-    let Some(mut workshop) = opened(alloc, &mut lines, errors, teller)? else {
-        return Ok(());
-    };
-    let mut told = Ok(());
-    for line in lines {
-        if teller.passes(line) {
-            continue;
-        }
-        let answered = match read_command(line) {
-            Some(
-                Command::Join {
-                    name: Ok(name),
-                    address,
-                    kind,
-                },
-            ) => {
-                let joined = match Box::new(alloc, Simulated::new(alloc, name, kind)) {
-                    Ok(unit) => workshop.join(unit, address),
-                    Err(_) => Err(Refusal::Garage(GarageError::OutOfMemory)),
-                };
-                write_answer(&mut teller.answer, joined)
-            }
-            Some(command) => workshop.answer(command, &mut teller.answer),
-            None => write_answer(&mut teller.answer, Err(Refusal::BadLine)),
-        };
-        told = teller.look_at(errors, line, true, answered);
-        if told.is_err() {
-            break;
-        }
-    }
-    if told.is_ok() {
-        if let Some(words) = wire {
-            told = write_wire(&workshop, words, writer);
-        }
-    }
-    workshop.close();
-    told
-}
-
 /// Writes each frame of the wire: frame I, from 0, at I periods.
 fn write_wire<W: Write>(
     workshop: &Workshop,
     words: LogWords<'_>,
     writer: &mut W,
-) -> Result<(), Fault> {
+) -> Result<(), Fault>
+    ensures { IfErr result (λ fault. fault ≡ Fault.Write) }
+{
     for index in 0..u32::MAX {
         let Some(frame) = workshop.frame(index) else {
             break;
@@ -215,25 +198,4 @@ fn write_wire<W: Write>(
         }
     }
     Ok(())
-}
-
-/// Carries out lines up to the one that makes a garage, where there is such a line.
-fn opened<W: Write>(
-    alloc: Global,
-    lines: &mut Lines<'_>,
-    writer: &mut W,
-    teller: &mut Teller,
-) -> Result<Option<Workshop>, Fault> {
-    for line in lines {
-        if teller.passes(line) {
-            continue;
-        }
-        let answered = match answer_before(alloc, line, &mut teller.answer) {
-            Ok(Some(workshop)) => return Ok(Some(workshop)),
-            Ok(None) => Ok(()),
-            Err(error) => Err(error),
-        };
-        teller.look_at(writer, line, false, answered)?;
-    }
-    Ok(None)
 }

@@ -1,8 +1,9 @@
 //! `log` and `check`: a script is carried out, and its wire is written, or which of its lines are not accepted.
 
 use crate::fault::Fault;
-use crate::input::read_input;
-use crate::trial::{Teller, Telling, try_lines};
+use crate::input::{read_input, text_of};
+use crate::script::answer_lines;
+use crate::trial::{Teller, Telling};
 use command_line::LogWords;
 use std::alloc::Global;
 use std::io::{BufWriter, Read, Write};
@@ -24,15 +25,12 @@ pub fn log<R: Read, W: Write + Drop, E: Write>(
     errors: &mut E,
 ) -> Result<(), Fault> {
     let input = read_input(alloc, reader)?;
-    let Ok(text) = std::str::from_utf8(input.as_slice()) else {
-        return Err(Fault::NotUtf8);
-    };
-    let Ok(mut writer) = BufWriter::new(alloc, writer) else {
+    let text = text_of(input.as_slice())?;
+    let Ok(writer) = BufWriter::new(alloc, writer) else {
         return Err(Fault::Memory);
     };
-    let mut teller = Teller::new(alloc, Telling::Answer);
-    try_lines(alloc, text, errors, &mut teller, Some(words), &mut writer)?;
-    finished(&mut writer, &teller)
+    let mut teller = Teller::new(alloc, Telling::Answer, errors, Some(words), writer);
+    tell_lines(alloc, text, &mut teller)
 }
 
 /// Carries out a script and writes each of its lines that is not accepted, with its number and the reason.
@@ -45,21 +43,23 @@ pub fn check<R: Read, W: Write + Drop>(
     writer: W,
 ) -> Result<(), Fault> {
     let input = read_input(alloc, reader)?;
-    let Ok(text) = std::str::from_utf8(input.as_slice()) else {
-        return Err(Fault::NotUtf8);
-    };
-    let Ok(mut writer) = BufWriter::new(alloc, writer) else {
+    let text = text_of(input.as_slice())?;
+    let Ok(writer) = BufWriter::new(alloc, writer) else {
         return Err(Fault::Memory);
     };
-    let mut teller = Teller::new(alloc, Telling::Reason);
-    let mut nothing: Vec<u8> = Vec::new(alloc);
-    try_lines(alloc, text, &mut writer, &mut teller, None, &mut nothing)?;
-    finished(&mut writer, &teller)
+    let nothing: Vec<u8> = Vec::new(alloc);
+    let mut teller = Teller::new(alloc, Telling::Reason, writer, None, nothing);
+    tell_lines(alloc, text, &mut teller)
 }
 
-/// Writes what is left, and says whether lines were bad.
-fn finished<W: Write>(writer: &mut W, teller: &Teller) -> Result<(), Fault> {
-    if writer.flush().is_err() {
+/// Carries the lines out, writes what is left, and says whether lines were bad.
+fn tell_lines<E: Write, W: Write>(
+    alloc: Global,
+    text: &str,
+    teller: &mut Teller<'_, E, W>,
+) -> Result<(), Fault> {
+    answer_lines(alloc, text, teller)?;
+    if teller.flush().is_err() {
         return Err(Fault::Write);
     }
     if teller.bad() > 0 {

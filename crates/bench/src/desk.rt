@@ -2,8 +2,8 @@ ghost use Rattle.std.specs.Prelude.{◌<◌, OnOk};
 
 use crate::answer::Answer;
 use crate::refusal::Refusal;
-use crate::task::{Task, done_with};
-use garage::{Garage, Parked};
+use crate::task::{Task, done_with, heard_by};
+use garage::{Garage, GarageError, Parked};
 use std::alloc::{AllocError, Global};
 use std::collections::VecDeque;
 use std::marker::Model;
@@ -48,36 +48,38 @@ impl Desk {
     }
 
     /// Does a task with the unit of a seat. A unit that leaves is off the desk.
-    pub fn act(&mut self, garage: &mut Garage, seat: u32, task: &Task) -> Result<Answer, Refusal> {
-        let mut answer = Err(Refusal::NoSeat);
-        for _ in 0..self.units.len() {
-            let Some(parked) = self.units.pop_front() else {
-                break;
-            };
-            let (parked, done) = done_at(self.alloc, garage, parked, seat, task);
-            if let Some(parked) = parked {
-                self.units.push_back_reserved(parked);
-            }
-            if let Some(done) = done {
-                answer = done;
-            }
+    pub fn act(&mut self, garage: &mut Garage, seat: u32, task: Task) -> Result<Answer, Refusal> {
+        let Ok(place) = self
+            .units
+            .binary_search_by_key(&seat, |parked| parked.seat())
+        else {
+            return Err(Refusal::NoSeat);
+        };
+        self.units.rotate_left(place);
+        let Some(parked) = self.units.pop_front() else {
+            return Err(Refusal::NoSeat);
+        };
+        let (parked, done) = done_with(self.alloc, garage, parked, task);
+        if let Some(parked) = parked {
+            self.units.push_front_reserved(parked);
         }
-        answer
+        self.units.rotate_right(place);
+        done
     }
 
     /// Lets each unit in turn hear all that it has not heard. The first refusal ends it.
-    pub fn hear_all(&mut self, garage: &mut Garage) -> Result<(), Refusal> {
+    pub fn hear_all(&mut self, garage: &mut Garage) -> Result<(), GarageError> {
         let mut result = Ok(());
         for _ in 0..self.units.len() {
             let Some(parked) = self.units.pop_front() else {
                 break;
             };
             let most = if result.is_ok() { u32::MAX } else { 0 };
-            let (parked, done) = done_with(self.alloc, garage, parked, Task::Hear { most });
+            let (parked, heard) = heard_by(self.alloc, garage, parked, most);
             if let Some(parked) = parked {
                 self.units.push_back_reserved(parked);
             }
-            if let Err(refusal) = done {
+            if let Err(refusal) = heard {
                 result = Err(refusal);
             }
         }
@@ -92,19 +94,4 @@ impl Desk {
         let Desk { alloc: _, units } = self;
         units.destroy_empty();
     }
-}
-
-/// Does a task with a unit, where its seat is the one that is meant.
-fn done_at(
-    alloc: Global,
-    garage: &mut Garage,
-    parked: Parked,
-    seat: u32,
-    task: &Task,
-) -> (Option<Parked>, Option<Result<Answer, Refusal>>) {
-    if parked.seat() != seat {
-        return (Some(parked), None);
-    }
-    let (parked, done) = done_with(alloc, garage, parked, *task);
-    (parked, Some(done))
 }

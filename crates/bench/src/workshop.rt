@@ -82,7 +82,7 @@ impl Workshop {
         match command {
             Command::Carry { most } => self.carry(most),
             Command::Read { most } => Ok(Answer::Read(self.read(most)?)),
-            Command::Round { count } => self.round(count),
+            Command::Round { count } => Ok(self.round(count)?),
             Command::Ask { receiver, asked } => self.ask(receiver, asked),
             Command::Command { name, address } => {
                 self.garage.command(self.alloc, name?, address)?;
@@ -105,7 +105,7 @@ impl Workshop {
             Command::Frame { index } => Ok(Answer::Frame(self.garage.wire_frame(index))),
             _ => {
                 let (seat, task) = task_of(command)?;
-                self.desk.act(&mut self.garage, seat, &task)
+                self.desk.act(&mut self.garage, seat, task)
             }
         }
     }
@@ -159,7 +159,7 @@ impl Workshop {
 
     /// So many rounds: each unit hears all, the station reads all, one frame is carried. It ends early where no frame
     /// is carried. At the end all hear and read once more.
-    fn round(&mut self, most: u32) -> Result<Answer, Refusal> {
+    fn round(&mut self, most: u32) -> Result<Answer, GarageError> {
         let mut carried = 0;
         let mut end = None;
         for count in 0..most {
@@ -178,7 +178,7 @@ impl Workshop {
     }
 
     /// Each unit hears all that it has not heard, and the station reads all.
-    fn listen(&mut self) -> Result<(), Refusal> {
+    fn listen(&mut self) -> Result<(), GarageError> {
         self.desk.hear_all(&mut self.garage)?;
         self.read(u32::MAX)?;
         Ok(())

@@ -22,6 +22,7 @@ use Rattle.bus_ledger.specs.Window.{WindowValue, window_of, rest_of}
 use Rattle.bus_ledger.proofs.Numbers.{same_or_not}
 use Rattle.bus_ledger.proofs.Windows.{window_set, window_rest, rest_size}
 use Rattle.bus_ledger.proofs.Live.{live_set}
+use Rattle.bus_ledger.proofs.Sounds.{live_within}
 use Rattle.bus_ledger.proofs.Queues.{kept_fewer}
 
 pub seat_book : (xs : List SeatBook) (k : ℕ) → get_or (map seat_of xs) k nobody ≡ (book_at xs k).seat
@@ -253,13 +254,8 @@ gap_or : (n m not_yet_read : ℕ) (r : Reading) (b : Bool) → n ≤ not_yet_rea
 gap_or n m not_yet_read r true g h = g
 gap_or n m not_yet_read r false g h = h
 
-given : (xs : List SeatValue) (k : ℕ) → (get_or xs k nobody).live ≡ true → k < length xs
-given [] k e = absurd cc
-given (x ∷ xs) zero e = omega arith
-given (x ∷ xs) (suc k) e = let r = given xs k e in omega arith
-
 pub station_given : (t : Traffic) → IsSound t → 0 < length t.seats
-station_given t s = given t.seats 0 s.station
+station_given t s = live_within t.seats 0 s.station
 
 reading_within : (not_yet_read window : ℕ) (l : List CarriedFrame) → length l ≡ not_yet_read → passes (if nat_lt 0 (not_yet_read - window) then Gap (not_yet_read - window) else first_reading l) ≤ not_yet_read
 reading_within not_yet_read window [] e = gap_or (not_yet_read - window) 0 not_yet_read Empty (nat_lt 0 (not_yet_read - window)) (omega arith) (omega arith)

@@ -22,3 +22,8 @@ pub record IsBest (wire_len : ℕ) (seats : List SeatBook) (live : List ℕ) (n 
 abbrev pub IsBestSoFar : ℕ → List SeatBook → List ℕ → ℕ → Option (ℕ × QueuedFrame) → Type 0
 IsBestSoFar wire_len seats live n (Some b) = IsBest wire_len seats live n b.0 b.1
 IsBestSoFar wire_len seats live n None = (i : ℕ) → i < n → offer_at wire_len seats live i ≡ None
+
+-- the seat of the best offer of the first n live seats, and that offer's identifier; or that there is none
+abbrev pub IsBestIdSoFar : ℕ → List SeatBook → List ℕ → ℕ → Option (ℕ × ℕ) → Type 0
+IsBestIdSoFar wire_len seats live n (Some b) = (b.0 < length seats) × ((q : QueuedFrame) × (q.frame.id ≡ b.1) × IsBest wire_len seats live n b.0 q)
+IsBestIdSoFar wire_len seats live n None = (i : ℕ) → i < n → offer_at wire_len seats live i ≡ None

@@ -1,10 +1,11 @@
 ghost use Rattle.std.specs.Prelude.{◌≡◌, ◌≢◌, ℕ, ◌<◌, ◌↔◌, [], length, slice_index, IsTrue, MatchOption};
 ghost use Rattle.std.specs.Bool.{MatchBool};
 ghost use Rattle.bus_ledger.specs.BusValue.{book_at};
-ghost use Rattle.bus_ledger.specs.Offers.{IsBestSoFar, IsInOrder};
+ghost use Rattle.bus_ledger.specs.Offers.{IsBestIdSoFar, IsBestSoFar, IsInOrder};
 
 use crate::seat::Seat;
 use crate::traffic::QueuedFrame;
+use can_frame::Id;
 use name_field::Name;
 
 /// The seat that carries next and its frame: the lowest identifier wins, among equal ones the lowest seat.
@@ -12,23 +13,33 @@ pub(crate) fn best_offer(seats: &[Seat], live: &[u32], wire_len: u32) -> Option<
     requires { IsInOrder seats.now live.now }
     ensures { IsBestSoFar wire_len seats.now live.now (length live.now) result }
 {
-    let mut best: Option<(u32, QueuedFrame)> = None;
+    let (number, _) = best_seat(seats, live, wire_len)?;
+    let queued = seats[number as usize].offered(wire_len)?;
+    Some((number, queued))
+}
+
+/// The seat that carries next, and the identifier of its frame. No frame is made for it.
+fn best_seat(seats: &[Seat], live: &[u32], wire_len: u32) -> Option<(u32, Id)>
+    requires { IsInOrder seats.now live.now }
+    ensures { IsBestIdSoFar wire_len seats.now live.now (length live.now) result }
+{
+    let mut best: Option<(u32, Id)> = None;
     for number in live {
-        if let Some(queued) = seats[*number as usize].offered(wire_len) {
-            if is_lower(&queued, &best) {
-                best = Some((*number, queued));
+        if let Some(id) = seats[*number as usize].offered_id(wire_len) {
+            if is_lower(id, &best) {
+                best = Some((*number, id));
             }
         }
     }
     best
 }
 
-/// Whether a frame has a lower identifier than the best one so far, if there is one.
-fn is_lower(queued: &QueuedFrame, best: &Option<(u32, QueuedFrame)>) -> bool
-    ensures { MatchOption best.now (IsTrue result) (λ b. IsTrue result ↔ (queued.now.frame.id < b.1.frame.id)) }
+/// Whether an identifier is lower than that of the best offer so far, if there is one.
+fn is_lower(id: Id, best: &Option<(u32, Id)>) -> bool
+    ensures { MatchOption best.now (IsTrue result) (λ b. IsTrue result ↔ (id < b.1)) }
 {
     match best {
-        Some((_, held)) => queued.frame.id().number() < held.frame.id().number(),
+        Some((_, lowest)) => id.number() < lowest.number(),
         None => true,
     }
 }

@@ -1,11 +1,14 @@
 ghost use Rattle.std.specs.Prelude.{◌≡◌, ◌<◌, ◌≤◌, ◌^◌, drop, length, slice_get};
 ghost use Rattle.std.specs.List.{All};
 ghost use Rattle.std.specs.VecDeque.{deque_capacity, deque_len};
+ghost use Rattle.std.specs.Option.{option_map};
+ghost use Rattle.bus_ledger.specs.Carrying.{id_of};
 ghost use Rattle.bus_ledger.specs.Changes.{kept, run_frames};
 ghost use Rattle.bus_ledger.specs.Places.{IsFilled, frames_at, frames_in, is_session_place};
 ghost use Rattle.bus_ledger.specs.declared.traffic.Which.TheVariants.{Session};
 
 use crate::traffic::{QueuedFrame, Tag, Which};
+use can_frame::Id;
 use std::collections::VecDeque;
 use transport::Run;
 
@@ -34,6 +37,16 @@ impl Queued {
                 message,
                 session,
             } => first_of(run, *message, *session),
+        }
+    }
+
+    /// The identifier of the first of its frames, which is not made for it.
+    pub(crate) fn id(&self) -> Option<Id>
+        ensures { result ≡ option_map id_of (slice_get (frames_at self.now) 0) }
+    {
+        match self {
+            Queued::One(queued) => Some(queued.frame.id()),
+            Queued::Many { run, .. } => run.id(),
         }
     }
 

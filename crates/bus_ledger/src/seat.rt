@@ -1,11 +1,14 @@
-ghost use Rattle.std.specs.Prelude.{◌≡◌, ℕ, ◌+◌, ◌-◌, ◌<◌, ◌≤◌, ◌^◌, length, nat_lt, OnOk, IfOk, IfErr};
+ghost use Rattle.std.specs.Prelude.{◌≡◌, ℕ, ◌+◌, ◌-◌, ◌<◌, ◌≤◌, ◌^◌, length, nat_lt, slice_get, None, MatchOption, OnOk, IfOk, IfErr};
 ghost use Rattle.bus_ledger.specs.Changes.{newcomer, hearing, queueing, queueing_all, run_frames, withdrawing, leaving, sending};
-ghost use Rattle.bus_ledger.specs.Carrying.{offered};
+ghost use Rattle.std.specs.Option.{option_map};
+ghost use Rattle.bus_ledger.specs.Carrying.{id_of, offered};
 ghost use Rattle.bus_ledger.specs.Ledger.{counts_of};
+ghost use Rattle.bus_ledger.specs.Places.{frames_at};
 
 use crate::error::BusError;
 use crate::queued::{Queued, count_frames, keep, take_first};
 use crate::traffic::{Counts, QueuedFrame, Which};
+use can_frame::Id;
 use name_field::Name;
 use std::alloc::Global;
 use std::collections::VecDeque;
@@ -88,8 +91,23 @@ impl Seat {
     pub(crate) fn offered(&self, wire_len: u32) -> Option<QueuedFrame>
         ensures { result ≡ offered wire_len self.now.seat }
     {
+        self.offering(wire_len)?.first()
+    }
+
+    /// The identifier of the frame that it offers, which is not made for it.
+    pub(crate) fn offered_id(&self, wire_len: u32) -> Option<Id>
+        ensures { result ≡ option_map id_of (offered wire_len self.now.seat) }
+    {
+        self.offering(wire_len)?.id()
+    }
+
+    /// The place of its queue whose first frame it offers, once it has heard the whole wire.
+    fn offering(&self, wire_len: u32) -> Option<&Queued>
+        ensures { MatchOption result (offered wire_len self.now.seat ≡ None) (λ p. offered wire_len self.now.seat ≡ slice_get (frames_at p.now) 0) }
+    {
         if self.live && self.heard == wire_len {
-            self.queue.front()?.first()
+            let first = self.queue.front()?;
+            Some(first)
         } else {
             None
         }

@@ -1,14 +1,14 @@
 -- What a message that begins keeps of a seat, and each further packet of a session.
-use Rattle.std.proofs.Common.{◌≡◌, ◌≢◌, ℕ, suc, zero, ◌<◌, ◌≤◌, ◌+◌, ◌^◌, true, false, ◌&&◌, ◌==◌, List, [], ◌∷◌, ◌++◌, length, Option, Some, None, if◌then◌else◌, sym, refl, ap, ◌∙◌, subst, inl, inr, arith, append_assoc, le_refl}
+use Rattle.std.proofs.Common.{◌≡◌, ◌≢◌, ℕ, suc, zero, ◌<◌, ◌≤◌, ◌+◌, true, false, List, ◌∷◌, ◌++◌, length, Option, Some, None, sym, refl, ap, ◌∙◌, subst, inl, inr, arith, append_assoc, le_refl}
 use Rattle.dm_messages.specs.declared.kind.Kind.{Kind}
 use Rattle.bus_model.specs.Machine.{IsNotOpen, Seat, last_part_at_first, granted, granted_one, item_of_part, parts_upto, session_opened, with_message}
 use Rattle.bus_model.specs.Messages.{Broadcast, IsAmong, IsProper, Message, One, Session, Way, is_session, last_part_of, way_of}
 use Rattle.bus_model.specs.Traffic.{Item, Tag, claimed_by}
 use Rattle.bus_model.proofs.Bridge.{says_part}
 use Rattle.bus_model.proofs.Lawful.{Continues, Lawful, last_of, sess, tag_of}
-use Rattle.bus_model.proofs.Lookback.{EachTag, Every, HasTag, InSession, IsFrom, IsMine, every_append, every_rest, every_weaker}
+use Rattle.bus_model.proofs.Lookback.{EachTag, Every, HasTag, InSession, IsFrom, IsMine, every_append, every_weaker}
 use Rattle.bus_model.proofs.Seats.{claimed_parts, is_of_self, last_of_others, next_lawful, part_from, part_no_claim, parts_lawful, sess_others, sess_self}
-use Rattle.bus_model.proofs.SeatLaw.{IsBooked, Numbered, OpenLaw, SeatLaw, number_below, open_as}
+use Rattle.bus_model.proofs.SeatLaw.{IsBooked, Numbered, OpenLaw, SeatLaw, every_heard, number_below, open_as}
 
 -- one message more was begun
 pub booked_more : (m : Message) (begun : List Message) (xs : List Item) → Every (IsBooked begun) xs → Every (IsBooked (m ∷ begun)) xs
@@ -20,11 +20,7 @@ open_more m begun s t p = open_as begun (m ∷ begun) s s.queue s.heard s.sessio
 pub seat_more : (st : ℕ) (wire : List Item) (m : Message) (begun : List Message) (s : Seat) → SeatLaw st wire begun s → SeatLaw st wire (m ∷ begun) s
 seat_more st wire m begun s law = record {
   unit = law.unit;
-  small = law.small;
-  hold = law.hold;
-  ahead = law.ahead;
-  reach = law.reach;
-  foreign = law.foreign;
+  past = law.past;
   track = law.track;
   own = law.own;
   mine = law.mine;
@@ -123,19 +119,15 @@ open_begun begun s m (Session d) t st ok e seat name held none opens law o =
 pub begins : (st : ℕ) (wire : List Item) (begun : List Message) (s : Seat) (m : Message) → IsProper m → SeatLaw st wire begun s → Numbered begun → Every (IsBooked begun) wire → m.number ≡ length begun → m.seat ≡ s.number → m.name ≡ s.name → s.held ≡ Some m.source → IsNotOpen s.session m.kind → ((d : ℕ) → (way_of m) ≡ Session d → OpensAt st s m d) → SeatLaw st wire (m ∷ begun) (with_message s m)
 begins st wire begun s m ok law num booked number seat name held none opens =
     let p = last_part_at_first (way_of m) m in
-    let onwire : Every (IsBooked begun) s.heard = every_rest (IsBooked begun) law.ahead s.heard (subst (Every (IsBooked begun)) law.reach booked) in
+    let onwire : Every (IsBooked begun) s.heard = every_heard (IsBooked begun) s.name wire s.heard law.past booked in
     let old : EachTag (λ t. t.message.number < m.number) (s.queue ++ s.heard) =
     subst (λ (v : ℕ). EachTag (λ t. t.message.number < v) (s.queue ++ s.heard)) (sym number) (older_number begun (s.queue ++ s.heard) num (every_append (IsBooked begun) s.queue s.heard law.booked onwire)) in
     let shape : (parts_upto s.number m p ++ s.queue) ++ s.heard ≡ parts_upto s.number m p ++ (s.queue ++ s.heard) = append_assoc (parts_upto s.number m p) s.queue s.heard in
     let o = session_opened (way_of m) m s.session in
     record {
       unit = law.unit;
-      small = law.small;
-      hold = law.hold;
-      ahead = law.ahead;
-      reach = law.reach;
-      foreign = law.foreign;
-      track = subst (Lawful st) (sym shape) (parts_lawful s.number st m p (s.queue ++ s.heard) ok (sym seat) (λ g. law.unit (sym name ∙ g)) (first_le (way_of m) m) law.track (law.own m.source held ∙ ap Some (sym name)) (first_continues st s m (way_of m) opens) old);
+      past = law.past;
+      track = subst (Lawful st) (sym shape) (parts_lawful s.number st m p (s.queue ++ s.heard) ok (sym seat) (λ g. law.unit.apart (sym name ∙ g)) (first_le (way_of m) m) law.track (law.own m.source held ∙ ap Some (sym name)) (first_continues st s m (way_of m) opens) old);
       own = λ a h. ap (claimed_by a) shape ∙ (claimed_parts s.number a m p (s.queue ++ s.heard) ok (first_le (way_of m) m) ∙ law.own a h);
       mine = every_append (IsMine s.name s.held o) (parts_upto s.number m p) s.queue (parts_mine s.number s.name s.held o m p ok (first_le (way_of m) m) name held (new_session (way_of m) m s.session))
           (every_weaker (IsMine s.name s.held s.session) (IsMine s.name s.held o) s.queue (λ x i. mine_opened s.name s.held s.session m (way_of m) x (λ w. closed (way_of m) w opens) i) law.mine);
@@ -156,12 +148,8 @@ grants_one st wire begun s t law o le =
     let own : claimed_by m.source (s.queue ++ s.heard) ≡ Some m.name = law.own m.source p.held ∙ ap Some (sym p.name) in
     record {
       unit = law.unit;
-      small = law.small;
-      hold = law.hold;
-      ahead = law.ahead;
-      reach = law.reach;
-      foreign = law.foreign;
-      track = next_lawful s.number st m p.dest t.part (s.queue ++ s.heard) p.proper (sym p.seat) (λ g. law.unit (sym p.name ∙ g)) p.way le law.track own p.last p.sofar;
+      past = law.past;
+      track = next_lawful s.number st m p.dest t.part (s.queue ++ s.heard) p.proper (sym p.seat) (λ g. law.unit.apart (sym p.name ∙ g)) p.way le law.track own p.last p.sofar;
       own = λ a h. rw (says_part m (suc t.part) p.proper le) (part_no_claim a (way_of m) m (suc t.part) (claimed_by a (s.queue ++ s.heard)) ∙ law.own a h);
       mine = (
         part_mine s.number s.name s.held (Some (tag_of m (suc t.part))) m (suc t.part) p.proper le p.name p.held (goes (way_of m) m refl),

@@ -1,5 +1,6 @@
 -- A foreign frame in the middle changes nothing that a seat's own frames look back to.
 use Rattle.std.proofs.Common.{◌≡◌, ◌≢◌, ◌⊎◌, ℕ, suc, zero, ◌<◌, ◌≤◌, Bool, true, false, ◌&&◌, ◌||◌, ◌==◌, List, [], ◌∷◌, ◌++◌, Option, Some, None, if◌then◌else◌, sym, refl, ap, ◌∙◌, subst, inl, inr, arith, ne_eqb}
+use Rattle.address_claim.specs.Claiming.{is_held}
 use Rattle.dm_messages.specs.declared.kind.Kind.{Kind}
 use Rattle.dm_messages.specs.declared.kind.Kind.TheVariants.{Dm1, Dm2}
 use Rattle.parameter_group.specs.Group.{AddressClaimed, ConnectionManagement, Group, Request}
@@ -40,6 +41,11 @@ or_parts false b h = (refl, h)
 pub pick_cases : {A : Type 0} (b : Bool) (o r v : A) → (if b then o else r) ≡ v → ((b ≡ true) × (o ≡ v)) ⊎ ((b ≡ false) × (r ≡ v))
 pick_cases true o r v h = inl (refl, h)
 pick_cases false o r v h = inr (refl, h)
+
+-- an address that is held
+pub held_is : (held : Option ℕ) (address : ℕ) → is_held held address ≡ true → held ≡ Some address
+held_is None address h = cc
+held_is (Some a) address h = ap Some (true_test a address h)
 
 pub claimed_by_skip : (a : ℕ) (f : Group) (d : Option ℕ) → is_claim a f ≡ false → owner_after a f d ≡ d
 claimed_by_skip a (AddressClaimed s n) d h = rw h

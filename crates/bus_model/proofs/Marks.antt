@@ -1,14 +1,14 @@
 -- The path is the wire as its readings mark it.
-use Rattle.std.proofs.Common.{◌≡◌, ◌≢◌, ℕ, suc, zero, ◌+◌, ◌==◌, Bool, true, false, List, [], ◌∷◌, ◌++◌, length, take, drop, reverse, slice_get, Option, Some, None, if◌then◌else◌, sym, refl, ap, ap₂, ◌∙◌, subst, inl, inr, arith, append_assoc, append-nil}
+use Rattle.std.proofs.Common.{◌≡◌, ◌≢◌, ℕ, suc, ◌+◌, ◌==◌, Bool, true, false, List, [], ◌∷◌, ◌++◌, length, take, drop, reverse, slice_get, Some, if◌then◌else◌, sym, refl, ap, ap₂, ◌∙◌, subst, inl, inr, arith, append_assoc, append-nil}
 use Rattle.std.proofs.lemmas.Bool.{ne_eqb}
 use Rattle.std.proofs.lemmas.List.{length_push, length-append, length-reverse, reverse-append, reverse-reverse}
 use Rattle.bus_model.specs.Expected.{Missed, Own, Received, Reception, passed, readings}
 use Rattle.bus_model.specs.Machine.{Seat, World, station_seat}
-use Rattle.bus_model.specs.Marks.{IsMarkedBy, marked, marked_count, positions, received_at, without_own}
+use Rattle.bus_model.specs.Marks.{IsMarkedBy, marked, marked_count, positions, without_own}
 use Rattle.bus_model.specs.Traffic.{Item}
 use Rattle.bus_model.proofs.Lookback.{Every, every_front, every_rest}
 use Rattle.bus_model.proofs.Path.{Marked}
-use Rattle.bus_model.proofs.SeatLaw.{IsNotNamed}
+use Rattle.bus_model.proofs.SeatLaw.{IsNotNamed, every_heard}
 use Rattle.bus_model.proofs.Whose.{IsFrom, MissedForeign, NumbersLaw, WorldNumbers}
 use Rattle.bus_model.proofs.Worlds.{WorldLaw}
 
@@ -110,11 +110,11 @@ marks (Missed es ∷ path) rest h =
 pub path_marked : (w : World) → WorldLaw w → WorldNumbers w → IsMarkedBy (readings w.path) w.wire w.path
 path_marked w law numbers =
     let st = w.settings.name in
-    let from = every_rest (IsFrom st w.seats) law.station.ahead (passed w.path) (subst (Every (IsFrom st w.seats)) law.station.reach numbers.wire') in
+    let from = every_heard (IsFrom st w.seats) st w.wire (passed w.path) law.station.past numbers.wire' in
     let sorted = sorted_is st w.wire w.seats w.asked w.path w.path numbers from law.marked numbers.missed in
     record {
-      later = law.station.ahead;
-      along = law.station.reach;
-      marks = sym (ap (λ (l : List Item). marked (readings w.path) l) (ap positions law.station.reach ∙ positions_append law.station.ahead (passed w.path)) ∙ marks w.path (positions law.station.ahead) sorted);
+      later = law.station.past.ahead;
+      along = law.station.past.reach;
+      marks = sym (ap (λ (l : List Item). marked (readings w.path) l) (ap positions law.station.past.reach ∙ positions_append law.station.past.ahead (passed w.path)) ∙ marks w.path (positions law.station.past.ahead) sorted);
       frames = refl;
     }

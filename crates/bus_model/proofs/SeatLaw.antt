@@ -1,5 +1,5 @@
 -- What holds of a live seat, and what an unheard frame leaves of it.
-use Rattle.std.proofs.Common.{◌≡◌, ◌≢◌, ℕ, ◌<◌, ◌≤◌, ◌+◌, ◌^◌, ◌&&◌, ◌==◌, List, [], ◌∷◌, ◌++◌, length, Option, Some, if◌then◌else◌, sym, ◌∙◌, subst, inl, inr, arith, append_assoc}
+use Rattle.std.proofs.Common.{◌≡◌, ◌≢◌, ℕ, ◌<◌, ◌≤◌, ◌^◌, List, [], ◌∷◌, ◌++◌, length, Option, Some, sym, ◌∙◌, subst, inl, inr, arith, append_assoc, ap}
 use Rattle.std.proofs.lemmas.List.{append_cancel_right}
 use Rattle.address_claim.specs.Claiming.{CanHold}
 use Rattle.bus_model.specs.Machine.{Seat, IsCalmAt, with_heard}
@@ -42,14 +42,34 @@ pub record OpenLaw (begun : List Message) (s : Seat) (t : Tag) : Type 0 where
   pub last : last_of t.message.name t.message.kind (s.queue ++ s.heard) ≡ Some t
   pub sofar : sess t.message.name t.message.source dest (s.queue ++ s.heard) ≡ Some t
 
+-- the NAME of a unit, which is no station's, and an address that it can hold
+pub record IsUnitAt (st n : ℕ) (held : Option ℕ) : Type 0 where
+  pub apart : n ≢ st
+  pub small : n < 2 ^ 64
+  pub hold : CanHold held
+
+-- who has this NAME heard the wire, but for its newest items, none of which is its own
+pub record HasHeard (n : ℕ) (wire heard : List Item) : Type 0 where
+  pub ahead : List Item
+  pub reach : wire ≡ ahead ++ heard
+  pub foreign : Every (IsNotNamed n) ahead
+
+pub all_heard : (n : ℕ) (wire heard : List Item) → wire ≡ heard → HasHeard n wire heard
+all_heard n wire heard e = record { ahead = []; reach = e; foreign = tt }
+
+-- another's item is carried
+pub one_ahead : (n : ℕ) (wire heard : List Item) (e : Item) → HasHeard n wire heard → e.name ≢ n → HasHeard n (e ∷ wire) heard
+one_ahead n wire heard e past ne =
+    record { ahead = e ∷ past.ahead; reach = ap (λ (v : List Item). e ∷ v) past.reach; foreign = (ne, past.foreign) }
+
+-- what holds of each item of the wire holds of what was heard
+pub every_heard : (P : Item → Type 0) (n : ℕ) (wire heard : List Item) → HasHeard n wire heard → Every P wire → Every P heard
+every_heard P n wire heard past all = every_rest P past.ahead heard (subst (Every P) past.reach all)
+
 -- what holds of a live seat
 pub record SeatLaw (st : ℕ) (wire : List Item) (begun : List Message) (s : Seat) : Type 0 where
-  pub unit : s.name ≢ st
-  pub small : s.name < 2 ^ 64
-  pub hold : CanHold s.held
-  pub ahead : List Item
-  pub reach : wire ≡ ahead ++ s.heard
-  pub foreign : Every (IsNotNamed s.name) ahead
+  pub unit : IsUnitAt st s.name s.held
+  pub past : HasHeard s.name wire s.heard
   pub track : Lawful st (s.queue ++ s.heard)
   pub own : (a : ℕ) → s.held ≡ Some a → claimed_by a (s.queue ++ s.heard) ≡ Some s.name
   pub mine : Every (IsMine s.name s.held s.session) s.queue
@@ -60,12 +80,19 @@ pub record SeatLaw (st : ℕ) (wire : List Item) (begun : List Message) (s : Sea
 pub not_of : (st : ℕ) (e : Item) (older : List Item) (n : ℕ) → Allowed st e older → e.name ≢ n → IsNotOf n e
 not_of st e older n a ne t g h = ne ((a.tagged t g).name ∙ h)
 
--- the next frame that a seat hears is another's
-pub next_heard : (n : ℕ) (wire heard ahead' ahead : List Item) (e : Item) → wire ≡ ahead' ++ heard → Every (IsNotNamed n) ahead' → wire ≡ ahead ++ e ∷ heard → Every (IsNotNamed n) ahead × (e.name ≢ n)
-next_heard n wire heard ahead' ahead e reach foreign i =
-    let same : ahead' ≡ ahead ++ e ∷ [] = append_cancel_right ahead' (ahead ++ e ∷ []) heard (sym reach ∙ (i ∙ sym (append_assoc ahead (e ∷ []) heard))) in
-    let all = subst (λ (v : List Item). Every (IsNotNamed n) v) same foreign in
-    (every_front (IsNotNamed n) ahead (e ∷ []) all, (every_rest (IsNotNamed n) ahead (e ∷ []) all).0)
+-- the items that were not heard are all another's
+pub all_ahead : (n : ℕ) (wire heard ahead es : List Item) → HasHeard n wire heard → wire ≡ ahead ++ (es ++ heard) → Every (IsNotNamed n) (ahead ++ es)
+all_ahead n wire heard ahead es past i =
+    let same : past.ahead ≡ ahead ++ es = append_cancel_right past.ahead (ahead ++ es) heard (sym past.reach ∙ (i ∙ sym (append_assoc ahead es heard))) in
+    subst (λ (v : List Item). Every (IsNotNamed n) v) same past.foreign
+
+-- so is the next one that is heard
+pub next_heard : (n : ℕ) (wire heard ahead : List Item) (e : Item) → HasHeard n wire heard → wire ≡ ahead ++ e ∷ heard → HasHeard n wire (e ∷ heard) × (e.name ≢ n)
+next_heard n wire heard ahead e past i =
+    let all = all_ahead n wire heard ahead (e ∷ []) past i in (
+      record { ahead = ahead; reach = i; foreign = every_front (IsNotNamed n) ahead (e ∷ []) all },
+      (every_rest (IsNotNamed n) ahead (e ∷ []) all).0,
+    )
 
 -- an unheard frame that is calm is apart
 pub calm_apart : (st : ℕ) (s : Seat) (e : Item) → Allowed st e s.heard → e.name ≢ s.name → IsCalmAt s (says e) → IsApart s.name s.held s.session e

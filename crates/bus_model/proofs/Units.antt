@@ -1,5 +1,5 @@
 -- What each unit's event keeps of a seat: a frame heard, a reply, its own frame carried or another's, a unit that joins.
-use Rattle.std.proofs.Common.{◌≡◌, ◌≢◌, ℕ, ◌<◌, ◌≤◌, ◌+◌, ◌^◌, Bool, true, false, ◌&&◌, ◌==◌, List, [], ◌∷◌, ◌++◌, Option, Some, None, if◌then◌else◌, sym, refl, ap, ◌∙◌, subst, arith, append_assoc}
+use Rattle.std.proofs.Common.{◌≡◌, ◌≢◌, ℕ, ◌<◌, ◌≤◌, ◌^◌, Bool, true, false, List, [], ◌∷◌, ◌++◌, Option, Some, None, if◌then◌else◌, sym, refl, ap, ◌∙◌, subst, append_assoc}
 use Rattle.address_claim.specs.Frames.{claim_frame_value}
 use Rattle.can_frame.specs.FrameValue.{FrameValue}
 use Rattle.parameter_group.specs.Group.{AddressClaimed, Group, group_of}
@@ -11,22 +11,18 @@ use Rattle.bus_model.specs.Traffic.{Item, Tag, claimed_by, says}
 use Rattle.bus_model.proofs.Bridge.{claim_group, says_claim}
 use Rattle.bus_model.proofs.Lawful.{Lawful, last_of, sess}
 use Rattle.bus_model.proofs.Lookback.{Every, InSession, IsFrom, IsMine, claimed_skip, every_front, insert}
-use Rattle.bus_model.proofs.Seats.{IsReply, claim_from, claim_honest, claim_owns, claim_plain, claim_voiced, claimed_kept, kept_each, lawful_kept, reply_breaks_none, reply_from, reply_honest, reply_owns, reply_plain, reply_voiced, sent_allowed, uncontested}
-use Rattle.bus_model.proofs.SeatLaw.{IsBooked, SeatLaw, calm_apart, heard_rest, next_heard, open_heard, open_as}
+use Rattle.bus_model.proofs.Seats.{IsReply, claim_from, claim_honest, claim_owns, claim_plain, claim_voiced, claimed_kept, kept_each, lawful_kept, reply_breaks_none, reply_from, reply_honest, reply_owns, reply_plain, reply_voiced, sent_allowed}
+use Rattle.bus_model.proofs.SeatLaw.{IsBooked, SeatLaw, all_heard, calm_apart, heard_rest, next_heard, one_ahead, open_heard, open_as}
 
 -- the frame heard contests nothing and cuts nothing
 pub heard_quiet : (st : ℕ) (wire : List Item) (begun : List Message) (s : Seat) (ahead : List Item) (e : Item) → Lawful st wire → SeatLaw st wire begun s → wire ≡ ahead ++ e ∷ s.heard → IsCalmAt s (says e) → SeatLaw st wire begun (with_heard s e)
 heard_quiet st wire begun s ahead e lawful law i calm =
-    let next = next_heard s.name wire s.heard law.ahead ahead e law.reach law.foreign i in
+    let next = next_heard s.name wire s.heard ahead e law.past i in
     let rest = heard_rest st wire ahead s.heard e lawful i in
     let apart = calm_apart st s e rest.0 next.1 calm in
     record {
       unit = law.unit;
-      small = law.small;
-      hold = law.hold;
-      ahead = ahead;
-      reach = i;
-      foreign = next.0;
+      past = next.0;
       track = insert st s.name s.held s.session s.queue e s.heard law.track law.mine apart rest.0;
       own = λ a h. claimed_skip a s.queue e s.heard (apart.quiet a h) ∙ law.own a h;
       mine = law.mine;
@@ -58,11 +54,7 @@ kept_closed n held o (x ∷ xs) h = go (kept_closed n held o xs h.1) (is_of_sess
 pub closes : (st : ℕ) (wire : List Item) (begun : List Message) (s : Seat) → SeatLaw st wire begun s → SeatLaw st wire begun (session_ended s)
 closes st wire begun s law = record {
   unit = law.unit;
-  small = law.small;
-  hold = law.hold;
-  ahead = law.ahead;
-  reach = law.reach;
-  foreign = law.foreign;
+  past = law.past;
   track = lawful_kept st s.queue s.heard law.track;
   own = λ a h. claimed_kept st a s.queue s.heard law.track ∙ law.own a h;
   mine = kept_closed s.name s.held s.session s.queue law.mine;
@@ -81,16 +73,12 @@ heard_ends st wire begun s ahead e lawful law i c =
 
 pub heard_yields : (st : ℕ) (wire : List Item) (begun : List Message) (s : Seat) (ahead : List Item) (e : Item) (o : Option ℕ) → CanHold o → Lawful st wire → SeatLaw st wire begun s → wire ≡ ahead ++ e ∷ s.heard → SeatLaw st wire begun (yielded (with_heard s e) o)
 heard_yields st wire begun s ahead e o hold lawful law i =
-    let c = says_claim s.name o law.small hold in
-    let next = next_heard s.name wire s.heard law.ahead ahead e law.reach law.foreign i in
+    let c = says_claim s.name o law.unit.small hold in
+    let next = next_heard s.name wire s.heard ahead e law.past i in
     let rest = heard_rest st wire ahead s.heard e lawful i in
     record {
-      unit = law.unit;
-      small = law.small;
-      hold = hold;
-      ahead = ahead;
-      reach = i;
-      foreign = next.0;
+      unit = record { apart = law.unit.apart; small = law.unit.small; hold = hold };
+      past = next.0;
       track = (sent_allowed st s.number s.name (claim_frame_value s.name o) (claim_group s.name o) (e ∷ s.heard) c (claim_plain s.name o) (claim_honest s.name o) (claim_voiced s.name o (e ∷ s.heard)), rest);
       own = λ a h. rw c (claim_owns s.name o a (claimed_by a (e ∷ s.heard)) h);
       mine = (record { name = refl; tags = λ t g. cc; voice = subst (IsFrom o) (sym c) (claim_from s.name o) }, tt);
@@ -101,11 +89,7 @@ heard_yields st wire begun s ahead e o hold lawful law i =
 pub replied : (st : ℕ) (wire : List Item) (begun : List Message) (s : Seat) (f : FrameValue) → SeatLaw st wire begun s → IsReply s (group_of f) → SeatLaw st wire begun (record s { queue = plain_item s.number s.name f ∷ s.queue })
 replied st wire begun s f law may = record {
   unit = law.unit;
-  small = law.small;
-  hold = law.hold;
-  ahead = law.ahead;
-  reach = law.reach;
-  foreign = law.foreign;
+  past = law.past;
   track = (sent_allowed st s.number s.name f (group_of f) (s.queue ++ s.heard) refl (reply_plain s (group_of f) may) (reply_honest s (group_of f) may) (reply_voiced s (group_of f) (s.queue ++ s.heard) may law.own), law.track);
   own = λ a h. reply_owns s (group_of f) a (claimed_by a (s.queue ++ s.heard)) may (law.own a h);
   mine = (record { name = refl; tags = λ t g. cc; voice = reply_from s (group_of f) may }, law.mine);
@@ -122,11 +106,7 @@ carries st wire begun s e rest law q h =
     let shape : s.queue ++ s.heard ≡ rest ++ e ∷ wire = both q h ∙ append_assoc rest (e ∷ []) wire in
     record {
       unit = law.unit;
-      small = law.small;
-      hold = law.hold;
-      ahead = [];
-      reach = refl;
-      foreign = tt;
+      past = all_heard s.name (e ∷ wire) (e ∷ wire) refl;
       track = subst (Lawful st) shape law.track;
       own = λ a i. ap (claimed_by a) (sym shape) ∙ law.own a i;
       mine = every_front (IsMine s.name s.held s.session) rest (e ∷ []) (subst (Every (IsMine s.name s.held s.session)) q law.mine);
@@ -145,11 +125,7 @@ carries st wire begun s e rest law q h =
 pub others_carry : (st : ℕ) (wire : List Item) (begun : List Message) (s : Seat) (e : Item) → SeatLaw st wire begun s → e.name ≢ s.name → SeatLaw st (e ∷ wire) begun s
 others_carry st wire begun s e law ne = record {
   unit = law.unit;
-  small = law.small;
-  hold = law.hold;
-  ahead = e ∷ law.ahead;
-  reach = ap (λ (v : List Item). e ∷ v) law.reach;
-  foreign = (ne, law.foreign);
+  past = one_ahead s.name wire s.heard e law.past ne;
   track = law.track;
   own = law.own;
   mine = law.mine;
@@ -162,12 +138,8 @@ pub joins : (st : ℕ) (wire : List Item) (begun : List Message) (x n a : ℕ) �
 joins st wire begun x n a unit small hold lawful =
     let c = says_claim n (Some a) small hold in
     record {
-      unit = unit;
-      small = small;
-      hold = hold;
-      ahead = [];
-      reach = refl;
-      foreign = tt;
+      unit = record { apart = unit; small = small; hold = hold };
+      past = all_heard n wire wire refl;
       track = (sent_allowed st x n (claim_frame_value n (Some a)) (AddressClaimed a n) wire c tt refl tt, lawful);
       own = λ b h. rw c (claim_owns n (Some a) b (claimed_by b wire) h);
       mine = (record { name = refl; tags = λ t g. cc; voice = subst (IsFrom (Some a)) (sym c) refl }, tt);

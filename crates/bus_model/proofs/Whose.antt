@@ -1,19 +1,19 @@
 -- Each seat keeps its number, and each frame on the wire bears the number and the NAME of its seat.
-use Rattle.std.proofs.Common.{◌≡◌, ◌≢◌, ◌⊎◌, ℕ, suc, zero, Bool, true, false, List, [], ◌∷◌, ◌++◌, length, set, slice_get, Option, Some, None, if◌then◌else◌, sym, refl, ap, ◌∙◌, subst, inl, inr, arith}
+use Rattle.std.proofs.Common.{◌≡◌, ◌≢◌, ◌⊎◌, ℕ, suc, zero, Bool, true, false, List, [], ◌∷◌, ◌++◌, length, set, slice_get, Option, Some, None, if◌then◌else◌, sym, refl, ap, ◌∙◌, subst, inl, inr}
 use Rattle.can_frame.specs.FrameValue.{FrameValue}
 use Rattle.bus_model.specs.Expected.{Missed, Own, Received, Reception, passed, readings}
 use Rattle.parameter_group.specs.Calm.{is_contest}
 use Rattle.bus_model.specs.Heard.{StationSettings, address_heard}
-use Rattle.bus_model.specs.Machine.{Answer, Ask, Begin, Begins, Carry, Carry_station, EndsSession, Event, Sends, Hear, IsFit, Join, Leave, Miss, Nothing, Read, Replies, Run, Seat, Step, Turned, World, Claims, all_plain, answered, claim_alone, granted, granted_one, joined_seat, message_at, parts_upto, session_ended, start, station_address, station_seat, with_heard, with_message, without_session, yielded}
+use Rattle.bus_model.specs.Machine.{Answer, Ask, Begin, Begins, Carry, Carry_station, EndsSession, Event, Sends, Hear, Join, Leave, Miss, Nothing, Read, Replies, Run, Seat, Step, Turned, World, Claims, all_plain, answered, claim_alone, granted, granted_one, joined_seat, message_at, parts_upto, session_ended, start, station_address, station_seat, with_heard, with_message, yielded}
 use Rattle.bus_model.specs.Messages.{Message}
 use Rattle.bus_model.specs.Traffic.{Item, Tag, says}
 use Rattle.bus_model.specs.Whose.{IsFromItsSeat}
 use Rattle.bus_model.proofs.Lookback.{Every, every_append, every_front, every_rest, every_weaker}
 use Rattle.bus_model.proofs.Path.{IsStations}
 use Rattle.bus_model.proofs.Seats.{kept_each}
-use Rattle.bus_model.proofs.SeatLaw.{IsNotNamed}
+use Rattle.bus_model.proofs.SeatLaw.{IsNotNamed, all_ahead}
 use Rattle.bus_model.proofs.Lookback.{IsMine}
-use Rattle.bus_model.proofs.Worlds.{WorldLaw, law_start, law_step, missed_ahead, slice_get_push, slice_get_set}
+use Rattle.bus_model.proofs.Worlds.{WorldLaw, law_step, slice_get_push, slice_get_set}
 
 abbrev pub IsOfNumber : ℕ → Item → Type 0
 IsOfNumber k e = e.seat ≡ k
@@ -179,7 +179,7 @@ numbers_start r = record { numbers = λ x s h. cc; names = λ x s h. cc; queues 
 -- the wire behind the path is the path's, and what is ahead is foreign
 foreign_missed : (w : World) (es ahead : List Item) → WorldLaw w → w.wire ≡ ahead ++ (es ++ passed w.path) → Every (IsNotNamed w.settings.name) es
 foreign_missed w es ahead law h =
-    every_rest (IsNotNamed w.settings.name) ahead es (missed_ahead w.settings.name w.wire law.station.ahead ahead es (passed w.path) law.station.reach law.station.foreign h)
+    every_rest (IsNotNamed w.settings.name) ahead es (all_ahead w.settings.name w.wire (passed w.path) ahead es law.station.past h)
 
 numbers_answered : (w new : World) (x : ℕ) (s : Seat) → slice_get w.seats x ≡ Some s → IsAnswered w x s new → WorldNumbers w → WorldNumbers new
 numbers_answered w new x s at a law =

@@ -1,6 +1,5 @@
 -- Each event keeps the law of the world.
 use Rattle.std.proofs.Common.{◌≡◌, ◌≢◌, ◌⊎◌, ℕ, suc, zero, ◌<◌, ◌≤◌, ◌^◌, Bool, true, false, ◌&&◌, ◌==◌, List, [], ◌∷◌, ◌++◌, length, set, slice_get, Option, Some, None, if◌then◌else◌, sym, refl, ap, ◌∙◌, subst, inl, inr, arith, append_assoc}
-use Rattle.std.proofs.lemmas.List.{append_cancel_right}
 use Rattle.address_claim.specs.Claiming.{is_held, CanHold}
 use Rattle.address_claim.specs.Frames.{claim_frame_value}
 use Rattle.can_frame.specs.FrameValue.{FrameValue}
@@ -23,7 +22,7 @@ use Rattle.bus_model.proofs.Sessions.{OnlyHeld, SessionsLaw, sessions_missed, se
 use Rattle.bus_model.proofs.Tells.{AllProper, is_listed, not_clear, reads, told_same}
 use Rattle.bus_model.proofs.Begins.{OpensAt, begins, booked_more, grants, seat_more}
 use Rattle.bus_model.proofs.Replying.{asked_for, may_reply}
-use Rattle.bus_model.proofs.SeatLaw.{IsBooked, IsNotNamed, Numbered, SeatLaw, next_heard, not_of, number_below}
+use Rattle.bus_model.proofs.SeatLaw.{HasHeard, IsBooked, IsNotNamed, Numbered, SeatLaw, all_ahead, all_heard, every_heard, next_heard, not_of, number_below, one_ahead}
 use Rattle.bus_model.proofs.Units.{carries, heard_ends, heard_quiet, heard_yields, joins, others_carry, replied}
 
 pub slice_get_set : {A : Type 0} (xs : List A) (i y : ℕ) (v t : A) → slice_get (set xs i v) y ≡ Some t → ((y ≡ i) × (t ≡ v)) ⊎ ((y ≢ i) × (slice_get xs y ≡ Some t))
@@ -94,9 +93,7 @@ apart_push seats v apart free y z t u h g e =
 
 -- what holds of the station
 pub record StationLaw (r : StationSettings) (wire asked : List Item) (path : List Reception) : Type 0 where
-  pub ahead : List Item
-  pub reach : wire ≡ ahead ++ passed path
-  pub foreign : Every (IsNotNamed r.name) ahead
+  pub past : HasHeard r.name wire (passed path)
   pub track : Lawful r.name (asked ++ passed path)
   pub own : (a : ℕ) → address_heard r (readings path) ≡ Some a → claimed_by a (asked ++ passed path) ≡ Some r.name
   pub mine : Every (IsMine r.name (address_heard r (readings path)) None) asked
@@ -128,13 +125,11 @@ claimed_missed st d [] xs law ne h = h
 claimed_missed st d (e ∷ es) xs law ne h = claimed_missed st d es xs law.1 ne.1 (unit_claim st d e (claimed_by d (es ++ xs)) law.0.honest ne.0 h).0
 
 -- the station's queue is its claim alone
-pub claims_alone : (r : StationSettings) (wire ahead : List Item) (path : List Reception) (o : Option ℕ) → IsFit r → address_heard r (readings path) ≡ o → wire ≡ ahead ++ passed path → Every (IsNotNamed r.name) ahead → Lawful r.name (passed path) → OnlyHeld r path → StationLaw r wire (claim_alone station_seat r.name o) path
-claims_alone r wire ahead path o fit at reach foreign lawful only =
+pub claims_alone : (r : StationSettings) (wire : List Item) (path : List Reception) (o : Option ℕ) → IsFit r → address_heard r (readings path) ≡ o → HasHeard r.name wire (passed path) → Lawful r.name (passed path) → OnlyHeld r path → StationLaw r wire (claim_alone station_seat r.name o) path
+claims_alone r wire path o fit at past lawful only =
     let c = says_claim r.name o fit.name (subst CanHold at (address_hold r (readings path) fit)) in
     record {
-      ahead = ahead;
-      reach = reach;
-      foreign = foreign;
+      past = past;
       track = (sent_allowed r.name station_seat r.name (claim_frame_value r.name o) (claim_group r.name o) (passed path) c (claim_plain r.name o) (claim_honest r.name o) (claim_voiced r.name o (passed path)), lawful);
       own = λ a h. rw c (claim_owns r.name o a (claimed_by a (passed path)) (sym at ∙ h));
       mine = (record { name = refl; tags = λ t g. cc; voice = subst (λ (v : Option ℕ). IsFrom v (group_of (claim_frame_value r.name o))) (sym at) (subst (IsFrom o) (sym c) (claim_from r.name o)) }, tt);
@@ -152,8 +147,8 @@ station_reads w e ahead fit lawful law i = go (is_contest r.name held (says e)) 
     held : Option ℕ
     held = address_heard r (readings w.path)
 
-    next : Every (IsNotNamed r.name) ahead × (e.name ≢ r.name)
-    next = next_heard r.name w.wire (passed w.path) law.ahead ahead e law.reach law.foreign i
+    next : HasHeard r.name w.wire (e ∷ passed w.path) × (e.name ≢ r.name)
+    next = next_heard r.name w.wire (passed w.path) ahead e law.past i
 
     rest : Lawful r.name (e ∷ passed w.path)
     rest = lawful_rest r.name ahead (e ∷ passed w.path) (subst (Lawful r.name) i lawful)
@@ -162,7 +157,7 @@ station_reads w e ahead fit lawful law i = go (is_contest r.name held (says e)) 
     only = only_read r e w.path rest.0 next.1 law.only
 
     go : (b : Bool) → is_contest r.name held (says e) ≡ b → StationLaw r w.wire (if b then claim_alone station_seat r.name (address_heard r (readings (Received e ∷ w.path))) else w.asked) (Received e ∷ w.path)
-    go true c = claims_alone r w.wire ahead (Received e ∷ w.path) (address_heard r (readings (Received e ∷ w.path))) fit refl i next.0 rest only
+    go true c = claims_alone r w.wire (Received e ∷ w.path) (address_heard r (readings (Received e ∷ w.path))) fit refl next.0 rest only
     go false c =
         let same : address_heard r (readings (Received e ∷ w.path)) ≡ held = address_read r e.frame (readings w.path) c in
         let apart : IsApart r.name held None e = record {
@@ -172,9 +167,7 @@ station_reads w e ahead fit lawful law i = go (is_contest r.name held (says e)) 
           uncut = λ t d o. cc;
         } in
         record {
-          ahead = ahead;
-          reach = i;
-          foreign = next.0;
+          past = next.0;
           track = insert r.name r.name held None w.asked e (passed w.path) law.track law.mine apart rest.0;
           own = λ a h. claimed_skip a w.asked e (passed w.path) (apart.quiet a (sym same ∙ h)) ∙ law.own a (sym same ∙ h);
           mine = subst (λ (o : Option ℕ). Every (IsMine r.name o None) w.asked) (sym same) law.mine;
@@ -182,17 +175,12 @@ station_reads w e ahead fit lawful law i = go (is_contest r.name held (says e)) 
           only = only;
         }
 
-pub missed_ahead : (n : ℕ) (wire ahead' ahead es xs : List Item) → wire ≡ ahead' ++ xs → Every (IsNotNamed n) ahead' → wire ≡ ahead ++ (es ++ xs) → Every (IsNotNamed n) (ahead ++ es)
-missed_ahead n wire ahead' ahead es xs reach foreign i =
-    let same : ahead' ≡ ahead ++ es = append_cancel_right ahead' (ahead ++ es) xs (sym reach ∙ (i ∙ sym (append_assoc ahead es xs))) in
-    subst (λ (v : List Item). Every (IsNotNamed n) v) same foreign
-
 pub station_misses : (w : World) (es ahead : List Item) → IsFit w.settings → Lawful w.settings.name w.wire → StationLaw w.settings w.wire w.asked w.path → w.wire ≡ ahead ++ (es ++ passed w.path) → StationLaw w.settings w.wire (missed w es).asked (Missed es ∷ w.path)
 station_misses w es ahead fit lawful law i =
     let r = w.settings in
-    let all = missed_ahead r.name w.wire law.ahead ahead es (passed w.path) law.reach law.foreign i in
+    let all = all_ahead r.name w.wire (passed w.path) ahead es law.past i in
     let rest = lawful_rest r.name ahead (es ++ passed w.path) (subst (Lawful r.name) i lawful) in
-    claims_alone r w.wire ahead (Missed es ∷ w.path) (address_heard r (readings w.path)) fit (address_gap r (length es) (readings w.path)) i (every_front (IsNotNamed r.name) ahead es all) rest
+    claims_alone r w.wire (Missed es ∷ w.path) (address_heard r (readings w.path)) fit (address_gap r (length es) (readings w.path)) (record { ahead = ahead; reach = i; foreign = every_front (IsNotNamed r.name) ahead es all }) rest
     (λ d h. address_gap r (length es) (readings w.path) ∙ law.only d (claimed_missed r.name d es (passed w.path) rest (every_rest (IsNotNamed r.name) ahead es all) h))
 
 pub both_lists : {xs ys us vs : List Item} → xs ≡ ys → us ≡ vs → xs ++ us ≡ ys ++ vs
@@ -206,9 +194,7 @@ station_carries w e rest law q h =
     let shape : w.asked ++ passed w.path ≡ rest ++ e ∷ passed w.path = both_lists q refl ∙ append_assoc rest (e ∷ []) (passed w.path) in
     let voice = (every_rest (IsMine r.name o None) rest (e ∷ []) (subst (Every (IsMine r.name o None)) q law.mine)).0.voice in
     record {
-      ahead = [];
-      reach = ap (λ (v : List Item). e ∷ v) h;
-      foreign = tt;
+      past = all_heard r.name (e ∷ w.wire) (e ∷ passed w.path) (ap (λ (v : List Item). e ∷ v) h);
       track = subst (Lawful r.name) shape law.track;
       own = λ a i. ap (claimed_by a) (sym shape) ∙ law.own a i;
       mine = every_front (IsMine r.name o None) rest (e ∷ []) (subst (Every (IsMine r.name o None)) q law.mine);
@@ -255,9 +241,7 @@ station_asks r wire asked path (f ∷ fs) law may =
     let o = address_heard r (readings path) in
     let older = (all_plain station_seat r.name fs ++ asked) ++ passed path in
     record {
-      ahead = ih.ahead;
-      reach = ih.reach;
-      foreign = ih.foreign;
+      past = ih.past;
       track = (record { tagged = λ t g. cc; plain = λ g ne. absurd (ne refl); starts = λ g. may_no_start r.name o (group_of f) may.0; honest = may_honest r.name o (group_of f) may.0; voiced = may_voiced r.name o (group_of f) older may.0 ih.own }, ih.track);
       own = λ a h. may_own r.name o (group_of f) a (claimed_by a older) may.0 (ih.own a h);
       mine = (record { name = refl; tags = λ t g. cc; voice = may_from r.name o (group_of f) may.0 }, ih.mine);
@@ -289,7 +273,7 @@ law_start r fit = record {
   seats = λ x s h. cc h.0;
   apart = λ x y s t h g e. cc h.0;
   units = λ x s h. cc h.0;
-  station = claims_alone r [] [] [] (Some r.address) fit (address_first r) refl tt tt (λ d h. cc);
+  station = claims_alone r [] [] (Some r.address) fit (address_first r) (all_heard r.name [] [] refl) tt (λ d h. cc);
   marked = tt;
   sessions = λ m d j w c. cc;
   same = λ n k. refl;
@@ -323,7 +307,10 @@ told_new begun p m n k number num booked =
     never false = refl
 
 pub passed_booked : (w : World) → WorldLaw w → Every (IsBooked w.begun) (passed w.path)
-passed_booked w law = every_rest (IsBooked w.begun) law.station.ahead (passed w.path) (subst (Every (IsBooked w.begun)) law.station.reach law.booked)
+passed_booked w law = every_heard (IsBooked w.begun) w.settings.name w.wire (passed w.path) law.station.past law.booked
+
+pub passed_lawful : (w : World) → WorldLaw w → Lawful w.settings.name (passed w.path)
+passed_lawful w law = lawful_rest w.settings.name law.station.past.ahead (passed w.path) (subst (Lawful w.settings.name) law.station.past.reach law.wire)
 
 pub law_begun : (w : World) (x : ℕ) (s v : Seat) (m : Message) → WorldLaw w → IsLiveSeat w x s → v.name ≡ s.name → SeatLaw w.settings.name w.wire w.begun v → m.number ≡ length w.begun → m.seat ≡ v.number → m.name ≡ v.name → v.held ≡ Some m.source → IsProper m → IsNotOpen v.session m.kind → ((d : ℕ) → (way_of m) ≡ Session d → OpensAt w.settings.name v m d) → WorldLaw (with_begun w x v m)
 law_begun w x s v m law at name seat number mseat mname held fit none opens = record {
@@ -343,9 +330,7 @@ law_begun w x s v m law at name seat number mseat mname held fit none opens = re
 
 pub station_more : (r : StationSettings) (wire asked : List Item) (path : List Reception) (e : Item) → StationLaw r wire asked path → e.name ≢ r.name → StationLaw r (e ∷ wire) asked path
 station_more r wire asked path e law ne = record {
-  ahead = e ∷ law.ahead;
-  reach = ap (λ (v : List Item). e ∷ v) law.reach;
-  foreign = (ne, law.foreign);
+  past = one_ahead r.name wire (passed path) e law.past ne;
   track = law.track;
   own = law.own;
   mine = law.mine;
@@ -412,7 +397,7 @@ law_join w n a law free small hold = record {
 -- a frame is read
 pub law_read : (w : World) (e : Item) (ahead : List Item) → WorldLaw w → w.wire ≡ ahead ++ e ∷ passed w.path → WorldLaw (received w e)
 law_read w e ahead law h =
-    let next = next_heard w.settings.name w.wire (passed w.path) law.station.ahead ahead e law.station.reach law.station.foreign h in
+    let next = next_heard w.settings.name w.wire (passed w.path) ahead e law.station.past h in
     let rest = lawful_rest w.settings.name ahead (e ∷ passed w.path) (subst (Lawful w.settings.name) h law.wire) in
     let booked = every_rest (IsBooked w.begun) ahead (e ∷ passed w.path) (subst (Every (IsBooked w.begun)) h law.booked) in
     record {

@@ -2,6 +2,7 @@
 use Rattle.std.proofs.Common.{◌≡◌, ℕ, Bool, true, false, ◌==◌, ◌&&◌, List, [], ◌∷◌, ◌++◌, drop, Option, Some, None, if◌then◌else◌, refl, sym, ap, ◌∙◌, subst, inl, inr, append-nil}
 use Rattle.std.proofs.lemmas.Bool.{eqb-true, eq-eqb}
 use Rattle.bus_model.specs.Heard.{StationSettings}
+use Rattle.bus_model.proofs.Lookback.{kind_same, same_kind_self}
 use Rattle.can_frame.specs.declared.reading.Reading.{Reading}
 use Rattle.dm_messages.specs.declared.kind.Kind.{Kind}
 use Rattle.dm_messages.specs.declared.kind.Kind.TheVariants.{Dm1, Dm2}
@@ -12,29 +13,18 @@ use Rattle.station_table.specs.Lists.{MayAdd, is_list, list_of, with_taken}
 use Rattle.station_table.specs.StandsFor.{StandsBeside}
 use Rattle.station_table.specs.StationValue.{StationValue}
 use Rattle.station_table.specs.Steps.{after_reading}
+use Rattle.station_table.proofs.Lines.{other_lists}
 use Rattle.station_table.proofs.Lists.{one_added}
 use Rattle.station_table.proofs.Stands.{beside_after}
+use Rattle.bus_watch.specs.declared.watch.TheConstants.{GRANT}
 use Rattle.bus_watch.specs.Runs.{ListsValue, entries_in, runs_of, unrolled}
 use Rattle.bus_watch.specs.WatchValue.{Moves, StandsInRuns, Takes, WatchValue}
 
 -- the same lists taken out
 pub same_lists : (one other : ℕ → Kind → List Shown) → ((n : ℕ) (k : Kind) → other n k ≡ one n k)
-    → (r : StationSettings) (s : StationValue) (h : List Reading) → StandsBeside one r 255 s h → StandsBeside other r 255 s h
-same_lists one other same r s h st = record {
-  grants = st.grants;
-  claims = st.claims;
-  apart = st.apart;
-  places = st.places;
-  owners = st.owners;
-  broadcasts = st.broadcasts;
-  sessions = st.sessions;
-  most = st.most;
-  rows = st.rows;
-  names = st.names;
-  entries = λ n k. ap (λ (l : List Shown). l ++ entries_under s.rows n k) (same n k) ∙ st.entries n k;
-  missed = st.missed;
-  unread = st.unread;
-}
+    → (r : StationSettings) (s : StationValue) (h : List Reading) → StandsBeside one r GRANT s h → StandsBeside other r GRANT s h
+same_lists one other same r s h st =
+    other_lists one other r GRANT s s.rows h st (λ n. refl) refl (λ n k. ap (λ (l : List Shown). l ++ entries_under s.rows n k) (same n k))
 
 -- without runs there is no entry
 pub nothing_listed : (lists : ListsValue) (n : ℕ) (k : Kind) → lists ≡ record { dm1 = []; dm2 = [] } → entries_in lists n k ≡ []
@@ -45,21 +35,11 @@ nothing_listed lists n Dm2 e = ap (λ (l : ListsValue). unrolled (runs_of l.dm2 
 pub takes_none : (old new : WatchValue) (x : Reading) → list_of old.station x ≡ None → new ≡ record old { station = after_reading old.station x } → Takes old new x
 takes_none old new x none e = record {
   stands = λ r h s. subst (λ (w : WatchValue). StandsInRuns r w (x ∷ h)) (sym e) (record {
-    beside = beside_after (entries_in old.lists) r 255 old.station h x s.beside;
+    beside = beside_after (entries_in old.lists) r GRANT old.station h x s.beside;
     alone = λ n k. one_added old.station x None n k (sym none) ∙ s.alone n k;
   });
   followed = ap (λ (w : WatchValue). w.followed) e;
 }
-
-kinds_same : (k l : Kind) → same_kind k l ≡ true → k ≡ l
-kinds_same Dm1 Dm1 e = refl
-kinds_same Dm1 Dm2 e = absurd cc
-kinds_same Dm2 Dm1 e = absurd cc
-kinds_same Dm2 Dm2 e = refl
-
-same_kind_self : (k : Kind) → same_kind k k ≡ true
-same_kind_self Dm1 = refl
-same_kind_self Dm2 = refl
 
 -- of an empty list nothing is left once the entry that came is taken out
 first_gone : (before after : List Shown) → before ≡ [] → MayAdd true before after → drop 1 after ≡ []
@@ -95,15 +75,15 @@ none_left old mid new x name kind there e moves none n k = go (name == n) (same_
     go true false i j = other (rw (i, j) refl)
     go true true i j =
         subst (λ (m : ℕ). entries_under new.station.rows m k ≡ []) (eqb-true name n i)
-        (subst (λ (l : Kind). entries_under new.station.rows name l ≡ []) (kinds_same kind k j) own)
+        (subst (λ (l : Kind). entries_under new.station.rows name l ≡ []) (kind_same kind k j) own)
 
 -- a reading that can add to this list
 pub takes_one : (old mid new : WatchValue) (x : Reading) (name : ℕ) (kind : Kind) → Some (name, kind) ≡ list_of old.station x
     → mid ≡ record old { station = after_reading old.station x } → Moves mid new name kind → Takes old new x
 takes_one old mid new x name kind there e moves = record {
   stands = λ r h s. record {
-    beside = moves.beside r (x ∷ h) (subst (λ (w : WatchValue). StandsBeside (entries_in w.lists) r 255 w.station (x ∷ h)) (sym e)
-        (beside_after (entries_in old.lists) r 255 old.station h x s.beside));
+    beside = moves.beside r (x ∷ h) (subst (λ (w : WatchValue). StandsBeside (entries_in w.lists) r GRANT w.station (x ∷ h)) (sym e)
+        (beside_after (entries_in old.lists) r GRANT old.station h x s.beside));
     alone = none_left old mid new x name kind there e moves s.alone;
   };
   followed = moves.followed ∙ ap (λ (w : WatchValue). w.followed) e;
@@ -127,8 +107,8 @@ pub moved : (old start new : WatchValue) (s : StationValue) (name : ℕ) (kind :
     → ((n : ℕ) (k : Kind) → entries_in new.lists n k ≡ with_taken name kind o (entries_in start.lists) n k)
     → Moves old new name kind
 moved old start new s name kind o same rest others beside es ef lists = subst (λ (w : WatchValue). Moves w new name kind) same (record {
-  beside = λ r h st. subst (λ (t : StationValue). StandsBeside (entries_in new.lists) r 255 t h) (sym es)
-      (same_lists (with_taken name kind o (entries_in start.lists)) (entries_in new.lists) lists r s h (beside (entries_in start.lists) r 255 h st));
+  beside = λ r h st. subst (λ (t : StationValue). StandsBeside (entries_in new.lists) r GRANT t h) (sym es)
+      (same_lists (with_taken name kind o (entries_in start.lists)) (entries_in new.lists) lists r s h (beside (entries_in start.lists) r GRANT h st));
   rest = ap (λ (t : StationValue). entries_under t.rows name kind) es ∙ rest;
   others = λ n k i. ap (λ (t : StationValue). entries_under t.rows n k) es ∙ others n k i;
   followed = ef;

@@ -1,5 +1,5 @@
 -- What is read from a watch is what was heard of the lines.
-use Rattle.std.proofs.Common.{◌≡◌, ℕ, List, ◌++◌, Option, Some, None, length, map, reverse, refl, sym, ap, ◌∙◌}
+use Rattle.std.proofs.Common.{◌≡◌, ℕ, List, ◌++◌, Option, length, map, reverse, sym, ap, ◌∙◌}
 use Rattle.std.specs.Prelude.{slice_get}
 use Rattle.std.specs.Option.{option_map}
 use Rattle.std.proofs.lemmas.List.{length-map, length-reverse, append-nil}
@@ -7,8 +7,9 @@ use Rattle.dm_messages.specs.declared.kind.Kind.{Kind}
 use Rattle.dm_messages.specs.declared.shown.Shown.{Shown}
 use Rattle.bus_model.specs.Heard.{counted, entries_heard, missed_count, names_heard, row_heard, unread_count}
 use Rattle.station_table.specs.declared.row.Row.{Row}
-use Rattle.station_table.specs.KeptValue.{KeptValue, kept_under}
-use Rattle.station_table.specs.StandsFor.{row_heard_as, row_known, row_of}
+use Rattle.station_table.specs.KeptValue.{kept_under}
+use Rattle.station_table.specs.StandsFor.{row_heard_as, row_of}
+use Rattle.station_table.proofs.Queries.{row_words}
 use Rattle.station_table.proofs.RowLemmas.{named}
 use Rattle.bus_watch.specs.Runs.{entries_in, runs_under, unrolled}
 use Rattle.bus_watch.specs.Told.{Beginning, StandsForAll, Told, all_said}
@@ -21,10 +22,6 @@ names_as_heard w b ts n e s = e ∙ (sym (length-map w.station.rows named) ∙ a
 pub name_as_heard : (w : WatchValue) (b : Beginning) (ts : List Told) (place : ℕ) (o : Option ℕ)
     → o ≡ slice_get (map named w.station.rows) place → StandsForAll b ts w → o ≡ slice_get (names_heard (all_said b ts).readings) place
 name_as_heard w b ts place o e s = e ∙ ap (λ (l : List ℕ). slice_get l place) s.heard.beside.names
-
-row_words : (owners : List (Option ℕ)) (name : ℕ) (k : Option KeptValue) → option_map row_heard_as (row_of owners name k) ≡ row_known owners name k
-row_words owners name None = refl
-row_words owners name (Some k) = refl
 
 pub row_as_heard : (w : WatchValue) (b : Beginning) (ts : List Told) (name : ℕ) (o : Option Row)
     → o ≡ row_of w.station.owners name (kept_under w.station.rows name) → StandsForAll b ts w → option_map row_heard_as o ≡ row_heard b.station name (all_said b ts).readings

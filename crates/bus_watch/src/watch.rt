@@ -2,6 +2,7 @@ ghost use Rattle.std.specs.Prelude.{◌≡◌, ◌≤◌, [], List, length, reve
 ghost use Rattle.bus_model.specs.Heard.{counted, entries_heard, missed_count, names_heard, row_heard, unread_count};
 ghost use Rattle.bus_watch.specs.Runs.{unrolled};
 ghost use Rattle.bus_watch.specs.Told.{Beginning, StandsForAll, Told, all_said};
+ghost use Rattle.can_frame.specs.declared.address.TheConstants.{GREATEST_ADDRESS};
 ghost use Rattle.station_table.specs.StandsFor.{row_heard_as};
 
 use crate::counts::Counts;
@@ -30,7 +31,7 @@ pub struct Settings {
     pub skips_bad: bool,
     /// How many microseconds a packet may come after the frame before it; none: any.
     pub silence: Option<u64>,
-    ghost address_fits: { address ≤ 253 },
+    ghost address_fits: { address ≤ GREATEST_ADDRESS },
 }
 
 /// A station that reads the lines of a log or of a live bus. What it lists is taken out of it, and kept as runs of equal entries.

@@ -1,6 +1,7 @@
 use csv::{ByteRecord, Reader};
 use indexmap::IndexMap;
 use std::alloc::{AllocError, AllocFailed, Global};
+use trouble_code::{GREATEST_FMI, GREATEST_SPN};
 
 /// Why texts were refused.
 #[derive(Clone, Copy, Debug, PartialEq, Eq)]
@@ -30,11 +31,6 @@ pub struct Texts {
     fmis: IndexMap<u32, String>,
     codes: IndexMap<u64, String>,
 }
-
-/// The highest SPN and the highest FMI (SAE J1939-73).
-const LAST_SPN: u32 = 524_287;
-
-const LAST_FMI: u32 = 31;
 
 /// One key for both numbers of a code.
 fn key(spn: u32, fmi: u32) -> u64 {
@@ -82,8 +78,8 @@ impl Texts {
         if row.len() != 3 {
             return Err(TextsFault::Refused);
         }
-        let spn = number_at(row, 0, LAST_SPN)?;
-        let fmi = number_at(row, 1, LAST_FMI)?;
+        let spn = number_at(row, 0, GREATEST_SPN)?;
+        let fmi = number_at(row, 1, u32::from(GREATEST_FMI))?;
         let text = String::from_str(alloc, word_at(row, 2)?)?;
         match (spn, fmi) {
             (Some(spn), Some(fmi)) => {

@@ -11,6 +11,11 @@ pub codes_bytes-push : (cs : List Code) (c : Code) → codes_bytes (cs ++ c ∷ 
 codes_bytes-push [] c = append-nil (code_bytes c)
 codes_bytes-push (d ∷ cs) c = ap (λ bs. code_bytes d ++ bs) (codes_bytes-push cs c) ∙ sym (append_assoc (code_bytes d) (codes_bytes cs) (code_bytes c))
 
+-- four bytes put at the end one by one
+pub four_pushed : (bs : List ℕ) (low middle top last : ℕ) → (((bs ++ low ∷ []) ++ middle ∷ []) ++ top ∷ []) ++ last ∷ [] ≡ bs ++ low ∷ middle ∷ top ∷ last ∷ []
+four_pushed [] low middle top last = refl
+four_pushed (b ∷ bs) low middle top last = ap (λ cs. b ∷ cs) (four_pushed bs low middle top last)
+
 -- ---- reading
 
 -- a list of at least four numbers, taken apart

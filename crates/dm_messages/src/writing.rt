@@ -9,6 +9,9 @@ use std::alloc::{AllocError, Global};
 use transport::Payload;
 use trouble_code::Dtc;
 
+/// How many bytes a payload of fewer than two codes has.
+const SHORTEST: usize = 8;
+
 /// The bytes of a message of this kind about a fault memory (SAE J1939-73): the two bytes of the lamps, then the codes.
 ///
 /// No code and one code make 8 bytes, n codes from 2 to 445 make 2 + 4n.
@@ -18,10 +21,11 @@ pub fn payload(alloc: Global, kind: Kind, memory: &FaultMemory) -> Result<Payloa
     ensures bytes { IfOk result (λ p. All (λ n. n < 256) p) }
     ensures read_back { IfOk result (λ p. decoding p ≡ Some (view kind memory.now)) }
 {
-    let mut payload = Payload::new(alloc);
-    payload.extend_from_slice(&memory.lamps().to_bytes())?;
-    write_codes(&mut payload, codes_of(kind, memory))?;
-    Ok(payload)
+    let codes = codes_of(kind, memory);
+    let mut bytes = Vec::with_capacity(alloc, SHORTEST.max(2 + 4 * codes.len()))?;
+    bytes.extend_from_slice(&memory.lamps().to_bytes())?;
+    write_codes(&mut bytes, codes)?;
+    Ok(Payload::of(bytes))
 }
 
 /// The codes that a message of this kind shows.
@@ -35,8 +39,8 @@ fn codes_of(kind: Kind, memory: &FaultMemory) -> &[Dtc]
 }
 
 /// Adds the codes, fewer than two filled to six bytes.
-fn write_codes(payload: &mut Payload, codes: &[Dtc]) -> Result<(), AllocError>
-    ensures { OnOk result (payload.new ≡ payload.old ++ written_codes codes.now) }
+fn write_codes(payload: &mut Vec<u8>, codes: &[Dtc]) -> Result<(), AllocError>
+    ensures { OnOk result (payload.new.items ≡ payload.old.items ++ written_codes codes.now) }
 {
     match codes {
         [] => payload.extend_from_slice(&[0x00, 0x00, 0x00, 0x00, FILLER, FILLER]),
@@ -49,11 +53,16 @@ fn write_codes(payload: &mut Payload, codes: &[Dtc]) -> Result<(), AllocError>
 }
 
 /// Adds four bytes for each code.
-fn write_groups(payload: &mut Payload, codes: &[Dtc]) -> Result<(), AllocError>
-    ensures { OnOk result (payload.new ≡ payload.old ++ codes_bytes codes.now) }
+fn write_groups(payload: &mut Vec<u8>, codes: &[Dtc]) -> Result<(), AllocError>
+    ensures { OnOk result (payload.new.items ≡ payload.old.items ++ codes_bytes codes.now) }
 {
+    payload.reserve(4 * codes.len())?;
     for code in codes {
-        payload.extend_from_slice(&code.to_bytes())?;
+        let [low, middle, top, last] = code.to_bytes();
+        payload.push_reserved(low);
+        payload.push_reserved(middle);
+        payload.push_reserved(top);
+        payload.push_reserved(last);
     }
     Ok(())
 }

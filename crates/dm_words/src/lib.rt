@@ -7,7 +7,7 @@ mod objects;
 
 pub use codes::CodeWords;
 pub use lamps::LampWords;
-pub use objects::{put_code, put_lamps, put_number};
+pub use objects::{NO_COUNT, put_code, put_lamps, put_number};
 
 #[cfg(test)]
 mod tests;

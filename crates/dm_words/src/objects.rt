@@ -2,8 +2,8 @@ use json::Writer;
 use std::alloc::{AllocError, Global};
 use trouble_code::{Dtc, Lamps};
 
-/// The count of a code that is not available (SAE J1939-73).
-const NO_COUNT: u8 = 127;
+/// The occurrence count that stands for not available (SAE J1939-73).
+pub const NO_COUNT: u8 = 127;
 
 /// Writes a key and its number.
 ///

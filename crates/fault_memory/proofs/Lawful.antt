@@ -8,9 +8,9 @@ use Rattle.std.proofs.lemmas.List.Folds.{list_any-append}
 use Rattle.std.proofs.lemmas.List.Sorted.{IsPermutation-sym, IsPermutation-trans, IsPermutation-append_comm, IsPermutation-append_left, IsPermutation-append_right, IsPermutation-to_front, IsPermutation-middle, IsPermutation-remove, All-permutation, length_permutation}
 use Rattle.std.proofs.lemmas.Map.Keys.{IsDistinct-head, IsDistinct-tail, IsDistinct-cons, IsDistinct-push, IsDistinct-IsPermutation}
 use Rattle.std.proofs.lemmas.Grind.{common_steps}
-use Rattle.trouble_code.specs.Code.{Code, occurred_again}
+use Rattle.trouble_code.specs.Code.{Code, same_fault, occurred_again}
 use Rattle.trouble_code.specs.LampBytes.{LampsValue, lamps_off}
-use Rattle.fault_memory.specs.Memory.{MemoryValue, IsLawfulMemory, IsKeptCode, new_memory, same_fault}
+use Rattle.fault_memory.specs.Memory.{MemoryValue, IsLawfulMemory, IsKeptCode, new_memory}
 
 -- the memory with these lamps and these two lists
 abbrev pub memory : LampsValue → List Code → List Code → MemoryValue

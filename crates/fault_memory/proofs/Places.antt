@@ -6,9 +6,8 @@ use Rattle.std.proofs.lemmas.List.Folds.{find_at}
 use Rattle.std.proofs.lemmas.List.Quantifiers.{position-Some}
 use Rattle.std.proofs.lemmas.Map.Keys.{apart_from_distinct}
 use Rattle.std.proofs.lemmas.Option.{slice_get-get_or, slice_get_past, slice_get_cases}
-use Rattle.trouble_code.specs.Code.{Code, code}
+use Rattle.trouble_code.specs.Code.{Code, code, same_fault}
 use Rattle.fault_memory.specs.Changes.{is_fault, without}
-use Rattle.fault_memory.specs.Memory.{same_fault}
 use Rattle.fault_memory.proofs.Lawful.{same_fault-flips, same_fault_is_equivalence}
 
 -- ---- a place that `position` found, or none

@@ -1,6 +1,6 @@
-use Rattle.std.specs.Prelude.{◌+◌, ◌≤◌, Bool, ◌&&◌, ◌==◌, List, [], ◌++◌, length}
+use Rattle.std.specs.Prelude.{◌+◌, ◌≤◌, List, [], ◌++◌, length}
 use Rattle.std.specs.List.{All, IsDistinct}
-use Rattle.trouble_code.specs.Code.{Code, IsCode}
+use Rattle.trouble_code.specs.Code.{Code, IsCode, same_fault}
 use Rattle.trouble_code.specs.LampBytes.{LampsValue, IsLamps, lamps_off}
 
 -- a fault memory: the lamps, the active codes and the previously active codes, each list in the order of entry
@@ -12,10 +12,6 @@ pub record MemoryValue : Type 0 where
 -- the memory of a new unit: the lamps off, and no code
 abbrev pub new_memory : MemoryValue
 new_memory = record { lamps = lamps_off; active = []; previous = [] }
-
--- two codes of one SPN and FMI
-abbrev pub same_fault : Code → Code → Bool
-same_fault c d = (c.spn == d.spn) && (c.fmi == d.fmi)
 
 -- a code that a memory may hold: one that has occurred 1 to 126 times
 abbrev pub IsKeptCode : Code → Type 0

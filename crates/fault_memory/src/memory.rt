@@ -91,11 +91,11 @@ impl FaultMemory {
         match change {
             FaultChange::Set { spn, fmi } => {
                 let first = first_occurrence(spn, fmi)?;
-                self.set(spn, fmi, first)
+                self.set(first)
             }
             FaultChange::Heal { spn, fmi } => {
-                first_occurrence(spn, fmi)?;
-                self.heal(spn, fmi)
+                let first = first_occurrence(spn, fmi)?;
+                self.heal(first)
             }
             FaultChange::Lamp { lamps } => {
                 self.lamps = lamps;
@@ -105,14 +105,14 @@ impl FaultMemory {
     }
 
     /// A fault is there; `first` is the code of its first occurrence.
-    fn set(&mut self, spn: u32, fmi: u8, first: Dtc) -> Result<(), FaultError>
-        requires first { (first ≡ code spn fmi 1) × IsKeptCode first }
-        ensures { Follows (fault_set spn fmi self.old) self.old self.new result }
+    fn set(&mut self, first: Dtc) -> Result<(), FaultError>
+        requires first { (first ≡ code first.spn first.fmi 1) × IsKeptCode first }
+        ensures { Follows (fault_set first.spn first.fmi self.old) self.old self.new result }
     {
-        if place_of(&self.active, spn, fmi).is_some() {
+        if place_of(&self.active, first).is_some() {
             return Ok(());
         }
-        if let Some(place) = place_of(&self.previous, spn, fmi) {
+        if let Some(place) = place_of(&self.previous, first) {
             let code = self.previous[place];
             self.active.push(code.occurred_again())?;
             self.previous.remove(place);
@@ -125,11 +125,11 @@ impl FaultMemory {
         Ok(())
     }
 
-    /// A fault has gone.
-    fn heal(&mut self, spn: u32, fmi: u8) -> Result<(), FaultError>
-        ensures { Follows (fault_healed spn fmi self.old) self.old self.new result }
+    /// A fault has gone; `first` is the code of its first occurrence.
+    fn heal(&mut self, first: Dtc) -> Result<(), FaultError>
+        ensures { Follows (fault_healed first.spn first.fmi self.old) self.old self.new result }
     {
-        let Some(place) = place_of(&self.active, spn, fmi) else {
+        let Some(place) = place_of(&self.active, first) else {
             return Err(FaultError::NotActive);
         };
         let code = self.active[place];
@@ -202,11 +202,9 @@ fn same_codes(one: &[Dtc], other: &[Dtc]) -> bool
     one == other
 }
 
-/// The place of the code with this SPN and FMI.
-fn place_of(codes: &[Dtc], spn: u32, fmi: u8) -> Option<usize>
-    ensures { result ≡ position (is_fault spn fmi) codes.now }
+/// The place of the code with the SPN and FMI of this one.
+fn place_of(codes: &[Dtc], fault: Dtc) -> Option<usize>
+    ensures { result ≡ position (is_fault fault.spn fault.fmi) codes.now }
 {
-    codes
-        .iter()
-        .position(|code| spn == code.spn() && fmi == code.fmi())
+    codes.iter().position(|code| fault.is_same_fault(*code))
 }

@@ -1,5 +1,6 @@
 pub mod Standing
 pub mod Traffics
+mod Passing
 mod Pieces
 pub mod Headline
 mod Lists

@@ -5,8 +5,8 @@ use Rattle.fault_memory.specs.Memory.{MemoryValue}
 use Rattle.unit_trait.specs.declared.question.Question.{Question}
 use Rattle.journal.specs.Fits.{Fits}
 use Rattle.journal.specs.State.{Settings}
-use Rattle.journal.specs.Journal.{AllFit, GarageValue, Adds, state_of, with_event}
-use Rattle.journal.specs.Promises.{IsLawful, KeepsLists}
+use Rattle.journal.specs.Journal.{GarageValue, Adds, state_of, with_event}
+use Rattle.journal.specs.Promises.{KeepsLists}
 use Rattle.journal.specs.declared.event.Event.{Event}
 use Rattle.journal.specs.declared.event.Event.TheVariants as event
 use Rattle.journal.proofs.Lifted.{keeps_adds, keeps_same}

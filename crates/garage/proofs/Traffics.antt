@@ -1,5 +1,5 @@
 -- What the changes of the bus leave as it was.
-use Rattle.std.proofs.Common.{ℕ, suc, zero, ◌≡◌, ◌≢◌, ◌+◌, ◌-◌, ◌<◌, ◌≤◌, List, [], ◌∷◌, ◌++◌, map, length, get_or, set, take, Bool, true, false, cond, ◌&&◌, ◌==◌, Option, Some, None, slice_get, refl, sym, ap, ◌∙◌, subst, arith, ◌⊎◌, inl, inr, if◌then◌else◌}
+use Rattle.std.proofs.Common.{ℕ, suc, zero, ◌≡◌, ◌≢◌, ◌+◌, ◌-◌, ◌<◌, ◌≤◌, List, [], ◌∷◌, ◌++◌, map, length, get_or, set, take, Bool, true, false, cond, refl, sym, ap, ◌∙◌, subst, arith, ◌⊎◌, inl, inr, if◌then◌else◌}
 use Rattle.std.specs.List.{count_by}
 use Rattle.std.proofs.lemmas.List.{length-set, length-map, length_push, get_or-set_same, get_or-set_other, take_more, map-append, set_past, get_or_push}
 use Rattle.std.proofs.lemmas.List.Sums.{sum_by-set, sum_by_push}
@@ -12,7 +12,6 @@ use Rattle.bus_ledger.specs.declared.traffic.Which.TheVariants as which
 use Rattle.node_core.specs.declared.heard.Withdraw.{Withdraw}
 use Rattle.node_core.specs.declared.heard.Withdraw.TheVariants as withdraw
 use Rattle.bus_ledger.specs.Newcomers.{live_units}
-use Rattle.bus_ledger.specs.Carrying.{offer}
 use Rattle.bus_ledger.specs.declared.traffic.QueuedFrame.{QueuedFrame}
 use Rattle.journal.specs.Steps.{put_all, withdrawn_by, reacted, untagged}
 use Rattle.station_table.specs.declared.reaction.Reaction.{Reaction}

@@ -1,9 +1,9 @@
 -- What a snapshot tells of a NAME.
-use Rattle.std.specs.Prelude.{ℕ, ◌-◌, List, Option, Some, None, length, slice_get}
+use Rattle.std.specs.Prelude.{ℕ, ◌-◌, List, Option, length, slice_get}
 use Rattle.std.specs.Option.{option_map}
 use Rattle.dm_messages.specs.declared.kind.Kind.TheVariants.{Dm1, Dm2}
 use Rattle.dm_messages.specs.declared.shown.Shown.{Shown}
-use Rattle.bus_model.specs.Heard.{RowHeard, row_heard, address_in_row}
+use Rattle.bus_model.specs.Heard.{row_heard, address_in_row}
 use Rattle.journal.specs.Journal.{GarageValue, readings_of, listed_of}
 use Rattle.journal.specs.Worlds.{station_of}
 use Rattle.garage.specs.declared.snapshot.Newest.{Newest}

@@ -9,7 +9,7 @@ use station_table::Station;
 use std::marker::Model;
 
 /// The most events that a journal may hold.
-pub(crate) const MOST_EVENTS: u32 = 1 << 24;
+pub const MOST_EVENTS: u32 = 1 << 24;
 
 /// A unit's place on the bus: what it keeps there, the number of the message of its last session, and its own events.
 #[derive(Drop)]

@@ -19,7 +19,7 @@ mod steps;
 
 pub use bus_ledger::{Carried, Counts};
 pub use error::GarageError;
-pub use garage::Garage;
+pub use garage::{Garage, MOST_EVENTS};
 pub use plug::{Parked, Plug};
 pub use snapshot::{Newest, RowLine, Snapshot};
 pub use steps::{Begin, HeardOne};

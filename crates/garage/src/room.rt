@@ -30,8 +30,32 @@ pub(crate) fn make_room(journal: &mut Journal, count: u32, limit: u32) -> Result
     Ok(())
 }
 
-/// Makes ready for an event of the unit on the seat: room for `count` more events, and for the most frames that a unit puts; and
-/// the number of a copy of its memory, which the event tells.
+/// Makes ready to note an event of the unit on the seat: room for `count` more events, and the number of a copy of its memory,
+/// which the event tells.
+///
+/// Refused first where the limit does not allow the events, then where there is no memory; then the journal's events are as they
+/// were.
+pub(crate) fn ready_to_note(
+    journal: &mut Journal,
+    count: u32,
+    limit: u32,
+    seat: u32,
+    unit: &dyn Unit,
+) -> Result<u32, GarageError>
+    requires { limit ≤ 2 ^ 24 }
+    ensures items { journal.new.items ≡ journal.old.items }
+    ensures grows { journal.old.room ≤ journal.new.room }
+    ensures memory { IfOk result (λ n. IsStored journal.new.memories n (memory_of unit.now)) }
+    ensures lawful { OnOk result (IsLawfulMemory (memory_of unit.now)) }
+    ensures room { OnOk result ((length journal.old.items + count ≤ limit) × (count ≤ journal.new.room)) }
+    ensures full { IsErrOf result GarageError.BookFull ↔ (limit < length journal.old.items + count) }
+    ensures only { IfErr result IsWant }
+{
+    make_room(journal, count, limit)?;
+    Ok(journal.remember(seat, unit.memory())?)
+}
+
+/// Makes ready for an event of the unit on the seat, as `ready_to_note` does, and makes room for the most frames that a unit puts.
 ///
 /// Refused first where the limit does not allow the events, then where there is no memory; then journal and traffic are as they
 /// were.
@@ -55,8 +79,7 @@ pub(crate) fn make_ready(
     ensures full { IsErrOf result GarageError.BookFull ↔ (limit < length journal.old.items + count) }
     ensures only { IfErr result IsWant }
 {
-    make_room(journal, count, limit)?;
-    let memory = journal.remember(seat, unit.memory())?;
+    let memory = ready_to_note(journal, count, limit, seat, unit)?;
     bus.reserve(seat, MOST_OUTS)?;
     Ok(memory)
 }

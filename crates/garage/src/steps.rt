@@ -5,10 +5,10 @@ ghost use Rattle.garage.specs.Answers.{count_with_begun};
 use crate::error::GarageError;
 use crate::garage::Garage;
 use crate::queueing::{Numbering, do_heard, queue_outs};
-use crate::room::{make_ready, make_room};
+use crate::room::{make_ready, make_room, ready_to_note};
 use can_frame::{Frame, GLOBAL_ADDRESS};
 use dm_messages::Kind;
-use node_core::{Begun, NodeError, Outs, Started};
+use node_core::{Answer, Begun, NodeError, Outs, Started};
 use std::alloc::Global;
 use unit_trait::Unit;
 
@@ -31,14 +31,16 @@ pub enum Begin {
 }
 
 impl Garage {
-    ghost use Rattle.std.specs.Prelude.{◌↔◌, ◌≤◌, length, IfOk, IfErr, IsErrOf, OnErr, OnOk};
+    ghost use Rattle.std.specs.Prelude.{◌↔◌, ◌≤◌, length, IfOk, IfErr, IsErrOf, IsTrue, OnErr, OnOk, Some};
     ghost use Rattle.bus_ledger.specs.BusValue.{IsUnit};
+    ghost use Rattle.node_core.specs.Passing.{IsPassedOver};
     ghost use Rattle.journal.specs.Journal.{state_of, Adds};
     ghost use Rattle.journal.specs.State.{unit_at};
-    ghost use Rattle.journal.specs.declared.event.Event.TheVariants.{Turned};
+    ghost use Rattle.journal.specs.Steps.{next_for};
+    ghost use Rattle.journal.specs.declared.event.Event.TheVariants.{Hear, Turned};
     ghost use Rattle.garage.specs.Answers.{Hears, Begins};
     ghost use Rattle.garage.specs.Calls.{BeginsFull, BeginsHeld, BeginsUnclaimed, HearsFull, HearsNothing, IsBeginRefusal, IsWant};
-    ghost use Rattle.garage.specs.Causes.{BeginsWith};
+    ghost use Rattle.garage.specs.Causes.{BeginsWith, PassesNext};
     ghost use Rattle.garage.specs.Room.{IsFull};
 
     /// The unit on the seat hears its next frame. It is asked exactly what the frame puts to it, and is else as it was.
@@ -60,9 +62,73 @@ impl Garage {
         ensures err { OnErr result (self.new ≡ self.old) }
         ensures unasked { OnErr result (unit.new ≡ unit.old) }
     {
-        let Some(frame) = self.bus.next_for(seat) else {
+        let Some(frame) = self.next_for(seat) else {
             return Ok(HeardOne::Nothing);
         };
+        if !self.passes(seat, &frame) {
+            return self.react_to(alloc, seat, frame, unit);
+        }
+        self.pass(seat, &*unit)?;
+        Ok(HeardOne::Frame(frame))
+    }
+
+    /// The next frame that the unit on the seat has not heard.
+    #[tactic(auto, using(crate::proofs::Passing::next_is))]
+    fn next_for(&self, seat: u32) -> Option<Frame>
+        requires { IsUnit (state_of self.now).traffic seat }
+        ensures { result ≡ next_for (state_of self.now) seat }
+    {
+        self.bus.next_for(seat)
+    }
+
+    /// Whether the unit on the seat passes over a frame.
+    #[tactic(auto, using(crate::proofs::Passing::passed_at))]
+    fn passes(&self, seat: u32, frame: &Frame) -> bool
+        requires { IsUnit (state_of self.now).traffic seat }
+        ensures { IsTrue result → IsPassedOver (unit_at (state_of self.now) seat).node frame.now }
+    {
+        self.places[seat as usize - 1].node.passes(frame)
+    }
+
+    /// The unit on the seat hears its next frame, and passes over it: that is noted, and it counts as heard.
+    ///
+    /// Refused where the journal has no room, then where there is no memory; then nothing changed.
+    fn pass(&mut self, seat: u32, unit: &dyn Unit) -> Result<(), GarageError>
+        requires unit { IsUnit (state_of self.old).traffic seat }
+        requires passed { PassesNext self.old seat }
+        ensures ok { OnOk result (Adds self.old (Hear seat (memory_of unit.now) Answer.NotAsked) self.new) }
+        ensures full { IsErrOf result GarageError.BookFull ↔ IsFull self.old }
+        ensures only { IfErr result IsWant }
+        ensures err { OnErr result (self.new ≡ self.old) }
+    {
+        let memory = ready_to_note(&mut self.journal, self.live + 1, self.limit, seat, unit)?;
+        let place = &mut self.places[seat as usize - 1];
+        place.tally.events += 1;
+        self.bus.mark_heard(seat);
+        self.journal.note_hear(seat, memory, Answer::NotAsked);
+        Ok(())
+    }
+
+    /// The unit on the seat hears this frame, its next one. It is asked exactly what the frame puts to it, and is else as it was.
+    ///
+    /// Refused where the journal has no room, then where there is no memory; then nothing changed, and the unit was not asked.
+    fn react_to(
+        &mut self,
+        alloc: Global,
+        seat: u32,
+        frame: Frame,
+        unit: &mut dyn Unit,
+    ) -> Result<HeardOne, GarageError>
+        requires unit { IsUnit (state_of self.old).traffic seat }
+        requires next { next_for (state_of self.old) seat ≡ Some frame }
+        ensures name { name_of unit.new ≡ name_of unit.old }
+        ensures ok { IfOk result (λ h. (u : _) × (unit.new ≡ (unit.old.0, u)) × Hears self.old seat (memory_of unit.old) (Answers unit.old) unit.old.1 h self.new (memory_of unit.new) u) }
+        ensures nothing { HearsNothing self.old seat result }
+        ensures full { HearsFull self.old seat result }
+        ensures only { IfErr result IsWant }
+        ensures err { OnErr result (self.new ≡ self.old) }
+        ensures unasked { OnErr result (unit.new ≡ unit.old) }
+    {
         let memory = make_ready(
             &mut self.journal,
             &mut self.bus,

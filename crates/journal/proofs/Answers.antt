@@ -8,7 +8,6 @@ use Rattle.transport.specs.Pieces.{packet_count}
 use Rattle.transport.specs.declared.control.Control.TheVariants.{Abort}
 use Rattle.fault_memory.specs.Memory.{MemoryValue, IsLawfulMemory}
 use Rattle.dm_messages.specs.declared.kind.Kind.{Kind}
-use Rattle.dm_messages.specs.declared.kind.Kind.TheVariants.{Dm1, Dm2}
 use Rattle.bus_ledger.specs.BusValue.{SeatValue}
 use Rattle.parameter_group.specs.Calm.{cuts, is_contest}
 use Rattle.bus_model.specs.Messages.{Broadcast, IsProper, Message, One, Session, Way, last_part_of, payload_sent, way_of}
@@ -17,6 +16,7 @@ use Rattle.bus_model.specs.Machine as machine
 use Rattle.address_claim.specs.Claiming.{CanHold}
 use Rattle.bus_model.specs.Machine.{Answer, IsCalmAt, IsNotOpen, IsRequestFrom, IsRtsFrom, MayAnswer, MayOpen, MayReply, Seat, World, message_at, session_address}
 use Rattle.bus_model.proofs.Bridge.{claim_group, pgn_from, says_by, says_claim, says_control}
+use Rattle.bus_model.proofs.Lookback.{same_kind_self}
 use Rattle.dm_messages.specs.View.{same_kind}
 use Rattle.node_core.specs.NodeValue.{NodeValue, is_open, open_address}
 use Rattle.node_core.specs.Deed.{Deed}
@@ -52,13 +52,9 @@ address_is begun i n held (Some o) (Some t) h = rw (h.way, h.destination) refl
 address_is begun i n held None (Some t) h = absurd h
 address_is begun i n held (Some o) None h = absurd h
 
-same_self : (k : Kind) → same_kind k k ≡ true
-same_self Dm1 = refl
-same_self Dm2 = refl
-
 pub not_open : (begun : List Message) (i n : ℕ) (held : Option ℕ) (o : Option OpenSession) (t : Option PartOf) (k : Kind) → AreSession begun i n held o t → is_open o k ≡ false → IsNotOpen t k
 not_open begun i n held None None k h e = tt
-not_open begun i n held (Some o) (Some t) k h e = λ same. (let f : same_kind o.kind k ≡ true = rw (← h.kind, same) (same_self k) in cc)
+not_open begun i n held (Some o) (Some t) k h e = λ same. (let f : same_kind o.kind k ≡ true = rw (← h.kind, same) (same_kind_self k) in cc)
 not_open begun i n held None (Some t) k h e = absurd h
 not_open begun i n held (Some o) None k h e = absurd h
 
@@ -71,7 +67,7 @@ none_open begun i n held (Some o) None h e = absurd h
 -- ---- what is calm
 
 contest_is : (begun : List Message) (items : List Item) (v : SeatValue) (u : UnitState) (x : Seat) (g : Group) → IsSeat begun items v u x → is_contest x.name x.held g ≡ is_contest u.node.claimer.name u.node.claimer.held g
-contest_is begun items v u x (AddressClaimed source name) s = rw (s.held, s.name, s.own) refl
+contest_is begun items v u x (AddressClaimed source name) s = rw (s.unit.held, s.unit.name, s.unit.own) refl
 contest_is begun items v u x _ s = refl
 
 calm_is : (begun : List Message) (items : List Item) (v : SeatValue) (u : UnitState) (x : Seat) (g : Group) → IsSeat begun items v u x → IsCalmTo u.node g → IsCalmAt x g
@@ -103,15 +99,15 @@ held_small held a h e = rw e at h
 may_reply : (begun : List Message) (items : List Item) (v : SeatValue) (u : UnitState) (x : Seat) (g : Group) (f : FrameValue) → IsSeat begun items v u x → sender g < 256 → IsReply u.node g f → MayReply x g (group_of f)
 may_reply begun items v u x g f s below reply = elim reply [
   | inl e ↦
-      let own : u.node.claimer.name < 2 ^ 64 = rw s.own s.small in
-      subst (MayReply x g) (sym (ap group_of e ∙ says_claim u.node.claimer.name u.node.claimer.held own s.holdable)) (may_claim x g u.node.claimer.name u.node.claimer.held s.held (s.own ∙ sym s.name))
+      let own : u.node.claimer.name < 2 ^ 64 = rw s.unit.own s.unit.small in
+      subst (MayReply x g) (sym (ap group_of e ∙ says_claim u.node.claimer.name u.node.claimer.held own s.unit.holdable)) (may_claim x g u.node.claimer.name u.node.claimer.held s.unit.held (s.unit.own ∙ sym s.unit.name))
   | inr others ↦ elim others [
-    | inl a ↦ subst (MayReply x g) (sym (ap group_of a.sent ∙ says_acknowledgment a.control a.requester a.pgn a.address (held_small u.node.claimer.held a.address s.holdable a.held))) tt
+    | inl a ↦ subst (MayReply x g) (sym (ap group_of a.sent ∙ says_acknowledgment a.control a.requester a.pgn a.address (held_small u.node.claimer.held a.address s.unit.holdable a.held))) tt
     | inr r ↦
-        let small : r.address ≤ 253 = held_small u.node.claimer.held r.address s.holdable r.held in
+        let small : r.address ≤ 253 = held_small u.node.claimer.held r.address s.unit.holdable r.held in
         let from : r.source < 256 = subst (λ (h : Group). sender h < 256) r.asked below in
         let rts : IsRtsFrom r.source g = subst (IsRtsFrom r.source) (sym r.asked) refl in
-        subst (MayReply x g) (sym (ap group_of r.sent ∙ says_control (Abort 2 r.pgn) r.address r.source (omega arith) (omega arith) (abort_back 2 r.pgn))) (s.held ∙ r.held, rts)
+        subst (MayReply x g) (sym (ap group_of r.sent ∙ says_control (Abort 2 r.pgn) r.address r.source (omega arith) (omega arith) (abort_back 2 r.pgn))) (s.unit.held ∙ r.held, rts)
   ]
 ]
 
@@ -136,8 +132,8 @@ unfolding payload_sent
 may_begin w items v u x g memory kind memory' source destination s lawful b =
     let m = message_at w x kind memory' source destination in
     let good : IsLawfulMemory memory' = rw b.same lawful in
-    let small : source ≤ 253 = held_small u.node.claimer.held source s.holdable b.held in
-    let held : x.held ≡ Some source = s.held ∙ b.held in
+    let small : source ≤ 253 = held_small u.node.claimer.held source s.unit.holdable b.held in
+    let held : x.held ≡ Some source = s.unit.held ∙ b.held in
     let closed = not_open w.begun u.session_message v.name u.node.claimer.held u.node.session x.session kind s.session b.closed in
     elim (b.way) [
       | inl e ↦

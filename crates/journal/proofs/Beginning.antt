@@ -109,11 +109,11 @@ begin_at r s seats i memory source st l live lawful held closed =
       (
         x,
         (slice_get-get_or seats i no_seat (omega arith), seat.live ∙ live),
-        seat.held ∙ held,
-        record { memory = lawful; source = held_small u.node.claimer.held source seat.holdable held; destination = inl refl },
+        seat.unit.held ∙ held,
+        record { memory = lawful; source = held_small u.node.claimer.held source seat.unit.holdable held; destination = inl refl },
         not_open s.begun u.session_message v.name u.node.claimer.held u.node.session x.session Dm1 seat.session closed,
         began_world r s seats i (puts qs v) u (with_message x m) m st (omega arith) name refl
-            ∙ ap₂ (λ (k n : ℕ). record w { seats = set seats i (with_message x (message_of s k n memory source)); begun = message_of s k n memory source ∷ s.begun }) (sym number) (sym seat.name),
+            ∙ ap₂ (λ (k n : ℕ). record w { seats = set seats i (with_message x (message_of s k n memory source)); begun = message_of s k n memory source ∷ s.begun }) (sym number) (sym seat.unit.name),
       ),
       began_stands r s seats i (puts qs v) u (with_message x m) m st (omega arith) name refl begun number,
     )

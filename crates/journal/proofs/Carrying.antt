@@ -131,12 +131,8 @@ carry_runs r s seats j q st next = rw ((offer_says (length s.traffic.wire) (seat
         let more = length_push (items_of s) e in
         let h = offers.heard in
         record {
-          name = old.name;
-          own = old.own;
-          small = old.small;
+          unit = old.unit;
           live = old.live;
-          held = old.held;
-          holdable = old.holdable;
           queue = ap (λ (k : ℕ). reverse (map (queued_item s.begun k v.name) (drop 1 v.queue))) (sym (st.numbers j l));
           known = known.1;
           heard = sym (ap reverse (take_all (v.heard + 1) (items_of s ++ e ∷ []) (omega arith)) ∙ reverse-append (items_of s) (e ∷ []));

@@ -40,12 +40,8 @@ leave_runs r s seats j st u =
     let gone : Seat = record x { live = false; queue = [] } in
     let old = st.seated j l in
     let seat : IsSeat s.begun (items_of s) (leaving v) unit gone = record {
-      name = old.name;
-      own = old.own;
-      small = old.small;
+      unit = old.unit;
       live = refl;
-      held = old.held;
-      holdable = old.holdable;
       queue = refl;
       known = tt;
       heard = old.heard;
@@ -104,12 +100,8 @@ unfolding newly
 new_seat r s seats n a small fits =
     let long : length (items_of s) ≡ length s.traffic.wire = length-map s.traffic.wire (item_of s) in
     record {
-      name = refl;
-      own = refl;
-      small = small;
+      unit = record { name = refl; own = refl; small = small; held = refl; holdable = fits };
       live = refl;
-      held = refl;
-      holdable = fits;
       queue = refl;
       known = (tt, tt);
       heard = ap reverse (sym (take_all (length s.traffic.wire) (items_of s) (omega arith)));
@@ -135,7 +127,7 @@ join_runs r s seats n a st may small fits =
           let l = slice_get_within seats i y live.0 in
           let at = get_or_from_slice_get seats i y no_seat live.0 in
           let seat = st.seated i (omega arith) in
-          let name : (seat_at s.traffic (suc i)).name ≡ n = sym seat.name ∙ (ap (λ (z : Seat). z.name) at ∙ e) in
+          let name : (seat_at s.traffic (suc i)).name ≡ n = sym seat.unit.name ∙ (ap (λ (z : Seat). z.name) at ∙ e) in
           let alive : (seat_at s.traffic (suc i)).live ≡ true = sym seat.live ∙ (ap (λ (z : Seat). z.live) at ∙ live.1) in
           other_name n s.traffic (suc i) free (omega arith) alive name),
     ) in

@@ -79,12 +79,8 @@ pub seat_session : (begun : List Message) (items : List Item) (v : SeatValue) (u
     → u'.node.claimer ≡ u.node.claimer → AreSession begun u'.session_message v.name u.node.claimer.held u'.node.session t → ((p : PartOf) → t ≡ Some p → p.message.seat ≡ x.number)
     → IsSeat begun items v u' (record x { session = t })
 seat_session begun items v u u' x t s same h own = record {
-  name = s.name;
-  own = ap (λ c. c.name) same ∙ s.own;
-  small = s.small;
+  unit = rw same s.unit;
   live = s.live;
-  held = s.held ∙ ap (λ c. c.held) (sym same);
-  holdable = rw same s.holdable;
   queue = s.queue;
   known = s.known;
   heard = s.heard;
@@ -98,7 +94,7 @@ seat_session begun items v u u' x t s same h own = record {
 pub seat_replies : (begun : List Message) (items : List Item) (v y : SeatValue) (u : UnitState) (x : Seat) (f : FrameValue) → IsSeat begun items v u x → IsSameSeat v y → y.queue ≡ v.queue ++ queued_frame f None ∷ []
     → IsSeat begun items y u (record x { queue = plain_item x.number x.name f ∷ x.queue })
 seat_replies begun items v y u x f s same e =
-    subst (λ (n : ℕ). IsSeat begun items y u (record x { queue = plain_item x.number n f ∷ x.queue })) (sym s.name) (seat_put begun items v y u x (queued_frame f None ∷ []) s same e (tt, tt))
+    subst (λ (n : ℕ). IsSeat begun items y u (record x { queue = plain_item x.number n f ∷ x.queue })) (sym s.unit.name) (seat_put begun items v y u x (queued_frame f None ∷ []) s same e (tt, tt))
 
 -- ---- a message begins
 
@@ -200,12 +196,8 @@ seat_sends begun items v y u u' x o t source n session_number s same opened is h
 pub seat_ends : (begun : List Message) (items : List Item) (v y : SeatValue) (u u' : UnitState) (x : Seat) → IsSeat begun items v u x → IsSameSeat v y → y.queue ≡ kept which.Session v.queue
     → u'.node.claimer ≡ u.node.claimer → u'.node.session ≡ None → IsSeat begun items y u' (session_ended x)
 seat_ends begun items v y u u' x s same e same' session = record {
-  name = s.name ∙ sym same.name;
-  own = ap (λ c. c.name) same' ∙ (s.own ∙ sym same.name);
-  small = rw same.name s.small;
+  unit = rw (same.name, same') s.unit;
   live = s.live ∙ sym same.live;
-  held = s.held ∙ ap (λ c. c.held) (sym same');
-  holdable = rw same' s.holdable;
   queue = rw (e, same.name, s.queue) (kept_items begun x.number v.name v.queue s.known);
   known = rw e (kept_known begun v.queue s.known);
   heard = s.heard ∙ ap (λ (n : ℕ). reverse (take n items)) (sym same.heard);
@@ -219,13 +211,15 @@ seat_ends begun items v y u u' x s same e same' session = record {
 pub seat_claims : (begun : List Message) (items : List Item) (v y : SeatValue) (u u' : UnitState) (x : Seat) (to : Option ℕ) → IsSeat begun items v u x → IsSameSeat v y → y.queue ≡ queued_frame (claim_frame_value x.name to) None ∷ []
     → CanHold to → u'.node.claimer.name ≡ u.node.claimer.name → u'.node.claimer.held ≡ to → u'.node.session ≡ None → IsSeat begun items y u' (yielded x to)
 seat_claims begun items v y u u' x to s same e hold name held session = record {
-  name = s.name ∙ sym same.name;
-  own = name ∙ (s.own ∙ sym same.name);
-  small = rw same.name s.small;
+  unit = record {
+    name = s.unit.name ∙ sym same.name;
+    own = name ∙ (s.unit.own ∙ sym same.name);
+    small = rw same.name s.unit.small;
+    held = sym held;
+    holdable = rw held hold;
+  };
   live = s.live ∙ sym same.live;
-  held = sym held;
-  holdable = rw held hold;
-  queue = rw (e, same.name, s.name) refl;
+  queue = rw (e, same.name, s.unit.name) refl;
   known = rw e (tt, tt);
   heard = s.heard ∙ ap (λ (n : ℕ). reverse (take n items)) (sym same.heard);
   within = rw same.heard s.within;

@@ -129,7 +129,7 @@ deed_seat begun items v y u x g memory (deed.Begins kind memory' source destinat
     rw (← h.1.same)
     (subst (λ (n : ℕ). IsSeat (record { number = length begun; seat = x.number; name = v.name; kind = kind; memory = memory'; source = source; destination = destination } ∷ begun) items y (unit_after u g (length begun) (deed.Begins kind memory' source destination))
     (with_message x (record { number = length begun; seat = x.number; name = n; kind = kind; memory = memory'; source = source; destination = destination })))
-    (sym s.name) (begins begun items v y u x g memory kind memory' source destination noted h.1 (sym unit.held) same e))
+    (sym s.unit.name) (begins begun items v y u x g memory kind memory' source destination noted h.1 (sym unit.held) same e))
 deed_seat begun items v y u x g memory (deed.Sends o source n) s h same e =
     let unit = same_unit u g h.0.uncontested in
     let noted = seat_noted begun items v u (noting u g) x s unit in
@@ -145,5 +145,5 @@ deed_seat begun items v y u x g memory deed.EndsSession s h same e =
     let noted = seat_noted begun items v u (noting u g) x s (same_unit u g h) in
     seat_ends begun items v y (noting u g) (unit_after u g (length begun) deed.EndsSession) x noted same (e ∙ append-nil (kept which.Session v.queue)) refl refl
 deed_seat begun items v y u x g memory (deed.Claims name held) s h same e =
-    let own : name ≡ x.name = h.0 ∙ (s.own ∙ sym s.name) in
+    let own : name ≡ x.name = h.0 ∙ (s.unit.own ∙ sym s.unit.name) in
     seat_claims begun items v y u (unit_after u g (length begun) (deed.Claims name held)) x held s same (e ∙ ap (λ (n : ℕ). queued_frame (claim_frame_value n held) None ∷ []) own) h.1 (noted_name u.node g) refl refl

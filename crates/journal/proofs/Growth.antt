@@ -65,12 +65,8 @@ session_still m begun number name held (Some o) None e s = absurd s
 
 pub seat_still : (m : Message) (begun : List Message) (items : List Item) (v : SeatValue) (u : UnitState) (x : Seat) → m.number ≡ length begun → IsSeat begun items v u x → IsSeat (m ∷ begun) items v u x
 seat_still m begun items v u x e s = record {
-  name = s.name;
-  own = s.own;
-  small = s.small;
+  unit = s.unit;
   live = s.live;
-  held = s.held;
-  holdable = s.holdable;
   queue = s.queue ∙ ap reverse (sym (queue_still m begun x.number v.name v.queue e s.known));
   known = all_known_still m begun v.queue e s.known;
   heard = s.heard;
@@ -83,12 +79,8 @@ seat_still m begun items v u x e s = record {
 
 pub seat_carried : (begun : List Message) (items : List Item) (e : Item) (v : SeatValue) (u : UnitState) (x : Seat) → IsSeat begun items v u x → IsSeat begun (items ++ e ∷ []) v u x
 seat_carried begun items e v u x s = record {
-  name = s.name;
-  own = s.own;
-  small = s.small;
+  unit = s.unit;
   live = s.live;
-  held = s.held;
-  holdable = s.holdable;
   queue = s.queue;
   known = s.known;
   heard = s.heard ∙ ap reverse (sym (take-append-le v.heard items (e ∷ []) s.within));

@@ -105,7 +105,7 @@ hear_deed r s seats i memory e d st l live memory_is at lawful =
         around_at (items_of s) v.heard e at ∙ ap (λ (h : List Item). reverse (drop (suc v.heard) (items_of s)) ++ e ∷ h) (sym seat.heard),
         deed_may w (items_of s) (hearing 1 v) u (with_heard x e) g memory d heard (sender_below e.frame) memory_is lawful,
         land.world
-            ∙ (ap (λ (b : List Message). record w { seats = set seats i (seat_answered (length s.begun) (with_heard x e) (answer_of d)); begun = b }) (begun_is s.begun u g (suc i) x.number v.name x.name memory d lawful number seat.name)
+            ∙ (ap (λ (b : List Message). record w { seats = set seats i (seat_answered (length s.begun) (with_heard x e) (answer_of d)); begun = b }) (begun_is s.begun u g (suc i) x.number v.name x.name memory d lawful number seat.unit.name)
             ∙ sym (answered_is w i (with_heard x e) (answer_of d))),
       ),
       land.stands,
@@ -123,7 +123,7 @@ hear_at r s seats i memory answered st fits =
     let c : CarriedFrame = found.0 in
     let at : slice_get (items_of s) (seat_at s.traffic (suc i)).heard ≡ Some (item_of s c) =
     slice_get-map (item_of s) s.traffic.wire (seat_at s.traffic (suc i)).heard ∙ ap (option_map (item_of s)) found.1 in
-    let lawful = reaction_is_lawful u.node memory answered (group_of c.frame) seat.holdable in
+    let lawful = reaction_is_lawful u.node memory answered (group_of c.frame) seat.unit.holdable in
     let is : after (Hear (suc i) memory answered) s ≡ state_after s i memory (group_of c.frame) (reaction u.node memory answered c.frame) =
     ap (λ (o : Option FrameValue). after_hear_of o (suc i) memory answered s) (ap (option_map (λ (x : CarriedFrame). x.frame)) found.1) ∙ heard_state s i memory answered c.frame l in
     subst (λ (t : State). (seats' : List Seat) × (answer : Answer) × Step (world_of r s seats) (machine.Hear i answer) (world_of r t seats') × Stands r t seats') (sym is)

@@ -18,7 +18,7 @@ use Rattle.bus_model.proofs.Lawful.{Lawful}
 use Rattle.bus_model.proofs.Lookback.{lawful_rest}
 use Rattle.bus_model.proofs.Quiet.{clear_whole, expected_whole}
 use Rattle.bus_model.proofs.Wire.{lawful_traffic}
-use Rattle.bus_model.proofs.Worlds.{WorldLaw, law_run, law_start, passed_booked}
+use Rattle.bus_model.proofs.Worlds.{WorldLaw, law_run, law_start, passed_booked, passed_lawful}
 use Rattle.journal.specs.Journal.{GarageValue, Adds, injected_of, listed_of, readings_of, shown_of, state_of, with_event}
 use Rattle.journal.specs.Promises.{IsFromOwner, IsLawful, IsPrefix, KeepsLists, wire_of}
 use Rattle.journal.specs.Worlds.{items_of, station_of, world_of}
@@ -59,9 +59,7 @@ from_owner g fit none i e t at tag =
 -- what the station has of the wire, of which the law holds too
 lawful_path : (g : GarageValue) (fit : IsLawful g) (none : injected_of g.journal ≡ 0) → Lawful (world g fit none).settings.name (passed (state_of g).path)
 unfolding world
-lawful_path g fit none =
-    let l = law g fit none in
-    lawful_rest (world g fit none).settings.name l.station.ahead (passed (state_of g).path) (subst (Lawful (world g fit none).settings.name) l.station.reach l.wire)
+lawful_path g fit none = passed_lawful (world g fit none) (law g fit none)
 
 pub looks_back : (g : GarageValue) → IsLawful g → injected_of g.journal ≡ 0 → (m : Message) → IsAmong m (state_of g).begun → (is_clear m (state_of g).path ≡ true) ↔ IsOnClearPath m (state_of g).path
 unfolding world

@@ -12,7 +12,7 @@ use Rattle.bus_model.specs.Heard.{address_heard}
 use Rattle.bus_model.specs.Expected.{Own, readings}
 use Rattle.bus_model.specs.Machine.{Carry_station, IsFit, Seat, Step}
 use Rattle.bus_model.specs.Machine.{Ask as Asks}
-use Rattle.bus_model.proofs.Bridge.{truth}
+use Rattle.bus_model.proofs.Lookback.{true_test}
 use Rattle.station_table.specs.KeptValue.{KeptValue, kept_under}
 use Rattle.station_table.specs.Orders.{address_in, ask_from, command_from}
 use Rattle.station_table.specs.StandsFor.{row_of, still_owned}
@@ -126,7 +126,7 @@ offered_first live heard n qs q e = go live (heard == n) refl qs e
     go false b i qs e = absurd cc
     go true false i qs e = absurd cc
     go true true i [] e = absurd cc
-    go true true i (p ∷ qs) e = (truth heard n i, (qs, cc))
+    go true true i (p ∷ qs) e = (true_test heard n i, (qs, cc))
 
 -- the state after its first frame is carried
 abbrev carried_state : State → QueuedFrame → State

@@ -98,12 +98,8 @@ within_at (y ∷ ys) (suc i) x e = let l = within_at ys i x e in omega arith
 -- a seat hears it
 pub seat_hears : (begun : List Message) (items : List Item) (v : SeatValue) (u : UnitState) (x : Seat) (e : Item) → IsSeat begun items v u x → slice_get items v.heard ≡ Some e → IsSeat begun items (hearing 1 v) u (with_heard x e)
 seat_hears begun items v u x e s at = record {
-  name = s.name;
-  own = s.own;
-  small = s.small;
+  unit = s.unit;
   live = s.live;
-  held = s.held;
-  holdable = s.holdable;
   queue = s.queue;
   known = s.known;
   heard =

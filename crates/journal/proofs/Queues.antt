@@ -45,12 +45,8 @@ reverse_first x xs = reverse-append (x ∷ []) xs
 -- a unit that only took note of something
 pub seat_noted : (begun : List Message) (items : List Item) (v : SeatValue) (u u' : UnitState) (x : Seat) → IsSeat begun items v u x → IsSameUnit u u' → IsSeat begun items v u' x
 seat_noted begun items v u u' x s same = record {
-  name = s.name;
-  own = same.name ∙ s.own;
-  small = s.small;
+  unit = rw (same.name, same.held) s.unit;
   live = s.live;
-  held = s.held ∙ sym same.held;
-  holdable = rw same.held s.holdable;
   queue = s.queue;
   known = s.known;
   heard = s.heard;
@@ -63,12 +59,8 @@ seat_noted begun items v u u' x s same = record {
 pub seat_put : (begun : List Message) (items : List Item) (v y : SeatValue) (u : UnitState) (x : Seat) (qs : List QueuedFrame) → IsSeat begun items v u x → IsSameSeat v y → y.queue ≡ v.queue ++ qs → AreKnown begun qs
     → IsSeat begun items y u (record x { queue = items_put begun x.number v.name qs ++ x.queue })
 seat_put begun items v y u x qs s same e known = record {
-  name = s.name ∙ sym same.name;
-  own = s.own ∙ sym same.name;
-  small = rw same.name s.small;
+  unit = rw same.name s.unit;
   live = s.live ∙ sym same.live;
-  held = s.held;
-  holdable = s.holdable;
   queue = rw (e, same.name, s.queue) (sym (put_append begun x.number v.name v.queue qs));
   known = rw e (known_append begun v.queue qs s.known known);
   heard = s.heard ∙ ap (λ (n : ℕ). reverse (take n items)) (sym same.heard);

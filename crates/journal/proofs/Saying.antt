@@ -1,5 +1,5 @@
 -- What each frame of the station says, it may send.
-use Rattle.std.proofs.Common.{ℕ, ◌≡◌, ◌+◌, ◌*◌, ◌/◌, ◌%◌, ◌<◌, ◌≤◌, ◌^◌, List, Bool, true, false, Option, Some, None, if◌then◌else◌, refl, sym, ap, subst, arith}
+use Rattle.std.proofs.Common.{ℕ, ◌≡◌, ◌+◌, ◌*◌, ◌/◌, ◌%◌, ◌<◌, ◌≤◌, ◌^◌, List, Bool, true, false, Option, Some, None, if◌then◌else◌, refl, sym, subst, arith}
 use Rattle.can_frame.specs.Fields.{pdu1_number}
 use Rattle.can_frame.specs.FrameValue.{FrameValue}
 use Rattle.address_claim.specs.Claiming.{is_held, CanHold}
@@ -12,12 +12,12 @@ use Rattle.transport.specs.declared.control.Control.{Control}
 use Rattle.transport.specs.declared.control.Control.TheVariants.{Rts, Cts, EndAck, Bam, Abort}
 use Rattle.parameter_group.specs.Group.{Group, control_group, group_of}
 use Rattle.bus_model.specs.Machine.{MaySend}
-use Rattle.bus_model.proofs.Bridge.{claim_group, says_claim, says_by, says_packet, pgn_from, control_pgn, truth}
+use Rattle.bus_model.proofs.Bridge.{claim_group, says_claim, says_by, says_packet, pgn_from, control_pgn}
+use Rattle.bus_model.proofs.Lookback.{held_is}
 
 -- an address held is the one, and can be held
-pub held_is : (held : Option ℕ) (a : ℕ) → CanHold held → is_held held a ≡ true → (held ≡ Some a) × (a ≤ 253)
-held_is None a hold e = absurd cc
-held_is (Some b) a hold e = let same = truth b a e in (ap Some same, subst (λ (v : ℕ). v ≤ 253) same hold)
+pub held_address : (held : Option ℕ) (a : ℕ) → CanHold held → is_held held a ≡ true → (held ≡ Some a) × (a ≤ 253)
+held_address held a hold e = let same = held_is held a e in (same, subst CanHold same hold)
 
 may_as : (n : ℕ) (held : Option ℕ) (f : FrameValue) (g : Group) → group_of f ≡ g → MaySend n held g → MaySend n held (group_of f)
 may_as n held f g e may = subst (MaySend n held) (sym e) may

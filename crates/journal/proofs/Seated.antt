@@ -48,14 +48,18 @@ AreSession begun number name held None None = Unit {0}
 AreSession begun number name held (Some o) (Some t) = IsSession begun number name held o t
 AreSession begun number name held _ _ = ⊥
 
+-- the NAME of a seat, the NAME and the address of its claimer, and those of the machine's seat are one
+pub record AreOneUnit (n claimer : ℕ) (address : Option ℕ) (m : ℕ) (a : Option ℕ) : Type 0 where
+  pub name : m ≡ n
+  pub own : claimer ≡ n
+  pub small : n < 2 ^ 64
+  pub held : a ≡ address
+  pub holdable : CanHold address
+
 -- a seat on the bus, what its unit keeps, and the machine's seat, with these messages begun and these items carried
 pub record IsSeat (begun : List Message) (items : List Item) (v : SeatValue) (u : UnitState) (x : Seat) : Type 0 where
-  pub name : x.name ≡ v.name
-  pub own : u.node.claimer.name ≡ v.name
-  pub small : v.name < 2 ^ 64
+  pub unit : AreOneUnit v.name u.node.claimer.name u.node.claimer.held x.name x.held
   pub live : x.live ≡ v.live
-  pub held : x.held ≡ u.node.claimer.held
-  pub holdable : CanHold u.node.claimer.held
   pub queue : x.queue ≡ queue_of begun x.number v
   pub known : AreKnown begun v.queue
   pub heard : x.heard ≡ reverse (take v.heard items)

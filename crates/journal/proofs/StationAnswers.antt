@@ -22,7 +22,7 @@ use Rattle.station_table.specs.Reactions.{silent, answering, claiming_again, own
 use Rattle.station_table.specs.declared.reaction.Ask.{Ask}
 use Rattle.station_table.specs.declared.reaction.Reaction.{Reaction}
 use Rattle.station_table.proofs.Stands.{sender}
-use Rattle.journal.proofs.Saying.{IsNoRts, held_is, claim_may, request_may, ack_may, control_may, packet_may}
+use Rattle.journal.proofs.Saying.{IsNoRts, held_address, claim_may, request_may, ack_may, control_may, packet_may}
 
 -- the claim of that address, or the cannot claim, where the station claims
 abbrev pub claims_of : Bool → ℕ → Option ℕ → List FrameValue
@@ -69,7 +69,7 @@ requested c pgn d src small hold = go (pgn == 60928) (is_held c.held d) refl (d 
     go true false i true f = one_answer c.name c.held (own_claim c) (claim_may c.name c.held small hold)
     go true false i false f = silent_answers c.name c.held
     go false true i e true =
-        let own = held_is c.held d hold i in
+        let own = held_address c.held d hold i in
         let low = own.1 in
         one_answer c.name c.held _ (ack_may c.name c.held 1 src pgn 255 d (omega arith) (omega arith))
     go false true i e false = silent_answers c.name c.held
@@ -84,7 +84,7 @@ start_no_rts (Some j) at_once packets pgn = tt
 -- a connection management message of the station's own address
 controlled : (n : ℕ) (held : Option ℕ) (c : Control) (d src : ℕ) → CanHold held → src < 256 → is_held held d ≡ true → IsNoRts c → Answers (answering (control_frame c d src)) n false held
 controlled n held c d src hold low i starts =
-    let own = held_is held d hold i in
+    let own = held_address held d hold i in
     let small = own.1 in
     one_answer n held (control_frame c d src) (control_may n held c d src (omega arith) (omega arith) starts own.0)
 

@@ -3,3 +3,4 @@ pub mod Unasked
 pub mod NineBytes
 pub mod PartLists
 pub mod Contested
+pub mod Passing

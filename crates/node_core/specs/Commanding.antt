@@ -1,5 +1,5 @@
 -- A commanded address (SAE J1939-81): nine bytes, broadcast in two packets.
-use Rattle.std.specs.Prelude.{ℕ, Bool, ◌&&◌, ◌==◌, nat_le, List, [], ◌∷◌, ◌++◌, drop, length, slice_index, slice_index_or, Option, Some, None, if◌then◌else◌}
+use Rattle.std.specs.Prelude.{ℕ, Bool, true, false, ◌&&◌, ◌==◌, nat_le, List, [], ◌∷◌, ◌++◌, drop, length, slice_index, slice_index_or, Option, Some, None, if◌then◌else◌}
 use Rattle.can_frame.specs.declared.address.TheConstants.{GREATEST_ADDRESS, GLOBAL_ADDRESS}
 use Rattle.can_frame.specs.declared.group_numbers.TheConstants.{COMMANDED_ADDRESS}
 use Rattle.requests.specs.Layouts.{commanded_of}
@@ -43,3 +43,13 @@ half_from halves source = slice_index_or halves source Nothing
 -- to all, from an address that can be held
 abbrev pub is_to_all : ℕ → ℕ → Bool
 is_to_all destination source = (destination == GLOBAL_ADDRESS) && nat_le source GREATEST_ADDRESS
+
+-- there is something half joined
+abbrev pub is_half : HalfCommand → Bool
+is_half Nothing = false
+is_half Started = true
+is_half (First piece) = true
+
+-- a packet goes on with what is half joined from its source
+abbrev pub goes_on : List HalfCommand → ℕ → ℕ → Bool
+goes_on halves source destination = is_to_all destination source && is_half (half_from halves source)

@@ -8,7 +8,7 @@ use Rattle.transport.specs.Messages.{part_of_message, last_part}
 use Rattle.transport.specs.Sending.{new_sending, after_queueing}
 use Rattle.address_claim.specs.Frames.{claim_frame_value}
 use Rattle.fault_memory.specs.Memory.{MemoryValue}
-use Rattle.dm_messages.specs.View.{view, encoding, pgn_of_kind, payload_of}
+use Rattle.dm_messages.specs.View.{pgn_of_kind, payload_of}
 use Rattle.dm_messages.specs.declared.kind.Kind.{Kind}
 use Rattle.node_core.specs.NodeValue.{NodeValue}
 use Rattle.node_core.specs.declared.session.OpenSession.{OpenSession}

@@ -4,6 +4,7 @@ pub mod Commanding
 pub mod Requested
 pub mod Asking
 pub mod Reaction
+pub mod Passing
 pub mod Laws
 pub mod Beginning
 pub mod Refusals

@@ -1,9 +1,8 @@
 -- What a unit on the bus keeps.
-use Rattle.std.specs.Prelude.{ℕ, Bool, true, false, ◌==◌, List, replicate, Option, Some, None}
+use Rattle.std.specs.Prelude.{ℕ, Bool, false, List, replicate, Option, Some, None}
 use Rattle.can_frame.specs.declared.address.TheConstants.{HOLDABLE_ADDRESSES}
 use Rattle.address_claim.specs.Claiming.{ClaimerValue, new_claimer, is_held}
 use Rattle.dm_messages.specs.declared.kind.Kind.{Kind}
-use Rattle.dm_messages.specs.declared.kind.Kind.TheVariants.{Dm1, Dm2}
 use Rattle.node_core.specs.declared.commanding.HalfCommand.{HalfCommand}
 use Rattle.node_core.specs.declared.commanding.HalfCommand.TheVariants.{Nothing}
 use Rattle.node_core.specs.declared.session.OpenSession.{OpenSession}

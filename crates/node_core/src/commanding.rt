@@ -43,6 +43,16 @@ impl HalfCommand {
         }
     }
 
+    /// Whether there is something half joined.
+    pub fn is_half(self) -> bool
+        ensures { result ≡ commanding.is_half self }
+    {
+        match self {
+            HalfCommand::Nothing => false,
+            HalfCommand::Started | HalfCommand::First(_) => true,
+        }
+    }
+
     /// The command that a packet makes whole.
     pub fn completed(self, bytes: &[u8]) -> Option<Commanded>
         ensures { result ≡ commanding.completed self bytes.now }

@@ -20,6 +20,7 @@ use unit_trait::Unit;
 mod asked;
 mod claims;
 mod commands;
+mod passing;
 mod sessions;
 
 /// A unit's place on the bus: its NAME, the address that it holds, the claims that it has noted, what it has of commanded

@@ -1,5 +1,6 @@
 -- What the number that an order answers says of what was heard.
 use Rattle.std.specs.Prelude.{◌↔◌, ◌<◌, ◌≤◌, ℕ, Option, IsSome, IsNone}
+use Rattle.can_frame.specs.declared.address.TheConstants.{GREATEST_ADDRESS}
 use Rattle.station_c.specs.Statuses.{Answers, DoneUnlessMemory}
 use Rattle.station_c.specs.declared.status.Status.TheVariants.{NotAnAddress, NoAddress, NotHeld}
 
@@ -15,5 +16,5 @@ OrderAsksAll own number = (Answers number NotHeld ↔ IsNone own) × (IsSome own
 -- a NAME is commanded to an address: it can be held, and the station holds one itself
 abbrev pub OrderCommands : Option ℕ → ℕ → ℕ → Type 0
 OrderCommands own address number =
-    (Answers number NotAnAddress ↔ (253 < address)) × (Answers number NotHeld ↔ ((address ≤ 253) × IsNone own))
-    × (address ≤ 253 → IsSome own → DoneUnlessMemory number)
+    (Answers number NotAnAddress ↔ (GREATEST_ADDRESS < address)) × (Answers number NotHeld ↔ ((address ≤ GREATEST_ADDRESS) × IsNone own))
+    × (address ≤ GREATEST_ADDRESS → IsSome own → DoneUnlessMemory number)

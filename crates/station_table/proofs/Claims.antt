@@ -8,13 +8,13 @@ use Rattle.address_claim.specs.Claiming.{ClaimerValue, is_held, claim_step, move
 use Rattle.address_claim.specs.declared.claimer.ClaimStep.{ClaimStep}
 use Rattle.address_claim.specs.declared.claimer.ClaimStep.TheVariants.{Nothing, Defend, Move, CannotClaim as NoAddress}
 use Rattle.can_frame.specs.declared.reading.Reading.{Reading}
-use Rattle.can_frame.specs.declared.reading.Reading.TheVariants.{Frame, Gap, Empty}
 use Rattle.dm_messages.specs.declared.kind.Kind.{Kind}
 use Rattle.dm_messages.specs.declared.kind.Kind.TheVariants.{Dm1, Dm2}
 use Rattle.dm_messages.specs.declared.shown.Shown.{Shown}
-use Rattle.parameter_group.specs.Group.{Group, AddressClaimed, CannotClaim, Acknowledgment, group_of}
+use Rattle.parameter_group.specs.Group.{Group, AddressClaimed, CannotClaim, Acknowledgment}
 use Rattle.parameter_group.specs.Calm.{is_contest}
-use Rattle.bus_model.specs.Heard.{StationSettings, Joining, AckHeard, RowHeard, without_address, row_with_ack as with_ack_heard, is_answer, ack_in_row, owner_heard, claimer_heard, claimer_after, address_heard, broadcast_heard, session_heard, row_heard, with_name, kept_by_owner as joining_under}
+use Rattle.bus_model.specs.Heard.{StationSettings, Joining, AckHeard, RowHeard, without_address, row_with_ack as with_ack_heard, is_answer, ack_in_row, owner_heard, claimer_heard, address_heard, broadcast_heard, session_heard, row_heard, with_name, kept_by_owner as joining_under}
+use Rattle.bus_model.proofs.Bridge.{claimer_name}
 use Rattle.station_table.specs.declared.row.AckSeen.{AckSeen}
 use Rattle.station_table.specs.KeptValue.{KeptValue, nothing_kept, kept_under, entries_of, entries_under, with_claimed, with_ack, with_row, changed_under}
 use Rattle.reassembly.specs.Tables.{at}
@@ -24,7 +24,7 @@ use Rattle.station_table.specs.Steps.{sessions_after, with_answer, after_group}
 use Rattle.station_table.specs.StandsFor.{StandsBeside, still_owned, ack_known, row_known}
 use Rattle.station_table.proofs.OwnAddress.{still_apart}
 use Rattle.station_table.proofs.RowLemmas.{named, kept_under-changed, names-changed, kept_under-with_row, names-with_row}
-use Rattle.station_table.proofs.Lines.{StandsAfter, held_same, and_false, changed_place, written_place}
+use Rattle.station_table.proofs.Lines.{StandsAfter, held_same, and_false, changed_place, written_place, tells}
 
 -- what a change that leaves the entries leaves
 pub entries_left : (f : KeptValue → KeptValue) → ((x : KeptValue) (k : Kind) → entries_of (f x) k ≡ entries_of x k)
@@ -66,14 +66,7 @@ acknowledged taken r grant s h control requester pgn d src lt st =
 
     left : (b : Bool) → ((n : ℕ) → is_answer requester d (address_heard r h) (owner_heard src h) n ≡ false) → StandsAfter taken r grant (Acknowledgment control requester pgn d src) s h
     left b never = record {
-      grants = st.grants;
-      claims = st.claims;
-      apart = st.apart;
-      places = st.places;
-      owners = st.owners;
-      broadcasts = st.broadcasts;
-      sessions = st.sessions;
-      most = st.most;
+      addresses = (tells taken r grant s h st).addresses;
       rows = λ n. rw (never n) (st.rows n);
       names = st.names;
       entries = st.entries;
@@ -86,14 +79,7 @@ acknowledged taken r grant s h control requester pgn d src lt st =
     go false i own j = left false (λ n. same_test false own i j n)
     go true i None j = left true (λ n. same_test true None i j n)
     go true i (Some m) j = record {
-      grants = st.grants;
-      claims = st.claims;
-      apart = st.apart;
-      places = st.places;
-      owners = st.owners;
-      broadcasts = st.broadcasts;
-      sessions = st.sessions;
-      most = st.most;
+      addresses = (tells taken r grant s h st).addresses;
       rows = λ n.
           ap (row_known s.owners n) (kept_under-changed (with_ack (record { control = control; pgn = pgn })) s.rows m n)
           ∙ (if_row n (m == n) ∙ rw (same_test true (Some m) i j n, ← st.rows n) refl);
@@ -151,14 +137,7 @@ no_address owners n (Some x) = refl
 pub cannot_claim : (taken : ℕ → Kind → List Shown) (r : StationSettings) (grant : ℕ) (s : StationValue) (h : List Reading) (m : ℕ) → StandsBeside taken r grant s h
     → StandsAfter taken r grant (CannotClaim m) (after_group s (CannotClaim m)) h
 cannot_claim taken r grant s h m st = record {
-  grants = st.grants;
-  claims = st.claims;
-  apart = st.apart;
-  places = st.places;
-  owners = st.owners;
-  broadcasts = st.broadcasts;
-  sessions = st.sessions;
-  most = st.most;
+  addresses = (tells taken r grant s h st).addresses;
   rows = λ n. ap (row_known s.owners n) (kept_once_claimed None s.rows m n) ∙ rw (← st.rows n) (go n (m == n));
   names = names_once_claimed None s.rows m ∙ ap (with_name m) st.names;
   entries = λ n k. ap (λ (x : List Shown). taken n k ++ x) (entries_once_claimed None s.rows m n k) ∙ st.entries n k;
@@ -219,17 +198,6 @@ row_of_other owners src m n (Some x) len lt apart =
     ap (λ (v : RowHeard). Some v) (lost_claimed owners src m n (ack_known x.ack) x.claimed len lt apart)
     ∙ if_some (is_held (still_owned owners n x.claimed) src) (row_with None (ack_known x.ack)) (row_with (still_owned owners n x.claimed) (ack_known x.ack))
 
--- the station's NAME never changes
-pub name_heard : (r : StationSettings) (h : List Reading) → (claimer_heard r h).name ≡ r.name
-name_heard r [] = refl
-name_heard r (Gap n ∷ older) = name_heard r older
-name_heard r (Empty ∷ older) = name_heard r older
-name_heard r (Frame f ∷ older) = of_group (group_of f) (name_heard r older)
-  where
-    of_group : (g : Group) → (claimer_heard r older).name ≡ r.name → (claimer_after g (claimer_heard r older)).name ≡ r.name
-    of_group (AddressClaimed s n) e = e
-    of_group _ e = e
-
 -- a step is taken exactly at a contest
 abbrev IsContest : ClaimStep → Bool → Type 0
 IsContest Nothing b = b ≡ false
@@ -253,22 +221,24 @@ contest_step src m c = go (is_held c.held src) (m == c.name) (nat_lt c.name m)
 pub claimed : (taken : ℕ → Kind → List Shown) (r : StationSettings) (grant : ℕ) (s : StationValue) (h : List Reading) (src m : ℕ) → src < 256 → StandsBeside taken r grant s h
     → StandsAfter taken r grant (AddressClaimed src m) (after_group s (AddressClaimed src m)) h
 claimed taken r grant s h src m lt st = record {
-  grants = st.grants;
-  claims = rw (st.claims) refl;
-  apart = still_apart src m s.claimer st.apart;
-  places = record {
-    owners = length-set s.owners src (Some m) ∙ st.places.owners;
-    broadcasts = length-set s.broadcasts src (joining_under m (at s.broadcasts src)) ∙ st.places.broadcasts;
-    sessions = session_places (claim_step src m s.claimer);
-    most = st.places.most;
+  addresses = record {
+    grants = st.grants;
+    claims = rw (st.claims) refl;
+    apart = still_apart src m s.claimer st.apart;
+    places = record {
+      owners = length-set s.owners src (Some m) ∙ st.places.owners;
+      broadcasts = length-set s.broadcasts src (joining_under m (at s.broadcasts src)) ∙ st.places.broadcasts;
+      sessions = session_places (claim_step src m s.claimer);
+      most = st.places.most;
+    };
+    owners = λ a below.
+        written_place s.owners (λ v. owner_heard v h) (λ v. Some m) src (Some m) st.places.owners lt refl st.owners a below;
+    broadcasts = λ a below. changed_place s.broadcasts (λ v. broadcast_heard v h) (joining_under m) src st.places.broadcasts lt st.broadcasts a below;
+    sessions = λ a below.
+        sessions_now a below (claim_step src m s.claimer) (is_contest s.claimer.name s.claimer.held (AddressClaimed src m)) (contest_step src m s.claimer)
+        ∙ rw (contest_same) refl;
+    most = st.most;
   };
-  owners = λ a below.
-      written_place s.owners (λ v. owner_heard v h) (λ v. Some m) src (Some m) st.places.owners lt refl st.owners a below;
-  broadcasts = λ a below. changed_place s.broadcasts (λ v. broadcast_heard v h) (joining_under m) src st.places.broadcasts lt st.broadcasts a below;
-  sessions = λ a below.
-      sessions_now a below (claim_step src m s.claimer) (is_contest s.claimer.name s.claimer.held (AddressClaimed src m)) (contest_step src m s.claimer)
-      ∙ rw (contest_same) refl;
-  most = st.most;
   rows = λ n. ap (row_known (slice_set s.owners src (Some m)) n) (kept_once_claimed (Some src) s.rows m n) ∙ rw (← st.rows n) (rows_now n (m == n) refl);
   names = names_once_claimed (Some src) s.rows m ∙ ap (with_name m) st.names;
   entries = λ n k. ap (λ (x : List Shown). taken n k ++ x) (entries_once_claimed (Some src) s.rows m n k) ∙ st.entries n k;
@@ -277,7 +247,7 @@ claimed taken r grant s h src m lt st = record {
 }
   where
     contest_same : is_contest s.claimer.name s.claimer.held (AddressClaimed src m) ≡ is_contest r.name (address_heard r h) (AddressClaimed src m)
-    contest_same = rw (held_same taken r grant s h st, st.claims, name_heard r h) refl
+    contest_same = rw (held_same taken r grant s h st, st.claims, claimer_name r h) refl
 
     session_places : (step : ClaimStep) → length (sessions_after step (slice_set s.sessions src (joining_under m (at s.sessions src)))) ≡ 256
     session_places Nothing = length-set s.sessions src (joining_under m (at s.sessions src)) ∙ st.places.sessions

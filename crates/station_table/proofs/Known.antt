@@ -11,43 +11,10 @@ use Rattle.parameter_group.specs.Group.{Group, AddressClaimed, CannotClaim, Ackn
 use Rattle.bus_model.specs.Traffic.{owner_after}
 use Rattle.reassembly.specs.Partials.{with_packet, unfinished, is_whole}
 use Rattle.parameter_group.specs.Calm.{is_contest}
-use Rattle.bus_model.specs.Heard.{StationSettings, Joining, RowHeard, kind_of, started, kept_by_owner, or_else, without_kind, is_kind, without_address, addressless, row_with_ack, is_answer, ack_in_row, owner_heard, address_heard, broadcast_after, broadcast_heard, session_after, session_heard, row_after, row_heard}
-
--- a choice that gave something: which way it went
-pub pick_cases : {X : Type 0} (b : Bool) (o r v : X) → (if b then o else r) ≡ v → ((b ≡ true) × (o ≡ v)) ⊎ ((b ≡ false) × (r ≡ v))
-pick_cases true o r v h = inl (refl, h)
-pick_cases false o r v h = inr (refl, h)
-
-without_address-some : (a : ℕ) (o : Option RowHeard) → is_some o ≡ true → is_some (without_address a o) ≡ true
-without_address-some a None h = h
-without_address-some a (Some row) h = go (is_held row.address a)
-  where
-    go : (b : Bool) → is_some (if b then Some (record row { address = None }) else Some row) ≡ true
-    go true = refl
-    go false = refl
-
-with_ack-some : (c p : ℕ) (o : Option RowHeard) → is_some o ≡ true → is_some (row_with_ack c p o) ≡ true
-with_ack-some c p None h = h
-with_ack-some c p (Some row) h = refl
-
--- a row stays
-row_stays : (r : StationSettings) (n : ℕ) (g : Group) (older : List Reading) (o : Option RowHeard) → is_some o ≡ true → is_some (row_after r n g older o) ≡ true
-row_stays r n (AddressClaimed s m) older o h = go (m == n)
-  where
-    go : (b : Bool) → is_some (if b then Some (record { address = Some s; ack = ack_in_row o }) else without_address s o) ≡ true
-    go true = refl
-    go false = without_address-some s o h
-row_stays r n (CannotClaim m) older o h = go (m == n)
-  where
-    go : (b : Bool) → is_some (if b then Some (record { address = None; ack = ack_in_row o }) else o) ≡ true
-    go true = refl
-    go false = h
-row_stays r n (Acknowledgment control requester pgn d s) older o h = go (is_answer requester d (address_heard r older) (owner_heard s older) n)
-  where
-    go : (b : Bool) → is_some (if b then row_with_ack control pgn o else o) ≡ true
-    go true = with_ack-some control pgn o h
-    go false = h
-row_stays r n _ older o h = h
+use Rattle.bus_model.specs.Heard.{StationSettings, Joining, RowHeard, kind_of, started, kept_by_owner, or_else, without_kind, is_kind, addressless, owner_heard, address_heard, broadcast_after, broadcast_heard, session_after, session_heard, row_after, row_heard}
+use Rattle.bus_model.proofs.Half.{open_of}
+use Rattle.bus_model.proofs.Lookback.{pick_cases}
+use Rattle.bus_model.proofs.Rows.{row_stays}
 
 addressless-some : (o : Option RowHeard) → is_some o ≡ true → is_some (addressless o) ≡ true
 addressless-some None h = h
@@ -88,14 +55,6 @@ with_packet-owner bytes (Some i) j h = go (is_next i.size i.pieces bytes) h
     go false e = absurd cc
     go true e = let q : record i { pieces = i.pieces ++ drop 1 bytes ∷ [] } ≡ j = cc in (i, refl, ap (λ (v : Joining). v.tag.owner) q)
 
-unfinished-same : (o : Option Joining) (j : Joining) → unfinished o ≡ Some j → o ≡ Some j
-unfinished-same None j h = h
-unfinished-same (Some i) j h = go (is_whole i) h
-  where
-    go : (b : Bool) → (if b then None else Some i) ≡ Some j → Some i ≡ Some j
-    go true e = absurd cc
-    go false e = e
-
 kept_under-same : (n : ℕ) (o : Option Joining) (j : Joining) → kept_by_owner n o ≡ Some j → o ≡ Some j
 kept_under-same n None j h = h
 kept_under-same n (Some i) j h = go (n == i.tag.owner) h
@@ -130,7 +89,7 @@ broadcast_after-row r a j (ConnectionManagement s d (Bam size packets pgn)) olde
     (pick_cases (s == a && d == 255) (started (kind_of pgn) size (owner_heard a older)) before (Some j) h)
 broadcast_after-row r a j (DataTransfer s d bytes) older before ih h =
     ⊎_elim
-    (λ w. packet_owner_row r older bytes before j ih (unfinished-same (with_packet bytes before) j w.1))
+    (λ w. packet_owner_row r older bytes before j ih (open_of (with_packet bytes before) j w.1))
     (λ w. ih j w.1)
     (pick_cases (s == a && d == 255) (unfinished (with_packet bytes before)) before (Some j) h)
 broadcast_after-row r a j (AddressClaimed s n) older before ih h =
@@ -166,7 +125,7 @@ session_after-row r a j (ConnectionManagement s d (Abort reason pgn)) older held
     (pick_cases (s == a && is_held held d) (without_kind (kind_of pgn) before) before (Some j) h)
 session_after-row r a j (DataTransfer s d bytes) older held before ih h =
     ⊎_elim
-    (λ w. packet_owner_row r older bytes before j ih (unfinished-same (with_packet bytes before) j w.1))
+    (λ w. packet_owner_row r older bytes before j ih (open_of (with_packet bytes before) j w.1))
     (λ w. ih j w.1)
     (pick_cases (s == a && is_held held d) (unfinished (with_packet bytes before)) before (Some j) h)
 session_after-row r a j (AddressClaimed s n) older held before ih h =

@@ -18,6 +18,7 @@ use Rattle.parameter_group.specs.Group.{Group, AddressClaimed, CannotClaim, Requ
 use Rattle.reassembly.specs.Partials.{with_packet, is_whole}
 use Rattle.reassembly.specs.Tables.{at}
 use Rattle.bus_model.specs.Heard.{StationSettings, Joining, kind_of, started, finished, entry_under, without_kind}
+use Rattle.bus_model.proofs.Lookback.{kind_same, same_kind_self}
 use Rattle.station_table.specs.KeptValue.{KeptValue, kept_under, entries_of, entries_under, with_ack, with_entry, without_oldest, changed_under}
 use Rattle.station_table.specs.Lists.{MayAdd, is_list, list_under, list_of_joining, list_of_group, list_of, with_taken}
 use Rattle.station_table.specs.StationValue.{StationValue}
@@ -25,7 +26,7 @@ use Rattle.station_table.specs.Steps.{with_reading, with_ended, with_answer, wit
 use Rattle.station_table.specs.StandsFor.{StandsBeside, row_known}
 use Rattle.station_table.proofs.RowLemmas.{kept_under-changed, names-changed}
 use Rattle.station_table.proofs.Claims.{entries_left, entries_once_claimed, ack_keeps}
-use Rattle.station_table.proofs.Lines.{entries_with}
+use Rattle.station_table.proofs.Lines.{entries_with, other_lists}
 
 -- a list that stays as it is
 may_stay : (b : Bool) (entries : List Shown) → MayAdd b entries entries
@@ -164,16 +165,6 @@ first_and_rest : (entries : List Shown) → option_to_list (slice_get entries 0)
 first_and_rest [] = refl
 first_and_rest (x ∷ entries) = refl
 
-same_kind_self : (k : Kind) → same_kind k k ≡ true
-same_kind_self Dm1 = refl
-same_kind_self Dm2 = refl
-
-kinds_same : (k l : Kind) → same_kind k l ≡ true → k ≡ l
-kinds_same Dm1 Dm1 e = refl
-kinds_same Dm1 Dm2 e = absurd cc
-kinds_same Dm2 Dm1 e = absurd cc
-kinds_same Dm2 Dm2 e = refl
-
 pub rest_left : (old new : List (ℕ × KeptValue)) (m : ℕ) (k : Kind) → new ≡ changed_under (without_oldest k) old m
     → entries_under new m k ≡ drop 1 (entries_under old m k)
 rest_left old new m k step =
@@ -201,7 +192,7 @@ list_whole taken rows m n k l o e =
   where
     oldest : (m == n) ≡ true → same_kind k l ≡ true → o ≡ slice_get (entries_under rows n l) 0
     oldest i j =
-        let there : slice_get (entries_under rows m k) 0 ≡ slice_get (entries_under rows n l) 0 = rw (eqb-true m n i, kinds_same k l j) refl in
+        let there : slice_get (entries_under rows m k) 0 ≡ slice_get (entries_under rows n l) 0 = rw (eqb-true m n i, kind_same k l j) refl in
         e ∙ there
 
     go : (b c : Bool) → (m == n) ≡ b → same_kind k l ≡ c
@@ -216,18 +207,9 @@ list_whole taken rows m n k l o e =
 pub taken_out : (taken : ℕ → Kind → List Shown) (r : StationSettings) (grant : ℕ) (s t : StationValue) (h : List Reading) (m : ℕ) (k : Kind) (o : Option Shown)
     → o ≡ slice_get (entries_under s.rows m k) 0 → t ≡ record s { rows = changed_under (without_oldest k) s.rows m }
     → StandsBeside taken r grant s h → StandsBeside (with_taken m k o taken) r grant t h
-taken_out taken r grant s t h m k o e step st = subst (λ (v : StationValue). StandsBeside (with_taken m k o taken) r grant v h) (sym step) (record {
-  grants = st.grants;
-  claims = st.claims;
-  apart = st.apart;
-  places = st.places;
-  owners = st.owners;
-  broadcasts = st.broadcasts;
-  sessions = st.sessions;
-  most = st.most;
-  rows = λ n. ap (row_known s.owners n) (kept_under-changed (without_oldest k) s.rows m n) ∙ (row_rest s.owners n k (kept_under s.rows n) (m == n) ∙ st.rows n);
-  names = names-changed (without_oldest k) s.rows m ∙ st.names;
-  entries = λ n l. list_whole taken s.rows m n k l o e ∙ st.entries n l;
-  missed = st.missed;
-  unread = st.unread;
-})
+taken_out taken r grant s t h m k o e step st =
+    subst (λ (v : StationValue). StandsBeside (with_taken m k o taken) r grant v h) (sym step)
+    (other_lists taken (with_taken m k o taken) r grant s (changed_under (without_oldest k) s.rows m) h st
+    (λ n. ap (row_known s.owners n) (kept_under-changed (without_oldest k) s.rows m n) ∙ row_rest s.owners n k (kept_under s.rows n) (m == n))
+    (names-changed (without_oldest k) s.rows m)
+    (λ n l. list_whole taken s.rows m n k l o e))

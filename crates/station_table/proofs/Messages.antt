@@ -18,8 +18,9 @@ use Rattle.bus_model.specs.Heard.{StationSettings, Joining, Entry, kind_of, star
 use Rattle.station_table.specs.StationValue.{StationValue}
 use Rattle.station_table.specs.Steps.{with_reading, with_ended, with_broadcast_packet, with_session_packet, with_session, after_group}
 use Rattle.station_table.specs.StandsFor.{StandsBeside, most_heard}
-use Rattle.station_table.proofs.Known.{pick_cases, owner_has_row, broadcast_has_row, session_has_row, packet_owner_row}
-use Rattle.station_table.proofs.Lines.{StandsAfter, Midway, held_same, and_true, and_false, changed_place, written_place, ending}
+use Rattle.bus_model.proofs.Lookback.{pick_cases}
+use Rattle.station_table.proofs.Known.{owner_has_row, broadcast_has_row, session_has_row, packet_owner_row}
+use Rattle.station_table.proofs.Lines.{StandsAfter, Midway, held_same, and_true, and_false, changed_place, written_place, ending, tells}
 
 -- a single message
 pub single : (taken : ℕ → Kind → List Shown) (r : StationSettings) (grant : ℕ) (s : StationValue) (h : List Reading) (k : Kind) (src : ℕ) (bytes : List ℕ) → src < 256 → StandsBeside taken r grant s h
@@ -28,20 +29,8 @@ single taken r grant s h k src bytes lt st = ending taken r grant (Diagnostic k 
   where
     mid : Midway taken r grant (Diagnostic k src bytes) s h
     mid = record {
-      grants = st.grants;
-      claims = st.claims;
-      apart = st.apart;
-      places = st.places;
-      owners = st.owners;
-      broadcasts = st.broadcasts;
-      sessions = st.sessions;
-      most = st.most;
-      before = st.rows;
+      tells = tells taken r grant s h st;
       rows = λ n. refl;
-      names = st.names;
-      entries = st.entries;
-      missed = st.missed;
-      unread = st.unread;
     }
 
     same : entry_under (at s.owners src) k bytes ≡ entry_under (owner_heard src h) k bytes
@@ -114,23 +103,27 @@ broadcast_packet taken r grant s h src d bytes to_all lt not_held st =
 
     mid : Midway taken r grant (DataTransfer src d bytes) (record s { broadcasts = slice_set s.broadcasts src (after_packet bytes (at s.broadcasts src)) }) h
     mid = record {
-      grants = st.grants;
-      claims = st.claims;
-      apart = st.apart;
-      places = record { owners = st.places.owners; broadcasts = length-set s.broadcasts src (after_packet bytes (at s.broadcasts src)) ∙ st.places.broadcasts; sessions = st.places.sessions; most = st.places.most };
-      owners = st.owners;
-      broadcasts = λ a below.
-          changed_place s.broadcasts (λ v. broadcast_heard v h) (after_packet bytes) src st.places.broadcasts lt st.broadcasts a below
-          ∙ test_holds src a (d == 255) (after_packet bytes (broadcast_heard a h)) (broadcast_heard a h) to_all;
-      sessions = λ a below.
-          st.sessions a below ∙ test_fails src a (is_held (address_heard r h) d) (after_packet bytes (session_heard r a h)) (session_heard r a h) own_other;
-      most = st.most;
-      before = st.rows;
+      tells = record {
+        addresses = record {
+          grants = st.grants;
+          claims = st.claims;
+          apart = st.apart;
+          places = record { owners = st.places.owners; broadcasts = length-set s.broadcasts src (after_packet bytes (at s.broadcasts src)) ∙ st.places.broadcasts; sessions = st.places.sessions; most = st.places.most };
+          owners = st.owners;
+          broadcasts = λ a below.
+              changed_place s.broadcasts (λ v. broadcast_heard v h) (after_packet bytes) src st.places.broadcasts lt st.broadcasts a below
+              ∙ test_holds src a (d == 255) (after_packet bytes (broadcast_heard a h)) (broadcast_heard a h) to_all;
+          sessions = λ a below.
+              st.sessions a below ∙ test_fails src a (is_held (address_heard r h) d) (after_packet bytes (session_heard r a h)) (session_heard r a h) own_other;
+          most = st.most;
+        };
+        rows = st.rows;
+        names = st.names;
+        entries = st.entries;
+        missed = st.missed;
+        unread = st.unread;
+      };
       rows = λ n. refl;
-      names = st.names;
-      entries = st.entries;
-      missed = st.missed;
-      unread = st.unread;
     }
 
     same : finished (with_packet bytes (at s.broadcasts src)) ≡ ended_by r (DataTransfer src d bytes) h
@@ -153,22 +146,26 @@ session_packet taken r grant s h src d bytes not_all held lt st =
 
     mid : Midway taken r grant (DataTransfer src d bytes) (record s { sessions = slice_set s.sessions src (after_packet bytes (at s.sessions src)) }) h
     mid = record {
-      grants = st.grants;
-      claims = st.claims;
-      apart = st.apart;
-      places = record { owners = st.places.owners; broadcasts = st.places.broadcasts; sessions = length-set s.sessions src (after_packet bytes (at s.sessions src)) ∙ st.places.sessions; most = st.places.most };
-      owners = st.owners;
-      broadcasts = λ a below. st.broadcasts a below ∙ test_fails src a (d == 255) (after_packet bytes (broadcast_heard a h)) (broadcast_heard a h) not_all;
-      sessions = λ a below.
-          changed_place s.sessions (λ v. session_heard r v h) (after_packet bytes) src st.places.sessions lt st.sessions a below
-          ∙ test_holds src a (is_held (address_heard r h) d) (after_packet bytes (session_heard r a h)) (session_heard r a h) own;
-      most = st.most;
-      before = st.rows;
+      tells = record {
+        addresses = record {
+          grants = st.grants;
+          claims = st.claims;
+          apart = st.apart;
+          places = record { owners = st.places.owners; broadcasts = st.places.broadcasts; sessions = length-set s.sessions src (after_packet bytes (at s.sessions src)) ∙ st.places.sessions; most = st.places.most };
+          owners = st.owners;
+          broadcasts = λ a below. st.broadcasts a below ∙ test_fails src a (d == 255) (after_packet bytes (broadcast_heard a h)) (broadcast_heard a h) not_all;
+          sessions = λ a below.
+              changed_place s.sessions (λ v. session_heard r v h) (after_packet bytes) src st.places.sessions lt st.sessions a below
+              ∙ test_holds src a (is_held (address_heard r h) d) (after_packet bytes (session_heard r a h)) (session_heard r a h) own;
+          most = st.most;
+        };
+        rows = st.rows;
+        names = st.names;
+        entries = st.entries;
+        missed = st.missed;
+        unread = st.unread;
+      };
       rows = λ n. refl;
-      names = st.names;
-      entries = st.entries;
-      missed = st.missed;
-      unread = st.unread;
     }
 
     same : finished (with_packet bytes (at s.sessions src)) ≡ ended_by r (DataTransfer src d bytes) h
@@ -181,15 +178,17 @@ session_packet taken r grant s h src d bytes not_all held lt st =
 other_packet : (taken : ℕ → Kind → List Shown) (r : StationSettings) (grant : ℕ) (s : StationValue) (h : List Reading) (src d : ℕ) (bytes : List ℕ) → (d == 255) ≡ false → is_held s.claimer.held d ≡ false
     → StandsBeside taken r grant s h → StandsAfter taken r grant (DataTransfer src d bytes) s h
 other_packet taken r grant s h src d bytes not_all not_held st = record {
-  grants = st.grants;
-  claims = st.claims;
-  apart = st.apart;
-  places = st.places;
-  owners = st.owners;
-  broadcasts = λ a below. st.broadcasts a below ∙ test_fails src a (d == 255) (after_packet bytes (broadcast_heard a h)) (broadcast_heard a h) not_all;
-  sessions = λ a below.
-      st.sessions a below ∙ test_fails src a (is_held (address_heard r h) d) (after_packet bytes (session_heard r a h)) (session_heard r a h) own_other;
-  most = st.most;
+  addresses = record {
+    grants = st.grants;
+    claims = st.claims;
+    apart = st.apart;
+    places = st.places;
+    owners = st.owners;
+    broadcasts = λ a below. st.broadcasts a below ∙ test_fails src a (d == 255) (after_packet bytes (broadcast_heard a h)) (broadcast_heard a h) not_all;
+    sessions = λ a below.
+        st.sessions a below ∙ test_fails src a (is_held (address_heard r h) d) (after_packet bytes (session_heard r a h)) (session_heard r a h) own_other;
+    most = st.most;
+  };
   rows = st.rows;
   names = st.names;
   entries = λ n k. rw (not_all, own_other) (st.entries n k);
@@ -225,17 +224,19 @@ bam taken r grant s h src d size packets pgn lt st = go (d == 255) refl
         → StandsAfter taken r grant (ConnectionManagement src d (Bam size packets pgn))
         (if b then record s { broadcasts = slice_set s.broadcasts src (started (kind_of pgn) size (at s.owners src)) } else s) h
     go true i = record {
-      grants = st.grants;
-      claims = st.claims;
-      apart = st.apart;
-      places = record { owners = st.places.owners; broadcasts = length-set s.broadcasts src (started (kind_of pgn) size (at s.owners src)) ∙ st.places.broadcasts; sessions = st.places.sessions; most = st.places.most };
-      owners = st.owners;
-      broadcasts = λ a below.
-          written_place s.broadcasts (λ v. broadcast_heard v h) (λ v. started (kind_of pgn) size (owner_heard v h)) src (started (kind_of pgn) size (at s.owners src))
-          st.places.broadcasts lt (ap (started (kind_of pgn) size) (st.owners src lt)) st.broadcasts a below
-          ∙ test_holds src a (d == 255) (started (kind_of pgn) size (owner_heard a h)) (broadcast_heard a h) i;
-      sessions = st.sessions;
-      most = st.most;
+      addresses = record {
+        grants = st.grants;
+        claims = st.claims;
+        apart = st.apart;
+        places = record { owners = st.places.owners; broadcasts = length-set s.broadcasts src (started (kind_of pgn) size (at s.owners src)) ∙ st.places.broadcasts; sessions = st.places.sessions; most = st.places.most };
+        owners = st.owners;
+        broadcasts = λ a below.
+            written_place s.broadcasts (λ v. broadcast_heard v h) (λ v. started (kind_of pgn) size (owner_heard v h)) src (started (kind_of pgn) size (at s.owners src))
+            st.places.broadcasts lt (ap (started (kind_of pgn) size) (st.owners src lt)) st.broadcasts a below
+            ∙ test_holds src a (d == 255) (started (kind_of pgn) size (owner_heard a h)) (broadcast_heard a h) i;
+        sessions = st.sessions;
+        most = st.most;
+      };
       rows = st.rows;
       names = st.names;
       entries = st.entries;
@@ -243,14 +244,16 @@ bam taken r grant s h src d size packets pgn lt st = go (d == 255) refl
       unread = st.unread;
     }
     go false i = record {
-      grants = st.grants;
-      claims = st.claims;
-      apart = st.apart;
-      places = st.places;
-      owners = st.owners;
-      broadcasts = λ a below. st.broadcasts a below ∙ test_fails src a (d == 255) (started (kind_of pgn) size (owner_heard a h)) (broadcast_heard a h) i;
-      sessions = st.sessions;
-      most = st.most;
+      addresses = record {
+        grants = st.grants;
+        claims = st.claims;
+        apart = st.apart;
+        places = st.places;
+        owners = st.owners;
+        broadcasts = λ a below. st.broadcasts a below ∙ test_fails src a (d == 255) (started (kind_of pgn) size (owner_heard a h)) (broadcast_heard a h) i;
+        sessions = st.sessions;
+        most = st.most;
+      };
       rows = st.rows;
       names = st.names;
       entries = st.entries;
@@ -295,14 +298,16 @@ rts taken r grant s h src d size packets most pgn lt st = go (is_held s.claimer.
     begins : is_held s.claimer.held d ≡ true → (o : Option Joining) → started (kind_of pgn) size (at s.owners src) ≡ o
         → StandsAfter taken r grant (ConnectionManagement src d (Rts size packets most pgn)) (with_session s src most o) h
     begins i None e = record {
-      grants = st.grants;
-      claims = st.claims;
-      apart = st.apart;
-      places = st.places;
-      owners = st.owners;
-      broadcasts = st.broadcasts;
-      sessions = λ a below. st.sessions a below ∙ nothing_begun a (session_heard r a h) e (src == a) (is_held (address_heard r h) d) refl;
-      most = λ a below. st.most a below ∙ no_limit a (most_heard r a h) e (src == a) (is_held (address_heard r h) d) refl;
+      addresses = record {
+        grants = st.grants;
+        claims = st.claims;
+        apart = st.apart;
+        places = st.places;
+        owners = st.owners;
+        broadcasts = st.broadcasts;
+        sessions = λ a below. st.sessions a below ∙ nothing_begun a (session_heard r a h) e (src == a) (is_held (address_heard r h) d) refl;
+        most = λ a below. st.most a below ∙ no_limit a (most_heard r a h) e (src == a) (is_held (address_heard r h) d) refl;
+      };
       rows = st.rows;
       names = st.names;
       entries = st.entries;
@@ -310,24 +315,26 @@ rts taken r grant s h src d size packets most pgn lt st = go (is_held s.claimer.
       unread = st.unread;
     }
     begins i (Some j) e = record {
-      grants = st.grants;
-      claims = st.claims;
-      apart = st.apart;
-      places = record {
-        owners = st.places.owners;
-        broadcasts = st.places.broadcasts;
-        sessions = length-set s.sessions src (Some j) ∙ st.places.sessions;
-        most = length-set s.most src most ∙ st.places.most;
+      addresses = record {
+        grants = st.grants;
+        claims = st.claims;
+        apart = st.apart;
+        places = record {
+          owners = st.places.owners;
+          broadcasts = st.places.broadcasts;
+          sessions = length-set s.sessions src (Some j) ∙ st.places.sessions;
+          most = length-set s.most src most ∙ st.places.most;
+        };
+        owners = st.owners;
+        broadcasts = st.broadcasts;
+        sessions = λ a below.
+            written_place s.sessions (λ v. session_heard r v h) (λ v. or_else (begun_at v) (session_heard r v h)) src (Some j) st.places.sessions lt
+            (ap (λ (o : Option Joining). or_else o (session_heard r src h)) (sym (at_source (Some j) e src (eq-eqb src src refl)))) st.sessions a below
+            ∙ test_holds src a (is_held (address_heard r h) d) (or_else (begun_at a) (session_heard r a h)) (session_heard r a h) (own_held true i);
+        most = λ a below.
+            item-set 0 s.most src a most (subst (λ (v : ℕ). src < v) (sym st.places.most) lt)
+            ∙ limit a j below e (src == a) (is_held (address_heard r h) d) refl (own_held true i);
       };
-      owners = st.owners;
-      broadcasts = st.broadcasts;
-      sessions = λ a below.
-          written_place s.sessions (λ v. session_heard r v h) (λ v. or_else (begun_at v) (session_heard r v h)) src (Some j) st.places.sessions lt
-          (ap (λ (o : Option Joining). or_else o (session_heard r src h)) (sym (at_source (Some j) e src (eq-eqb src src refl)))) st.sessions a below
-          ∙ test_holds src a (is_held (address_heard r h) d) (or_else (begun_at a) (session_heard r a h)) (session_heard r a h) (own_held true i);
-      most = λ a below.
-          item-set 0 s.most src a most (subst (λ (v : ℕ). src < v) (sym st.places.most) lt)
-          ∙ limit a j below e (src == a) (is_held (address_heard r h) d) refl (own_held true i);
       rows = st.rows;
       names = st.names;
       entries = st.entries;
@@ -340,14 +347,16 @@ rts taken r grant s h src d size packets most pgn lt st = go (is_held s.claimer.
         (if b then with_session s src most (started (kind_of pgn) size (at s.owners src)) else s) h
     go true i = begins i (started (kind_of pgn) size (at s.owners src)) refl
     go false i = record {
-      grants = st.grants;
-      claims = st.claims;
-      apart = st.apart;
-      places = st.places;
-      owners = st.owners;
-      broadcasts = st.broadcasts;
-      sessions = λ a below. st.sessions a below ∙ test_fails src a (is_held (address_heard r h) d) (or_else (begun_at a) (session_heard r a h)) (session_heard r a h) (own_held false i);
-      most = λ a below. st.most a below ∙ rw (own_held false i, and_false (src == a)) refl;
+      addresses = record {
+        grants = st.grants;
+        claims = st.claims;
+        apart = st.apart;
+        places = st.places;
+        owners = st.owners;
+        broadcasts = st.broadcasts;
+        sessions = λ a below. st.sessions a below ∙ test_fails src a (is_held (address_heard r h) d) (or_else (begun_at a) (session_heard r a h)) (session_heard r a h) (own_held false i);
+        most = λ a below. st.most a below ∙ rw (own_held false i, and_false (src == a)) refl;
+      };
       rows = st.rows;
       names = st.names;
       entries = st.entries;
@@ -364,17 +373,19 @@ aborted taken r grant s h src d reason pgn lt st = go (is_held s.claimer.held d)
         → StandsAfter taken r grant (ConnectionManagement src d (Abort reason pgn))
         (if b then record s { sessions = slice_set s.sessions src (without_kind (kind_of pgn) (at s.sessions src)) } else s) h
     go true i = record {
-      grants = st.grants;
-      claims = st.claims;
-      apart = st.apart;
-      places = record { owners = st.places.owners; broadcasts = st.places.broadcasts; sessions = length-set s.sessions src (without_kind (kind_of pgn) (at s.sessions src)) ∙ st.places.sessions; most = st.places.most };
-      owners = st.owners;
-      broadcasts = st.broadcasts;
-      sessions = λ a below.
-          changed_place s.sessions (λ v. session_heard r v h) (without_kind (kind_of pgn)) src st.places.sessions lt st.sessions a below
-          ∙ test_holds src a (is_held (address_heard r h) d) (without_kind (kind_of pgn) (session_heard r a h)) (session_heard r a h)
-          (ap (λ v. is_held v d) (sym (held_same taken r grant s h st)) ∙ i);
-      most = st.most;
+      addresses = record {
+        grants = st.grants;
+        claims = st.claims;
+        apart = st.apart;
+        places = record { owners = st.places.owners; broadcasts = st.places.broadcasts; sessions = length-set s.sessions src (without_kind (kind_of pgn) (at s.sessions src)) ∙ st.places.sessions; most = st.places.most };
+        owners = st.owners;
+        broadcasts = st.broadcasts;
+        sessions = λ a below.
+            changed_place s.sessions (λ v. session_heard r v h) (without_kind (kind_of pgn)) src st.places.sessions lt st.sessions a below
+            ∙ test_holds src a (is_held (address_heard r h) d) (without_kind (kind_of pgn) (session_heard r a h)) (session_heard r a h)
+            (ap (λ v. is_held v d) (sym (held_same taken r grant s h st)) ∙ i);
+        most = st.most;
+      };
       rows = st.rows;
       names = st.names;
       entries = st.entries;
@@ -382,17 +393,19 @@ aborted taken r grant s h src d reason pgn lt st = go (is_held s.claimer.held d)
       unread = st.unread;
     }
     go false i = record {
-      grants = st.grants;
-      claims = st.claims;
-      apart = st.apart;
-      places = st.places;
-      owners = st.owners;
-      broadcasts = st.broadcasts;
-      sessions = λ a below.
-          st.sessions a below
-          ∙ test_fails src a (is_held (address_heard r h) d) (without_kind (kind_of pgn) (session_heard r a h)) (session_heard r a h)
-          (ap (λ v. is_held v d) (sym (held_same taken r grant s h st)) ∙ i);
-      most = st.most;
+      addresses = record {
+        grants = st.grants;
+        claims = st.claims;
+        apart = st.apart;
+        places = st.places;
+        owners = st.owners;
+        broadcasts = st.broadcasts;
+        sessions = λ a below.
+            st.sessions a below
+            ∙ test_fails src a (is_held (address_heard r h) d) (without_kind (kind_of pgn) (session_heard r a h)) (session_heard r a h)
+            (ap (λ v. is_held v d) (sym (held_same taken r grant s h st)) ∙ i);
+        most = st.most;
+      };
       rows = st.rows;
       names = st.names;
       entries = st.entries;

@@ -24,7 +24,8 @@ pub name_as_heard : (r : StationSettings) (grant : ℕ) (s : StationValue) (h : 
     → o ≡ slice_get (map named s.rows) place → StandsFor r grant s h → o ≡ slice_get (names_heard h) place
 name_as_heard r grant s h place o e st = e ∙ ap (λ (l : List ℕ). slice_get l place) st.names
 
-row_words : (owners : List (Option ℕ)) (name : ℕ) (k : Option KeptValue) → option_map row_heard_as (row_of owners name k) ≡ row_known owners name k
+-- the row that is shown, in the words of what was heard
+pub row_words : (owners : List (Option ℕ)) (name : ℕ) (k : Option KeptValue) → option_map row_heard_as (row_of owners name k) ≡ row_known owners name k
 row_words owners name None = refl
 row_words owners name (Some k) = refl
 

@@ -21,7 +21,7 @@ use Rattle.reassembly.specs.TableLaws.{at-empty, places-empty}
 use Rattle.station_table.specs.StationValue.{StationValue}
 use Rattle.station_table.specs.Steps.{no_limits, new_station, after_group, after_gap, after_reading}
 use Rattle.station_table.specs.StandsFor.{StandsBeside, StandsFor, none_taken, still_owned, ack_known, row_known}
-use Rattle.station_table.proofs.Lines.{StandsAfter}
+use Rattle.station_table.proofs.Lines.{StandsAfter, stands_as_told, tells}
 use Rattle.station_table.proofs.Claims.{acknowledged, cannot_claim, claimed}
 use Rattle.station_table.proofs.Messages.{single, packet, bam, rts, aborted}
 
@@ -72,66 +72,10 @@ group_beside taken r grant s h (ConnectionManagement src d (Bam size packets pgn
 group_beside taken r grant s h (ConnectionManagement src d (Rts size packets most pgn)) lt st = rts taken r grant s h src d size packets most pgn lt st
 group_beside taken r grant s h (ConnectionManagement src d (Abort reason pgn)) lt st = aborted taken r grant s h src d reason pgn lt st
 group_beside taken r grant s h (DataTransfer src d bytes) lt st = packet taken r grant s h src d bytes lt st.apart st
-group_beside taken r grant s h (Request p d src) lt st = record {
-  grants = st.grants;
-  claims = st.claims;
-  apart = st.apart;
-  places = st.places;
-  owners = st.owners;
-  broadcasts = st.broadcasts;
-  sessions = st.sessions;
-  most = st.most;
-  rows = st.rows;
-  names = st.names;
-  entries = st.entries;
-  missed = st.missed;
-  unread = st.unread;
-}
-group_beside taken r grant s h (ConnectionManagement src d (Cts granted next pgn)) lt st = record {
-  grants = st.grants;
-  claims = st.claims;
-  apart = st.apart;
-  places = st.places;
-  owners = st.owners;
-  broadcasts = st.broadcasts;
-  sessions = st.sessions;
-  most = st.most;
-  rows = st.rows;
-  names = st.names;
-  entries = st.entries;
-  missed = st.missed;
-  unread = st.unread;
-}
-group_beside taken r grant s h (ConnectionManagement src d (EndAck size packets pgn)) lt st = record {
-  grants = st.grants;
-  claims = st.claims;
-  apart = st.apart;
-  places = st.places;
-  owners = st.owners;
-  broadcasts = st.broadcasts;
-  sessions = st.sessions;
-  most = st.most;
-  rows = st.rows;
-  names = st.names;
-  entries = st.entries;
-  missed = st.missed;
-  unread = st.unread;
-}
-group_beside taken r grant s h Other lt st = record {
-  grants = st.grants;
-  claims = st.claims;
-  apart = st.apart;
-  places = st.places;
-  owners = st.owners;
-  broadcasts = st.broadcasts;
-  sessions = st.sessions;
-  most = st.most;
-  rows = st.rows;
-  names = st.names;
-  entries = st.entries;
-  missed = st.missed;
-  unread = st.unread;
-}
+group_beside taken r grant s h (Request p d src) lt st = tells taken r grant s h st
+group_beside taken r grant s h (ConnectionManagement src d (Cts granted next pgn)) lt st = tells taken r grant s h st
+group_beside taken r grant s h (ConnectionManagement src d (EndAck size packets pgn)) lt st = tells taken r grant s h st
+group_beside taken r grant s h Other lt st = tells taken r grant s h st
 
 -- a gap
 addressless_row : (n : ℕ) (owners : List (Option ℕ)) (o : Option KeptValue) → row_known empty_table n o ≡ addressless (row_known owners n o)
@@ -162,40 +106,10 @@ gap_beside taken r grant s h n st = record {
 -- a reading that is not refused
 pub beside_after : (taken : ℕ → Kind → List Shown) (r : StationSettings) (grant : ℕ) (s : StationValue) (h : List Reading) (x : Reading) → StandsBeside taken r grant s h
     → StandsBeside taken r grant (after_reading s x) (x ∷ h)
-beside_after taken r grant s h Empty st = record {
-  grants = st.grants;
-  claims = st.claims;
-  apart = st.apart;
-  places = st.places;
-  owners = st.owners;
-  broadcasts = st.broadcasts;
-  sessions = st.sessions;
-  most = st.most;
-  rows = st.rows;
-  names = st.names;
-  entries = st.entries;
-  missed = st.missed;
-  unread = st.unread;
-}
+beside_after taken r grant s h Empty st = stands_as_told taken r grant s (Empty ∷ h) (tells taken r grant s h st)
 beside_after taken r grant s h (Gap n) st = gap_beside taken r grant s h n st
-beside_after taken r grant s h (Frame f) st = at_frame (group_beside taken r grant s h (group_of f) (sender_below f) st)
-  where
-    at_frame : StandsAfter taken r grant (group_of f) (after_group s (group_of f)) h → StandsBeside taken r grant (after_group s (group_of f)) (Frame f ∷ h)
-    at_frame t = record {
-      grants = t.grants;
-      claims = t.claims;
-      apart = t.apart;
-      places = t.places;
-      owners = t.owners;
-      broadcasts = t.broadcasts;
-      sessions = t.sessions;
-      most = t.most;
-      rows = t.rows;
-      names = t.names;
-      entries = t.entries;
-      missed = t.missed;
-      unread = t.unread;
-    }
+beside_after taken r grant s h (Frame f) st =
+    stands_as_told taken r grant (after_group s (group_of f)) (Frame f ∷ h) (group_beside taken r grant s h (group_of f) (sender_below f) st)
 
 -- where no entry was taken out of a list
 pub stands_after : (r : StationSettings) (grant : ℕ) (s : StationValue) (h : List Reading) (x : Reading) → StandsFor r grant s h

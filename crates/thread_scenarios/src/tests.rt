@@ -1,3 +1,4 @@
+mod crew;
 mod many;
 mod meetings;
 mod past;

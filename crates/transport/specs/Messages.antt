@@ -10,13 +10,21 @@ use Rattle.transport.specs.declared.control.TheConstants.Control.{NO_LIMIT}
 use Rattle.transport.specs.declared.control.Control.{Control}
 use Rattle.transport.specs.declared.control.Control.TheVariants.{Rts, Bam}
 
--- the frame of a connection management message (group 60416, priority 7)
-abbrev pub control_frame : Control → ℕ → ℕ → FrameValue
-control_frame control source destination = frame (pdu1_number 7 CONNECTION_MANAGEMENT destination source) (control_bytes control)
+-- the identifier of a connection management message (group 60416, priority 7)
+abbrev pub control_id : ℕ → ℕ → ℕ
+control_id source destination = pdu1_number 7 CONNECTION_MANAGEMENT destination source
 
--- the frame of a data transfer packet (group 60160, priority 7)
+-- and its frame
+abbrev pub control_frame : Control → ℕ → ℕ → FrameValue
+control_frame control source destination = frame (control_id source destination) (control_bytes control)
+
+-- the identifier of a data transfer packet (group 60160, priority 7)
+abbrev pub packet_id : ℕ → ℕ → ℕ
+packet_id source destination = pdu1_number 7 DATA_TRANSFER destination source
+
+-- and its frame
 abbrev pub packet_frame : List ℕ → ℕ → ℕ → FrameValue
-packet_frame bytes source destination = frame (pdu1_number 7 DATA_TRANSFER destination source) bytes
+packet_frame bytes source destination = frame (packet_id source destination) bytes
 
 -- what announces a payload: to all a Bam, else an Rts with no limit
 abbrev pub announcement : ℕ → ℕ → ℕ → Control

@@ -12,16 +12,28 @@ use can_frame::{Frame, GLOBAL_ADDRESS, Id, Pgn};
 pub fn control_frame(control: Control, source: u8, dest: u8) -> Frame
     ensures { result ≡ message.control_frame control source dest }
 {
-    let id = Id::pdu1(7, Pgn::CONNECTION_MANAGEMENT, dest, source);
-    Frame::of(id, &control.to_bytes())
+    Frame::of(control_id(source, dest), &control.to_bytes())
+}
+
+/// The identifier of a connection management message.
+pub(crate) fn control_id(source: u8, dest: u8) -> Id
+    ensures { result ≡ message.control_id source dest }
+{
+    Id::pdu1(7, Pgn::CONNECTION_MANAGEMENT, dest, source)
 }
 
 /// The frame of a data transfer packet: priority 7, group 60160.
 pub fn packet_frame(bytes: [u8; 8], source: u8, dest: u8) -> Frame
     ensures { result ≡ message.packet_frame bytes source dest }
 {
-    let id = Id::pdu1(7, Pgn::DATA_TRANSFER, dest, source);
-    Frame::of(id, &bytes)
+    Frame::of(packet_id(source, dest), &bytes)
+}
+
+/// The identifier of a data transfer packet.
+pub(crate) fn packet_id(source: u8, dest: u8) -> Id
+    ensures { result ≡ message.packet_id source dest }
+{
+    Id::pdu1(7, Pgn::DATA_TRANSFER, dest, source)
 }
 
 /// The number of a message's last part: 0 for the one frame of eight bytes, else its number of packets.

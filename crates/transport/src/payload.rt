@@ -37,7 +37,7 @@ impl Payload {
     }
 
     /// The bytes of this buffer.
-    pub(crate) fn of(bytes: Vec<u8>) -> Payload
+    pub fn of(bytes: Vec<u8>) -> Payload
         ensures { result ≡ bytes.items }
     {
         Payload { bytes }

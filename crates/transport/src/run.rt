@@ -4,9 +4,9 @@ ghost use Rattle.transport.specs.Messages.{parts_from, last_part, frames_of_mess
 ghost use Rattle.transport.specs.Pieces.{packet_count};
 ghost use Rattle.transport.specs.Runs.{frame_in, part_in, run_of};
 
-use crate::message::long_message_part;
+use crate::message::{control_id, long_message_part, packet_id};
 use crate::payload::Payload;
-use can_frame::{Frame, Pgn};
+use can_frame::{Frame, Id, Pgn};
 use std::marker::Model;
 
 /// Some parts of a message of 9 to 1,785 bytes, one after another (SAE J1939-21, transport protocol): part 0 is the
@@ -71,6 +71,21 @@ impl Run {
             self.dest,
             self.next as u8,
         ))
+    }
+
+    /// The identifier of the first frame that is left, which is not made for it.
+    #[tactic(auto, using(crate::proofs::Runs::announcement_first, crate::proofs::Runs::packet_first, crate::proofs::Runs::empty_run))]
+    pub fn id(&self) -> Option<Id>
+        ensures { result ≡ option_map (λ n. n.frame.id) (slice_get self.now 0) }
+    {
+        if self.next > u16::from(self.end) {
+            return None;
+        }
+        if self.next == 0 {
+            Some(control_id(self.source, self.dest))
+        } else {
+            Some(packet_id(self.source, self.dest))
+        }
     }
 
     /// Which part of the message the first frame that is left is, 0 to 255.

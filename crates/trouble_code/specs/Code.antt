@@ -1,4 +1,4 @@
-use Rattle.std.specs.Prelude.{◌≡◌, ◌≢◌, ℕ, min, ◌+◌, ◌*◌, ◌/◌, ◌%◌, ◌^◌, ◌<◌, ◌≤◌, List, [], ◌∷◌, length, slice_index}
+use Rattle.std.specs.Prelude.{◌≡◌, ◌≢◌, ℕ, Bool, ◌&&◌, ◌==◌, min, ◌+◌, ◌*◌, ◌/◌, ◌%◌, ◌^◌, ◌<◌, ◌≤◌, List, [], ◌∷◌, length, slice_index}
 
 -- a trouble code: suspect parameter number, failure mode identifier, occurrence count
 pub record Code : Type 0 where
@@ -13,6 +13,14 @@ code spn fmi count = record { spn = spn; fmi = fmi; count = count }
 -- the SPN has 19 bits, the FMI 5, the count 7, and they are not all 0
 abbrev pub IsCode : Code → Type 0
 IsCode c = (c.spn < 2 ^ 19) × (c.fmi < 32) × (c.count < 128) × (0 < c.spn + c.fmi + c.count)
+
+-- two codes of one SPN and FMI
+abbrev pub same_fault : Code → Code → Bool
+same_fault c d = (c.spn == d.spn) && (c.fmi == d.fmi)
+
+-- two codes of the same three numbers
+abbrev pub same_code : Code → Code → Bool
+same_code c d = same_fault c d && (c.count == d.count)
 
 -- the code when its fault occurs once more: the count one more, at most 126
 abbrev pub occurred_again : Code → Code

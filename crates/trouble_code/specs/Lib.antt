@@ -1,3 +1,4 @@
 pub mod Code
 pub mod DtcRefusals
 pub mod LampBytes
+pub mod Numbers

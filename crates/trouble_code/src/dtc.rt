@@ -1,11 +1,16 @@
 ghost use Rattle.std.specs.Prelude.{◌≡◌, ◌∷◌, [], ◌+◌, ◌*◌, All, List, Ok, ℕ, ◌<◌, ◌≤◌, ◌^◌, ◌↔◌, ◌⊎◌, IfOk, IfErr, IsErrOf, slice_index};
+ghost use Rattle.std.specs.Cmp.{partial_equiv_from_equiv};
+ghost use Rattle.trouble_code.specs.Code.{same_code};
+ghost use Rattle.trouble_code.specs.Numbers.{same_code_equiv};
 
 use crate::error::DtcError;
 use std::marker::Model;
 
-const SPN_LIMIT: u32 = 1 << 19;
+/// The greatest SPN: 19 bits (SAE J1939-73).
+pub const GREATEST_SPN: u32 = 524_287;
 
-const FMI_LIMIT: u8 = 1 << 5;
+/// The greatest FMI: 5 bits (SAE J1939-73).
+pub const GREATEST_FMI: u8 = 31;
 
 const COUNT_LIMIT: u8 = 1 << 7;
 
@@ -13,29 +18,48 @@ const MOST_OCCURRENCES: u8 = 126;
 
 /// A diagnostic trouble code (SAE J1939-73).
 ///
-/// The SPN is at most 524,287, the FMI at most 31, the occurrence count at most 127 (127: not available), and they are
-/// not all 0.
-#[derive(Clone, Copy, Debug, PartialEq, Eq)]
+/// The SPN is at most [`GREATEST_SPN`], the FMI at most [`GREATEST_FMI`], the occurrence count at most 127 (127: not
+/// available), and they are not all 0.
+#[derive(Clone, Copy, Debug)]
 pub struct Dtc {
-    spn: u32,
-    fmi: u8,
-    count: u8,
+    /// Its four bytes, the lowest first: 16 bits of the SPN, the FMI below the other 3 bits of the SPN, the count.
+    number: u32,
 }
 
+const _: () = prove!(size_of::<Dtc>() == 4);
+
 impl Model for Dtc {
-    ghost use Rattle.trouble_code.specs.Code.{Code, code, IsCode};
+    ghost use Rattle.trouble_code.specs.Code.{Code, IsCode};
+    ghost use Rattle.trouble_code.specs.Numbers.{code_of_number, number_of_code, own_number};
 
     ghost Value = { Code };
 
-    ghost view = { λ d. code d.spn d.fmi d.count };
+    ghost view = { λ d. code_of_number d.number };
 
-    ghost invariant = { λ d. IsCode (code d.spn d.fmi d.count) };
+    ghost invariant = { λ d. IsCode (code_of_number d.number) };
 
-    ghost inverse = { λ v. record { spn = v.spn; fmi = v.fmi; count = v.count } };
+    ghost inverse = { λ c. record { number = number_of_code c } };
+
+    ghost inverse_ok = { λ d h i. record { number = own_number d.number i } };
+}
+
+/// Two codes are equal where their bytes are.
+impl PartialEq for Dtc {
+    ghost eq = { same_code };
+
+    ghost laws = { partial_equiv_from_equiv same_code_equiv };
+
+    fn eq(&self, other: &Dtc) -> bool {
+        self.number == other.number
+    }
+}
+
+impl Eq for Dtc {
+    ghost laws = { same_code_equiv };
 }
 
 impl Dtc {
-    ghost use Rattle.trouble_code.specs.Code.{Code, code, IsCode, occurred_again, EncodesCode, code_bytes};
+    ghost use Rattle.trouble_code.specs.Code.{Code, code, IsCode, same_fault, occurred_again, EncodesCode, code_bytes};
 
     /// The code with these three numbers.
     ///
@@ -50,10 +74,10 @@ impl Dtc {
         ensures no_code { IsErrOf result DtcError.NoCode ↔ ((spn ≡ 0) × (fmi ≡ 0) × (count ≡ 0)) }
         ensures never_old { ¬ IsErrOf result DtcError.OldConversion }
     {
-        if spn >= SPN_LIMIT {
+        if spn > GREATEST_SPN {
             return Err(DtcError::SpnTooLarge);
         }
-        if fmi >= FMI_LIMIT {
+        if fmi > GREATEST_FMI {
             return Err(DtcError::FmiTooLarge);
         }
         if count >= COUNT_LIMIT {
@@ -62,7 +86,18 @@ impl Dtc {
         if spn == 0 && fmi == 0 && count == 0 {
             return Err(DtcError::NoCode);
         }
-        Ok(Dtc { spn, fmi, count })
+        Ok(Dtc::of(spn, fmi, count))
+    }
+
+    /// The code with these three numbers, which are in their ranges.
+    fn of(spn: u32, fmi: u8, count: u8) -> Dtc
+        requires { IsCode (code spn fmi count) }
+        ensures { result ≡ code spn fmi count }
+    {
+        let [low, middle, high, _] = spn.to_le_bytes();
+        Dtc {
+            number: u32::from_le_bytes([low, middle, high << 5 | fmi, count]),
+        }
     }
 
     /// The suspect parameter number, at most 524,287.
@@ -70,7 +105,7 @@ impl Dtc {
         ensures value { result ≡ self.spn }
         ensures lawful { IsCode self }
     {
-        self.spn
+        joined(self.number >> 21 & 0x7, self.number & 0xFFFF)
     }
 
     /// The failure mode identifier, at most 31.
@@ -78,7 +113,7 @@ impl Dtc {
         ensures value { result ≡ self.fmi }
         ensures lawful { IsCode self }
     {
-        self.fmi
+        (self.number >> 16 & 0x1F) as u8
     }
 
     /// The occurrence count, at most 127; 127 stands for not available.
@@ -86,17 +121,23 @@ impl Dtc {
         ensures value { result ≡ self.count }
         ensures lawful { IsCode self }
     {
-        self.count
+        (self.number >> 24) as u8
+    }
+
+    /// Whether the other code has the same SPN and FMI.
+    #[tactic(auto, using(crate::proofs::CodeLemmas::same_low_bits))]
+    pub fn is_same_fault(self, other: Dtc) -> bool
+        ensures { result ≡ same_fault self other }
+    {
+        self.number & 0xFF_FFFF == other.number & 0xFF_FFFF
     }
 
     /// The code when its fault occurs once more: the count is one more, and at most 126.
     pub fn occurred_again(self) -> Dtc
         ensures { result ≡ occurred_again self }
     {
-        Dtc {
-            count: (self.count + 1).min(MOST_OCCURRENCES),
-            ..self
-        }
+        let count = (self.count() + 1).min(MOST_OCCURRENCES);
+        Dtc::of(self.spn(), self.fmi(), count)
     }
 
     /// The one group of four bytes that encodes this code.
@@ -105,10 +146,7 @@ impl Dtc {
         ensures encoded { EncodesCode result self }
         ensures only { (bytes : List ℕ) → All (λ b. b < 256) bytes → EncodesCode bytes self → bytes ≡ result }
     {
-        let low = (self.spn & 0xFF) as u8;
-        let middle = (self.spn >> 8 & 0xFF) as u8;
-        let high = (self.spn >> 16) as u8;
-        [low, middle, high << 5 | self.fmi, self.count]
+        self.number.to_le_bytes()
     }
 
     /// The code that four bytes encode.
@@ -123,25 +161,23 @@ impl Dtc {
         ensures old { IsErrOf result DtcError.OldConversion ↔ (128 ≤ slice_index bytes 3) }
         ensures no_other { IfErr result (λ e. (e ≡ DtcError.NoCode) ⊎ (e ≡ DtcError.OldConversion)) }
     {
-        if bytes == [0, 0, 0, 0] {
+        let number = u32::from_le_bytes(bytes);
+        if number == 0 {
             return Err(DtcError::NoCode);
         }
-        let [low, middle, top, count] = bytes;
+        let [_, _, _, count] = bytes;
         if count >= COUNT_LIMIT {
             return Err(DtcError::OldConversion);
         }
-        Ok(Dtc {
-            spn: joined(low, middle, top >> 5),
-            fmi: top & 0x1F,
-            count,
-        })
+        Ok(Dtc { number })
     }
 }
 
-/// The number of these bytes, the first the lowest.
+/// The number of these 16 bits and the 3 above them.
 #[tactic(auto, using(crate::proofs::CodeLemmas::joined_bits))]
-fn joined(low: u8, middle: u8, high: u8) -> u32
-    ensures { result ≡ low + 256 * middle + 65536 * high }
+fn joined(high: u32, low: u32) -> u32
+    requires { (high < 8) × (low < 2 ^ 16) }
+    ensures { result ≡ low + 2 ^ 16 * high }
 {
-    u32::from(high) << 16 | u32::from(middle) << 8 | u32::from(low)
+    high << 16 | low
 }

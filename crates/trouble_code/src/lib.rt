@@ -10,6 +10,6 @@ mod error;
 mod lamps;
 
 pub use codes::Codes;
-pub use dtc::Dtc;
+pub use dtc::{Dtc, GREATEST_FMI, GREATEST_SPN};
 pub use error::DtcError;
 pub use lamps::{LampName, Lamps};

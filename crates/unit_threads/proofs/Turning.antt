@@ -33,23 +33,20 @@ grows_none P g = record { events = []; kind = All-nil P; added = refl }
 abbrev grows_more : (P : Event → Type 0) (a b c : GarageValue) (e : Event) → GrowsBy P a b → P e → c ≡ with_event e b → GrowsBy P a c
 grows_more P a b c e g p h = record { events = e ∷ g.events; kind = All-cons P e g.events p g.kind; added = h ∙ ap (with_event e) g.added }
 
-abbrev grows_same : (P : Event → Type 0) (a b c : GarageValue) → GrowsBy P a b → c ≡ b → GrowsBy P a c
-grows_same P a b c g h = record { events = g.events; kind = g.kind; added = h ∙ g.added }
+abbrev pub grown_same : (P : Event → Type 0) (a b c : GarageValue) → GrowsBy P a b → c ≡ b → GrowsBy P a c
+grown_same P a b c g h = record { events = g.events; kind = g.kind; added = h ∙ g.added }
 
 -- one more frame heard, if there was one
 pub hears_more : (X : Type 0) (k j : ℕ) (a b c : GarageValue) (memory memory' : MemoryValue) (answers : Question → Bool → X → Type 0) (unit unit' : X) (h : HeardOne)
     → j ≡ k → GrowsBy (IsHearOf k) a b → Hears b j memory answers unit h c memory' unit' → GrowsBy (IsHearOf k) a c
 hears_more X k j a b c memory memory' answers unit unit' (heard.Frame f) e g h = grows_more (IsHearOf k) a b c (Hear j memory h.1.0) g e h.1.1.adds
-hears_more X k j a b c memory memory' answers unit unit' heard.Nothing e g h = grows_same (IsHearOf k) a b c g h.1
+hears_more X k j a b c memory memory' answers unit unit' heard.Nothing e g h = grown_same (IsHearOf k) a b c g h.1
 
 -- one more reading taken, if there was one
 pub reads_more : (a b c : GarageValue) (r : Reading) → GrowsBy IsRead a b → Reads b r c → GrowsBy IsRead a c
 reads_more a b c (reading.Frame f) g h = grows_more IsRead a b c (Read (reading.Frame f)) g tt h.adds
 reads_more a b c (reading.Gap n) g h = grows_more IsRead a b c (Read (reading.Gap n)) g tt h.adds
-reads_more a b c reading.Empty g h = grows_same IsRead a b c g h.1
-
-pub grown_same : (P : Event → Type 0) (a b c : GarageValue) → GrowsBy P a b → c ≡ b → GrowsBy P a c
-grown_same P a b c g h = grows_same P a b c g h
+reads_more a b c reading.Empty g h = grown_same IsRead a b c g h.1
 
 -- ---- beginning
 
@@ -96,12 +93,12 @@ carried_more a b c k n m g h e =
 
 -- a refused carry changed nothing
 pub carried_some : (a b c : GarageValue) (n : ℕ) → CarriedSoFar n a b → n < 8 → c ≡ b → CarriesSome a c
-carried_some a b c n g l e = record { carries = grows_same IsCarry a b c g.carries e; fewer = (let s = g.count in omega (arith, s, l)) }
+carried_some a b c n g l e = record { carries = grown_same IsCarry a b c g.carries e; fewer = (let s = g.count in omega (arith, s, l)) }
 
 -- nor did one that found nothing to carry
 pub carried_until : (a b c : GarageValue) (n : ℕ) → CarriedSoFar n a b → n < 8 → c ≡ b → CannotCarry b → CarriesAll a c
 carried_until a b c n g l e ended = record {
-  carries = grows_same IsCarry a b c g.carries e;
+  carries = grown_same IsCarry a b c g.carries e;
   most = (let s = g.count in omega (arith, s, l));
   all = inr (subst CannotCarry (sym e) ended);
 }
@@ -199,7 +196,7 @@ begun_turn k j wants memory a b c d hears all e begun same = inr (inl (record {
 }))
 
 pub heard_turn : (k : ℕ) (a b c : GarageValue) → GrowsBy (IsHearOf k) a b → c ≡ b → IsPartOfTurn k a c
-heard_turn k a b c hears e = inl (grows_same (IsHearOf k) a b c hears e)
+heard_turn k a b c hears e = inl (grown_same (IsHearOf k) a b c hears e)
 
 pub left_turn : (k i j : ℕ) (a a' b c : GarageValue) → a' ≡ a → i ≡ k → j ≡ i → IsPartOfTurn i a' b → Adds b (Leave j) c → LeftTurn k a c
 left_turn k i j a a' b c start seat same part left =

@@ -102,11 +102,7 @@ fn start_all<'s, 'e, R: Threads + Wait + Sync, G: Gate>(
     );
     let end = match started {
         Ok(thread) => thread.join(rt),
-        Err(_) => Ended {
-            seat: None,
-            events: 0,
-            refusal: Some(EndReason::NoThread),
-        },
+        Err(_) => never_joined(EndReason::NoThread),
     };
     ended.push_reserved(end);
     (ended, station)
@@ -128,11 +124,7 @@ fn drive<R: Wait, G: Gate>(
         Ok(parked) => parked,
         Err((unit, error)) => {
             drop(unit);
-            return Ended {
-                seat: None,
-                events: 0,
-                refusal: Some(EndReason::Garage(error)),
-            };
+            return never_joined(EndReason::Garage(error));
         }
     };
     let seat = parked.seat();
@@ -154,6 +146,15 @@ fn drive<R: Wait, G: Gate>(
             refusal: None,
         },
         Err(error) => refused_at(seat, error),
+    }
+}
+
+/// The end of a unit that never joined.
+fn never_joined(refusal: EndReason) -> Ended {
+    Ended {
+        seat: None,
+        events: 0,
+        refusal: Some(refusal),
     }
 }
 

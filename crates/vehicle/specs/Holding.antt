@@ -6,7 +6,10 @@ use Rattle.hex_text.specs.Hex.{hex_value}
 use Rattle.toml.specs.Data.{Data, Items, no_items, item, get, as_integer, as_str, as_array}
 use Rattle.script_line.specs.declared.command.UnitKind.{UnitKind}
 use Rattle.script_line.specs.declared.command.UnitKind.TheVariants.{Plain, Guarded, Flicker}
-use Rattle.vehicle.specs.declared.read.TheConstants.{MOST_UNREAD, MOST_GRANTED, MOST_EVENTS, HIGHEST_SPN, HIGHEST_FMI}
+use Rattle.trouble_code.specs.declared.dtc.TheConstants.{GREATEST_SPN, GREATEST_FMI}
+use Rattle.bus_ledger.specs.declared.bus.TheConstants.{MOST_UNREAD}
+use Rattle.garage.specs.declared.garage.TheConstants.{MOST_EVENTS}
+use Rattle.vehicle.specs.declared.read.TheConstants.{MOST_GRANTED}
 use Rattle.vehicle.specs.declared.Station.{Station}
 use Rattle.vehicle.specs.declared.UnitLine.{UnitLine}
 use Rattle.vehicle.specs.declared.Vehicle.{Vehicle}
@@ -40,7 +43,7 @@ abbrev pub HoldsKind : Data → UnitKind → Type 0
 HoldsKind d Plain = text_at (codes "kind") d ≡ Some (codes "plain")
 HoldsKind d Guarded = text_at (codes "kind") d ≡ Some (codes "guarded")
 HoldsKind d (Flicker spn fmi) = (text_at (codes "kind") d ≡ Some (codes "flicker"))
-    × HasNumber d (codes "spn") spn 0 HIGHEST_SPN × HasNumber d (codes "fmi") fmi 0 HIGHEST_FMI
+    × HasNumber d (codes "spn") spn 0 GREATEST_SPN × HasNumber d (codes "fmi") fmi 0 GREATEST_FMI
 
 -- a unit's NAME, its address and its kind
 pub record HoldsUnit (d : Data) (u : UnitLine) : Type 0 where

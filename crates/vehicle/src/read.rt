@@ -8,25 +8,16 @@ ghost use Rattle.vehicle.specs.Holding.{number_at, text_at, HasName, HasNumber, 
 
 use crate::fault::VehicleFault;
 use crate::{Station, UnitKind, UnitLine, Vehicle};
+use bus_ledger::MOST_UNREAD;
 use can_frame::GREATEST_ADDRESS;
+use garage::MOST_EVENTS;
 use name_field::Name;
 use std::alloc::Global;
 use toml::{Table, Value};
-
-/// The largest window of unread frames.
-const MOST_UNREAD: u32 = 4096;
+use trouble_code::{GREATEST_FMI, GREATEST_SPN};
 
 /// The most packets that are asked for at once.
 const MOST_GRANTED: u32 = 255;
-
-/// The most events of a journal.
-const MOST_EVENTS: u32 = 16_777_216;
-
-/// The highest SPN (J1939-73).
-const HIGHEST_SPN: u32 = 524_287;
-
-/// The highest FMI (J1939-73).
-const HIGHEST_FMI: u32 = 31;
 
 /// Reads the text of a vehicle, a TOML document.
 ///
@@ -96,8 +87,8 @@ fn read_kind(value: &Value) -> Result<UnitKind, VehicleFault>
     let word = read_text(value, "kind")?;
     if word == "flicker" {
         has_only(value, &["name", "address", "kind", "spn", "fmi"])?;
-        let spn = read_number(value, "spn", 0, HIGHEST_SPN)?;
-        let fmi = read_number(value, "fmi", 0, HIGHEST_FMI)? as u8;
+        let spn = read_number(value, "spn", 0, GREATEST_SPN)?;
+        let fmi = read_number(value, "fmi", 0, u32::from(GREATEST_FMI))? as u8;
         return Ok(UnitKind::Flicker { spn, fmi });
     }
     has_only(value, &["name", "address", "kind"])?;

@@ -2,6 +2,7 @@ use bus_watch::{Run, Watch};
 use candump_line::Time;
 use csv::Writer;
 use dm_messages::Kind;
+use dm_words::NO_COUNT;
 use name_field::Name;
 use std::alloc::{AllocError, Global};
 use trouble_code::Dtc;
@@ -20,9 +21,6 @@ const HEADER: [&[u8]; 11] = [
     b"count",
     b"contested",
 ];
-
-/// The count of a code that is not available (SAE J1939-73).
-const NO_COUNT: u8 = 127;
 
 /// Writes rows to memory, where only memory can fail.
 type Rows = Writer<Vec<u8>>;

@@ -1,4 +1,5 @@
 ghost use Rattle.std.specs.Prelude.{◌≤◌};
+ghost use Rattle.can_frame.specs.declared.address.TheConstants.{GREATEST_ADDRESS};
 
 use crate::form::{Form, write_change, write_report};
 use crate::lines::read_lines;
@@ -14,7 +15,7 @@ pub struct Assumed {
     /// 0 to 253.
     pub address: u8,
     pub name: Name,
-    ghost address_fits: { address ≤ 253 },
+    ghost address_fits: { address ≤ GREATEST_ADDRESS },
 }
 
 /// How a log or a live bus is watched.

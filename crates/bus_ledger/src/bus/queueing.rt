@@ -56,33 +56,9 @@ impl Bus {
         place.put_reserved(QueuedFrame { frame, tag });
     }
 
-    /// Puts the frames that are left of a run at the end of the seat's queue, in one place of it, and takes the room for it:
-    /// parts of the message of this number, in a session or not. It cannot fail where the seat's spare is at least 1, and
-    /// lowers the spare by at most 1. The queue is seen as with each frame queued by itself; a frame is made when it is
-    /// looked at or carried.
-    ///
-    /// Refused where there is no memory; then nothing was queued, and the run is dropped.
-    pub fn queue_run(
-        &mut self,
-        seat: u32,
-        run: Run,
-        message: u32,
-        session: bool,
-    ) -> Result<(), BusError>
-        requires live { IsLive self.old.traffic seat }
-        requires few { (seat_at self.old.traffic seat).queued + length run < 2 ^ 32 }
-        ensures ok { OnOk result (self.new.traffic ≡ queued_all seat (run_frames message session run) self.old.traffic) }
-        ensures err { IfErr result (λ e. (e ≡ BusError.OutOfMemory) × (spare_at self.old seat ≡ 0) × (self.new.traffic ≡ self.old.traffic)) }
-        ensures spare { spare_at self.old seat ≤ spare_at self.new seat + 1 }
-        ensures spares { (k : ℕ) → k ≢ seat → spare_at self.old k ≤ spare_at self.new k }
-    {
-        self.reserve(seat, 1)?;
-        self.queue_run_reserved(seat, run, message, session);
-        Ok(())
-    }
-
-    /// Puts the frames that are left of a run at the end of the seat's queue, which has room for it, as `queue_run` does.
-    /// Lowers the seat's spare by at most 1. Takes no memory.
+    /// Puts the frames that are left of a run at the end of the seat's queue, in one place of it, which has room for it: parts
+    /// of the message of this number, in a session or not. The queue is seen as with each frame queued by itself; a frame is
+    /// made when it is looked at or carried. Lowers the seat's spare by at most 1. Takes no memory.
     pub fn queue_run_reserved(&mut self, seat: u32, run: Run, message: u32, session: bool)
         requires live { IsLive self.old.traffic seat }
         requires spare { 0 < spare_at self.old seat }

@@ -4,6 +4,7 @@ ghost use Rattle.bus_watch.specs.Followed as followed;
 ghost use Rattle.bus_watch.specs.Told.{Told, Beginning, StandsForAll};
 ghost use Rattle.bus_watch.specs.Told as told;
 ghost use Rattle.bus_watch.specs.WatchValue.{Takes};
+ghost use Rattle.can_frame.specs.declared.address.TheConstants.{GREATEST_ADDRESS};
 ghost use Rattle.can_frame.specs.declared.reading.Reading.TheVariants.{Frame as FrameRead};
 ghost use Rattle.candump_line.specs.declared.line.Line.TheVariants as said;
 ghost use Rattle.parameter_group.specs.Group.{group_of, ConnectionManagement, DataTransfer};
@@ -44,7 +45,7 @@ impl Watch {
         name: Name,
         address: u8,
     ) -> Result<Vec<Change>, AllocError>
-        requires { address ≤ 253 }
+        requires { address ≤ GREATEST_ADDRESS }
         ensures { OnOk result ((b : Beginning) (ts : List Told) → StandsForAll b ts self.old → StandsForAll b (told.Assumed name address ∷ ts) self.new) }
     {
         let claim = claim_frame(name, Some(address));

@@ -66,7 +66,7 @@ impl Node {
     }
 
     /// Whether a frame to this destination goes to all, or to the address held.
-    fn is_concerned(&self, destination: u8) -> bool
+    pub(super) fn is_concerned(&self, destination: u8) -> bool
         ensures { result ≡ is_concerned self.now.claimer.held destination }
     {
         destination == GLOBAL_ADDRESS || self.is_held(destination)

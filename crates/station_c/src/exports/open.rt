@@ -25,9 +25,9 @@ pub extern "C" fn hidzgula_open(
 ) -> u32
     ensures opened { Answers result Status.Done → HoldsReadings (record { name = name; address = address }) grant handle.new [] }
     ensures kept { ¬ Answers result Status.Done → HoldsSame handle.old handle.new }
-    ensures bad_setting { Answers result Status.BadSetting ↔ ((253 < address) ⊎ (grant ≡ 0)) }
-    ensures already_open { Answers result Status.HasStation ↔ ((address ≤ 253) × (0 < grant) × (has_station handle.old ≡ true)) }
-    ensures done { (address ≤ 253) → (0 < grant) → (has_station handle.old ≡ false) → DoneUnlessMemory result }
+    ensures bad_setting { Answers result Status.BadSetting ↔ ((GREATEST_ADDRESS < address) ⊎ (grant ≡ 0)) }
+    ensures already_open { Answers result Status.HasStation ↔ ((address ≤ GREATEST_ADDRESS) × (0 < grant) × (has_station handle.old ≡ true)) }
+    ensures done { (address ≤ GREATEST_ADDRESS) → (0 < grant) → (has_station handle.old ≡ false) → DoneUnlessMemory result }
 {
     if address > GREATEST_ADDRESS || grant == 0 {
         return Status::BadSetting.number();

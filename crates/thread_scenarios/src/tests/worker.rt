@@ -8,24 +8,36 @@ use std::alloc::Global;
 use std::sync::Wait;
 use std::sync::atomic::{AtomicU64, Ordering};
 use std::thread;
+use trouble_code::Lamps;
 use unit_threads::Gate;
 use unit_trait::{Refused, Unit};
 
-/// A unit that clears, obeys and wants to tell. The code 100/1 of one that flickers comes and goes as it works.
+/// What a worker's thoughts do to its memory.
+#[derive(Clone, Copy)]
+pub enum Habit {
+    /// Nothing.
+    Steady,
+    /// The code 100/1 comes and goes.
+    Flickers,
+    /// The amber lamp is lit, and the code 1208/3 comes.
+    Fails,
+}
+
+/// A unit that clears, obeys and wants to tell.
 #[derive(Drop)]
 pub struct Worker {
     name: Name,
     memory: FaultMemory,
-    flickers: bool,
+    habit: Habit,
 }
 
 impl Worker {
     /// A unit with an empty fault memory.
-    pub fn new(alloc: Global, name: u64, flickers: bool) -> Worker {
+    pub fn new(alloc: Global, name: u64, habit: Habit) -> Worker {
         Worker {
             name: Name::from_number(name),
             memory: FaultMemory::new(alloc),
-            flickers,
+            habit,
         }
     }
 }
@@ -37,11 +49,11 @@ impl Unit for Worker {
 
     ghost wants = { λ u. true };
 
-    ghost Works = { λ u v. v.flickers ≡ u.flickers };
+    ghost Works = { λ u v. v.habit ≡ u.habit };
 
-    ghost Takes = { λ u _ v. v.flickers ≡ u.flickers };
+    ghost Takes = { λ u _ v. v.habit ≡ u.habit };
 
-    ghost Answers = { λ u _ agrees v. (agrees ≡ true) × (v.flickers ≡ u.flickers) };
+    ghost Answers = { λ u _ agrees v. (agrees ≡ true) × (v.habit ≡ u.habit) };
 
     fn name(&self) -> Name {
         self.name
@@ -52,15 +64,11 @@ impl Unit for Worker {
     }
 
     fn think(&mut self) {
-        if !self.flickers {
-            return;
+        match self.habit {
+            Habit::Steady => {}
+            Habit::Flickers => flicker(&mut self.memory),
+            Habit::Fails => fail(&mut self.memory),
         }
-        let change = if self.memory.active().is_empty() {
-            FaultChange::Set { spn: 100, fmi: 1 }
-        } else {
-            FaultChange::Heal { spn: 100, fmi: 1 }
-        };
-        let _ = self.memory.apply(change);
     }
 
     fn apply(&mut self, change: FaultChange) -> Result<(), FaultError> {
@@ -84,6 +92,23 @@ impl Unit for Worker {
     fn wants_dm1(&self) -> bool {
         true
     }
+}
+
+/// Sets the code 100/1, or heals it.
+fn flicker(memory: &mut FaultMemory) {
+    let change = if memory.active().is_empty() {
+        FaultChange::Set { spn: 100, fmi: 1 }
+    } else {
+        FaultChange::Heal { spn: 100, fmi: 1 }
+    };
+    let _ = memory.apply(change);
+}
+
+/// Lights the amber lamp and sets the code 1208/3.
+fn fail(memory: &mut FaultMemory) {
+    let lamps = Lamps::from_bytes(0x04, 0xFF);
+    let _ = memory.apply(FaultChange::Lamp { lamps });
+    let _ = memory.apply(FaultChange::Set { spn: 1208, fmi: 3 });
 }
 
 /// Before its turns no unit waits.

@@ -1,4 +1,4 @@
-use Rattle.std.proofs.Common.{◌≡◌, rules}
+use Rattle.std.proofs.Common.{rules}
 use Rattle.std.proofs.lemmas.Slice.Eq.{slice_eq-Decides}
 use Rattle.trouble_code.specs.Code.{Code}
 use Rattle.fault_memory.proofs.memory.same_codes.Goals as goal

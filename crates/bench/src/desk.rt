@@ -2,8 +2,8 @@ ghost use Rattle.std.specs.Prelude.{◌<◌, OnOk};
 
 use crate::answer::Answer;
 use crate::refusal::Refusal;
-use crate::task::{Task, done_with, heard_by};
-use garage::{Garage, GarageError, Parked};
+use crate::task::{Task, done_with};
+use garage::{Garage, GarageError, Parked, Rounds};
 use std::alloc::{AllocError, Global};
 use std::collections::VecDeque;
 use std::marker::Model;
@@ -67,23 +67,9 @@ impl Desk {
         done
     }
 
-    /// Lets each unit in turn hear all that it has not heard. The first refusal ends it.
-    pub fn hear_all(&mut self, garage: &mut Garage) -> Result<(), GarageError> {
-        let mut result = Ok(());
-        for _ in 0..self.units.len() {
-            let Some(parked) = self.units.pop_front() else {
-                break;
-            };
-            let most = if result.is_ok() { u32::MAX } else { 0 };
-            let (parked, heard) = heard_by(self.alloc, garage, parked, most);
-            if let Some(parked) = parked {
-                self.units.push_back_reserved(parked);
-            }
-            if let Err(refusal) = heard {
-                result = Err(refusal);
-            }
-        }
-        result
+    /// Runs rounds, so many at most: each unit hears all that it has not heard, the station reads all, and one frame is carried.
+    pub fn round(&mut self, garage: &mut Garage, most: u32) -> Result<Rounds, GarageError> {
+        garage.round(self.alloc, self.units.make_contiguous(), most)
     }
 
     /// Takes each unit off the bus.

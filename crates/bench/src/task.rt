@@ -39,13 +39,7 @@ pub fn done_with(
 ) -> (Option<Parked>, Result<Answer, Refusal>) {
     match task {
         Task::Leave => (None, left(garage, parked)),
-        Task::Turn | Task::Hear { .. } | Task::Dm1 => {
-            let (parked, done) = done_in_seat(alloc, garage, parked, task);
-            match done {
-                Ok(done) => (parked, done),
-                Err(error) => (parked, Err(Refusal::Garage(error))),
-            }
-        }
+        Task::Turn | Task::Hear { .. } | Task::Dm1 => done_in_seat(alloc, garage, parked, task),
         _ => done_on_desk(parked, task),
     }
 }
@@ -56,92 +50,51 @@ fn left(garage: &mut Garage, parked: Parked) -> Result<Answer, Refusal> {
     Ok(Answer::Done)
 }
 
-/// Lets a unit take its seat and hear frames until there is none left, at most so many; tells how many. It comes back, but for one
-/// that the garage does not know.
-pub fn heard_by(
+/// A task for which the unit takes its seat. It comes back, but for one that the garage does not know.
+fn done_in_seat(
     alloc: Global,
     garage: &mut Garage,
     parked: Parked,
-    most: u32,
-) -> (Option<Parked>, Result<u32, GarageError>) {
-    let (parked, heard) = done_in_seat(alloc, garage, parked, Hearing { most });
-    match heard {
-        Ok(heard) => (parked, heard),
-        Err(error) => (parked, Err(error)),
-    }
-}
-
-/// What a unit does in its seat.
-trait InSeat {
-    /// What comes of it.
-    type Outcome;
-
-    /// Does it.
-    fn act(self, alloc: Global, plug: &mut Plug<'_>) -> Self::Outcome
-        requires { Unit {0} };
-}
-
-/// It hears frames until there is none left, at most so many.
-#[derive(Clone, Copy)]
-struct Hearing {
-    most: u32,
-}
-
-impl InSeat for Hearing {
-    type Outcome = Result<u32, GarageError>;
-
-    fn act(self, alloc: Global, plug: &mut Plug<'_>) -> Result<u32, GarageError> {
-        hear(alloc, plug, self.most)
-    }
-}
-
-/// It hears, begins a DM1, or ends a turn.
-impl InSeat for Task {
-    type Outcome = Result<Answer, Refusal>;
-
-    fn act(self, alloc: Global, plug: &mut Plug<'_>) -> Result<Answer, Refusal> {
-        match self {
-            Task::Hear { most } => Ok(Answer::Heard(hear(alloc, plug, most)?)),
-            Task::Dm1 => match plug.begin_dm1(alloc)? {
-                Begin::Begun => Ok(Answer::Begun),
-                Begin::Held => Ok(Answer::Held),
-            },
-            _ => {
-                plug.turn()?;
-                Ok(Answer::Done)
-            }
-        }
-    }
-}
-
-/// Lets a unit do something in its seat. It comes back, but for one that the garage does not know.
-fn done_in_seat<S: InSeat + Drop>(
-    alloc: Global,
-    garage: &mut Garage,
-    parked: Parked,
-    what: S,
-) -> (Option<Parked>, Result<S::Outcome, GarageError>) {
-    match seated(alloc, garage, parked, what) {
-        Ok((parked, outcome)) => (Some(parked), Ok(outcome)),
+    task: Task,
+) -> (Option<Parked>, Result<Answer, Refusal>) {
+    match seated(alloc, garage, parked, task) {
+        Ok((parked, done)) => (Some(parked), done),
         Err((parked, error)) => {
             drop(garage.disown(parked));
-            (None, Err(error))
+            (None, Err(Refusal::Garage(error)))
         }
     }
 }
 
-fn seated<S: InSeat + Drop>(
+fn seated(
     alloc: Global,
     garage: &mut Garage,
     parked: Parked,
-    what: S,
-) -> Result<(Parked, S::Outcome), (Parked, GarageError)>
+    task: Task,
+) -> Result<(Parked, Result<Answer, Refusal>), (Parked, GarageError)>
     ensures stranger { IsErr result ↔ (¬ IsSeated garage.old parked.seat ((⟦<dyn Unit as Unit>⟧ parked.unit.vtable).name_of parked.unit.value) parked.events) }
     ensures err { IfErr result (λ e. (e.0 ≡ parked) × (garage.new ≡ garage.old)) }
 {
     let mut plug = garage.attach(parked)?;
-    let outcome = what.act(alloc, &mut plug);
-    Ok((plug.detach(), outcome))
+    let done = done_by(alloc, &mut plug, task);
+    Ok((plug.detach(), done))
+}
+
+/// A unit in its seat hears, begins a DM1, or ends a turn.
+fn done_by(alloc: Global, plug: &mut Plug<'_>, task: Task) -> Result<Answer, Refusal>
+    requires { Unit {0} }
+{
+    match task {
+        Task::Hear { most } => Ok(Answer::Heard(hear(alloc, plug, most)?)),
+        Task::Dm1 => match plug.begin_dm1(alloc)? {
+            Begin::Begun => Ok(Answer::Begun),
+            Begin::Held => Ok(Answer::Held),
+        },
+        _ => {
+            plug.turn()?;
+            Ok(Answer::Done)
+        }
+    }
 }
 
 /// Hears frames until there is none left, at most so many; tells how many.

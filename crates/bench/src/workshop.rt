@@ -139,11 +139,7 @@ impl Workshop {
 
     /// Carries one frame, or tells why none.
     fn carry_one(&mut self) -> Result<Option<End>, GarageError> {
-        match self.garage.carry()? {
-            Carried::Frame { .. } => Ok(None),
-            Carried::Idle => Ok(Some(End::Idle)),
-            Carried::Waiting => Ok(Some(End::Waiting)),
-        }
+        Ok(end_of(Some(self.garage.carry()?)))
     }
 
     /// Has the station read until nothing is unread, at most so often; tells how often.
@@ -157,31 +153,22 @@ impl Workshop {
         Ok(most)
     }
 
-    /// So many rounds: each unit hears all, the station reads all, one frame is carried. It ends early where no frame
-    /// is carried. At the end all hear and read once more.
+    /// So many rounds, or fewer where no frame can be carried.
     fn round(&mut self, most: u32) -> Result<Answer, GarageError> {
-        let mut carried = 0;
-        let mut end = None;
-        for count in 0..most {
-            self.listen()?;
-            end = self.carry_one()?;
-            if end.is_some() {
-                break;
-            }
-            carried = count + 1;
-        }
-        self.listen()?;
+        let rounds = self.desk.round(&mut self.garage, most)?;
         Ok(Answer::Carried {
-            count: carried,
-            end,
+            count: rounds.carried,
+            end: end_of(rounds.end),
         })
     }
+}
 
-    /// Each unit hears all that it has not heard, and the station reads all.
-    fn listen(&mut self) -> Result<(), GarageError> {
-        self.desk.hear_all(&mut self.garage)?;
-        self.read(u32::MAX)?;
-        Ok(())
+/// Why no frame was carried, where none was.
+fn end_of(carried: Option<Carried>) -> Option<End> {
+    match carried? {
+        Carried::Frame { .. } => None,
+        Carried::Idle => Some(End::Idle),
+        Carried::Waiting => Some(End::Waiting),
     }
 }
 

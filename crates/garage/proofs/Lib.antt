@@ -12,3 +12,4 @@ mod OpeningLemmas
 mod BeginLemmas
 mod Lines
 pub mod Lent
+pub mod Crew

@@ -1,5 +1,5 @@
 -- A unit that passes over its next frame.
-use Rattle.std.proofs.Common.{ℕ, ◌≡◌, ◌-◌, Bool, List, [], ◌∷◌, ◌++◌, get_or, slice_get, Option, Some, refl, sym, ap, ◌∙◌, subst}
+use Rattle.std.proofs.Common.{ℕ, ◌≡◌, ◌-◌, Bool, true, false, nat_eq, eq-eqb, if◌then◌else◌, List, [], ◌∷◌, ◌++◌, reverse, get_or, slice_get, Option, Some, refl, sym, ap, ◌∙◌, subst}
 use Rattle.std.proofs.lemmas.List.{set-get_or}
 use Rattle.std.specs.Option.{option_map}
 use Rattle.can_frame.specs.FrameValue.{FrameValue}
@@ -13,12 +13,14 @@ use Rattle.node_core.specs.Deed.{Deed, Nothing, heard_of}
 use Rattle.node_core.specs.Asking.{IsAnswerTo, IsAsked, memory_answered}
 use Rattle.node_core.specs.Passing.{IsPassedOver}
 use Rattle.node_core.specs.Reaction.{node_after}
+use Rattle.node_core.specs.declared.heard.Answer.{Answer as UnitAnswer}
 use Rattle.node_core.specs.declared.heard.Answer.TheVariants.{NotAsked}
 use Rattle.journal.specs.Fits.{Fits}
-use Rattle.journal.specs.State.{State, UnitState, new_unit, unit_at}
+use Rattle.journal.specs.State.{Settings, State, UnitState, new_unit, unit_at}
 use Rattle.journal.specs.Steps.{after, after_hearing, next_for}
-use Rattle.journal.specs.Journal.{GarageValue, Adds, state_of}
-use Rattle.journal.specs.declared.event.Event.TheVariants.{Hear}
+use Rattle.journal.specs.Journal.{GarageValue, Adds, AllFit, memory_told, state_of}
+use Rattle.journal.specs.declared.event.Event.{Event}
+use Rattle.journal.specs.declared.event.Event.TheVariants.{Join, Hear, Begin, Turned, Carry, Read, Ordered, Leave, Inject}
 use Rattle.garage.specs.Answers.{Hears}
 use Rattle.garage.specs.Causes.{PassesNext}
 use Rattle.garage.specs.Inside.{settings_of, garage_value_of, Stands}
@@ -83,3 +85,36 @@ hears_passed v w k f memory answers unit next passed adds = (
     subst (λ (q : Option Question). IsAsked answers q NotAsked unit unit) (sym passed.unasked) refl,
   ),
 )
+
+-- what the latest event of a seat tells is a lawful memory
+at_latest : (b : Bool) (memory m : MemoryValue) (o : Option MemoryValue) → IsLawfulMemory memory → (o ≡ Some m → IsLawfulMemory m) → (if b then Some memory else o) ≡ Some m → IsLawfulMemory m
+at_latest true memory m o lawful old h = (let e : memory ≡ m = cc in subst IsLawfulMemory e lawful)
+at_latest false memory m o lawful old h = old h
+
+pub told_is_lawful : (r : Settings) (es : List Event) (k : ℕ) (m : MemoryValue) → AllFit r es → memory_told k es ≡ Some m → IsLawfulMemory m
+unfolding memory_told AllFit
+told_is_lawful r [] k m fits h = absurd cc
+told_is_lawful r (Hear j memory answered ∷ older) k m fits h = at_latest (nat_eq j k) memory m (memory_told k older) fits.0.2 (told_is_lawful r older k m fits.1) h
+told_is_lawful r (Begin j memory ∷ older) k m fits h = at_latest (nat_eq j k) memory m (memory_told k older) fits.0.2 (told_is_lawful r older k m fits.1) h
+told_is_lawful r (Join name address ∷ older) k m fits h = told_is_lawful r older k m fits.1 h
+told_is_lawful r (Turned j ∷ older) k m fits h = told_is_lawful r older k m fits.1 h
+told_is_lawful r (Carry j ∷ older) k m fits h = told_is_lawful r older k m fits.1 h
+told_is_lawful r (Read reading ∷ older) k m fits h = told_is_lawful r older k m fits.1 h
+told_is_lawful r (Ordered order ∷ older) k m fits h = told_is_lawful r older k m fits.1 h
+told_is_lawful r (Leave j ∷ older) k m fits h = told_is_lawful r older k m fits.1 h
+told_is_lawful r (Inject frame ∷ older) k m fits h = told_is_lawful r older k m fits.1 h
+
+-- what is told at the fields of a garage
+pub told_inside : (a : Inside) (v : GarageValue) (k : ℕ) (m : MemoryValue) → garage_value_of a ≡ v → Stands a → memory_told k v.journal ≡ Some m
+    → (memory_told k (reverse a.journal.items) ≡ Some m) × IsLawfulMemory m
+told_inside a v k m is stands told =
+    let here : memory_told k (reverse a.journal.items) ≡ Some m = ap (λ (w : GarageValue). memory_told k w.journal) is ∙ told in
+    (here, told_is_lawful (settings_of a) (reverse a.journal.items) k m stands.fits here)
+
+-- what a seat has just heard tells its memory
+pub told_hearing : (v w : GarageValue) (k : ℕ) (m : MemoryValue) (answered : UnitAnswer) → Adds v (Hear k m answered) w → memory_told k w.journal ≡ Some m
+unfolding memory_told
+told_hearing v w k m answered h =
+    let t : nat_eq k k ≡ true = eq-eqb k k refl in
+    let now : memory_told k (Hear k m answered ∷ v.journal) ≡ Some m = rw t refl in
+    ap (λ (g : GarageValue). memory_told k g.journal) h.adds ∙ now

@@ -1,10 +1,15 @@
 -- A unit that hears, begins a message or ends a turn keeps its seat.
-use Rattle.std.proofs.Common.{ℕ, false, true, ◌≡◌, ◌+◌, ◌<◌, nat_eq, eq-eqb, Bool, List, [], ◌∷◌, Option, Some, None, map, length, refl, sym, ap, ◌∙◌, subst, arith}
-use Rattle.std.proofs.lemmas.List.{length-set, get_or-set_same}
+use Rattle.std.proofs.Common.{ℕ, false, true, ◌≡◌, ◌+◌, ◌<◌, nat_eq, eq-eqb, Bool, List, [], ◌∷◌, Option, Some, None, map, length, slice_get, if◌then◌else◌, refl, sym, ap, ◌∙◌, subst, arith, inl, inr}
+use Rattle.std.proofs.lemmas.List.{length-set, get_or-set_same, get_or-set_other}
+use Rattle.bus_ledger.proofs.Numbers.{same_or_not}
+use Rattle.bus_ledger.specs.Reception.{passes, reading_taken}
+use Rattle.can_frame.specs.declared.reading.Reading.{Reading}
+use Rattle.station_table.specs.Reactions.{station_reaction}
+use Rattle.station_table.specs.declared.reaction.Reaction.{Reaction}
 use Rattle.can_frame.specs.FrameValue.{FrameValue}
 use Rattle.fault_memory.specs.Memory.{MemoryValue}
 use Rattle.bus_ledger.specs.BusValue.{SeatValue, Traffic, IsUnit, nobody, seat_at}
-use Rattle.bus_ledger.specs.Changes.{with_seat, hearing, queueing, withdrawing, queued, heard_more, withdrawn}
+use Rattle.bus_ledger.specs.Changes.{with_seat, hearing, queueing, sending, withdrawing, queued, heard_more, withdrawn}
 use Rattle.bus_ledger.specs.declared.traffic.QueuedFrame.{QueuedFrame}
 use Rattle.bus_ledger.specs.declared.traffic.Which.{Which}
 use Rattle.bus_ledger.specs.declared.traffic.Which.TheVariants as which
@@ -21,11 +26,12 @@ use Rattle.node_core.specs.declared.heard.Started.TheVariants as started
 use Rattle.node_core.specs.declared.heard.Withdraw.{Withdraw}
 use Rattle.node_core.specs.declared.heard.Withdraw.TheVariants as withdraw
 use Rattle.journal.specs.State.{State, unit_at}
-use Rattle.journal.specs.Steps.{put_all, withdrawn_by, after_hearing, after_hear_of, after_starting, after_begin_of, next_for, tagged, begins_session, session_message_after}
+use Rattle.journal.specs.Steps.{put_all, withdrawn_by, after_hearing, after_hear_of, after_starting, after_begin_of, after_carry_of, after_read, next_for, reacted, tagged, untagged, begins_session, session_message_after}
 use Rattle.journal.specs.Journal.{GarageValue, Adds, IsSeated, joins, state_after, state_of, tallied, tally_of, with_event}
 use Rattle.journal.specs.declared.event.Event.{Event}
 use Rattle.journal.specs.declared.tally.Tally.{Tally}
-use Rattle.journal.specs.declared.event.Event.TheVariants.{Hear, Begin, Turned}
+use Rattle.journal.specs.declared.event.Event.TheVariants.{Hear, Begin, Turned, Carry, Read}
+use Rattle.garage.specs.Crew.{KeepsSeat, KeepsUnit}
 use Rattle.garage.specs.Answers.{Hears, Begins, counted_hearing, counted_beginning}
 use Rattle.garage.specs.declared.steps.HeardOne.{HeardOne}
 use Rattle.garage.specs.declared.steps.HeardOne.TheVariants as heard
@@ -33,70 +39,70 @@ use Rattle.garage.specs.declared.steps.Begin.{Begin as Began}
 use Rattle.garage.specs.declared.steps.Begin.TheVariants as began
 use Rattle.garage.proofs.Standing.{tally_more}
 
--- the seat is as live as it was, under the same NAME, among as many seats
-pub record KeepsSeat (k : ℕ) (t t' : Traffic) : Type 0 where
-  pub seats : length t'.seats ≡ length t.seats
-  pub live : (seat_at t' k).live ≡ (seat_at t k).live
-  pub name : (seat_at t' k).name ≡ (seat_at t k).name
-
 pub keeps_itself : (k : ℕ) (t : Traffic) → KeepsSeat k t t
 keeps_itself k t = record { seats = refl; live = refl; name = refl }
 
 pub keeps_both : (k : ℕ) (t t' t'' : Traffic) → KeepsSeat k t t' → KeepsSeat k t' t'' → KeepsSeat k t t''
 keeps_both k t t' t'' h h' = record { seats = h'.seats ∙ h.seats; live = h'.live ∙ h.live; name = h'.name ∙ h.name }
 
--- a change of its own queue or of what it has heard
-keeps_changed : (k : ℕ) (t : Traffic) (s : SeatValue) → k < length t.seats → s.live ≡ (seat_at t k).live → s.name ≡ (seat_at t k).name
-    → KeepsSeat k t (with_seat t k s)
-keeps_changed k t s h live name =
-    let there : seat_at (with_seat t k s) k ≡ s = get_or-set_same t.seats k s nobody h in
-    record { seats = length-set t.seats k s; live = ap (λ v. v.live) there ∙ live; name = ap (λ v. v.name) there ∙ name }
+-- a change of a seat's queue or of what it has heard
+keeps_changed : (k j : ℕ) (t : Traffic) (s : SeatValue) → k < length t.seats → s.live ≡ (seat_at t j).live → s.name ≡ (seat_at t j).name → KeepsSeat k t (with_seat t j s)
+keeps_changed k j t s h live name =
+    elim (same_or_not k j) [
+      | inl same ↦
+          let there : seat_at (with_seat t j s) k ≡ s = ap (λ (i : ℕ). seat_at (with_seat t j s) i) same ∙ get_or-set_same t.seats j s nobody (omega arith) in
+          let was : seat_at t j ≡ seat_at t k = ap (λ (i : ℕ). seat_at t i) (sym same) in
+          record { seats = length-set t.seats j s; live = ap (λ v. v.live) there ∙ (live ∙ ap (λ v. v.live) was); name = ap (λ v. v.name) there ∙ (name ∙ ap (λ v. v.name) was) }
+      | inr n ↦
+          let there : seat_at (with_seat t j s) k ≡ seat_at t k = get_or-set_other t.seats j k s nobody n in
+          record { seats = length-set t.seats j s; live = ap (λ v. v.live) there; name = ap (λ v. v.name) there }
+    ]
 
-still_there : (k : ℕ) (t t' : Traffic) → KeepsSeat k t t' → k < length t.seats → k < length t'.seats
+pub still_there : (k : ℕ) (t t' : Traffic) → KeepsSeat k t t' → k < length t.seats → k < length t'.seats
 still_there k t t' h b = let e : length t'.seats ≡ length t.seats = h.seats in omega arith
 
-keeps_put : (k : ℕ) (qs : List QueuedFrame) (t : Traffic) → k < length t.seats → KeepsSeat k t (put_all k qs t)
-keeps_put k [] t h = keeps_itself k t
-keeps_put k (q ∷ qs) t h =
-    let one = keeps_changed k t (queueing q (seat_at t k)) h refl refl in
-    keeps_both k t (queued k q t) (put_all k qs (queued k q t)) one (keeps_put k qs (queued k q t) (still_there k t (queued k q t) one h))
+keeps_put : (k j : ℕ) (qs : List QueuedFrame) (t : Traffic) → k < length t.seats → KeepsSeat k t (put_all j qs t)
+keeps_put k j [] t h = keeps_itself k t
+keeps_put k j (q ∷ qs) t h =
+    let one = keeps_changed k j t (queueing q (seat_at t j)) h refl refl in
+    keeps_both k t (queued j q t) (put_all j qs (queued j q t)) one (keeps_put k j qs (queued j q t) (still_there k t (queued j q t) one h))
 
-keeps_withdrawn : (k : ℕ) (which : Which) (t : Traffic) → k < length t.seats → KeepsSeat k t (withdrawn k which t)
-keeps_withdrawn k which t h = keeps_changed k t (withdrawing which (seat_at t k)) h refl refl
+keeps_withdrawn : (k j : ℕ) (which : Which) (t : Traffic) → k < length t.seats → KeepsSeat k t (withdrawn j which t)
+keeps_withdrawn k j which t h = keeps_changed k j t (withdrawing which (seat_at t j)) h refl refl
 
-keeps_withdrawn_by : (k : ℕ) (w : Withdraw) (t : Traffic) → k < length t.seats → KeepsSeat k t (withdrawn_by k w t)
-keeps_withdrawn_by k withdraw.Keep t h = keeps_itself k t
-keeps_withdrawn_by k withdraw.Session t h = keeps_withdrawn k which.Session t h
-keeps_withdrawn_by k withdraw.All t h = keeps_withdrawn k which.All t h
+keeps_withdrawn_by : (k j : ℕ) (w : Withdraw) (t : Traffic) → k < length t.seats → KeepsSeat k t (withdrawn_by j w t)
+keeps_withdrawn_by k j withdraw.Keep t h = keeps_itself k t
+keeps_withdrawn_by k j withdraw.Session t h = keeps_withdrawn k j which.Session t h
+keeps_withdrawn_by k j withdraw.All t h = keeps_withdrawn k j which.All t h
 
 -- hearing counts a frame, then withdraws, then queues
-keeps_heard : (k : ℕ) (w : Withdraw) (qs : List QueuedFrame) (t : Traffic) → k < length t.seats
-    → KeepsSeat k t (put_all k qs (withdrawn_by k w (heard_more k 1 t)))
-keeps_heard k w qs t h =
-    let one = keeps_changed k t (hearing 1 (seat_at t k)) h refl refl in
-    let there = still_there k t (heard_more k 1 t) one h in
-    let two = keeps_withdrawn_by k w (heard_more k 1 t) there in
-    let there' = still_there k (heard_more k 1 t) (withdrawn_by k w (heard_more k 1 t)) two there in
-    let three = keeps_put k qs (withdrawn_by k w (heard_more k 1 t)) there' in
-    keeps_both k t (heard_more k 1 t) (put_all k qs (withdrawn_by k w (heard_more k 1 t))) one
-    (keeps_both k (heard_more k 1 t) (withdrawn_by k w (heard_more k 1 t)) (put_all k qs (withdrawn_by k w (heard_more k 1 t))) two three)
+keeps_heard : (k j : ℕ) (w : Withdraw) (qs : List QueuedFrame) (t : Traffic) → k < length t.seats
+    → KeepsSeat k t (put_all j qs (withdrawn_by j w (heard_more j 1 t)))
+keeps_heard k j w qs t h =
+    let one = keeps_changed k j t (hearing 1 (seat_at t j)) h refl refl in
+    let there = still_there k t (heard_more j 1 t) one h in
+    let two = keeps_withdrawn_by k j w (heard_more j 1 t) there in
+    let there' = still_there k (heard_more j 1 t) (withdrawn_by j w (heard_more j 1 t)) two there in
+    let three = keeps_put k j qs (withdrawn_by j w (heard_more j 1 t)) there' in
+    keeps_both k t (heard_more j 1 t) (put_all j qs (withdrawn_by j w (heard_more j 1 t))) one
+    (keeps_both k (heard_more j 1 t) (withdrawn_by j w (heard_more j 1 t)) (put_all j qs (withdrawn_by j w (heard_more j 1 t))) two three)
 
-keeps_hearing : (k : ℕ) (memory : MemoryValue) (h : Heard) (node : NodeValue) (s : State) → k < length s.traffic.seats
-    → KeepsSeat k s.traffic (after_hearing k memory h node s).traffic
-keeps_hearing k memory h node s there =
-    keeps_heard k h.withdraw (map (tagged (length s.begun) (begins_session h.begun) (session_message_after (unit_at s k).session_message (length s.begun) h.begun)) h.put) s.traffic there
+keeps_hearing : (k j : ℕ) (memory : MemoryValue) (h : Heard) (node : NodeValue) (s : State) → k < length s.traffic.seats
+    → KeepsSeat k s.traffic (after_hearing j memory h node s).traffic
+keeps_hearing k j memory h node s there =
+    keeps_heard k j h.withdraw (map (tagged (length s.begun) (begins_session h.begun) (session_message_after (unit_at s j).session_message (length s.begun) h.begun)) h.put) s.traffic there
 
-keeps_hear : (o : Option FrameValue) (k : ℕ) (memory : MemoryValue) (answered : UnitAnswer) (s : State) → k < length s.traffic.seats
-    → KeepsSeat k s.traffic (after_hear_of o k memory answered s).traffic
+keeps_hear : (o : Option FrameValue) (k j : ℕ) (memory : MemoryValue) (answered : UnitAnswer) (s : State) → k < length s.traffic.seats
+    → KeepsSeat k s.traffic (after_hear_of o j memory answered s).traffic
 unfolding after_hear_of
-keeps_hear None k memory answered s h = keeps_itself k s.traffic
-keeps_hear (Some f) k memory answered s h =
-    keeps_hearing k memory (heard_of answered (reaction (unit_at s k).node memory answered f)) (node_after (unit_at s k).node memory answered f) s h
+keeps_hear None k j memory answered s h = keeps_itself k s.traffic
+keeps_hear (Some f) k j memory answered s h =
+    keeps_hearing k j memory (heard_of answered (reaction (unit_at s j).node memory answered f)) (node_after (unit_at s j).node memory answered f) s h
 
 keeps_starting : (k : ℕ) (memory : MemoryValue) (st : Started) (s : State) → k < length s.traffic.seats
     → KeepsSeat k s.traffic (after_starting k memory st s).traffic
 keeps_starting k memory started.Held s h = keeps_itself k s.traffic
-keeps_starting k memory (started.Begun b put) s h = keeps_put k (map (tagged (length s.begun) false (unit_at s k).session_message) put) s.traffic h
+keeps_starting k memory (started.Begun b put) s h = keeps_put k k (map (tagged (length s.begun) false (unit_at s k).session_message) put) s.traffic h
 
 keeps_begin : (o : Option ℕ) (k : ℕ) (memory : MemoryValue) (s : State) → k < length s.traffic.seats
     → KeepsSeat k s.traffic (after_begin_of o k memory s).traffic
@@ -104,19 +110,55 @@ unfolding after_begin_of
 keeps_begin None k memory s h = keeps_itself k s.traffic
 keeps_begin (Some source) k memory s h = keeps_starting k memory (begins (unit_at s k).node.session Dm1 memory source) s h
 
--- a garage in which the unit on a seat keeps it
-abbrev pub KeepsUnit : ℕ → GarageValue → GarageValue → Type 0
-KeepsUnit k g g' = KeepsSeat k (state_of g).traffic (state_of g').traffic
+-- the station's reaction
+keeps_withdrawn_if : (b : Bool) (k : ℕ) (t : Traffic) → k < length t.seats → KeepsSeat k t (if b then withdrawn 0 which.All t else t)
+keeps_withdrawn_if true k t h = keeps_withdrawn k 0 which.All t h
+keeps_withdrawn_if false k t h = keeps_itself k t
 
+keeps_reacted : (k : ℕ) (r : Reaction) (t : Traffic) → k < length t.seats → KeepsSeat k t (reacted r t)
+keeps_reacted k r t h =
+    let u : Traffic = if r.withdraw then withdrawn 0 which.All t else t in
+    let one = keeps_withdrawn_if r.withdraw k t h in
+    keeps_both k t u (reacted r t) one (keeps_put k 0 (map untagged r.put) u (still_there k t u one h))
+
+keeps_read : (k : ℕ) (r : Reading) (s : State) → k < length s.traffic.seats → KeepsSeat k s.traffic (after_read r s).traffic
+unfolding after_read
+keeps_read k r s h =
+    let t = s.traffic in
+    let one = keeps_changed k 0 t (hearing (passes r) (seat_at t 0)) h refl refl in
+    keeps_both k t (reading_taken r t) (after_read r s).traffic one (keeps_reacted k (station_reaction s.station r) (reading_taken r t) (still_there k t (reading_taken r t) one h))
+
+keeps_carried : (o : Option QueuedFrame) (k j : ℕ) (s : State) → k < length s.traffic.seats → KeepsSeat k s.traffic (after_carry_of o j s).traffic
+unfolding after_carry_of
+keeps_carried None k j s h = keeps_itself k s.traffic
+keeps_carried (Some q) k j s h =
+    let c = keeps_changed k j s.traffic (sending (seat_at s.traffic j)) h refl refl in
+    record { seats = c.seats; live = c.live; name = c.name }
+
+-- the same of garages
 by_event : (k : ℕ) (g g' new : GarageValue) → g' ≡ new → KeepsUnit k g new → KeepsUnit k g g'
 by_event k g g' new e h = let P : GarageValue → Type 0 = λ v. KeepsUnit k g v in subst P (sym e) h
 
+-- where a unit hears, each unit keeps its seat
+pub seat_hears : {X : Type 0} (i : ℕ) (g : GarageValue) (k : ℕ) (memory : MemoryValue) (answers : Question → Bool → X → Type 0) (unit : X) (h : HeardOne) (g' : GarageValue) (memory' : MemoryValue) (unit' : X)
+    → Hears g k memory answers unit h g' memory' unit' → i < length (state_of g).traffic.seats → KeepsUnit i g g'
+unfolding state_after
+seat_hears i g k memory answers unit (heard.Frame f) g' memory' unit' h there =
+    by_event i g g' (with_event (Hear k memory h.1.0) g) h.1.1.adds (keeps_hear (next_for (state_of g) k) i k memory h.1.0 (state_of g) there)
+seat_hears i g k memory answers unit heard.Nothing g' memory' unit' h there = by_event i g g' g h.1 (keeps_itself i (state_of g).traffic)
+
 pub unit_hears : {X : Type 0} (g : GarageValue) (k : ℕ) (memory : MemoryValue) (answers : Question → Bool → X → Type 0) (unit : X) (h : HeardOne) (g' : GarageValue) (memory' : MemoryValue) (unit' : X)
     → Hears g k memory answers unit h g' memory' unit' → k < length (state_of g).traffic.seats → KeepsUnit k g g'
+unit_hears g k memory answers unit h g' memory' unit' hears there = seat_hears k g k memory answers unit h g' memory' unit' hears there
+
+-- so it does where the station reads, and where a frame is carried
+pub unit_read : (k : ℕ) (g g' : GarageValue) (r : Reading) → Adds g (Read r) g' → k < length (state_of g).traffic.seats → KeepsUnit k g g'
 unfolding state_after
-unit_hears g k memory answers unit (heard.Frame f) g' memory' unit' h there =
-    by_event k g g' (with_event (Hear k memory h.1.0) g) h.1.1.adds (keeps_hear (next_for (state_of g) k) k memory h.1.0 (state_of g) there)
-unit_hears g k memory answers unit heard.Nothing g' memory' unit' h there = by_event k g g' g h.1 (keeps_itself k (state_of g).traffic)
+unit_read k g g' r h there = by_event k g g' (with_event (Read r) g) h.adds (keeps_read k r (state_of g) there)
+
+pub unit_carried : (k j : ℕ) (g g' : GarageValue) → Adds g (Carry j) g' → k < length (state_of g).traffic.seats → KeepsUnit k g g'
+unfolding state_after
+unit_carried k j g g' h there = by_event k g g' (with_event (Carry j) g) h.adds (keeps_carried (slice_get (seat_at (state_of g).traffic j).queue 0) k j (state_of g) there)
 
 pub unit_begins : (g : GarageValue) (k : ℕ) (memory : MemoryValue) (b : Began) (g' : GarageValue)
     → Begins g k memory b g' → k < length (state_of g).traffic.seats → KeepsUnit k g g'

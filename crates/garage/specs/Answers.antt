@@ -1,5 +1,5 @@
 -- What a call with this answer did.
-use Rattle.std.specs.Prelude.{◌≡◌, ℕ, Bool, true, Option, Some, None, ◌+◌}
+use Rattle.std.specs.Prelude.{◌≡◌, ℕ, Bool, true, Option, Some, None, Result, Ok, Err, ◌+◌}
 use Rattle.can_frame.specs.declared.reading.Reading.{Reading}
 use Rattle.can_frame.specs.declared.reading.Reading.TheVariants as reading
 use Rattle.fault_memory.specs.Memory.{MemoryValue}
@@ -29,6 +29,11 @@ Hears old k memory answers unit (heard.Frame f) new memory' unit' =
     × ((answered : UnitAnswer) × Adds old (event.Hear k memory answered) new × (memory' ≡ memory_after (unit_at (state_of old) k).node memory answered f)
     × IsAsked answers (question (unit_at (state_of old) k).node f) answered unit unit')
 Hears old k memory answers unit heard.Nothing new memory' unit' = (next_for (state_of old) k ≡ None) × (new ≡ old) × (memory' ≡ memory) × (unit' ≡ unit)
+
+-- what was heard, without whether the memory is told
+abbrev pub heard_one : {T E : Type 0} → Result (HeardOne × T) E → Result HeardOne E
+heard_one (Ok h) = Ok h.0
+heard_one (Err e) = Err e
 
 -- a DM1 of the memory began; or a session of a DM1 is open
 abbrev pub Begins : GarageValue → ℕ → MemoryValue → Begin → GarageValue → Type 0

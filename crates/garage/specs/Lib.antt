@@ -8,3 +8,4 @@ pub mod Answers
 pub mod Obeying
 pub mod Opening
 pub mod Snapshots
+pub mod Crew

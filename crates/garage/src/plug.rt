@@ -25,9 +25,9 @@ use unit_trait::Unit;
 ///
 /// It must be spent: by `Garage::attach`, or where that is refused by `Garage::disown`.
 pub struct Parked {
-    unit: Box<dyn Unit>,
-    seat: u32,
-    events: u32,
+    pub(crate) unit: Box<dyn Unit>,
+    pub(crate) seat: u32,
+    pub(crate) events: u32,
 }
 
 /// A boxed unit in its seat. It borrows the garage, which has a live seat with this number, NAME and count of events.
@@ -143,7 +143,7 @@ impl Garage {
     }
 
     /// Whether this garage has a live seat with this number, NAME and count of events.
-    fn is_seated(&self, seat: u32, name: Name, events: u32) -> bool
+    pub(crate) fn is_seated(&self, seat: u32, name: Name, events: u32) -> bool
         ensures { IsTrue result ↔ IsSeated self.now seat name events }
     {
         match self.bus.unit_name(seat) {
@@ -153,7 +153,7 @@ impl Garage {
     }
 
     /// How many events of its own a live unit has.
-    fn events_of(&self, seat: u32) -> u32
+    pub(crate) fn events_of(&self, seat: u32) -> u32
         requires { IsUnit (state_of self.now).traffic seat }
         ensures count { result ≡ (tally_of seat self.now.journal).events }
         ensures lawful { IsLawful self.now }
@@ -260,7 +260,7 @@ impl<'a> Plug<'a> {
         ensures unasked { OnErr result (self.new.unit ≡ self.old.unit) }
         ensures lists { KeepsLists self.old.garage.now self.new.garage.now }
     {
-        let heard = self.garage.hear(alloc, self.seat, &mut *self.unit)?;
+        let (heard, _) = self.garage.hear(alloc, self.seat, &mut *self.unit, false)?;
         self.events = self.garage.events_of(self.seat);
         Ok(heard)
     }

@@ -1,6 +1,7 @@
-ghost use Rattle.std.specs.Prelude.{◌≡◌, ◌+◌, ◌<◌, ◌≤◌, ◌^◌, ◌↔◌, ◌⊎◌, length, OnOk, IfOk, IfErr, IsErrOf};
+ghost use Rattle.std.specs.Prelude.{◌≡◌, ◌+◌, ◌<◌, ◌≤◌, ◌^◌, ◌↔◌, ◌⊎◌, length, reverse, OnOk, IfOk, IfErr, IsErrOf, IsTrue, Some};
 ghost use Rattle.fault_memory.specs.Memory.{IsLawfulMemory};
 ghost use Rattle.bus_ledger.specs.BusValue.{IsLive, spare_at};
+ghost use Rattle.journal.specs.Journal.{memory_told};
 ghost use Rattle.journal.specs.Notes.{IsStored};
 ghost use Rattle.garage.specs.Calls.{IsWant};
 
@@ -31,7 +32,7 @@ pub(crate) fn make_room(journal: &mut Journal, count: u32, limit: u32) -> Result
 }
 
 /// Makes ready to note an event of the unit on the seat: room for `count` more events, and the number of a copy of its memory,
-/// which the event tells.
+/// which the event tells. Where the memory is `told`, which is that of the seat's latest event, it is not looked at.
 ///
 /// Refused first where the limit does not allow the events, then where there is no memory; then the journal's events are as they
 /// were.
@@ -41,17 +42,23 @@ pub(crate) fn ready_to_note(
     limit: u32,
     seat: u32,
     unit: &dyn Unit,
+    told: bool,
 ) -> Result<u32, GarageError>
-    requires { limit ≤ 2 ^ 24 }
+    requires few { limit ≤ 2 ^ 24 }
+    requires told { IsTrue told → ((memory_told seat (reverse journal.old.items) ≡ Some (memory_of unit.now)) × IsLawfulMemory (memory_of unit.now)) }
     ensures items { journal.new.items ≡ journal.old.items }
     ensures grows { journal.old.room ≤ journal.new.room }
     ensures memory { IfOk result (λ n. IsStored journal.new.memories n (memory_of unit.now)) }
+    ensures placed { OnOk result (seat < journal.new.placed) }
     ensures lawful { OnOk result (IsLawfulMemory (memory_of unit.now)) }
     ensures room { OnOk result ((length journal.old.items + count ≤ limit) × (count ≤ journal.new.room)) }
     ensures full { IsErrOf result GarageError.BookFull ↔ (limit < length journal.old.items + count) }
     ensures only { IfErr result IsWant }
 {
     make_room(journal, count, limit)?;
+    if told {
+        return Ok(journal.told(seat));
+    }
     Ok(journal.remember(seat, unit.memory())?)
 }
 
@@ -73,13 +80,14 @@ pub(crate) fn make_ready(
     ensures grows { journal.old.room ≤ journal.new.room }
     ensures traffic { bus.new.traffic ≡ bus.old.traffic }
     ensures memory { IfOk result (λ n. IsStored journal.new.memories n (memory_of unit.now)) }
+    ensures placed { OnOk result (seat < journal.new.placed) }
     ensures lawful { OnOk result (IsLawfulMemory (memory_of unit.now)) }
     ensures room { OnOk result ((length journal.old.items + count ≤ limit) × (count ≤ journal.new.room)) }
     ensures spare { OnOk result (MOST_OUTS ≤ spare_at bus.new seat) }
     ensures full { IsErrOf result GarageError.BookFull ↔ (limit < length journal.old.items + count) }
     ensures only { IfErr result IsWant }
 {
-    let memory = ready_to_note(journal, count, limit, seat, unit)?;
+    let memory = ready_to_note(journal, count, limit, seat, unit, false)?;
     bus.reserve(seat, MOST_OUTS)?;
     Ok(memory)
 }

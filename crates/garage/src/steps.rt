@@ -34,16 +34,18 @@ impl Garage {
     ghost use Rattle.std.specs.Prelude.{◌↔◌, ◌≤◌, length, IfOk, IfErr, IsErrOf, IsTrue, OnErr, OnOk, Some};
     ghost use Rattle.bus_ledger.specs.BusValue.{IsUnit};
     ghost use Rattle.node_core.specs.Passing.{IsPassedOver};
-    ghost use Rattle.journal.specs.Journal.{state_of, Adds};
+    ghost use Rattle.journal.specs.Journal.{memory_told, state_of, Adds};
     ghost use Rattle.journal.specs.State.{unit_at};
     ghost use Rattle.journal.specs.Steps.{next_for};
     ghost use Rattle.journal.specs.declared.event.Event.TheVariants.{Hear, Turned};
-    ghost use Rattle.garage.specs.Answers.{Hears, Begins};
+    ghost use Rattle.garage.specs.Answers.{Hears, Begins, heard_one};
     ghost use Rattle.garage.specs.Calls.{BeginsFull, BeginsHeld, BeginsUnclaimed, HearsFull, HearsNothing, IsBeginRefusal, IsWant};
     ghost use Rattle.garage.specs.Causes.{BeginsWith, PassesNext};
     ghost use Rattle.garage.specs.Room.{IsFull};
 
     /// The unit on the seat hears its next frame. It is asked exactly what the frame puts to it, and is else as it was.
+    ///
+    /// `told` is whether its memory is known to be the one that the seat's latest event tells; the answer says so of it afterwards.
     ///
     /// Refused where there is a frame and the journal has no room, then where there is no memory; then nothing changed, and the
     /// unit was not asked.
@@ -52,24 +54,27 @@ impl Garage {
         alloc: Global,
         seat: u32,
         unit: &mut dyn Unit,
-    ) -> Result<HeardOne, GarageError>
-        requires { IsUnit (state_of self.old).traffic seat }
+        told: bool,
+    ) -> Result<(HeardOne, bool), GarageError>
+        requires unit { IsUnit (state_of self.old).traffic seat }
+        requires told { IsTrue told → memory_told seat self.old.journal ≡ Some (memory_of unit.old) }
         ensures name { name_of unit.new ≡ name_of unit.old }
-        ensures ok { IfOk result (λ h. (u : _) × (unit.new ≡ (unit.old.0, u)) × Hears self.old seat (memory_of unit.old) (Answers unit.old) unit.old.1 h self.new (memory_of unit.new) u) }
-        ensures nothing { HearsNothing self.old seat result }
-        ensures full { HearsFull self.old seat result }
+        ensures ok { IfOk result (λ h. (u : _) × (unit.new ≡ (unit.old.0, u)) × Hears self.old seat (memory_of unit.old) (Answers unit.old) unit.old.1 h.0 self.new (memory_of unit.new) u) }
+        ensures told { IfOk result (λ h. IsTrue h.1 → memory_told seat self.new.journal ≡ Some (memory_of unit.new)) }
+        ensures nothing { HearsNothing self.old seat (heard_one result) }
+        ensures full { HearsFull self.old seat (heard_one result) }
         ensures only { IfErr result IsWant }
         ensures err { OnErr result (self.new ≡ self.old) }
         ensures unasked { OnErr result (unit.new ≡ unit.old) }
     {
         let Some(frame) = self.next_for(seat) else {
-            return Ok(HeardOne::Nothing);
+            return Ok((HeardOne::Nothing, told));
         };
         if !self.passes(seat, &frame) {
-            return self.react_to(alloc, seat, frame, unit);
+            return Ok((self.react_to(alloc, seat, frame, unit)?, false));
         }
-        self.pass(seat, &*unit)?;
-        Ok(HeardOne::Frame(frame))
+        self.pass(seat, &*unit, told)?;
+        Ok((HeardOne::Frame(frame), true))
     }
 
     /// The next frame that the unit on the seat has not heard.
@@ -93,15 +98,23 @@ impl Garage {
     /// The unit on the seat hears its next frame, and passes over it: that is noted, and it counts as heard.
     ///
     /// Refused where the journal has no room, then where there is no memory; then nothing changed.
-    fn pass(&mut self, seat: u32, unit: &dyn Unit) -> Result<(), GarageError>
+    fn pass(&mut self, seat: u32, unit: &dyn Unit, told: bool) -> Result<(), GarageError>
         requires unit { IsUnit (state_of self.old).traffic seat }
         requires passed { PassesNext self.old seat }
+        requires told { IsTrue told → memory_told seat self.old.journal ≡ Some (memory_of unit.now) }
         ensures ok { OnOk result (Adds self.old (Hear seat (memory_of unit.now) Answer.NotAsked) self.new) }
         ensures full { IsErrOf result GarageError.BookFull ↔ IsFull self.old }
         ensures only { IfErr result IsWant }
         ensures err { OnErr result (self.new ≡ self.old) }
     {
-        let memory = ready_to_note(&mut self.journal, self.live + 1, self.limit, seat, unit)?;
+        let memory = ready_to_note(
+            &mut self.journal,
+            self.live + 1,
+            self.limit,
+            seat,
+            unit,
+            told,
+        )?;
         let place = &mut self.places[seat as usize - 1];
         place.tally.events += 1;
         self.bus.mark_heard(seat);

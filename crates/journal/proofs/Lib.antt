@@ -25,3 +25,4 @@ pub mod Headline
 pub mod Lifted
 pub mod Living
 pub mod Kept
+pub mod Told

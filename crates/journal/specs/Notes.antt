@@ -1,10 +1,12 @@
 -- How the journal keeps events: a fault memory is told by the number of its stored copy.
-use Rattle.std.specs.Prelude.{◌≡◌, ℕ, ◌+◌, ◌<◌, List, [], ◌∷◌, ◌++◌, length, slice_index_or}
+use Rattle.std.specs.Prelude.{◌≡◌, ℕ, ◌+◌, ◌<◌, List, [], ◌∷◌, ◌++◌, Option, None, Some, length, map, reverse, slice_index_or}
+use Rattle.std.specs.List.{All}
 use Rattle.can_frame.specs.FrameValue.{frame}
 use Rattle.can_frame.specs.declared.reading.Reading.TheVariants as reading
 use Rattle.fault_memory.specs.Memory.{MemoryValue, new_memory}
 use Rattle.station_table.specs.declared.reaction.Ask.{Ask as Asked}
 use Rattle.station_table.specs.declared.reaction.Ask.TheVariants as asked
+use Rattle.journal.specs.Journal.{memory_told}
 use Rattle.journal.specs.declared.event.Event.{Event}
 use Rattle.journal.specs.declared.event.Event.TheVariants.{Join, Hear, Begin, Turned, Carry, Read, Ordered, Leave, Inject}
 use Rattle.journal.specs.declared.note.Note.{Note}
@@ -13,12 +15,13 @@ use Rattle.journal.specs.declared.note.ShortAsk.{ShortAsk}
 use Rattle.journal.specs.declared.note.ShortAsk.TheVariants as short
 use Rattle.journal.specs.declared.order.Order.TheVariants.{Ask, AskAll, Command}
 
--- a journal as contracts see it: its events, the oldest first, the copies of fault memories, and how many more events there
--- is room for
+-- a journal as contracts see it: its events, the oldest first, the copies of fault memories, how many more events there
+-- is room for, and below which number each seat has a place for the number of its copy
 pub record JournalValue : Type 0 where
   pub items : List Event
   pub memories : List MemoryValue
   pub room : ℕ
+  pub placed : ℕ
 
 -- the copy of this number
 abbrev pub memory_at : List MemoryValue → ℕ → MemoryValue
@@ -70,6 +73,32 @@ IsNoted many (note.AskAll ask) = Unit {0}
 IsNoted many (note.Command address name) = Unit {0}
 IsNoted many (note.Leave k) = Unit {0}
 IsNoted many (note.Inject bytes id) = Unit {0}
+
+-- of each seat the place for its number holds that of the copy that its latest hear or begin tells
+abbrev pub AreTold : List MemoryValue → List ℕ → List Event → Type 0
+AreTold memories told events = (k : ℕ) (m : MemoryValue) → memory_told k events ≡ Some m → (k < length told) × IsStored memories (slice_index_or told k 0) m
+
+-- the seat of which a note tells the fault memory, and the number of the copy
+abbrev pub told_by : Note → Option (ℕ × ℕ)
+told_by (note.Hear answered k n) = Some (k, n)
+told_by (note.Begin k n) = Some (k, n)
+told_by (note.Join address name) = None
+told_by (note.Turned k) = None
+told_by (note.Carry k) = None
+told_by (note.Frame bytes id) = None
+told_by (note.Gap missed) = None
+told_by note.Empty = None
+told_by (note.Ask ask name) = None
+told_by (note.AskOther group name) = None
+told_by (note.AskAll ask) = None
+told_by (note.Command address name) = None
+told_by (note.Leave k) = None
+told_by (note.Inject bytes id) = None
+
+-- what holds of the notes of a journal: those that tell a memory tell a copy that is there
+pub record IsKept (memories : List MemoryValue) (numbers : List ℕ) (notes : List Note) : Type 0 where
+  pub noted : All (IsNoted (length memories)) notes
+  pub told : AreTold memories numbers (reverse (map (event_of memories) notes))
 
 -- a call that takes this event into room that there was
 pub record Gains (old : JournalValue) (e : Event) (new : JournalValue) : Type 0 where

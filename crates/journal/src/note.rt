@@ -1,8 +1,8 @@
-ghost use Rattle.std.specs.Prelude.{◌≡◌, ◌≤◌, ℕ, List, length};
+ghost use Rattle.std.specs.Prelude.{◌≡◌, ◌≤◌, ℕ, List, None, length};
 ghost use Rattle.fault_memory.specs.Memory.{MemoryValue};
 ghost use Rattle.journal.specs.declared.event.Event.TheVariants.{Ordered};
 ghost use Rattle.journal.specs.declared.order.Order.TheVariants as order;
-ghost use Rattle.journal.specs.Notes.{IsNoted, event_of};
+ghost use Rattle.journal.specs.Notes.{IsNoted, event_of, told_by};
 
 use can_frame::{Id, Pgn};
 use name_field::Name;
@@ -159,6 +159,7 @@ impl Note {
     pub(crate) fn ask(name: Name, ask: Ask) -> Note
         ensures event { (memories : List MemoryValue) → event_of memories result ≡ Ordered (order.Ask name ask) }
         ensures noted { (many : ℕ) → IsNoted many result }
+        ensures untold { told_by result ≡ None }
     {
         let name = SplitName::of(name);
         let ask = match ask {

@@ -1,7 +1,8 @@
-ghost use Rattle.std.specs.Prelude.{◌≡◌, [], ◌<◌, ◌≤◌, length, IfOk, IsTrue, OnOk};
-ghost use Rattle.fault_memory.specs.Memory.{IsLawfulMemory};
+ghost use Rattle.std.specs.Prelude.{◌≡◌, ℕ, [], ◌<◌, ◌≤◌, length, reverse, slice_index_or, IfOk, IfSome, IsTrue, None, OnOk, Some};
+ghost use Rattle.fault_memory.specs.Memory.{IsLawfulMemory, MemoryValue};
+ghost use Rattle.journal.specs.Journal.{memory_told};
 ghost use Rattle.journal.specs.declared.event.Event.TheVariants as event;
-ghost use Rattle.journal.specs.Notes.{Gains, IsNoted, IsStored, event_of, memory_at};
+ghost use Rattle.journal.specs.Notes.{Gains, IsNoted, IsStored, event_of, memory_at, told_by};
 
 use crate::note::{FrameBytes, Note, SplitName};
 use crate::order::Order;
@@ -23,14 +24,13 @@ const NO_COPY: u32 = u32::MAX;
 pub struct Journal {
     notes: Vec<Note>,
     memories: Vec<FaultMemory>,
-    // the number of each seat's last copy
-    last: Vec<u32>,
+    // for each seat the number of the copy that its latest hear or begin tells
+    told: Vec<u32>,
 }
 
 impl Model for Journal {
     ghost use Rattle.std.specs.Prelude.{◌-◌, map, length, vec_len, vec_capacity};
-    ghost use Rattle.std.specs.List.{All};
-    ghost use Rattle.journal.specs.Notes.{JournalValue, IsNoted, event_of};
+    ghost use Rattle.journal.specs.Notes.{IsKept, JournalValue, event_of};
 
     ghost Value = { JournalValue };
 
@@ -38,9 +38,10 @@ impl Model for Journal {
       items = map (event_of j.memories.items) j.notes.items;
       memories = j.memories.items;
       room = vec_capacity j.notes - vec_len j.notes;
+      placed = length j.told.items;
     } };
 
-    ghost invariant = { λ j. All (IsNoted (length j.memories.items)) j.notes.items };
+    ghost invariant = { λ j. IsKept j.memories.items j.told.items j.notes.items };
 }
 
 impl Journal {
@@ -51,7 +52,7 @@ impl Journal {
         Journal {
             notes: Vec::new(alloc),
             memories: Vec::new(alloc),
-            last: Vec::new(alloc),
+            told: Vec::new(alloc),
         }
     }
 
@@ -72,8 +73,8 @@ impl Journal {
         self.notes.reserve(count as usize)
     }
 
-    /// The number of a copy of the memory that the unit on a seat has now: of the seat's last one, where it is the same, else
-    /// of a new one. No event changes by it.
+    /// The number of a copy of the memory that the unit on a seat has now: of the one that its latest event tells or of the newest
+    /// one, where that is the same, else of a new one. No event changes by it.
     ///
     /// Refused where there is no memory for the copy, and where 2^32 are stored.
     pub fn remember(&mut self, seat: u32, memory: &FaultMemory) -> Result<u32, AllocError>
@@ -81,17 +82,43 @@ impl Journal {
         ensures room { self.new.room ≡ self.old.room }
         ensures stored { IfOk result (λ n. IsStored self.new.memories n memory.now) }
         ensures lawful { OnOk result (IsLawfulMemory memory.now) }
+        ensures placed { OnOk result (seat < self.new.placed) }
     {
-        let last = last_of(&self.last, seat);
-        if is_copy(&self.memories, last, memory) {
-            return Ok(last);
+        make_place(&mut self.told, seat)?;
+        if let Some(number) = self.found(seat, memory) {
+            return Ok(number);
         }
         let number = next_number(&self.memories)?;
         let copy = memory.copy()?;
         self.memories.reserve(1)?;
-        set_last(&mut self.last, seat, number)?;
         self.memories.push_reserved(copy);
         Ok(number)
+    }
+
+    /// The number of the copy that the latest event of a seat tells.
+    pub fn told(&self, seat: u32) -> u32
+        ensures { (m : MemoryValue) → memory_told seat (reverse self.now.items) ≡ Some m → (seat < self.now.placed) × IsStored self.now.memories result m }
+    {
+        match self.told.get(seat as usize) {
+            Some(number) => *number,
+            None => NO_COPY,
+        }
+    }
+
+    /// The number of a copy that is the same as this memory: of the one that the seat's latest event tells, or of the newest one.
+    fn found(&self, seat: u32, memory: &FaultMemory) -> Option<u32>
+        ensures { IfSome result (λ n. IsStored self.now.memories n memory.now × IsLawfulMemory memory.now) }
+    {
+        let told = self.told(seat);
+        if is_copy(&self.memories, told, memory) {
+            return Some(told);
+        }
+        let newest = u32::try_from(self.memories.len().checked_sub(1)?).ok()?;
+        if is_copy(&self.memories, newest, memory) {
+            Some(newest)
+        } else {
+            None
+        }
     }
 
     /// A unit of this NAME got the next seat and claims this address.
@@ -109,22 +136,25 @@ impl Journal {
     pub fn note_hear(&mut self, seat: u32, memory: u32, answer: Answer)
         requires room { 0 < self.old.room }
         requires stored { memory < length self.old.memories }
+        requires placed { seat < self.old.placed }
         ensures { Gains self.old (event.Hear seat (memory_at self.old.memories memory) answer) self.new }
     {
-        self.push(Note::Hear {
+        let note = Note::Hear {
             answer,
             seat,
             memory,
-        });
+        };
+        self.tell(seat, memory, note);
     }
 
     /// A unit began a DM1 of the memory of this number.
     pub fn note_begin(&mut self, seat: u32, memory: u32)
         requires room { 0 < self.old.room }
         requires stored { memory < length self.old.memories }
+        requires placed { seat < self.old.placed }
         ensures { Gains self.old (event.Begin seat (memory_at self.old.memories memory)) self.new }
     {
-        self.push(Note::Begin { seat, memory });
+        self.tell(seat, memory, Note::Begin { seat, memory });
     }
 
     /// A turn of a unit was over.
@@ -192,22 +222,40 @@ impl Journal {
         });
     }
 
-    /// One event more, for which there is room.
+    /// One event more, for which there is room, that tells no memory.
     fn push(&mut self, note: Note)
         requires room { 0 < self.old.room }
         requires noted { IsNoted (length self.old.memories) note }
+        requires untold { told_by note ≡ None }
         ensures { Gains self.old (event_of self.old.memories note) self.new }
     {
         self.notes.push_reserved(note);
     }
+
+    /// One event more, for which there is room, that tells the memory of this number of the unit on a seat.
+    fn tell(&mut self, seat: u32, memory: u32, note: Note)
+        requires room { 0 < self.old.room }
+        requires stored { memory < length self.old.memories }
+        requires placed { seat < self.old.placed }
+        requires telling { told_by note ≡ Some (seat, memory) }
+        ensures { Gains self.old (event_of self.old.memories note) self.new }
+    {
+        self.notes.push_reserved(note);
+        self.told[seat as usize] = memory;
+    }
 }
 
-/// The number of a seat's last copy; that of none, where the seat has none.
-fn last_of(last: &[u32], seat: u32) -> u32 {
-    match last.get(seat as usize) {
-        Some(number) => *number,
-        None => NO_COPY,
+/// Makes a place for the number of a seat's copy, where there is none. The others stay.
+fn make_place(told: &mut Vec<u32>, seat: u32) -> Result<(), AllocError>
+    ensures longer { length told.old.items ≤ length told.new.items }
+    ensures kept { (k : ℕ) → k < length told.old.items → slice_index_or told.new.items k 0 ≡ slice_index_or told.old.items k 0 }
+    ensures placed { OnOk result (seat < length told.new.items) }
+{
+    let place = seat as usize;
+    if told.len() <= place {
+        told.resize(place + 1, NO_COPY)?;
     }
+    Ok(())
 }
 
 /// Whether the copy of this number is there, and is the same as the memory.
@@ -228,14 +276,4 @@ fn next_number(memories: &[FaultMemory]) -> Result<u32, AllocError>
         Ok(number) => Ok(number),
         Err(_) => Err(AllocError),
     }
-}
-
-/// Makes this number that of the seat's last copy.
-fn set_last(last: &mut Vec<u32>, seat: u32, number: u32) -> Result<(), AllocError> {
-    let place = seat as usize;
-    if last.len() <= place {
-        last.resize(place + 1, NO_COPY)?;
-    }
-    last[place] = number;
-    Ok(())
 }

@@ -2,7 +2,9 @@ use Rattle.std.proofs.Common.{rules, refl, sym, ◌∙◌}
 use Rattle.node_core.specs.Passing.{IsPassedOver}
 use Rattle.journal.specs.State.{unit_at}
 use Rattle.journal.specs.Journal.{state_of}
-use Rattle.garage.proofs.Passing.{hears_passed}
+use Rattle.node_core.specs.declared.heard.Answer.TheVariants.{NotAsked}
+use Rattle.garage.proofs.Lent.{on_err}
+use Rattle.garage.proofs.Passing.{hears_passed, told_hearing}
 use Rattle.garage.proofs.garage.Garage.hear.Goals as goal
 
 pub pass-requires-clause-passed : goal.pass-requires-clause-passed
@@ -22,3 +24,9 @@ returns-clause-ok g c =
 pub returns-in_default-clause-ok : goal.returns-in_default-clause-ok
 returns-in_default-clause-ok g c =
     (c.args.unit.now.1, refl, (sym c.next_for.ensures ∙ c.in_default.is, refl, refl, refl))
+
+pub returns-in_err-react_to-clause-unasked : goal.returns-in_err-react_to-clause-unasked
+returns-in_err-react_to-clause-unasked g c = on_err c.from_residual.result c.in_err-react_to.ensures.unasked
+
+pub returns-clause-told : goal.returns-clause-told
+returns-clause-told g c = λ told. told_hearing c.args.self.now c.pass.new.self c.args.seat _ NotAsked c.in_ok-pass.ensures.ok

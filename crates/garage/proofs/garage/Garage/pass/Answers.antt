@@ -12,10 +12,13 @@ use Rattle.journal.specs.declared.event.Event.{Event}
 use Rattle.journal.specs.declared.event.Event.TheVariants.{Hear}
 use Rattle.node_core.specs.declared.heard.Answer.TheVariants.{NotAsked}
 use Rattle.garage.specs.declared.garage.Place.{Place}
-use Rattle.garage.proofs.Passing.{pass_did, pass_fits, passes_inside, passes_of}
+use Rattle.garage.proofs.Passing.{told_inside, pass_did, pass_fits, passes_inside, passes_of}
 use Rattle.garage.proofs.Traffics.{keeps_heard}
 use Rattle.garage.proofs.Standing.{state, joins_hear, next_within, place_few, place_within, unit_now, units_same, place_tally, stands_more, tallies_one, fresh_one}
 use Rattle.garage.proofs.garage.Garage.pass.Goals as goal
+
+pub ready_to_note-requires-clause-told : goal.ready_to_note-requires-clause-told
+ready_to_note-requires-clause-told g c = λ told. told_inside c.self.inside c.args.self.now c.args.seat _ c.self.view_is c.self.invariant (c.requires.told told)
 
 pub overflow_add-place : goal.overflow_add-place
 overflow_add-place g c =

@@ -1,10 +1,12 @@
+ghost use Rattle.std.specs.Prelude.{◌≡◌, ◌+◌, ◌<◌, ◌≤◌, length};
+
 use crate::refusal::Refusal;
 use bus_ledger::Counts;
 use can_frame::Frame;
-use dm_messages::Shown;
 use station_table::Row;
+use std::io;
 use std::io::Write;
-use std::{fmt, io};
+use text_buffer::TextBuffer;
 
 /// Why carrying ended before its number of frames.
 #[derive(Clone, Copy, Debug, PartialEq, Eq)]
@@ -15,7 +17,7 @@ pub enum End {
     Waiting,
 }
 
-/// What a command gave. `Display` writes the answer.
+/// What a command gave.
 #[derive(Clone, Copy, Debug, PartialEq, Eq)]
 pub enum Answer {
     /// It is done.
@@ -44,91 +46,103 @@ pub enum Answer {
     Frame(Option<Frame>),
 }
 
-impl fmt::Display for Answer {
-    fn fmt<W: fmt::Write>(&self, f: &mut fmt::Formatter<W>) -> fmt::Result {
-        match self {
-            Answer::Done => write!(f, "ok"),
-            Answer::Seat(seat) => write!(f, "seat {seat}"),
-            Answer::Heard(count) => write!(f, "heard {count}"),
-            Answer::Begun => write!(f, "begun"),
-            Answer::Held => write!(f, "held"),
-            Answer::Carried { count, end } => write_carried(f, *count, *end),
-            Answer::Read(count) => write!(f, "read {count}"),
-            Answer::Row(row) => write_row(f, *row),
-            Answer::Counts(counts) => write_counts(f, *counts),
-            Answer::Stats { missed, unread } => write!(f, "missed {missed} unread {unread}"),
-            Answer::Injected(count) => write!(f, "injected {count}"),
-            Answer::Frame(Some(frame)) => write!(f, "{frame}"),
-            Answer::Frame(None) => write!(f, "no frame"),
-        }
-    }
-}
-
-fn write_carried<W: fmt::Write>(
-    f: &mut fmt::Formatter<W>,
-    count: u32,
-    end: Option<End>,
-) -> fmt::Result {
-    match end {
-        None => write!(f, "carried {count}"),
-        Some(End::Idle) => write!(f, "carried {count} idle"),
-        Some(End::Waiting) => write!(f, "carried {count} waiting"),
-    }
-}
-
-fn write_row<W: fmt::Write>(f: &mut fmt::Formatter<W>, row: Option<Row>) -> fmt::Result {
-    let Some(row) = row else {
-        return write!(f, "row unknown");
-    };
-    match row.address {
-        Some(address) => write!(f, "row {address}")?,
-        None => write!(f, "row none")?,
-    }
-    match row.ack {
-        Some(ack) => write!(f, " ack {} {}", ack.control, ack.pgn.number()),
-        None => write!(f, " ack none"),
-    }
-}
-
-fn write_counts<W: fmt::Write>(f: &mut fmt::Formatter<W>, counts: Counts) -> fmt::Result {
-    let Counts {
-        queued,
-        carried,
-        withdrawn,
-        waiting,
-    } = counts;
-    write!(f, "counts {queued} {carried} {withdrawn} {waiting}")
-}
-
 /// Writes the answer line of a command.
 pub fn write_answer<W: Write>(writer: &mut W, answer: Result<Answer, Refusal>) -> io::Result<()> {
     match answer {
-        Ok(answer) => writeln!(writer, "{answer}"),
+        Ok(answer) => write_done(writer, answer),
         Err(refusal) => writeln!(writer, "{refusal}"),
     }
 }
 
-/// Writes what the station shows of a NAME: how many messages, and each of them.
-pub fn write_shown<W: Write>(writer: &mut W, shown: &[Shown]) -> io::Result<()> {
-    write!(writer, "shown {}", shown.len())?;
-    for (index, entry) in shown.iter().enumerate() {
-        let before = if index == 0 { ":" } else { " |" };
-        write!(writer, "{before}")?;
-        write_entry(writer, entry)?;
+fn write_done<W: Write>(writer: &mut W, answer: Answer) -> io::Result<()> {
+    match answer {
+        Answer::Done => writer.write_all(b"ok\n"),
+        Answer::Seat(seat) => write_count(writer, "seat ", seat, "\n"),
+        Answer::Heard(count) => write_count(writer, "heard ", count, "\n"),
+        Answer::Begun => writer.write_all(b"begun\n"),
+        Answer::Held => writer.write_all(b"held\n"),
+        Answer::Carried { count, end } => write_count(writer, "carried ", count, line_end(end)),
+        Answer::Read(count) => write_count(writer, "read ", count, "\n"),
+        Answer::Row(Some(row)) => write_row(writer, row),
+        Answer::Row(None) => writer.write_all(b"row unknown\n"),
+        Answer::Counts(counts) => write_counts(writer, counts),
+        Answer::Stats { missed, unread } => write_stats(writer, missed, unread),
+        Answer::Injected(count) => write_count(writer, "injected ", count, "\n"),
+        Answer::Frame(Some(frame)) => writeln!(writer, "{frame}"),
+        Answer::Frame(None) => writer.write_all(b"no frame\n"),
     }
-    writeln!(writer)
 }
 
-/// Writes a space, the lamps in four digits, and then each code.
-fn write_entry<W: Write>(writer: &mut W, entry: &Shown) -> io::Result<()> {
-    let [lamps, flashes] = entry.lamps.to_bytes();
-    write!(writer, " {lamps:02X}{flashes:02X}")?;
-    let codes = entry.codes.as_slice();
-    if codes.is_empty() {
-        return write!(writer, " -");
+/// Why carrying ended, behind the number of frames.
+fn line_end(end: Option<End>) -> &'static str
+    ensures { length result.now ≤ 9 }
+{
+    match end {
+        None => "\n",
+        Some(End::Idle) => " idle\n",
+        Some(End::Waiting) => " waiting\n",
     }
-    for code in codes {
-        write!(writer, " {}/{}/{}", code.spn(), code.fmi(), code.count())?;
+}
+
+/// Writes a number between two texts.
+fn write_count<W: Write>(writer: &mut W, before: &str, count: u32, behind: &str) -> io::Result<()>
+    requires { length before.now + length behind.now ≤ 100 }
+{
+    let mut line = TextBuffer::new();
+    line.push_text(before);
+    line.push_decimal(u64::from(count));
+    line.push_text(behind);
+    line.write_to(writer)
+}
+
+fn write_row<W: Write>(writer: &mut W, row: Row) -> io::Result<()> {
+    let mut line = TextBuffer::new();
+    push_address(&mut line, row.address);
+    match row.ack {
+        Some(ack) => {
+            line.push_text(" ack ");
+            line.push_decimal(u64::from(ack.control));
+            line.push(b' ');
+            line.push_decimal(u64::from(ack.pgn.number()));
+        }
+        None => line.push_text(" ack none"),
     }
-    Ok(())
+    line.make_room(1, writer)?;
+    line.push(b'\n');
+    line.write_to(writer)
+}
+
+fn push_address(line: &mut TextBuffer, address: Option<u8>)
+    requires { length line.old ≡ 0 }
+    ensures { length line.new ≤ 24 }
+{
+    line.push_text("row ");
+    match address {
+        Some(address) => line.push_decimal(u64::from(address)),
+        None => line.push_text("none"),
+    }
+}
+
+fn write_counts<W: Write>(writer: &mut W, counts: Counts) -> io::Result<()> {
+    let mut line = TextBuffer::new();
+    line.push_text("counts ");
+    line.push_decimal(u64::from(counts.queued));
+    line.push(b' ');
+    line.push_decimal(u64::from(counts.carried));
+    line.push(b' ');
+    line.push_decimal(u64::from(counts.withdrawn));
+    line.push(b' ');
+    line.push_decimal(u64::from(counts.waiting));
+    line.push(b'\n');
+    line.write_to(writer)
+}
+
+fn write_stats<W: Write>(writer: &mut W, missed: u64, unread: u64) -> io::Result<()> {
+    let mut line = TextBuffer::new();
+    line.push_text("missed ");
+    line.push_decimal(missed);
+    line.push_text(" unread ");
+    line.push_decimal(unread);
+    line.push(b'\n');
+    line.write_to(writer)
 }

@@ -1,4 +1,4 @@
-use crate::answer::{Answer, End, write_answer, write_shown};
+use crate::answer::{Answer, End, write_answer};
 use crate::desk::Desk;
 use crate::refusal::Refusal;
 use crate::task::Task;
@@ -69,7 +69,7 @@ impl Workshop {
             Command::Shown {
                 name: Ok(name),
                 kind,
-            } => write_shown(writer, self.garage.shown(name, kind)),
+            } => report::write_shown(self.garage.shown(name, kind), writer),
             Command::Report => match self.garage.snapshot(self.alloc) {
                 Ok(snapshot) => report::write(&snapshot, writer),
                 Err(error) => write_answer(writer, Err(Refusal::Garage(error))),

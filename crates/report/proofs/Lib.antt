@@ -1,2 +1,3 @@
 pub mod Padded
 pub mod Appending
+pub mod Held

@@ -16,9 +16,11 @@ ghost use Rattle.std.specs.Io.KnownBytes.{Appends};
 ghost use Rattle.report.specs.Text.{report_text};
 
 mod line;
+mod shown;
 
 pub use garage::{Newest, RowLine, Snapshot};
 use line::{write_row, write_total};
+pub use shown::write_shown;
 use std::io;
 use std::io::Write;
 

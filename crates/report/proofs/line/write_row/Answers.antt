@@ -1,4 +1,4 @@
-use Rattle.std.specs.Prelude.{◌++◌, codes}
+use Rattle.std.specs.Prelude.{codes}
 use Rattle.std.specs.Fmt.{decimal}
 use Rattle.name_field.specs.NameText.{name_text}
 use Rattle.report.specs.Text.{address_text, newest_text, right, line_end}

@@ -4,3 +4,5 @@ pub mod NineBytes
 pub mod PartLists
 pub mod Contested
 pub mod Passing
+pub mod Places
+pub mod HalfCommandLists

@@ -1,7 +1,6 @@
 ghost use Rattle.std.specs.Prelude.{◌≡◌, ◌≤◌, IfOk, OnOk, OnErr, length, slice_index_or, None};
 ghost use Rattle.can_frame.specs.declared.address.TheConstants.{GREATEST_ADDRESS};
 
-use crate::commanding::HalfCommand;
 use crate::heard::{Answer, Heard, Withdraw};
 use crate::node::Node;
 use crate::out::{Out, Room};
@@ -46,7 +45,7 @@ impl Node {
         if !is_of_another {
             return;
         }
-        self.half_commands[source as usize] = HalfCommand::Nothing;
+        self.half_commands.forget(source);
     }
 
     /// Whether the address was last claimed under another NAME.

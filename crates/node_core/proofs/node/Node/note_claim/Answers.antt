@@ -11,4 +11,4 @@ pub returns : goal.returns
 returns c =
     let test = rw (← c.self.view_is) at c.is_of_another-is_of_another.ensures in
     let yes : c.is_of_another-is_of_another.result ≡ true = search rules in
-    rw (← c.self.view_is, c.hear_claim.ensures.after, ← test, yes) refl
+    rw (← c.self.view_is, c.hear_claim.ensures.after, c.forget.ensures, ← test, yes) refl

@@ -8,7 +8,7 @@ use Rattle.node_core.specs.Commanding.{half_from}
 use Rattle.node_core.specs.HalfCommands.{half_at, half_or_nothing, halves_of}
 use Rattle.node_core.specs.declared.commanding.HalfCommand.{HalfCommand}
 use Rattle.node_core.specs.declared.commanding.HalfCommand.TheVariants.{Nothing}
-use Rattle.node_core.proofs.Places.{placed, set_at, all_same, not_equal}
+use Rattle.address_claim.proofs.Places.{placed, set_at, all_same, not_equal}
 
 pub none_half : halves_of None ≡ replicate 254 Nothing
 unfolding halves_of

@@ -4,5 +4,4 @@ pub mod NineBytes
 pub mod PartLists
 pub mod Contested
 pub mod Passing
-pub mod Places
 pub mod HalfCommandLists

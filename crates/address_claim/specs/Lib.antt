@@ -1,3 +1,4 @@
 pub mod Claiming
 pub mod Frames
 pub mod Refusals
+pub mod Noted

@@ -1,9 +1,11 @@
-ghost use Rattle.std.specs.Prelude.{◌≡◌, ℕ, ◌≤◌, ◌<◌, ◌↔◌, Option, Some, None, IfSome, IsErrOf, IsOk, OnOk, OnErr, slice_index_or, length, position};
-ghost use Rattle.address_claim.specs.Claiming.{ClaimerValue, new_claimer, claim_step, after_claim, after_command, is_free, free_address, noted_after, next_address, IsOwnChoice, IsLawfulStep};
+ghost use Rattle.std.specs.Prelude.{◌≡◌, ◌≤◌, ◌↔◌, Some, None, IfSome, IfOk, IsErrOf, IsOk, OnOk, OnErr, slice_index_or, slice_set};
+ghost use Rattle.address_claim.specs.Claiming.{new_claimer, claim_step, after_claim, after_command, is_free, free_address, noted_after, next_address, IsOwnChoice, IsLawfulStep};
 
 use crate::error::ClaimError;
-use can_frame::{GREATEST_ADDRESS, HOLDABLE_ADDRESSES, NULL_ADDRESS};
+use crate::noted::Noted;
+use can_frame::{GREATEST_ADDRESS, NULL_ADDRESS};
 use name_field::Name;
+use std::alloc::{AllocError, Global};
 use std::marker::Model;
 
 /// What a claim that was heard asks of a claimer.
@@ -24,7 +26,7 @@ pub enum ClaimStep {
 pub struct Claimer {
     name: Name,
     held: Option<u8>,
-    noted: [Option<Name>; HOLDABLE_ADDRESSES],
+    noted: Noted,
 }
 
 impl Model for Claimer {
@@ -48,7 +50,7 @@ impl Claimer {
         Claimer {
             name,
             held: Some(want),
-            noted: [None; HOLDABLE_ADDRESSES],
+            noted: Noted::nothing(),
         }
     }
 
@@ -72,7 +74,7 @@ impl Claimer {
         requires { address ≤ GREATEST_ADDRESS }
         ensures { result ≡ slice_index_or self.now.noted address None }
     {
-        self.noted[address as usize]
+        self.noted.last(address)
     }
 
     /// What a claim of this source address under this NAME would ask; it changes nothing.
@@ -94,21 +96,29 @@ impl Claimer {
 
     /// A claim of this source address under this NAME, which is noted. The step is taken at once: after
     /// `Move` the new address is held, after `CannotClaim` none. A source of 254 or 255 changes nothing.
-    pub fn hear_claim(&mut self, source: u8, name: Name) -> ClaimStep
-        ensures step { result ≡ claim_step source name self.old }
-        ensures lawful { IsLawfulStep result }
-        ensures after { self.new ≡ after_claim source name self.old }
+    ///
+    /// Memory can be refused at the first claim heard of an address; then nothing changed.
+    pub fn hear_claim(
+        &mut self,
+        alloc: Global,
+        source: u8,
+        name: Name,
+    ) -> Result<ClaimStep, AllocError>
+        ensures step { IfOk result (λ s. s ≡ claim_step source name self.old) }
+        ensures lawful { IfOk result IsLawfulStep }
+        ensures after { OnOk result (self.new ≡ after_claim source name self.old) }
+        ensures err { OnErr result (self.new ≡ self.old) }
     {
         let step = self.answer(source, name);
         if source < NULL_ADDRESS {
-            self.noted[source as usize] = Some(name);
+            self.noted.note(alloc, source, name)?;
         }
         match step {
             ClaimStep::Nothing | ClaimStep::Defend => {}
             ClaimStep::Move(address) => self.held = Some(address),
             ClaimStep::CannotClaim => self.held = None,
         }
-        step
+        Ok(step)
     }
 
     /// Holds this address from now on; `NotAnAddress`, with nothing changed, where it is 254 or 255.
@@ -142,28 +152,22 @@ impl Claimer {
         if self.name.fields().arbitrary_capable != 1 {
             return None;
         }
-        let mut noted = [None; HOLDABLE_ADDRESSES];
-        noted.copy_from_slice(&self.noted);
-        noted[source as usize] = Some(name);
-        free_address(self.name, &noted)
+        self.free_address(source, name)
     }
-}
 
-/// The least address from 128 to 247 that is free for a NAME.
-fn free_address(own: Name, noted: &[Option<Name>]) -> Option<u8>
-    requires { length noted.now ≡ HOLDABLE_ADDRESSES }
-    ensures value { result ≡ free_address own noted.now }
-    ensures bound { IfSome result IsOwnChoice }
-{
-    let place = first_free(own, &noted[128..248])?;
-    Some(128 + place as u8)
-}
-
-fn first_free(own: Name, places: &[Option<Name>]) -> Option<usize>
-    ensures value { result ≡ position (is_free own) places.now }
-    ensures bound { IfSome result (λ place. place < length places.now) }
-{
-    places.iter().position(|last| is_free(own, *last))
+    /// The least address from 128 to 247 that is free for its NAME once this claim is noted.
+    fn free_address(&self, source: u8, name: Name) -> Option<u8>
+        requires { source ≤ GREATEST_ADDRESS }
+        ensures value { result ≡ free_address self.now.name (slice_set self.now.noted source (Some name)) }
+        ensures bound { IfSome result IsOwnChoice }
+    {
+        for address in 128..248 {
+            if is_free(self.name, self.noted.last_after(source, name, address)) {
+                return Some(address);
+            }
+        }
+        None
+    }
 }
 
 /// Whether an address with this last claim is free for a NAME.

@@ -5,6 +5,7 @@
 mod claim;
 mod claimer;
 mod error;
+mod noted;
 
 pub use claim::{Claim, claim_frame, read_claim};
 pub use claimer::{ClaimStep, Claimer};

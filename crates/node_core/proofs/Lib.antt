@@ -4,3 +4,4 @@ pub mod NineBytes
 pub mod PartLists
 pub mod Contested
 pub mod Passing
+pub mod HalfCommandLists

@@ -9,3 +9,4 @@ pub mod Laws
 pub mod Beginning
 pub mod Refusals
 pub mod Pieces
+pub mod HalfCommands

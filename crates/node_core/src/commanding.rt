@@ -10,7 +10,7 @@ const COMMAND_SIZE: u16 = 9;
 
 /// What a unit has of a commanded address (SAE J1939-81) that one source broadcasts.
 ///
-/// A commanded address is nine bytes in two packets, so three states tell all, and none takes memory.
+/// A commanded address is nine bytes in two packets, so three states tell all.
 #[derive(Clone, Copy, Debug, PartialEq, Eq)]
 pub enum HalfCommand {
     /// Nothing.

@@ -4,6 +4,7 @@
 
 mod commanding;
 mod error;
+mod half_commands;
 mod heard;
 mod node;
 mod out;

@@ -2,14 +2,14 @@ ghost use Rattle.std.specs.Prelude.{◌≡◌, ◌<◌, ◌≤◌, ◌^◌, ◌�
 ghost use Rattle.can_frame.specs.declared.address.TheConstants.{GREATEST_ADDRESS};
 ghost use Rattle.address_claim.specs.Frames.{claim_frame_value};
 
-use crate::commanding::HalfCommand;
 use crate::error::NodeError;
+use crate::half_commands::HalfCommands;
 use crate::heard::{Answer, Begun, Heard, Started, Withdraw};
 use crate::out::Outs;
 use crate::parts::parts_to_all;
 use crate::session::OpenSession;
 use address_claim::{Claimer, claim_frame};
-use can_frame::{Frame, GLOBAL_ADDRESS, HOLDABLE_ADDRESSES};
+use can_frame::{Frame, GLOBAL_ADDRESS};
 use dm_messages::{Kind, payload};
 use name_field::Name;
 use parameter_group::ParameterGroup;
@@ -28,7 +28,7 @@ mod sessions;
 #[derive(Drop)]
 pub struct Node {
     claimer: Claimer,
-    half_commands: [HalfCommand; HOLDABLE_ADDRESSES],
+    half_commands: HalfCommands,
     session: Option<OpenSession>,
 }
 
@@ -55,7 +55,7 @@ impl Node {
     {
         Node {
             claimer: Claimer::new(name, want),
-            half_commands: [HalfCommand::Nothing; HOLDABLE_ADDRESSES],
+            half_commands: HalfCommands::none(),
             session: None,
         }
     }

@@ -1,12 +1,12 @@
 -- The rows after one change.
-use Rattle.std.proofs.Common.{◌≡◌, ℕ, Bool, true, false, ◌==◌, ◌||◌, nat_eq, List, [], ◌∷◌, ◌++◌, Option, Some, None, is_some, if◌then◌else◌, unwrap_or, cond, map, refl, sym, ap, ◌∙◌, subst}
+use Rattle.std.proofs.Common.{◌≡◌, ℕ, Bool, true, false, ◌==◌, ◌||◌, nat_eq, List, [], ◌∷◌, ◌++◌, Option, Some, None, is_some, if◌then◌else◌, unwrap_or, cond, map, length, take, arith, refl, sym, ap, ◌∙◌, subst}
 use Rattle.std.specs.Option.{option_map, option_map_or}
 use Rattle.std.specs.List.{list_any}
 use Rattle.indexmap.specs.IndexMap.{insert_entry}
 use Rattle.std.specs.Cmp.{nat_eq_equiv}
 use Rattle.std.specs.Map.{set_value}
 use Rattle.std.proofs.lemmas.Map.{lookup-set_value, keys-set_value}
-use Rattle.std.proofs.lemmas.List.{map-append}
+use Rattle.std.proofs.lemmas.List.{map-append, take_all, take_at}
 use Rattle.std.proofs.lemmas.Bool.{ne_eqb, eqb-true}
 use Rattle.bus_model.specs.Heard.{with_name}
 use Rattle.station_table.specs.KeptValue.{KeptValue, nothing_kept, kept_under, with_row, changed_under}
@@ -127,3 +127,11 @@ pub name_added : (rows new : List (ℕ × KeptValue)) (n : ℕ) (found : Bool) �
 name_added rows new n found test was added =
     let none : kept_under rows n ≡ None = nothing_found (kept_under rows n) (sym was ∙ test) in
     added ∙ (insert_new rows n nothing_kept none ∙ sym (ap (λ (o : Option KeptValue). cond (is_some o) rows (rows ++ (n, nothing_kept) ∷ [])) none))
+
+-- the rows before a row was added
+pub rows_before : (rows : List (ℕ × KeptValue)) (n : ℕ) → take (length rows) (with_row rows n) ≡ rows
+rows_before rows n = go (is_some (kept_under rows n))
+  where
+    go : (b : Bool) → take (length rows) (cond b rows (rows ++ (n, nothing_kept) ∷ [])) ≡ rows
+    go true = take_all (length rows) rows (omega arith)
+    go false = take_at rows ((n, nothing_kept) ∷ []) (length rows) refl

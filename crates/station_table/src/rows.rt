@@ -1,4 +1,4 @@
-ghost use Rattle.std.specs.Prelude.{◌≡◌, ℕ, [], length, map, slice_get, OnOk, OnErr};
+ghost use Rattle.std.specs.Prelude.{◌≡◌, ℕ, [], length, map, take, slice_get, OnOk, OnErr};
 ghost use Rattle.std.specs.Option.{option_map};
 
 use crate::kept::Kept;
@@ -64,6 +64,13 @@ impl Rows {
         }
         self.rows.insert(name, Kept::new(alloc))?;
         Ok(())
+    }
+
+    /// Keeps the first rows alone, as many as this.
+    pub fn truncate(&mut self, rows: usize)
+        ensures { self.new ≡ take rows self.old }
+    {
+        self.rows.truncate(rows);
     }
 
     /// The NAME claims this address, or none; a NAME without a row does nothing.

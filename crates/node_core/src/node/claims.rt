@@ -1,7 +1,6 @@
 ghost use Rattle.std.specs.Prelude.{◌≡◌, ◌≤◌, IfOk, OnOk, OnErr, length, slice_index_or, None};
 ghost use Rattle.can_frame.specs.declared.address.TheConstants.{GREATEST_ADDRESS};
 
-use crate::commanding::HalfCommand;
 use crate::heard::{Answer, Heard, Withdraw};
 use crate::node::Node;
 use crate::out::{Out, Room};
@@ -28,25 +27,26 @@ impl Node {
         ensures kept { OnErr result (self.new ≡ self.old) }
     {
         if self.claimer.answer(source, name) == ClaimStep::Nothing {
-            self.note_claim(source, name);
+            self.note_claim(alloc, source, name)?;
             return Ok(self.end_session_with(alloc, source));
         }
         let room = Room::new(alloc)?;
-        self.note_claim(source, name);
+        self.note_claim(alloc, source, name)?;
         Ok(self.claim_again(room, Answer::NotAsked))
     }
 
     /// Takes note of a claim; a half command from an address that was last claimed under another NAME is dropped.
-    fn note_claim(&mut self, source: u8, name: Name)
+    fn note_claim(&mut self, alloc: Global, source: u8, name: Name) -> Result<(), AllocError>
         requires { source ≤ GREATEST_ADDRESS }
-        ensures { self.new ≡ noted_from self.old (AddressClaimed source name) }
+        ensures ok { OnOk result (self.new ≡ noted_from self.old (AddressClaimed source name)) }
+        ensures err { OnErr result (self.new ≡ self.old) }
     {
         let is_of_another = self.is_of_another(source, name);
-        let _ = self.claimer.hear_claim(source, name);
-        if !is_of_another {
-            return;
+        let _ = self.claimer.hear_claim(alloc, source, name)?;
+        if is_of_another {
+            self.half_commands.forget(source);
         }
-        self.half_commands[source as usize] = HalfCommand::Nothing;
+        Ok(())
     }
 
     /// Whether the address was last claimed under another NAME.

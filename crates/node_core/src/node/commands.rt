@@ -1,4 +1,4 @@
-ghost use Rattle.std.specs.Prelude.{◌≡◌, ◌≤◌, IfOk, IfErr, OnErr, IfSome, Some, length};
+ghost use Rattle.std.specs.Prelude.{◌≡◌, ◌≤◌, IfOk, IfErr, OnOk, OnErr, IfSome, Some, length};
 
 use crate::commanding::{HalfCommand, for_name, is_broadcast};
 use crate::error::NodeError;
@@ -8,7 +8,7 @@ use crate::out::{Outs, Room};
 use crate::requested::put;
 use can_frame::{GREATEST_ADDRESS, Pgn};
 use requests::Commanded;
-use std::alloc::Global;
+use std::alloc::{AllocError, Global};
 use unit_trait::{Question, Unit};
 
 impl Node {
@@ -18,13 +18,22 @@ impl Node {
 
     /// Takes note of a broadcast announcement: it drops what is half joined from its source, and may start a commanded
     /// address.
-    pub(super) fn note_announcement(&mut self, source: u8, destination: u8, size: u16, pgn: Pgn)
-        ensures { self.new ≡ announced self.old source destination size pgn }
+    pub(super) fn note_announcement(
+        &mut self,
+        alloc: Global,
+        source: u8,
+        destination: u8,
+        size: u16,
+        pgn: Pgn,
+    ) -> Result<(), AllocError>
+        ensures ok { OnOk result (self.new ≡ announced self.old source destination size pgn) }
+        ensures err { OnErr result (self.new ≡ self.old) }
     {
         if !is_broadcast(destination, source) {
-            return;
+            return Ok(());
         }
-        self.half_commands[source as usize] = HalfCommand::started(size, pgn);
+        self.half_commands
+            .keep(alloc, source, HalfCommand::started(size, pgn))
     }
 
     /// Hears a packet (SAE J1939-21, TP.DT); only one of a commanded address to all counts (SAE J1939-81).
@@ -48,11 +57,11 @@ impl Node {
         ensures asked { IfOk result (λ h. (u : _) × (unit.new ≡ (unit.old.0, u)) × IsAsked (Answers unit.old) (put_by_command (command_heard self.old source destination bytes.now)) h.answer unit.old.1 u) }
     {
         let Some(command) = self.command_heard(source, destination, bytes) else {
-            self.join_packet(source, destination, bytes);
+            self.join_packet(alloc, source, destination, bytes)?;
             return Ok(Heard::nothing(alloc));
         };
         let room = Room::new(alloc)?;
-        self.join_packet(source, destination, bytes);
+        self.join_packet(alloc, source, destination, bytes)?;
         match put(Question::Hold(command.address), unit) {
             Answer::Agreed => Ok(self.obey(command.address, room)),
             answer => Ok(Heard {
@@ -72,19 +81,27 @@ impl Node {
         if !is_broadcast(destination, source) {
             return None;
         }
-        let half = self.half_commands[source as usize];
+        let half = self.half_commands.from(source);
         for_name(self.claimer.name(), half.completed(bytes))
     }
 
     /// A broadcast packet goes on with what is half joined from its source.
-    fn join_packet(&mut self, source: u8, destination: u8, bytes: &[u8])
-        ensures { self.new ≡ packet_heard self.old source destination bytes.now }
+    fn join_packet(
+        &mut self,
+        alloc: Global,
+        source: u8,
+        destination: u8,
+        bytes: &[u8],
+    ) -> Result<(), AllocError>
+        ensures ok { OnOk result (self.new ≡ packet_heard self.old source destination bytes.now) }
+        ensures err { OnErr result (self.new ≡ self.old) }
     {
         if !is_broadcast(destination, source) {
-            return;
+            return Ok(());
         }
-        let half = self.half_commands[source as usize];
-        self.half_commands[source as usize] = half.continued(bytes);
+        let half = self.half_commands.from(source);
+        self.half_commands
+            .keep(alloc, source, half.continued(bytes))
     }
 
     /// Holds the address from now on, and claims it.

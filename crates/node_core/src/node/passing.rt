@@ -31,6 +31,6 @@ impl Node {
     fn goes_on(&self, source: u8, destination: u8) -> bool
         ensures { result ≡ goes_on self.now.half_commands source destination }
     {
-        is_broadcast(destination, source) && self.half_commands[source as usize].is_half()
+        is_broadcast(destination, source) && self.half_commands.from(source).is_half()
     }
 }

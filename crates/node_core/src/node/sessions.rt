@@ -38,7 +38,7 @@ impl Node {
             Control::EndAck { pgn, .. } => Ok(self.hear_end_ack(alloc, source, destination, pgn)),
             Control::Abort { pgn, .. } => Ok(self.hear_abort(alloc, source, destination, pgn)),
             Control::Bam { size, pgn, .. } => {
-                self.note_announcement(source, destination, size, pgn);
+                self.note_announcement(alloc, source, destination, size, pgn)?;
                 Ok(Heard::nothing(alloc))
             }
         }

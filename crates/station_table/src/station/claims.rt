@@ -1,17 +1,19 @@
 ghost use Rattle.std.specs.Prelude.{◌≡◌, slice_set, IfOk, OnOk, OnErr, IsOkUnless};
-ghost use Rattle.address_claim.specs.Claiming.{IsLawfulStep, claim_step};
+ghost use Rattle.address_claim.specs.Claiming.{IsLawfulStep, after_claim, claim_step};
 ghost use Rattle.can_frame.specs.declared.reading.Reading.TheVariants.{Gap};
 ghost use Rattle.bus_model.specs.Heard.{kept_by_owner};
 ghost use Rattle.parameter_group.specs.Group as group;
 ghost use Rattle.reassembly.specs.Tables.{at};
+ghost use Rattle.station_table.specs.KeptValue.{with_row};
 ghost use Rattle.station_table.specs.Reactions as reactions;
 ghost use Rattle.station_table.specs.Steps.{sessions_after};
 
 use crate::error::StationError;
 use crate::origin::{Origin, keep_under};
 use crate::reaction::Reaction;
+use crate::rows::Rows;
 use crate::station::Station;
-use address_claim::{ClaimStep, claim_frame};
+use address_claim::{ClaimStep, Claimer, claim_frame};
 use can_frame::{Frames, GLOBAL_ADDRESS, NULL_ADDRESS, Pgn};
 use name_field::Name;
 use reassembly::Partials;
@@ -37,12 +39,11 @@ impl Station {
         let step = self.claimer.answer(source, name);
         let reaction = self.answer_to_claim(alloc, step)?;
         self.owners.make()?;
-        self.rows.add(alloc, name)?;
+        note_claim(alloc, &mut self.rows, &mut self.claimer, source, name)?;
         self.rows.claim(name, Some(source));
         self.owners.put(source, name);
         keep_under(&mut self.broadcasts, source, name);
         keep_sessions(&mut self.sessions, step, source, name);
-        self.claimer.hear_claim(source, name);
         Ok(reaction)
     }
 
@@ -101,6 +102,29 @@ impl Station {
             put,
         })
     }
+}
+
+/// The NAME has a row, and the claimer has heard its claim. Where memory is refused, both are as they were.
+#[tactic(auto, using(crate::proofs::RowLemmas::rows_before))]
+fn note_claim(
+    alloc: Global,
+    rows: &mut Rows,
+    claimer: &mut Claimer,
+    source: u8,
+    name: Name,
+) -> Result<(), AllocError>
+    ensures row { OnOk result (rows.new ≡ with_row rows.old name) }
+    ensures claim { OnOk result (claimer.new ≡ after_claim source name claimer.old) }
+    ensures same_rows { OnErr result (rows.new ≡ rows.old) }
+    ensures same_claimer { OnErr result (claimer.new ≡ claimer.old) }
+{
+    let before = rows.len();
+    rows.add(alloc, name)?;
+    if let Err(refused) = claimer.hear_claim(alloc, source, name) {
+        rows.truncate(before);
+        return Err(refused);
+    }
+    Ok(())
 }
 
 /// A claim of an address keeps the session from there under its owner alone; a step of the station's own claims drops all.

@@ -44,14 +44,18 @@ fn other_frames_are_no_claims(rt: HostRuntime) -> Result<(), Fail> {
 fn lower_name_keeps_address(rt: HostRuntime) -> Result<(), Fail> {
     let lower = Name::from_number(LOWER);
     let higher = Name::from_number(HIGHER);
+    let alloc = rt.alloc();
     let mut first = Claimer::new(lower, 10);
     let mut second = Claimer::new(higher, 10);
     assert_eq!(rt; first.answer(10, higher), ClaimStep::Defend);
-    assert_eq!(rt; first.hear_claim(10, higher), ClaimStep::Defend);
+    assert_eq!(rt; first.hear_claim(alloc, 10, higher)?, ClaimStep::Defend);
     assert_eq!(rt; first.held(), Some(10));
     assert_eq!(rt; first.last_claim(10), Some(higher));
     assert_eq!(rt; second.answer(10, lower), ClaimStep::CannotClaim);
-    assert_eq!(rt; second.hear_claim(10, lower), ClaimStep::CannotClaim);
+    assert_eq!(rt;
+        second.hear_claim(alloc, 10, lower)?,
+        ClaimStep::CannotClaim
+    );
     assert_eq!(rt; second.held(), None);
     assert_eq!(rt; second.name(), higher);
     Ok(())
@@ -60,23 +64,24 @@ fn lower_name_keeps_address(rt: HostRuntime) -> Result<(), Fail> {
 #[test]
 fn moves_to_another_address(rt: HostRuntime) -> Result<(), Fail> {
     let name = Name::read_hex("8000000000000001")?;
+    let alloc = rt.alloc();
     let mut claimer = Claimer::new(name, 10);
     assert_eq!(rt;
-        claimer.hear_claim(10, Name::from_number(HIGHER)),
+        claimer.hear_claim(alloc, 10, Name::from_number(HIGHER))?,
         ClaimStep::Move(128)
     );
     assert_eq!(rt; claimer.held(), Some(128));
-    assert_eq!(rt; claimer.hear_claim(129, name), ClaimStep::Nothing);
+    assert_eq!(rt; claimer.hear_claim(alloc, 129, name)?, ClaimStep::Nothing);
     assert_eq!(rt;
-        claimer.hear_claim(130, Name::from_number(LOWER)),
+        claimer.hear_claim(alloc, 130, Name::from_number(LOWER))?,
         ClaimStep::Nothing
     );
     assert_eq!(rt;
-        claimer.hear_claim(128, Name::from_number(LOWER)),
+        claimer.hear_claim(alloc, 128, Name::from_number(LOWER))?,
         ClaimStep::Move(129)
     );
     assert_eq!(rt;
-        claimer.hear_claim(129, Name::from_number(LOWER)),
+        claimer.hear_claim(alloc, 129, Name::from_number(LOWER))?,
         ClaimStep::Move(131)
     );
     Ok(())
@@ -84,17 +89,18 @@ fn moves_to_another_address(rt: HostRuntime) -> Result<(), Fail> {
 
 #[test]
 fn no_address_is_left(rt: HostRuntime) -> Result<(), Fail> {
+    let alloc = rt.alloc();
     let mut claimer = Claimer::new(Name::read_hex("8000000000000001")?, 10);
     for address in 128..=247 {
-        let step = claimer.hear_claim(address, Name::from_number(LOWER));
+        let step = claimer.hear_claim(alloc, address, Name::from_number(LOWER))?;
         assert_eq!(rt; step, ClaimStep::Nothing);
     }
     assert_eq!(rt;
-        claimer.hear_claim(254, Name::from_number(HIGHER)),
+        claimer.hear_claim(alloc, 254, Name::from_number(HIGHER))?,
         ClaimStep::Nothing
     );
     assert_eq!(rt;
-        claimer.hear_claim(10, Name::from_number(HIGHER)),
+        claimer.hear_claim(alloc, 10, Name::from_number(HIGHER))?,
         ClaimStep::CannotClaim
     );
     assert_eq!(rt; claimer.held(), None);

@@ -109,23 +109,24 @@ pub(crate) fn count_frames(queue: &VecDeque<Queued>) -> u32
     count
 }
 
-/// Takes the first frame of a queue.
-pub(crate) fn take_first(queue: &mut VecDeque<Queued>)
+/// Takes the first frame of a queue, if there is one.
+pub(crate) fn take_first(queue: &mut VecDeque<Queued>) -> Option<QueuedFrame>
     requires { All IsFilled queue.old.items }
+    ensures first { result ≡ slice_get (frames_in queue.old.items) 0 }
     ensures frames { frames_in queue.new.items ≡ drop 1 (frames_in queue.old.items) }
     ensures filled { All IsFilled queue.new.items }
     ensures places { deque_len queue.new ≤ deque_len queue.old }
     ensures capacity { deque_capacity queue.new ≡ deque_capacity queue.old }
 {
-    let Some(first) = queue.front() else {
-        return;
-    };
+    let first = queue.front()?;
+    let taken = first.first();
     if first.left() == 1 {
         let _ = queue.pop_front();
-        return;
+        return taken;
     }
     let first = &mut queue[0];
     first.pass();
+    taken
 }
 
 /// Keeps the frames of a queue that are not withdrawn.

@@ -83,15 +83,9 @@ impl<T: Copy> Partials<T> {
         requires { answer_to packet.now (at self.old source) ≡ Some took }
         ensures { self.new ≡ slice_set self.old source (after_packet packet.now (at self.old source)) }
     {
-        let Some(mut partial) = self.table.take(source) else {
-            return;
-        };
         match took {
-            Took::More => {
-                partial.add(packet);
-                self.table.put(source, partial);
-            }
-            Took::Whole | Took::Broken => {}
+            Took::More => self.table.grow(source, packet),
+            Took::Whole | Took::Broken => self.table.forget(source),
         }
     }
 

@@ -3,7 +3,7 @@ use Rattle.std.specs.List.{All}
 use Rattle.std.proofs.lemmas.List.Elements.{All-drop}
 use Rattle.bus_ledger.specs.Places.{IsFilled, frames_in}
 use Rattle.bus_ledger.specs.declared.queued.Queued.{Queued}
-use Rattle.bus_ledger.proofs.Queues.{first_in, without_place}
+use Rattle.bus_ledger.proofs.Queues.{without_place}
 use Rattle.bus_ledger.proofs.queued.take_first.Goals as goal
 
 pub returns-then-left-eq1-clause-frames : goal.returns-then-left-eq1-clause-frames

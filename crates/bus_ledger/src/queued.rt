@@ -71,12 +71,18 @@ impl Queued {
     }
 
     /// Takes the first of its frames; there are others behind it.
-    fn pass(&mut self)
+    fn take(&mut self) -> Option<QueuedFrame>
         requires { 1 < length (frames_at self.old) }
-        ensures { frames_at self.new ≡ drop 1 (frames_at self.old) }
+        ensures first { result ≡ slice_get (frames_at self.old) 0 }
+        ensures rest { frames_at self.new ≡ drop 1 (frames_at self.old) }
     {
-        if let Queued::Many { run, .. } = self {
-            let _ = run.next_frame();
+        match self {
+            Queued::One(_) => unreachable!(),
+            Queued::Many {
+                run,
+                message,
+                session,
+            } => take_first_of(run, *message, *session),
         }
     }
 }
@@ -87,6 +93,23 @@ fn first_of(run: &Run, message: u32, session: bool) -> Option<QueuedFrame>
 {
     let frame = run.peek()?;
     let part = run.part()?;
+    Some(QueuedFrame {
+        frame,
+        tag: Some(Tag {
+            message,
+            part,
+            session,
+        }),
+    })
+}
+
+/// Takes the first frame of a run, with its tag.
+fn take_first_of(run: &mut Run, message: u32, session: bool) -> Option<QueuedFrame>
+    ensures first { result ≡ slice_get (run_frames message session run.old) 0 }
+    ensures rest { run_frames message session run.new ≡ drop 1 (run_frames message session run.old) }
+{
+    let part = run.part()?;
+    let frame = run.next_frame()?;
     Some(QueuedFrame {
         frame,
         tag: Some(Tag {
@@ -119,14 +142,13 @@ pub(crate) fn take_first(queue: &mut VecDeque<Queued>) -> Option<QueuedFrame>
     ensures capacity { deque_capacity queue.new ≡ deque_capacity queue.old }
 {
     let first = queue.front()?;
-    let taken = first.first();
     if first.left() == 1 {
+        let last = first.first();
         let _ = queue.pop_front();
-        return taken;
+        return last;
     }
     let first = &mut queue[0];
-    first.pass();
-    taken
+    first.take()
 }
 
 /// Keeps the frames of a queue that are not withdrawn.

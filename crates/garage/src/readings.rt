@@ -1,4 +1,4 @@
-ghost use Rattle.std.specs.Prelude.{◌≡◌, ◌≢◌, ◌<◌, ◌^◌, ◌↔◌, length, Ok, IfOk, IfErr, IsErrOf, OnErr};
+ghost use Rattle.std.specs.Prelude.{◌≡◌, ◌≢◌, ◌<◌, ◌^◌, ◌↔◌, length, Ok, IfOk, IfErr, IsErrOf, OnErr, OnOk};
 ghost use Rattle.bus_ledger.specs.Reception.{next_reading};
 ghost use Rattle.journal.specs.Journal.{state_of};
 ghost use Rattle.journal.specs.Promises.{KeepsLists};
@@ -35,18 +35,20 @@ impl Garage {
         if self.bus.is_tap_empty() {
             return Ok(Reading::Empty);
         }
-        self.read_next(alloc)
+        let reading = self.bus.tap_peek();
+        self.take_reading(alloc, &reading)?;
+        Ok(reading)
     }
 
-    /// The station takes its next reading, which is not empty.
+    /// The station takes this reading, which is its next one and not empty.
     ///
     /// Refused where the journal has no room, then where there is no memory; then nothing changed.
     #[inline(never)]
     #[tactic(auto, using(crate::proofs::Lists::lists_same, crate::proofs::Lists::lists_added))]
-    fn read_next(&mut self, alloc: Global) -> Result<Reading, GarageError>
-        requires { next_reading (state_of self.old).traffic ≢ Reading.Empty }
-        ensures ok { IfOk result (λ r. Reads self.old r self.new) }
-        ensures some { IfOk result (λ r. r ≢ Reading.Empty) }
+    fn take_reading(&mut self, alloc: Global, reading: &Reading) -> Result<(), GarageError>
+        requires next { reading.now ≡ next_reading (state_of self.old).traffic }
+        requires some { reading.now ≢ Reading.Empty }
+        ensures ok { OnOk result (Reads self.old reading.now self.new) }
         ensures full { IsErrOf result GarageError.BookFull ↔ IsFull self.old }
         ensures only { IfErr result IsWant }
         ensures err { OnErr result (self.new ≡ self.old) }
@@ -54,11 +56,10 @@ impl Garage {
     {
         make_room(&mut self.journal, self.live + 1, self.limit)?;
         self.bus.reserve(0, MOST_ANSWERS)?;
-        let reaction = self.station.take(alloc, self.bus.tap_peek())?;
-        let reading = self.bus.tap_next();
+        let reaction = self.station.take(alloc, *reading)?;
+        self.bus.tap_pass();
         react(&mut self.bus, &reaction);
-        let noted = reading;
-        self.journal.note_read(noted);
-        Ok(reading)
+        self.journal.note_read(*reading);
+        Ok(())
     }
 }

@@ -3,7 +3,6 @@ use Rattle.bus_ledger.specs.BusValue.{Traffic, IsLive, seat_at}
 use Rattle.bus_ledger.specs.Newcomers.{live_units}
 use Rattle.bus_ledger.specs.Reception.{next_reading, reading_taken}
 use Rattle.can_frame.specs.declared.reading.Reading.{Reading}
-use Rattle.can_frame.specs.declared.reading.Reading.TheVariants.{Empty}
 use Rattle.station_table.specs.StationValue.{StationValue}
 use Rattle.station_table.specs.Steps.{after_reading as station_after}
 use Rattle.station_table.specs.Reactions.{station_reaction}
@@ -19,11 +18,11 @@ use Rattle.garage.proofs.Lists.{lists_pushed}
 use Rattle.garage.specs.Inside.{garage_value_of}
 use Rattle.garage.specs.declared.garage.Garage.TheInside.{Inside}
 use Rattle.journal.specs.Journal.{GarageValue, state_of}
-use Rattle.garage.proofs.garage.Garage.read_next.Goals as goal
+use Rattle.garage.proofs.garage.Garage.take_reading.Goals as goal
 
--- a reading that is the next one is not empty where there is one
-there_is : (a : Inside) (g : GarageValue) (r : Reading) → garage_value_of a ≡ g → r ≡ next_reading (state a).traffic → next_reading (state_of g).traffic ≢ Empty → r ≢ Empty
-there_is a g r is next some = λ e. some (ap (λ (v : GarageValue). next_reading (state_of v).traffic) (sym is) ∙ (sym next ∙ e))
+-- the reading is the next one of the state
+next_is : (a : Inside) (g : GarageValue) (r : Reading) → garage_value_of a ≡ g → r ≡ next_reading (state_of g).traffic → r ≡ next_reading (state a).traffic
+next_is a g r is next = next ∙ ap (λ (v : GarageValue). next_reading (state_of v).traffic) (sym is)
 
 pub reserve-requires : goal.reserve-requires
 reserve-requires c = station_live c.self.inside.bus.traffic (station_lives c.self.inside c.self.invariant)
@@ -32,21 +31,21 @@ pub react-requires-clause-live : goal.react-requires-clause-live
 react-requires-clause-live c =
     let t = c.self.inside.bus.traffic in
     let there : IsLive c.reserve.new.self.traffic 0 = subst (λ (u : Traffic). IsLive u 0) (sym c.reserve.ensures.traffic) (station_live t (station_lives c.self.inside c.self.invariant)) in
-    subst (λ (u : Traffic). IsLive u 0) (sym c.tap_next-reading.ensures.traffic) (live_read c.reserve.new.self.traffic c.tap_next-reading.result there)
+    subst (λ (u : Traffic). IsLive u 0) (sym c.tap_pass.ensures.traffic) (live_read c.reserve.new.self.traffic (next_reading c.reserve.new.self.traffic) there)
 
 pub invariant_of-self-2 : goal.invariant_of-self-2
 invariant_of-self-2 c =
     let a = c.self.inside in
     let stands = c.self.invariant in
-    let r = c.tap_next-reading.result in
+    let r = c.args.reading.now in
     let t = a.bus.traffic in
     let s = state a in
     let rx = c.in_ok-reaction.reaction in
     let few = c.in_ok-reaction.ensures.few in
     let kept = c.reserve.ensures.traffic in
-    let told : c.tap_peek.result ≡ r = c.tap_peek.ensures.reading ∙ sym c.tap_next-reading.ensures.reading in
-    let answered = c.in_ok-reaction.ensures.reaction ∙ ap (station_reaction a.station) told in
-    let taken = c.tap_next-reading.ensures.traffic ∙ ap (reading_taken r) kept in
+    let fit = next_is a c.args.self.now r c.self.view_is c.requires.next in
+    let same = ap next_reading (kept ∙ stands.traffic) ∙ sym fit in
+    let taken = c.tap_pass.ensures.traffic ∙ (ap (λ (x : Reading). reading_taken x c.reserve.new.self.traffic) same ∙ ap (reading_taken r) kept) in
     let now = c.react.ensures ∙ ap (reacted rx) taken in
     let is = read_is r s in
     let puts = puts_reacted rx t (reading_taken r t) (keeps_read r t) in
@@ -57,14 +56,13 @@ invariant_of-self-2 c =
     let fits = ok.0 in
     let room = ok.1 in
     let n = c.note_read.ensures.room in
-    let fit = c.tap_next-reading.ensures.reading ∙ ap next_reading (kept ∙ stands.traffic) in
     stands_more a _ (Read r) stands (record {
       settings = refl;
       journal = c.note_read.ensures.items ∙ ap (λ (l : List Event). l ++ Read r ∷ []) c.make_room.ensures.items;
-      fits = (fit, there_is a c.args.self.now r c.self.view_is fit c.requires);
-      traffic = now ∙ (ap (λ (x : Reaction). reacted x (reading_taken r t)) answered ∙ (ap (λ (x : StationValue). reacted (station_reaction x r) (reading_taken r t)) stands.station
+      fits = (fit, c.requires.some);
+      traffic = now ∙ (ap (λ (x : Reaction). reacted x (reading_taken r t)) c.in_ok-reaction.ensures.reaction ∙ (ap (λ (x : StationValue). reacted (station_reaction x r) (reading_taken r t)) stands.station
           ∙ (ap (λ (u : Traffic). reacted (station_reaction s.station r) (reading_taken r u)) stands.traffic ∙ sym (ap (λ (v : State). v.traffic) is))));
-      station = c.in_ok-reaction.ensures.step ∙ (ap (station_after a.station) told ∙ (ap (λ (x : StationValue). station_after x r) stands.station ∙ sym (ap (λ (v : State). v.station) is)));
+      station = c.in_ok-reaction.ensures.step ∙ (ap (λ (x : StationValue). station_after x r) stands.station ∙ sym (ap (λ (v : State). v.station) is));
       units = stands.units ∙ sym (ap (λ (v : State). v.units) is);
       begun = stands.begun ∙ sym (ap (λ (v : State). length v.begun) is);
       injected = omega arith;
@@ -84,7 +82,6 @@ invariant_of-self-2 c =
 pub returns-clause-lists : goal.returns-clause-lists
 returns-clause-lists c =
     let a = c.self.inside in
-    let r = c.tap_next-reading.result in
-    let fit = c.tap_next-reading.ensures.reading ∙ ap next_reading (c.reserve.ensures.traffic ∙ c.self.invariant.traffic) in
+    let r = c.args.reading.now in
     lists_pushed a c.args.self.now _ _ (Read r) c.self.view_is c.self.invariant refl (c.note_read.ensures.items ∙ ap (λ (l : List Event). l ++ Read r ∷ []) c.make_room.ensures.items)
-    (fit, there_is a c.args.self.now r c.self.view_is fit c.requires)
+    (next_is a c.args.self.now r c.self.view_is c.requires.next, c.requires.some)

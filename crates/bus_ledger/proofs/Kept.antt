@@ -1,5 +1,5 @@
 -- A carry, a join and a leave keep the fields of a bus in order.
-use Rattle.std.proofs.Common.{ℕ, ◌≡◌, ◌+◌, ◌<◌, ◌^◌, List, [], ◌∷◌, ◌++◌, map, length, get_or, set, not, ◌==◌, refl, sym, ap, ◌∙◌, subst, arith}
+use Rattle.std.proofs.Common.{ℕ, ◌≡◌, ◌+◌, ◌<◌, ◌^◌, List, [], ◌∷◌, ◌++◌, map, length, get_or, set, not, ◌==◌, Some, slice_get, refl, sym, ap, ◌∙◌, subst, arith}
 use Rattle.std.specs.List.{filter}
 use Rattle.std.proofs.lemmas.List.{map-set, map_push, length-set, length-map, length_push, get_or_read, get_or_append_left}
 use Rattle.can_frame.specs.FrameValue.{FrameValue}
@@ -14,7 +14,7 @@ use Rattle.bus_ledger.specs.Window.{WindowValue, window_of, pushed, taken_in}
 use Rattle.bus_ledger.proofs.Windows.{window_set, window_same, window_carried, window_injected, taken_size}
 use Rattle.bus_ledger.proofs.Live.{live_set, live_push, live_left}
 use Rattle.bus_ledger.proofs.Seats.{within, seat_is, sound_set, station_given, balanced_leaving}
-use Rattle.bus_ledger.proofs.Sounds.{sound_carried, sound_injected, sound_joined, live_within, offer_says, first_rest}
+use Rattle.bus_ledger.proofs.Sounds.{sound_carried, sound_injected, sound_joined, live_within, offer_says, first_rest, carries_first}
 
 -- the seat of an offer was given
 pub next_within : (t : Traffic) (k : ℕ) (q : QueuedFrame) → IsCarriedNext t k q → k < length t.seats
@@ -28,6 +28,13 @@ send_waits a v k q x is n read =
     let r = first_rest (seat_at v.traffic k).queue q o.first in
     let same : length x.seat.queue ≡ length (seat_at v.traffic k).queue = ap (λ (z : SeatValue). length z.queue) s in
     omega arith
+
+-- what is sent is the frame that is carried next
+pub sent_is : (a : Inside) (v : BusValue) (k : ℕ) (q r : QueuedFrame) (x : SeatBook) → bus_value_of a ≡ v → IsCarriedNext v.traffic k q → x ≡ get_or a.seats.items k x → slice_get x.seat.queue 0 ≡ Some r
+    → IsCarriedNext v.traffic k r
+sent_is a v k q r x is n read first =
+    let s = seat_is a v k x is (within a v k is (next_within v.traffic k q n)) read in
+    carries_first v.traffic k q r n (sym (ap (λ (z : SeatValue). slice_get z.queue 0) s) ∙ first)
 
 pub send_few : (a : Inside) (v : BusValue) (k : ℕ) (q : QueuedFrame) (x : SeatBook) → bus_value_of a ≡ v → IsCarriedNext v.traffic k q → x ≡ get_or a.seats.items k x → length v.traffic.wire + 1 < 2 ^ 32 → x.seat.heard + 1 < 2 ^ 32
 send_few a v k q x is n read few =

@@ -1,5 +1,5 @@
 -- A carry, a join and a leave keep a bus sound.
-use Rattle.std.proofs.Common.{ℕ, suc, zero, ◌≡◌, ◌≢◌, ◌+◌, ◌<◌, ◌≤◌, List, [], ◌∷◌, ◌++◌, length, get_or, set, drop, Bool, true, false, cond, ◌&&◌, ◌==◌, nat_eq, eq-eqb, eqb-true, Option, Some, None, slice_get, refl, sym, subst, arith, inl, inr}
+use Rattle.std.proofs.Common.{ℕ, suc, zero, ◌≡◌, ◌≢◌, ◌+◌, ◌<◌, ◌≤◌, List, [], ◌∷◌, ◌++◌, length, get_or, set, drop, Bool, true, false, cond, ◌&&◌, ◌==◌, nat_eq, eq-eqb, eqb-true, Option, Some, None, slice_get, refl, sym, ◌∙◌, subst, arith, inl, inr}
 use Rattle.std.specs.List.{All, count_by}
 use Rattle.std.proofs.lemmas.Bool.{ne_eqb}
 use Rattle.std.proofs.lemmas.List.{length-set, length_push, get_or-set_same, get_or-set_other, get_or_append_left, get_or_push, drop_all, drop-append-le}
@@ -8,7 +8,7 @@ use Rattle.std.proofs.lemmas.List.Sums.{sum_by_push, sum_by-cons}
 use Rattle.bus_ledger.specs.BusValue.{SeatValue, Traffic, nobody, seat_at}
 use Rattle.can_frame.specs.FrameValue.{FrameValue}
 use Rattle.bus_ledger.specs.Changes.{newcomer, with_newcomer, sending, carried_frame, carried_from, stray_frame, injected}
-use Rattle.bus_ledger.specs.Carrying.{offered, offer}
+use Rattle.bus_ledger.specs.Carrying.{IsCarriedNext, offered, offer}
 use Rattle.bus_ledger.specs.Ledger.{IsBalanced, IsGiven, IsSound, is_from, is_seat}
 use Rattle.bus_ledger.specs.declared.traffic.QueuedFrame.{QueuedFrame}
 use Rattle.bus_ledger.specs.declared.traffic.CarriedFrame.{CarriedFrame}
@@ -29,6 +29,14 @@ pub offer_says : (n : ℕ) (s : SeatValue) (q : QueuedFrame) → offered n s ≡
 offer_says n s q e =
     let r = offer_says_at s.live (s.heard == n) (slice_get s.queue 0) q e in
     record { live = r.0; heard = eqb-true s.heard n r.1; first = r.2 }
+
+-- the first of the sender's queue is the frame that is carried
+pub carries_first : (t : Traffic) (k : ℕ) (q r : QueuedFrame) → IsCarriedNext t k q → slice_get (seat_at t k).queue 0 ≡ Some r → IsCarriedNext t k r
+carries_first t k q r next first =
+    let o = offer_says (length t.wire) (seat_at t k) q next.offers in
+    let e : ◌≡◌ {A = Option QueuedFrame} (Some q) (Some r) = sym o.first ∙ first in
+    let same : q ≡ r = cc in
+    subst (λ (x : QueuedFrame). IsCarriedNext t k x) same next
 
 pub first_rest : (qs : List QueuedFrame) (q : QueuedFrame) → slice_get qs 0 ≡ Some q → length (drop 1 qs) + 1 ≡ length qs
 first_rest [] q e = absurd cc

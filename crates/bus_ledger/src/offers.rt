@@ -19,7 +19,7 @@ pub(crate) fn best_offer(seats: &[Seat], live: &[u32], wire_len: u32) -> Option<
 }
 
 /// The seat that carries next, and the identifier of its frame. No frame is made for it.
-fn best_seat(seats: &[Seat], live: &[u32], wire_len: u32) -> Option<(u32, Id)>
+pub(crate) fn best_seat(seats: &[Seat], live: &[u32], wire_len: u32) -> Option<(u32, Id)>
     requires { IsInOrder seats.now live.now }
     ensures { IsBestIdSoFar wire_len seats.now live.now (length live.now) result }
 {

@@ -71,12 +71,18 @@ impl Queued {
     }
 
     /// Takes the first of its frames; there are others behind it.
-    fn pass(&mut self)
+    fn take(&mut self) -> Option<QueuedFrame>
         requires { 1 < length (frames_at self.old) }
-        ensures { frames_at self.new ≡ drop 1 (frames_at self.old) }
+        ensures first { result ≡ slice_get (frames_at self.old) 0 }
+        ensures rest { frames_at self.new ≡ drop 1 (frames_at self.old) }
     {
-        if let Queued::Many { run, .. } = self {
-            let _ = run.next_frame();
+        match self {
+            Queued::One(_) => unreachable!(),
+            Queued::Many {
+                run,
+                message,
+                session,
+            } => take_first_of(run, *message, *session),
         }
     }
 }
@@ -87,6 +93,23 @@ fn first_of(run: &Run, message: u32, session: bool) -> Option<QueuedFrame>
 {
     let frame = run.peek()?;
     let part = run.part()?;
+    Some(QueuedFrame {
+        frame,
+        tag: Some(Tag {
+            message,
+            part,
+            session,
+        }),
+    })
+}
+
+/// Takes the first frame of a run, with its tag.
+fn take_first_of(run: &mut Run, message: u32, session: bool) -> Option<QueuedFrame>
+    ensures first { result ≡ slice_get (run_frames message session run.old) 0 }
+    ensures rest { run_frames message session run.new ≡ drop 1 (run_frames message session run.old) }
+{
+    let part = run.part()?;
+    let frame = run.next_frame()?;
     Some(QueuedFrame {
         frame,
         tag: Some(Tag {
@@ -109,23 +132,23 @@ pub(crate) fn count_frames(queue: &VecDeque<Queued>) -> u32
     count
 }
 
-/// Takes the first frame of a queue.
-pub(crate) fn take_first(queue: &mut VecDeque<Queued>)
+/// Takes the first frame of a queue, if there is one.
+pub(crate) fn take_first(queue: &mut VecDeque<Queued>) -> Option<QueuedFrame>
     requires { All IsFilled queue.old.items }
+    ensures first { result ≡ slice_get (frames_in queue.old.items) 0 }
     ensures frames { frames_in queue.new.items ≡ drop 1 (frames_in queue.old.items) }
     ensures filled { All IsFilled queue.new.items }
     ensures places { deque_len queue.new ≤ deque_len queue.old }
     ensures capacity { deque_capacity queue.new ≡ deque_capacity queue.old }
 {
-    let Some(first) = queue.front() else {
-        return;
-    };
+    let first = queue.front()?;
     if first.left() == 1 {
+        let last = first.first();
         let _ = queue.pop_front();
-        return;
+        return last;
     }
     let first = &mut queue[0];
-    first.pass();
+    first.take()
 }
 
 /// Keeps the frames of a queue that are not withdrawn.

@@ -1,4 +1,4 @@
-ghost use Rattle.std.specs.Prelude.{◌≡◌, ℕ, ◌+◌, ◌-◌, ◌<◌, ◌≤◌, ◌^◌, length, nat_lt, slice_get, None, MatchOption, OnOk, IfOk, IfErr};
+ghost use Rattle.std.specs.Prelude.{◌≡◌, ℕ, ◌+◌, ◌-◌, ◌<◌, ◌≤◌, ◌^◌, length, nat_lt, slice_get, None, Some, MatchOption, OnOk, IfOk, IfErr};
 ghost use Rattle.bus_ledger.specs.Changes.{newcomer, hearing, queueing, queueing_all, run_frames, withdrawing, leaving, sending};
 ghost use Rattle.std.specs.Option.{option_map};
 ghost use Rattle.bus_ledger.specs.Carrying.{id_of, offered};
@@ -199,15 +199,19 @@ impl Seat {
         count
     }
 
-    /// The first of the queue is carried.
-    pub(crate) fn send(&mut self)
+    /// The first of the queue is carried, and given.
+    pub(crate) fn send(&mut self) -> QueuedFrame
         requires waits { 0 < length self.old.seat.queue }
         requires few { self.old.seat.heard + 1 < 2 ^ 32 }
+        ensures first { slice_get self.old.seat.queue 0 ≡ Some result }
         ensures seat { self.new.seat ≡ sending self.old.seat }
         ensures spare { self.old.spare ≤ self.new.spare }
     {
-        take_first(&mut self.queue);
+        let Some(sent) = take_first(&mut self.queue) else {
+            unreachable!()
+        };
         self.carried += 1;
         self.heard += 1;
+        sent
     }
 }

@@ -1,4 +1,6 @@
-ghost use Rattle.std.specs.Prelude.{◌≡◌, ◌-◌, ◌<◌, ◌^◌, [], IfOk};
+ghost use Rattle.std.specs.Prelude.{◌≡◌, ◌≢◌, ◌-◌, ◌<◌, ◌^◌, [], IfOk};
+ghost use Rattle.std.specs.Bool.{MatchBool};
+ghost use Rattle.bus_ledger.specs.Reception.{passes};
 ghost use Rattle.bus_ledger.specs.Window.{window, pushed, taken_in, reading_of, rest_of};
 
 use can_frame::{Frame, Reading};
@@ -70,18 +72,25 @@ impl Tap {
         }
     }
 
-    /// Takes the next reading. After a gap nothing counts as missed.
-    pub(crate) fn next(&mut self) -> Reading
-        ensures reading { result ≡ reading_of self.old }
+    /// Whether there is no next reading.
+    pub(crate) fn is_empty(&self) -> bool
+        ensures { MatchBool result (reading_of self.now ≡ Reading.Empty) (reading_of self.now ≢ Reading.Empty) }
+    {
+        self.missed == 0 && self.ring.is_empty()
+    }
+
+    /// Passes over the next reading, and says how many frames it was of. After a gap nothing counts as missed.
+    pub(crate) fn pass(&mut self) -> u32
+        ensures count { result ≡ passes (reading_of self.old) }
         ensures rest { self.new ≡ rest_of self.old }
     {
         let missed = mem::take(&mut self.missed);
         if missed > 0 {
-            return Reading::Gap(missed);
+            return missed;
         }
         match self.ring.pop_front() {
-            Some(frame) => Reading::Frame(frame),
-            None => Reading::Empty,
+            Some(_) => 1,
+            None => 0,
         }
     }
 }

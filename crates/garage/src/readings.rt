@@ -1,7 +1,5 @@
-ghost use Rattle.std.specs.Prelude.{◌≡◌, ◌≢◌, ◌<◌, ◌^◌, ◌↔◌, length, Ok, IfOk, IfErr, IsErrOf, OnErr};
-ghost use Rattle.std.specs.Bool.{MatchBool};
+ghost use Rattle.std.specs.Prelude.{◌≡◌, ◌≢◌, ◌<◌, ◌^◌, ◌↔◌, length, Ok, IfOk, IfErr, IsErrOf, OnErr, OnOk};
 ghost use Rattle.bus_ledger.specs.Reception.{next_reading};
-ghost use Rattle.can_frame.specs.declared.reading.Reading.TheVariants.{Empty};
 ghost use Rattle.journal.specs.Journal.{state_of};
 ghost use Rattle.journal.specs.Promises.{KeepsLists};
 ghost use Rattle.garage.specs.Answers.{Reads};
@@ -22,7 +20,8 @@ impl Garage {
     /// The station takes its next reading; there is no event where it is empty.
     ///
     /// Refused, where there is a reading, where the journal has no room, then where there is no memory; then nothing changed.
-    #[tactic(auto, using(crate::proofs::Lists::lists_same, crate::proofs::Lists::lists_added, crate::proofs::Lists::few_events))]
+    #[inline]
+    #[tactic(auto, using(crate::proofs::Lists::lists_same, crate::proofs::Lists::few_events))]
     pub fn read(&mut self, alloc: Global) -> Result<Reading, GarageError>
         ensures ok { IfOk result (λ r. Reads self.old r self.new) }
         // Readings end by this count.
@@ -33,26 +32,34 @@ impl Garage {
         ensures err { OnErr result (self.new ≡ self.old) }
         ensures lists { KeepsLists self.old self.new }
     {
-        let reading = self.bus.tap_peek();
-        if is_empty(&reading) {
+        if self.bus.is_tap_empty() {
             return Ok(Reading::Empty);
         }
-        make_room(&mut self.journal, self.live + 1, self.limit)?;
-        self.bus.reserve(0, MOST_ANSWERS)?;
-        let reaction = self.station.take(alloc, reading)?;
-        let _ = self.bus.tap_next();
-        react(&mut self.bus, &reaction);
-        self.journal.note_read(reading);
+        let reading = self.bus.tap_peek();
+        self.take_reading(alloc, &reading)?;
         Ok(reading)
     }
-}
 
-/// Whether there is no reading.
-fn is_empty(reading: &Reading) -> bool
-    ensures { MatchBool result (reading.now ≡ Empty) (reading.now ≢ Empty) }
-{
-    match reading {
-        Reading::Empty => true,
-        _ => false,
+    /// The station takes this reading, which is its next one and not empty.
+    ///
+    /// Refused where the journal has no room, then where there is no memory; then nothing changed.
+    #[inline(never)]
+    #[tactic(auto, using(crate::proofs::Lists::lists_same, crate::proofs::Lists::lists_added))]
+    fn take_reading(&mut self, alloc: Global, reading: &Reading) -> Result<(), GarageError>
+        requires next { reading.now ≡ next_reading (state_of self.old).traffic }
+        requires some { reading.now ≢ Reading.Empty }
+        ensures ok { OnOk result (Reads self.old reading.now self.new) }
+        ensures full { IsErrOf result GarageError.BookFull ↔ IsFull self.old }
+        ensures only { IfErr result IsWant }
+        ensures err { OnErr result (self.new ≡ self.old) }
+        ensures lists { KeepsLists self.old self.new }
+    {
+        make_room(&mut self.journal, self.live + 1, self.limit)?;
+        self.bus.reserve(0, MOST_ANSWERS)?;
+        let reaction = self.station.take(alloc, *reading)?;
+        self.bus.tap_pass();
+        react(&mut self.bus, &reaction);
+        self.journal.note_read(*reading);
+        Ok(())
     }
 }

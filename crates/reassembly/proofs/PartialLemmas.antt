@@ -1,13 +1,12 @@
 -- A message half read, in its assembly.
-use Rattle.std.proofs.Common.{◌≡◌, ℕ, ◌<◌, ◌==◌, Bool, true, false, List, [], ◌∷◌, ◌++◌, Option, Some, None, if◌then◌else◌, length, drop, refl, sym, ap, ◌∙◌, arith}
+use Rattle.std.proofs.Common.{◌≡◌, ℕ, ◌<◌, ◌==◌, Bool, true, false, List, [], ◌∷◌, ◌++◌, Option, Some, None, if◌then◌else◌, length, drop, refl, ap, ◌∙◌, arith}
 use Rattle.transport.specs.Pieces.{packet_count}
 use Rattle.std.specs.Prelude.{IsSome, IsTrue, slice_set}
-use Rattle.std.proofs.lemmas.List.{set-set}
 use Rattle.transport.specs.Assembling.{AssemblyValue, is_next, with_part, took_of}
-use Rattle.transport.specs.declared.took.Took.{Took}
-use Rattle.transport.specs.declared.took.Took.TheVariants.{More, Whole, Broken}
-use Rattle.reassembly.specs.Partials.{PartialValue, with_piece, with_packet, is_whole, unfinished, took_by, answer_to, pieces_taken}
-use Rattle.reassembly.specs.Tables.{at}
+use Rattle.transport.specs.declared.took.Took.TheVariants.{More, Whole}
+use Rattle.reassembly.specs.Partials.{PartialValue, with_piece, with_packet, is_whole, took_by, pieces_taken}
+use Rattle.reassembly.specs.Tables.{TableValue, at, slots_of, has_slots}
+use Rattle.reassembly.proofs.TableLemmas.{none_there, none_left}
 
 -- what an assembly answers to a packet
 pub answered_as : {T : Type 0} (tag : T) (size : ℕ) (taken : Option (List (List ℕ))) (packet : List ℕ) → IsSome taken
@@ -53,27 +52,12 @@ whole_there tag size (Some taken) there whole = go (length taken == packet_count
     go true h = refl
     go false h = absurd cc
 
--- a message to which a packet was added, put back
-pub grown_back : {T : Type 0} (t u v now : List (Option (PartialValue T))) (i : ℕ) (x y : PartialValue T) (packet : List ℕ) → u ≡ slice_set t i None → v ≡ slice_set u i (Some y)
-    → Some y ≡ with_packet packet (Some x) → at t i ≡ Some x → t ≡ now → answer_to packet (at now i) ≡ Some More
-    → v ≡ slice_set now i (unfinished (with_packet packet (at now i)))
-grown_back {T} t u v now i x y packet left put grown there now_is answer =
-    put ∙ (ap (λ (w : List (Option (PartialValue T))). slice_set w i (Some y)) left
-    ∙ (set-set t i None (Some y) ∙ (rw (now_is) (ap (slice_set now i) (open_still (Some y) more ∙ (ap unfinished grown ∙ ap (λ (o : Option (PartialValue T)). unfinished (with_packet packet o)) (sym here)))))))
-  where
-    here : at now i ≡ Some x
-    here = rw (← now_is) there
-
-    more : took_by (Some y) ≡ More
-    more = let e : ◌≡◌ {A = Option Took} (Some (took_by (Some y))) (Some More) = rw (here, ← grown) at answer in cc
-
-    open_still : (o : Option (PartialValue T)) → took_by o ≡ More → o ≡ unfinished o
-    open_still None e = absurd cc
-    open_still (Some p) e = go (is_whole p) e
-      where
-        go : (b : Bool) → (if b then Whole else More) ≡ More → Some p ≡ (if b then None else Some p)
-        go true e = absurd cc
-        go false e = refl
+-- where nothing is kept of any address, no message grows
+pub none_grown : {T : Type 0} (len : ℕ) (items : List (Option (PartialValue T))) (i : ℕ) (packet : List ℕ) → len ≡ length items → (len == 0) ≡ true
+    → ◌≡◌ {A = TableValue (PartialValue T)} (record { slots = slots_of items; is_made = has_slots items }) (record { slots = slice_set (slots_of items) i (with_packet packet (at (slots_of items) i)); is_made = has_slots items })
+none_grown {T} len items i packet same e =
+    none_left len items i same e
+    ∙ ap (λ (o : Option (PartialValue T)). record { slots = slice_set (slots_of items) i (with_packet packet o); is_made = has_slots items }) (none_there len items i same e)
 
 -- a list that is not empty has a last item
 split_last : (x : List ℕ) (xs : List (List ℕ)) → (front : List (List ℕ)) × (y : List ℕ) × (x ∷ xs ≡ front ++ y ∷ [])

@@ -79,19 +79,14 @@ impl<T: Copy> Partials<T> {
 
     /// Reads a packet that was answered so: the message grows by it, or is no longer half read where that was its last
     /// packet or not the next one. It takes no memory.
+    #[inline]
     pub fn take(&mut self, source: u8, packet: &[u8], took: Took)
         requires { answer_to packet.now (at self.old source) ≡ Some took }
         ensures { self.new ≡ slice_set self.old source (after_packet packet.now (at self.old source)) }
     {
-        let Some(mut partial) = self.table.take(source) else {
-            return;
-        };
         match took {
-            Took::More => {
-                partial.add(packet);
-                self.table.put(source, partial);
-            }
-            Took::Whole | Took::Broken => {}
+            Took::More => self.table.grow(source, packet),
+            Took::Whole | Took::Broken => self.table.forget(source),
         }
     }
 

@@ -1,9 +1,12 @@
 ghost use Rattle.std.specs.Prelude.{◌≡◌, true, false, [], Some, None, IsTrue, OnOk, OnErr, OnSome, replicate, slice_set};
 ghost use Rattle.std.specs.Option.{option_copied};
+ghost use Rattle.reassembly.specs.Partials.{answer_to, with_packet};
 ghost use Rattle.reassembly.specs.Tables.{TableValue, at, empty_table};
 
+use crate::partial::Partial;
 use std::alloc::{AllocError, Global};
 use std::marker::Model;
+use transport::Took;
 
 /// What is kept of each of the 256 addresses.
 ///
@@ -89,6 +92,21 @@ impl<X: Drop> AddressTable<X> {
         ensures { self.new.slots ≡ empty_table }
     {
         self.slots.clear();
+    }
+}
+
+impl<T: Copy> AddressTable<Partial<T>> {
+    /// The message half read from an address grows by a packet that is its next one, in its place. It takes no memory.
+    pub(crate) fn grow(&mut self, address: u8, packet: &[u8])
+        requires { answer_to packet.now (at self.old.slots address) ≡ Some Took.More }
+        ensures { self.new ≡ record self.old { slots = slice_set self.old.slots address (with_packet packet.now (at self.old.slots address)) } }
+    {
+        if self.slots.is_empty() {
+            return;
+        }
+        if let Some(partial) = &mut self.slots[usize::from(address)] {
+            partial.add(packet);
+        }
     }
 }
 

@@ -1,5 +1,5 @@
 -- After a claim or an acknowledgment, the tables have at each address what was then heard of it.
-use Rattle.std.proofs.Common.{◌≡◌, ℕ, ◌<◌, Bool, true, false, ◌==◌, not, ◌&&◌, ◌||◌, List, [], ◌∷◌, ◌++◌, Option, Some, None, if◌then◌else◌, unwrap_or, length, map, refl, sym, ap, ◌∙◌, subst}
+use Rattle.std.proofs.Common.{◌≡◌, ℕ, ◌<◌, Bool, true, false, ◌==◌, not, ◌&&◌, ◌||◌, List, [], ◌++◌, Option, Some, None, if◌then◌else◌, unwrap_or, length, map, refl, sym, ap, ◌∙◌, subst}
 use Rattle.std.specs.Prelude.{slice_set, nat_lt}
 use Rattle.std.specs.Option.{option_map, option_map_or}
 use Rattle.std.proofs.lemmas.Bool.{eq-eqb, eqb-true, ne_eqb}
@@ -11,9 +11,9 @@ use Rattle.can_frame.specs.declared.reading.Reading.{Reading}
 use Rattle.dm_messages.specs.declared.kind.Kind.{Kind}
 use Rattle.dm_messages.specs.declared.kind.Kind.TheVariants.{Dm1, Dm2}
 use Rattle.dm_messages.specs.declared.shown.Shown.{Shown}
-use Rattle.parameter_group.specs.Group.{Group, AddressClaimed, CannotClaim, Acknowledgment}
+use Rattle.parameter_group.specs.Group.{AddressClaimed, CannotClaim, Acknowledgment}
 use Rattle.parameter_group.specs.Calm.{is_contest}
-use Rattle.bus_model.specs.Heard.{StationSettings, Joining, AckHeard, RowHeard, without_address, row_with_ack as with_ack_heard, is_answer, ack_in_row, owner_heard, claimer_heard, address_heard, broadcast_heard, session_heard, row_heard, with_name, kept_by_owner as joining_under}
+use Rattle.bus_model.specs.Heard.{StationSettings, Joining, AckHeard, RowHeard, without_address, row_with_ack as with_ack_heard, is_answer, ack_in_row, owner_heard, address_heard, broadcast_heard, session_heard, row_heard, with_name, kept_by_owner as joining_under}
 use Rattle.bus_model.proofs.Bridge.{claimer_name}
 use Rattle.station_table.specs.declared.row.AckSeen.{AckSeen}
 use Rattle.station_table.specs.KeptValue.{KeptValue, nothing_kept, kept_under, entries_of, entries_under, with_claimed, with_ack, with_row, changed_under}

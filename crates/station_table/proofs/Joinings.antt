@@ -1,5 +1,5 @@
 -- Messages half joined: what a claim and an abort leave, and what is answered to a packet.
-use Rattle.std.proofs.Common.{◌≡◌, ◌≢◌, ℕ, ◌+◌, ◌<◌, ◌==◌, Bool, true, false, nat_eq, nat_lt, List, [], ◌∷◌, ◌++◌, Option, Some, None, if◌then◌else◌, length, drop, refl, sym, ap, ◌∙◌, arith, length-append}
+use Rattle.std.proofs.Common.{◌≡◌, ◌≢◌, ℕ, ◌+◌, ◌<◌, Bool, true, false, nat_eq, nat_lt, List, [], ◌∷◌, ◌++◌, Option, Some, None, if◌then◌else◌, length, drop, refl, sym, ap, ◌∙◌, arith, length-append}
 use Rattle.std.specs.Prelude.{slice_set, slice_index}
 use Rattle.std.proofs.lemmas.Bool.{and_parts, ltb-true, eqb-true, eqb-false}
 use Rattle.dm_messages.specs.View.{pgn_of_kind}
@@ -7,7 +7,6 @@ use Rattle.dm_messages.specs.declared.kind.Kind.{Kind}
 use Rattle.transport.specs.Assembling.{is_next}
 use Rattle.transport.specs.Pieces.{packet_count}
 use Rattle.transport.specs.declared.control.Control.TheVariants.{EndAck, Abort}
-use Rattle.transport.specs.declared.took.Took.{Took}
 use Rattle.transport.specs.declared.took.Took.TheVariants.{More, Whole, Broken}
 use Rattle.reassembly.specs.Partials.{with_piece, with_packet, is_whole, took_by}
 use Rattle.reassembly.specs.Tables.{at}

@@ -9,7 +9,7 @@ use Rattle.transport.specs.declared.control.Control.TheVariants.{Rts, Bam, Abort
 use Rattle.transport.specs.Assembling.{is_next}
 use Rattle.parameter_group.specs.Group.{Group, AddressClaimed, CannotClaim, Acknowledgment, ConnectionManagement, DataTransfer, group_of}
 use Rattle.bus_model.specs.Traffic.{owner_after}
-use Rattle.reassembly.specs.Partials.{with_packet, unfinished, is_whole}
+use Rattle.reassembly.specs.Partials.{with_packet, unfinished}
 use Rattle.parameter_group.specs.Calm.{is_contest}
 use Rattle.bus_model.specs.Heard.{StationSettings, Joining, RowHeard, kind_of, started, kept_by_owner, or_else, without_kind, is_kind, addressless, owner_heard, address_heard, broadcast_after, broadcast_heard, session_after, session_heard, row_after, row_heard}
 use Rattle.bus_model.proofs.Half.{open_of}

@@ -31,15 +31,14 @@ pub fn shown_by(alloc: Global, payload: &[u8]) -> Result<Option<Shown>, StationE
     }
 }
 
-/// The message that ends with this packet, which was answered so, if one does. What is half joined stays as it was.
+/// The message that ends with this packet, its last. What is half joined stays as it was.
 pub fn ended_with(
     alloc: Global,
     messages: &mut Partials<Origin>,
     source: u8,
     packet: &[u8],
-    took: Took,
 ) -> Result<Option<Ended>, StationError>
-    requires { answer_to packet.now (at messages.old source) ≡ Some took }
+    requires { answer_to packet.now (at messages.old source) ≡ Some Took.Whole }
     ensures same { messages.new ≡ messages.old }
     ensures ok { IfOk result (λ o. o ≡ ended_shown (finished (with_packet packet.now (at messages.old source)))) }
     ensures only_memory { IsOkUnless result StationError.OutOfMemory }
@@ -48,15 +47,6 @@ pub fn ended_with(
         return Ok(None);
     };
     let origin = partial.tag();
-    match took {
-        Took::Whole => {
-            let shown = messages.read_with(
-                source,
-                packet,
-                |payload: &[u8]| shown_by(alloc, payload),
-            )?;
-            Ok(Some(Ended { origin, shown }))
-        }
-        Took::More | Took::Broken => Ok(None),
-    }
+    let shown = messages.read_with(source, packet, |payload: &[u8]| shown_by(alloc, payload))?;
+    Ok(Some(Ended { origin, shown }))
 }

@@ -5,7 +5,7 @@ ghost use Rattle.bus_ledger.specs.Changes.{injected};
 
 use crate::bus::Bus;
 use crate::error::BusError;
-use crate::offers::{best_offer, is_any_waiting};
+use crate::offers::{best_offer, best_seat, is_any_waiting};
 use crate::traffic::{Carried, CarriedFrame, QueuedFrame};
 use can_frame::Frame;
 
@@ -21,21 +21,21 @@ impl Bus {
         ensures could { OnErr result (CanCarry self.old.traffic) }
         ensures spares { KeepsSpares self.old self.new }
     {
-        let Some((seat, queued)) = self.next_sender() else {
+        let Some(seat) = self.next_seat() else {
             return Ok(self.without_sender());
         };
         self.wire.reserve(1)?;
+        let place = &mut self.seats[seat as usize];
+        let sent = place.send();
+        self.tap.take_in(seat, sent.frame);
         self.wire.push_reserved(CarriedFrame {
             seat: Some(seat),
-            frame: queued.frame,
-            tag: queued.tag,
+            frame: sent.frame,
+            tag: sent.tag,
         });
-        let place = &mut self.seats[seat as usize];
-        place.send();
-        self.tap.take_in(seat, queued.frame);
         Ok(Carried::Frame {
             seat,
-            frame: queued.frame,
+            frame: sent.frame,
         })
     }
 
@@ -70,6 +70,17 @@ impl Bus {
                 frame: queued.frame,
             },
             None => self.without_sender(),
+        }
+    }
+
+    /// The seat that carries next. No frame is made for it.
+    fn next_seat(&self) -> Option<u32>
+        ensures { MatchOption result ((k : ℕ) → offer self.now.traffic k ≡ None) (λ k. (q : QueuedFrame) × IsCarriedNext self.now.traffic k q) }
+    {
+        let wire_len = self.wire.len() as u32;
+        match best_seat(self.seats.as_slice(), self.live.as_slice(), wire_len) {
+            Some((seat, _)) => Some(seat),
+            None => None,
         }
     }
 

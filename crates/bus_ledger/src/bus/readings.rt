@@ -1,10 +1,11 @@
 ghost use Rattle.std.specs.Prelude.{◌≡◌, ◌≢◌, ◌<◌, Some, length, slice_get};
+ghost use Rattle.std.specs.Bool.{MatchBool};
 ghost use Rattle.std.specs.List.{All};
 ghost use Rattle.std.specs.Option.{option_map};
 ghost use Rattle.bus_ledger.specs.BusValue.{IsUnit, KeepsSpares, seat_at};
 ghost use Rattle.bus_ledger.specs.Changes.{heard_more};
 ghost use Rattle.bus_ledger.specs.Ledger.{IsSound};
-ghost use Rattle.bus_ledger.specs.Reception.{next_reading, not_yet_read, passes, reading_taken};
+ghost use Rattle.bus_ledger.specs.Reception.{next_reading, not_yet_read, reading_taken};
 
 use crate::bus::Bus;
 use can_frame::{Frame, Reading};
@@ -42,6 +43,23 @@ impl Bus {
         self.tap.peek()
     }
 
+    /// Whether the station has nothing to read.
+    pub fn is_tap_empty(&self) -> bool
+        ensures { MatchBool result (next_reading self.now.traffic ≡ Reading.Empty) (next_reading self.now.traffic ≢ Reading.Empty) }
+    {
+        self.tap.is_empty()
+    }
+
+    /// Passes over the station's next reading, which `tap_peek` gives, and over the frames of a gap.
+    pub fn tap_pass(&mut self)
+        ensures traffic { self.new.traffic ≡ reading_taken (next_reading self.old.traffic) self.old.traffic }
+        ensures spares { KeepsSpares self.old self.new }
+    {
+        let passed = self.tap.pass();
+        let place = &mut self.seats[0];
+        place.hear(passed);
+    }
+
     /// Takes the station's next reading. The frames of a gap are passed over.
     pub fn tap_next(&mut self) -> Reading
         ensures reading { result ≡ next_reading self.old.traffic }
@@ -49,21 +67,8 @@ impl Bus {
         ensures traffic { self.new.traffic ≡ reading_taken result self.old.traffic }
         ensures spares { KeepsSpares self.old self.new }
     {
-        let reading = self.tap.next();
-        let passed = frames_of(&reading);
-        let place = &mut self.seats[0];
-        place.hear(passed);
+        let reading = self.tap_peek();
+        self.tap_pass();
         reading
-    }
-}
-
-/// How many frames a reading passes over.
-fn frames_of(reading: &Reading) -> u32
-    ensures { result ≡ passes reading.now }
-{
-    match reading {
-        Reading::Frame(_) => 1,
-        Reading::Gap(count) => *count,
-        Reading::Empty => 0,
     }
 }

@@ -168,9 +168,25 @@ impl Station {
         let Some(took) = self.broadcasts.answer(source, bytes) else {
             return Ok(());
         };
-        let ended = ended_with(alloc, &mut self.broadcasts, source, bytes, took)?;
+        match took {
+            Took::Whole => self.end_broadcast(alloc, source, bytes),
+            Took::More | Took::Broken => {
+                self.broadcasts.take(source, bytes, took);
+                Ok(())
+            }
+        }
+    }
+
+    /// The last packet of a broadcast.
+    fn end_broadcast(&mut self, alloc: Global, source: u8, bytes: &[u8]) -> Result<(), StationError>
+        requires { answer_to bytes.now (at self.old.broadcasts source) ≡ Some Took.Whole }
+        ensures ok { OnOk result (self.new ≡ with_broadcast_packet self.old source bytes.now) }
+        ensures err { OnErr result (self.new ≡ self.old) }
+        ensures only_memory { IsOkUnless result StationError.OutOfMemory }
+    {
+        let ended = ended_with(alloc, &mut self.broadcasts, source, bytes)?;
         self.keep(ended)?;
-        self.broadcasts.take(source, bytes, took);
+        self.broadcasts.take(source, bytes, Took::Whole);
         Ok(())
     }
 
@@ -211,9 +227,25 @@ impl Station {
         ensures err { OnErr result (self.new ≡ self.old) }
         ensures only_memory { IsOkUnless result StationError.OutOfMemory }
     {
-        let ended = ended_with(alloc, &mut self.sessions, source, bytes, took)?;
+        match took {
+            Took::Whole => self.end_session(alloc, source, bytes),
+            Took::More | Took::Broken => {
+                self.sessions.take(source, bytes, took);
+                Ok(())
+            }
+        }
+    }
+
+    /// The last packet of a session.
+    fn end_session(&mut self, alloc: Global, source: u8, bytes: &[u8]) -> Result<(), StationError>
+        requires { answer_to bytes.now (at self.old.sessions source) ≡ Some Took.Whole }
+        ensures ok { OnOk result (self.new ≡ with_session_packet self.old source bytes.now) }
+        ensures err { OnErr result (self.new ≡ self.old) }
+        ensures only_memory { IsOkUnless result StationError.OutOfMemory }
+    {
+        let ended = ended_with(alloc, &mut self.sessions, source, bytes)?;
         self.keep(ended)?;
-        self.sessions.take(source, bytes, took);
+        self.sessions.take(source, bytes, Took::Whole);
         Ok(())
     }
 

@@ -10,7 +10,7 @@ pub returns-then-left-eq1-clause-frames : goal.returns-then-left-eq1-clause-fram
 returns-then-left-eq1-clause-frames c =
     let q = c.args.queue.now in
     ap frames_in c.pop_front.ensures.rest
-    ∙ without_place q.items c.in-Some.first.now c.requires (omega (arith, c.in-Some.ensures.variant.0 refl, q.ok.0)) c.in-Some.ensures.lookup (sym c.left.ensures ∙ c.if-left-eq1.true)
+    ∙ without_place q.items c.in_ok-first.first.now c.requires (omega (arith, c.in_ok-first.ensures.variant.0 refl, q.ok.0)) c.in_ok-first.ensures.lookup (sym c.left.ensures ∙ c.if-left-eq1.true)
 
 pub returns-then-left-eq1-clause-filled : goal.returns-then-left-eq1-clause-filled
 returns-then-left-eq1-clause-filled c =

@@ -1,5 +1,3 @@
-use Rattle.std.proofs.Common.{◌<◌, length}
-use Rattle.reassembly.specs.Partials.{pieces_taken}
 use Rattle.reassembly.proofs.PartialLemmas.{given_there}
 use Rattle.reassembly.proofs.partial.Partial.give_back.Goals as goal
 

@@ -1,4 +1,4 @@
-use Rattle.std.proofs.Common.{◌∙◌, sym, rules}
+use Rattle.std.proofs.Common.{rules}
 use Rattle.reassembly.proofs.TableLemmas.{none_left}
 use Rattle.reassembly.proofs.table.AddressTable.forget.Goals as goal
 

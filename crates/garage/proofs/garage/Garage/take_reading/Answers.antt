@@ -1,4 +1,4 @@
-use Rattle.std.proofs.Common.{arith, refl, ap, ◌∙◌, sym, subst, List, ◌++◌, ◌∷◌, [], length}
+use Rattle.std.proofs.Common.{◌≡◌, ◌≢◌, arith, refl, ap, ◌∙◌, sym, subst, List, ◌++◌, ◌∷◌, [], length}
 use Rattle.bus_ledger.specs.BusValue.{Traffic, IsLive, seat_at}
 use Rattle.bus_ledger.specs.Newcomers.{live_units}
 use Rattle.bus_ledger.specs.Reception.{next_reading, reading_taken}
@@ -15,7 +15,14 @@ use Rattle.garage.proofs.Traffics.{live_read, station_live, keeps_read, puts_rea
 use Rattle.garage.proofs.InHand.{station_lives}
 use Rattle.garage.proofs.Standing.{state, read_is, joins_read, stands_more, tallies_still, fresh_still}
 use Rattle.garage.proofs.Lists.{lists_pushed}
-use Rattle.garage.proofs.garage.Garage.read.Goals as goal
+use Rattle.garage.specs.Inside.{garage_value_of}
+use Rattle.garage.specs.declared.garage.Garage.TheInside.{Inside}
+use Rattle.journal.specs.Journal.{GarageValue, state_of}
+use Rattle.garage.proofs.garage.Garage.take_reading.Goals as goal
+
+-- the reading is the next one of the state
+next_is : (a : Inside) (g : GarageValue) (r : Reading) → garage_value_of a ≡ g → r ≡ next_reading (state_of g).traffic → r ≡ next_reading (state a).traffic
+next_is a g r is next = next ∙ ap (λ (v : GarageValue). next_reading (state_of v).traffic) (sym is)
 
 pub reserve-requires : goal.reserve-requires
 reserve-requires c = station_live c.self.inside.bus.traffic (station_lives c.self.inside c.self.invariant)
@@ -24,20 +31,21 @@ pub react-requires-clause-live : goal.react-requires-clause-live
 react-requires-clause-live c =
     let t = c.self.inside.bus.traffic in
     let there : IsLive c.reserve.new.self.traffic 0 = subst (λ (u : Traffic). IsLive u 0) (sym c.reserve.ensures.traffic) (station_live t (station_lives c.self.inside c.self.invariant)) in
-    subst (λ (u : Traffic). IsLive u 0) (sym c.tap_next.ensures.traffic) (live_read c.reserve.new.self.traffic c.tap_next.result there)
+    subst (λ (u : Traffic). IsLive u 0) (sym c.tap_pass.ensures.traffic) (live_read c.reserve.new.self.traffic (next_reading c.reserve.new.self.traffic) there)
 
 pub invariant_of-self-2 : goal.invariant_of-self-2
 invariant_of-self-2 c =
     let a = c.self.inside in
     let stands = c.self.invariant in
-    let r = c.tap_peek-reading.result in
+    let r = c.args.reading.now in
     let t = a.bus.traffic in
     let s = state a in
     let rx = c.in_ok-reaction.reaction in
     let few = c.in_ok-reaction.ensures.few in
     let kept = c.reserve.ensures.traffic in
-    let same = c.tap_next.ensures.reading ∙ (ap next_reading kept ∙ sym c.tap_peek-reading.ensures.reading) in
-    let taken = c.tap_next.ensures.traffic ∙ (ap (λ (x : Reading). reading_taken x c.reserve.new.self.traffic) same ∙ ap (reading_taken r) kept) in
+    let fit = next_is a c.args.self.now r c.self.view_is c.requires.next in
+    let same = ap next_reading (kept ∙ stands.traffic) ∙ sym fit in
+    let taken = c.tap_pass.ensures.traffic ∙ (ap (λ (x : Reading). reading_taken x c.reserve.new.self.traffic) same ∙ ap (reading_taken r) kept) in
     let now = c.react.ensures ∙ ap (reacted rx) taken in
     let is = read_is r s in
     let puts = puts_reacted rx t (reading_taken r t) (keeps_read r t) in
@@ -51,7 +59,7 @@ invariant_of-self-2 c =
     stands_more a _ (Read r) stands (record {
       settings = refl;
       journal = c.note_read.ensures.items ∙ ap (λ (l : List Event). l ++ Read r ∷ []) c.make_room.ensures.items;
-      fits = (c.tap_peek-reading.ensures.reading ∙ ap next_reading stands.traffic, c.if-is_empty.ensures);
+      fits = (fit, c.requires.some);
       traffic = now ∙ (ap (λ (x : Reaction). reacted x (reading_taken r t)) c.in_ok-reaction.ensures.reaction ∙ (ap (λ (x : StationValue). reacted (station_reaction x r) (reading_taken r t)) stands.station
           ∙ (ap (λ (u : Traffic). reacted (station_reaction s.station r) (reading_taken r u)) stands.traffic ∙ sym (ap (λ (v : State). v.traffic) is))));
       station = c.in_ok-reaction.ensures.step ∙ (ap (λ (x : StationValue). station_after x r) stands.station ∙ sym (ap (λ (v : State). v.station) is));
@@ -74,6 +82,6 @@ invariant_of-self-2 c =
 pub returns-clause-lists : goal.returns-clause-lists
 returns-clause-lists c =
     let a = c.self.inside in
-    let r = c.tap_peek-reading.result in
+    let r = c.args.reading.now in
     lists_pushed a c.args.self.now _ _ (Read r) c.self.view_is c.self.invariant refl (c.note_read.ensures.items ∙ ap (λ (l : List Event). l ++ Read r ∷ []) c.make_room.ensures.items)
-    (c.tap_peek-reading.ensures.reading ∙ ap next_reading c.self.invariant.traffic, c.if-is_empty.ensures)
+    (next_is a c.args.self.now r c.self.view_is c.requires.next, c.requires.some)

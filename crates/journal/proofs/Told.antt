@@ -6,7 +6,7 @@ use Rattle.std.specs.List.{All}
 use Rattle.bus_ledger.proofs.Numbers.{same_or_not}
 use Rattle.fault_memory.specs.Memory.{MemoryValue, new_memory}
 use Rattle.journal.specs.Journal.{memory_told}
-use Rattle.journal.specs.Notes.{AreTold, IsKept, IsNoted, IsStored, event_of, memory_at, told_by}
+use Rattle.journal.specs.Notes.{AreTold, AreLawfulNotes, IsNoted, IsStored, event_of, memory_at, told_by}
 use Rattle.journal.specs.declared.event.Event.{Event}
 use Rattle.journal.specs.declared.note.Note.{Note}
 use Rattle.journal.specs.declared.note.Note.TheVariants as note
@@ -76,12 +76,12 @@ all_more : (many : ℕ) (ns : List Note) (n : Note) → All (IsNoted many) ns �
 all_more many ns n all one = All-append (IsNoted many) ns (n ∷ []) all (All-cons (IsNoted many) n [] one (All-nil (IsNoted many)))
 
 -- no note
-pub kept_none : (ms : List MemoryValue) (told : List ℕ) → IsKept ms told []
+pub kept_none : (ms : List MemoryValue) (told : List ℕ) → AreLawfulNotes ms told []
 unfolding memory_told
 kept_none ms told = record { noted = All-nil (IsNoted (length ms)); told = λ k m h. absurd cc }
 
 -- a note more that tells no memory
-pub kept_untold : (ms : List MemoryValue) (told : List ℕ) (ns : List Note) (n : Note) → IsKept ms told ns → IsNoted (length ms) n → told_by n ≡ None → IsKept ms told (ns ++ n ∷ [])
+pub kept_untold : (ms : List MemoryValue) (told : List ℕ) (ns : List Note) (n : Note) → AreLawfulNotes ms told ns → IsNoted (length ms) n → told_by n ≡ None → AreLawfulNotes ms told (ns ++ n ∷ [])
 kept_untold ms told ns n kept one none = record {
   noted = all_more (length ms) ns n kept.noted one;
   told = λ k m h. kept.told k m (sym (untold ms n k (reverse (map (event_of ms) ns)) none) ∙ (sym (ap (memory_told k) (newest ms ns n)) ∙ h));
@@ -121,8 +121,8 @@ noted_told many (note.Command address name) j i l h = tt
 noted_told many (note.Leave a) j i l h = tt
 noted_told many (note.Inject bytes id) j i l h = tt
 
-pub kept_telling : (ms : List MemoryValue) (told : List ℕ) (ns : List Note) (n : Note) (j i : ℕ) → IsKept ms told ns → j < length told → i < length ms → told_by n ≡ Some (j, i)
-    → IsKept ms (set told j i) (ns ++ n ∷ [])
+pub kept_telling : (ms : List MemoryValue) (told : List ℕ) (ns : List Note) (n : Note) (j i : ℕ) → AreLawfulNotes ms told ns → j < length told → i < length ms → told_by n ≡ Some (j, i)
+    → AreLawfulNotes ms (set told j i) (ns ++ n ∷ [])
 kept_telling ms told ns n j i kept placed stored tells = record {
   noted = all_more (length ms) ns n kept.noted (noted_told (length ms) n j i stored tells);
   told = λ k m h.
@@ -150,7 +150,7 @@ noted_more ms m (note.Command address name) h = tt
 noted_more ms m (note.Leave k) h = tt
 noted_more ms m (note.Inject bytes id) h = tt
 
-pub kept_copied : (ms : List MemoryValue) (m : MemoryValue) (told : List ℕ) (ns : List Note) → IsKept ms told ns → IsKept (ms ++ m ∷ []) told ns
+pub kept_copied : (ms : List MemoryValue) (m : MemoryValue) (told : List ℕ) (ns : List Note) → AreLawfulNotes ms told ns → AreLawfulNotes (ms ++ m ∷ []) told ns
 kept_copied ms m told ns kept = record {
   noted = λ k d l. noted_more ms m (get_or ns k d) (kept.noted k d l);
   told = λ k v h.
@@ -159,8 +159,8 @@ kept_copied ms m told ns kept = record {
 }
 
 -- places for the numbers of more seats
-pub kept_placed : (ms : List MemoryValue) (told told' : List ℕ) (ns : List Note) → IsKept ms told ns → length told ≤ length told' → ((k : ℕ) → k < length told → get_or told' k 0 ≡ get_or told k 0)
-    → IsKept ms told' ns
+pub kept_placed : (ms : List MemoryValue) (told told' : List ℕ) (ns : List Note) → AreLawfulNotes ms told ns → length told ≤ length told' → ((k : ℕ) → k < length told → get_or told' k 0 ≡ get_or told k 0)
+    → AreLawfulNotes ms told' ns
 kept_placed ms told told' ns kept longer same = record {
   noted = kept.noted;
   told = λ k v h. (let o = kept.told k v h in let l = o.0 in (omega arith, subst (λ (x : ℕ). IsStored ms x v) (sym (same k l)) o.1));

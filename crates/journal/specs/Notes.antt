@@ -96,7 +96,7 @@ told_by (note.Leave k) = None
 told_by (note.Inject bytes id) = None
 
 -- what holds of the notes of a journal: those that tell a memory tell a copy that is there
-pub record IsKept (memories : List MemoryValue) (numbers : List ℕ) (notes : List Note) : Type 0 where
+pub record AreLawfulNotes (memories : List MemoryValue) (numbers : List ℕ) (notes : List Note) : Type 0 where
   pub noted : All (IsNoted (length memories)) notes
   pub told : AreTold memories numbers (reverse (map (event_of memories) notes))
 

@@ -30,7 +30,7 @@ pub struct Journal {
 
 impl Model for Journal {
     ghost use Rattle.std.specs.Prelude.{◌-◌, map, length, vec_len, vec_capacity};
-    ghost use Rattle.journal.specs.Notes.{IsKept, JournalValue, event_of};
+    ghost use Rattle.journal.specs.Notes.{AreLawfulNotes, JournalValue, event_of};
 
     ghost Value = { JournalValue };
 
@@ -41,7 +41,7 @@ impl Model for Journal {
       placed = length j.told.items;
     } };
 
-    ghost invariant = { λ j. IsKept j.memories.items j.told.items j.notes.items };
+    ghost invariant = { λ j. AreLawfulNotes j.memories.items j.told.items j.notes.items };
 }
 
 impl Journal {

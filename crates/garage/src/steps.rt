@@ -136,7 +136,6 @@ impl Garage {
         requires next { next_for (state_of self.old) seat ≡ Some frame }
         ensures name { name_of unit.new ≡ name_of unit.old }
         ensures ok { IfOk result (λ h. (u : _) × (unit.new ≡ (unit.old.0, u)) × Hears self.old seat (memory_of unit.old) (Answers unit.old) unit.old.1 h self.new (memory_of unit.new) u) }
-        ensures nothing { HearsNothing self.old seat result }
         ensures full { HearsFull self.old seat result }
         ensures only { IfErr result IsWant }
         ensures err { OnErr result (self.new ≡ self.old) }
@@ -152,12 +151,11 @@ impl Garage {
         )?;
         let place = &mut self.places[seat as usize - 1];
         let heard = place.node.hear(alloc, &frame, &mut *unit)?;
-        let session = begins_session(heard.begun);
         place.session_message = last_session(place.session_message, self.begun, heard.begun);
         place.tally.events += 1;
         let numbering = Numbering {
             begun: self.begun,
-            is_session: session,
+            is_session: begins_session(heard.begun),
             session: place.session_message,
         };
         let begun = begun_count(self.begun, heard.begun);

@@ -95,14 +95,14 @@ invariant_of-self-2 g c =
     let is = hear_did seat memory f s x.node heard node' next (ap (λ (v : UnitState). v.node) same)
     (reacts.heard_is ∙ ap (λ (m : MemoryValue). heard_of heard.answer (reaction x.node m heard.answer f)) (sym mem_is))
     (reacts.node_is ∙ ap (λ (m : MemoryValue). node_after x.node m heard.answer f) (sym mem_is)) in
-    let said = c.begins_session-session.ensures in
+    let said = c.begins_session.ensures in
     let number = stands.begun in
     let last_is = c.last_session-place.ensures ∙ (ap (λ (m : ℕ). session_message_after m a.begun heard.begun) (sym (ap (λ (v : UnitState). v.session_message) same))
     ∙ ap (λ (n : ℕ). session_message_after (unit_at s seat).session_message n heard.begun) number) in
-    let now = c.do_heard.ensures ∙ ap (λ (b : Traffic). put_all seat (map (tagged a.begun c.begins_session-session.result last) heard.put) (withdrawn_by seat heard.withdraw (heard_more seat 1 b))) c.make_ready.ensures.traffic in
-    let put = puts seat (map (tagged a.begun c.begins_session-session.result last) heard.put) t (withdrawn_by seat heard.withdraw (heard_more seat 1 t))
+    let now = c.do_heard.ensures ∙ ap (λ (b : Traffic). put_all seat (map (tagged a.begun c.begins_session.result last) heard.put) (withdrawn_by seat heard.withdraw (heard_more seat 1 b))) c.make_ready.ensures.traffic in
+    let put = puts seat (map (tagged a.begun c.begins_session.result last) heard.put) t (withdrawn_by seat heard.withdraw (heard_more seat 1 t))
     (keeps_then t (heard_more seat 1 t) _ (keeps_heard t seat 1) (keeps_withdrawn_by seat heard.withdraw (heard_more seat 1 t))) in
-    let long = length-map heard.put (tagged a.begun c.begins_session-session.result last) in
+    let long = length-map heard.put (tagged a.begun c.begins_session.result last) in
     let few = c.in_ok-heard.ensures.few in
     let lives = ap live_units now ∙ put.units in
     let wires = ap (λ (b : Traffic). length b.wire) now ∙ ap length put.wire in
@@ -118,7 +118,7 @@ invariant_of-self-2 g c =
       settings = refl;
       journal = c.note_hear.ensures.items ∙ ap (λ (l : List Event). l ++ Hear seat memory heard.answer ∷ []) c.make_ready.ensures.items;
       fits = (u, there, lawful, is_answered (unit_at s seat).node x.node (next_for s seat) f heard.answer (ap (λ (v : UnitState). v.node) same) next reacts.answer_is);
-      traffic = now ∙ (ap (λ (n : ℕ). put_all seat (map (tagged n c.begins_session-session.result last) heard.put) (withdrawn_by seat heard.withdraw (heard_more seat 1 t))) number
+      traffic = now ∙ (ap (λ (n : ℕ). put_all seat (map (tagged n c.begins_session.result last) heard.put) (withdrawn_by seat heard.withdraw (heard_more seat 1 t))) number
           ∙ (ap (λ (b : Bool). put_all seat (map (tagged (length s.begun) b last) heard.put) (withdrawn_by seat heard.withdraw (heard_more seat 1 t))) said
           ∙ (ap (λ (l : ℕ). put_all seat (map (tagged (length s.begun) (begins_session heard.begun) l) heard.put) (withdrawn_by seat heard.withdraw (heard_more seat 1 t))) last_is
           ∙ (ap (λ (b : Traffic). put_all seat (map (tagged (length s.begun) (begins_session heard.begun) (session_message_after (unit_at s seat).session_message (length s.begun) heard.begun)) heard.put) (withdrawn_by seat heard.withdraw (heard_more seat 1 b))) stands.traffic

@@ -1,5 +1,5 @@
 -- Many units in their seats: each step of a round leaves the others there.
-use Rattle.std.proofs.Common.{ℕ, zero, suc, ◌≡◌, ◌≢◌, ◌+◌, ◌-◌, ◌<◌, ◌⊎◌, nat_eq, ne_eqb, Bool, true, false, List, [], ◌∷◌, ◌++◌, append_assoc, Option, Some, None, get_or, replicate, set, slice_get, length, refl, sym, ap, ◌∙◌, subst, arith, inl, inr, if◌then◌else◌}
+use Rattle.std.proofs.Common.{ℕ, zero, suc, ◌≡◌, ◌≢◌, ◌+◌, ◌-◌, ◌<◌, ◌⊎◌, nat_eq, ne_eqb, Bool, true, false, List, [], ◌∷◌, ◌++◌, append_assoc, Some, get_or, replicate, set, slice_get, length, refl, sym, ap, ◌∙◌, subst, arith, inl, inr}
 use Rattle.std.proofs.lemmas.List.{set-get_or}
 use Rattle.std.proofs.lemmas.Option.{slice_get_within, slice_get-get_or}
 use Rattle.bus_ledger.proofs.Numbers.{same_or_not}

@@ -1,4 +1,4 @@
-use Rattle.std.proofs.Common.{◌≡◌, ◌<◌, ◌-◌, ℕ, suc, Option, Some, IfSome, slice_get, get_or, arith, refl, ap, ◌∙◌, sym, subst, inl, inr}
+use Rattle.std.proofs.Common.{◌≡◌, ◌-◌, ℕ, suc, Some, IfSome, slice_get, get_or, arith, ap, ◌∙◌, sym, subst, inl, inr}
 use Rattle.std.proofs.lemmas.Option.{slice_get_within, slice_get-get_or, get_or_from_slice_get}
 use Rattle.bus_ledger.proofs.Numbers.{same_or_not}
 use Rattle.journal.specs.Journal.{IsSeated}

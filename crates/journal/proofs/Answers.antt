@@ -18,10 +18,10 @@ use Rattle.bus_model.specs.Machine.{Answer, IsCalmAt, IsNotOpen, IsRequestFrom, 
 use Rattle.bus_model.proofs.Bridge.{claim_group, pgn_from, says_by, says_claim, says_control}
 use Rattle.bus_model.proofs.Lookback.{same_kind_self}
 use Rattle.dm_messages.specs.View.{same_kind}
-use Rattle.node_core.specs.NodeValue.{NodeValue, is_open, open_address}
+use Rattle.node_core.specs.NodeValue.{is_open, open_address}
 use Rattle.node_core.specs.Deed.{Deed}
 use Rattle.node_core.specs.Deed as deed
-use Rattle.node_core.specs.Laws.{Acknowledges, BeginsLawfully, IsCalmTo, IsLawfulDeed, IsReply, Opens, Refuses, SendsLawfully}
+use Rattle.node_core.specs.Laws.{BeginsLawfully, IsCalmTo, IsLawfulDeed, IsReply, SendsLawfully}
 use Rattle.node_core.specs.Requested.{acknowledgment}
 use Rattle.node_core.specs.declared.session.OpenSession.{OpenSession}
 use Rattle.station_table.proofs.Stands.{sender}

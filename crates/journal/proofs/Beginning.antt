@@ -11,7 +11,6 @@ use Rattle.bus_model.specs.Messages.{Message, payload_sent}
 use Rattle.bus_model.specs.Machine as machine
 use Rattle.bus_model.specs.Machine.{IsNotOpen, Seat, Step, World, message_at, with_message}
 use Rattle.node_core.specs.Beginning.{begins}
-use Rattle.node_core.specs.Deed as deed
 use Rattle.node_core.specs.Deed.{parts_begun}
 use Rattle.node_core.specs.NodeValue.{is_open}
 use Rattle.node_core.specs.declared.heard.Started.{Started}

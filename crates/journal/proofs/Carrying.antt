@@ -1,10 +1,10 @@
 -- A frame of a unit that is carried is a step of the law's machine.
-use Rattle.std.proofs.Common.{ℕ, suc, zero, ◌≡◌, ◌+◌, ◌<◌, ◌&&◌, ◌==◌, List, [], ◌∷◌, ◌++◌, map, reverse, take, drop, length, get_or, set, slice_get, Bool, true, false, Some, None, if◌then◌else◌, refl, sym, ap, ◌∙◌, subst, arith}
-use Rattle.std.proofs.lemmas.Bool.{eqb-true, ne_eqb}
+use Rattle.std.proofs.Common.{ℕ, suc, zero, ◌≡◌, ◌+◌, ◌<◌, List, [], ◌∷◌, ◌++◌, map, reverse, take, drop, length, get_or, set, slice_get, true, Some, refl, sym, ap, ◌∙◌, subst, arith}
+use Rattle.std.proofs.lemmas.Bool.{ne_eqb}
 use Rattle.std.proofs.lemmas.List.{length-set, length_push, length-map, map-append, reverse-append, set-get_or, take_all, take-append-le, get_or-set_same, get_or-set_other}
 use Rattle.bus_ledger.specs.BusValue.{SeatValue, Traffic, IsUnit, nobody, seat_at}
 use Rattle.bus_ledger.specs.Changes.{carried_frame, carried_from, sending}
-use Rattle.bus_ledger.specs.Carrying.{IsCarriedNext, offer, offered}
+use Rattle.bus_ledger.specs.Carrying.{IsCarriedNext, offer}
 use Rattle.bus_ledger.specs.declared.traffic.QueuedFrame.{QueuedFrame}
 use Rattle.bus_ledger.proofs.Sounds.{IsOffer, offer_says}
 use Rattle.bus_model.specs.Messages.{Message}

@@ -1,5 +1,4 @@
-use Rattle.std.proofs.Common.{[], subst, sym, List}
-use Rattle.fault_memory.specs.Memory.{MemoryValue}
+use Rattle.std.proofs.Common.{subst, sym, List}
 use Rattle.journal.specs.Notes.{AreLawfulNotes}
 use Rattle.journal.specs.declared.note.Note.{Note}
 use Rattle.journal.proofs.Told.{kept_none}

@@ -52,17 +52,7 @@ pub fn threads<R: Threads + Wait + Sync, I: Read, W: Write>(
     let garage = garage_of(alloc, vehicle.station)?;
     let units = vehicle.units.as_slice();
     let (garage, ran) = run_units(rt, alloc, garage, units, turns, reads)?;
-    let Ok(mut writer) = BufWriter::new(alloc, writer) else {
-        return Err(Fault::Memory);
-    };
-    write_ends(&mut writer, &garage, ran.ended.as_slice())?;
-    if !report {
-        return flush(&mut writer);
-    }
-    let Ok(snapshot) = garage.snapshot(alloc) else {
-        return Err(Fault::Memory);
-    };
-    write_report(&mut writer, &snapshot)
+    write_run(alloc, writer, &garage, ran.ended.as_slice(), report)
 }
 
 /// The vehicle that an input describes.
@@ -117,6 +107,30 @@ fn run_units<R: Threads + Wait + Sync>(
     let (garage, ran) = run(rt, alloc, garage, units, turns, reads, &Open);
     Ok((garage, ran?))
 }
+
+/// Writes how each unit ended, and the station's report where that is wanted.
+fn write_run<W: Write>(
+    alloc: Global,
+    writer: &mut W,
+    garage: &Garage,
+    ended: &[Ended],
+    report: bool,
+) -> Result<(), Fault>
+    ensures { IfErr result (λ fault. (fault ≡ Fault.Write) ⊎ (fault ≡ Fault.Memory)) }
+{
+    let Ok(mut writer) = BufWriter::new(alloc, writer) else {
+        return Err(Fault::Memory);
+    };
+    write_ends(&mut writer, garage, ended)?;
+    if !report {
+        return flush(&mut writer);
+    }
+    let Ok(snapshot) = garage.snapshot(alloc) else {
+        return Err(Fault::Memory);
+    };
+    write_report(&mut writer, &snapshot)
+}
+
 /// Writes a line for the end of each unit.
 fn write_ends<W: Write>(writer: &mut W, garage: &Garage, ended: &[Ended]) -> Result<(), Fault>
     ensures { IfErr result (λ fault. fault ≡ Fault.Write) }

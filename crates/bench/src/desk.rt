@@ -5,23 +5,21 @@ use crate::refusal::Refusal;
 use crate::task::{Task, done_with};
 use garage::{Garage, GarageError, Parked, Rounds};
 use std::alloc::{AllocError, Global};
-use std::collections::VecDeque;
 use std::marker::Model;
 
 /// The units that are on the bus, each parked between its steps, in the order of their seats.
 pub struct Desk {
     alloc: Global,
-    units: VecDeque<Parked>,
+    units: Vec<Parked>,
 }
 
 /// Seen as the number of units for which there is room without more memory.
 impl Model for Desk {
-    ghost use Rattle.std.specs.Prelude.{ℕ, ◌-◌};
-    ghost use Rattle.std.specs.VecDeque.{deque_capacity, deque_len};
+    ghost use Rattle.std.specs.Prelude.{ℕ, ◌-◌, vec_capacity, vec_len};
 
     ghost Value = { ℕ };
 
-    ghost view = { λ desk. deque_capacity desk.units - deque_len desk.units };
+    ghost view = { λ desk. vec_capacity desk.units - vec_len desk.units };
 }
 
 impl Desk {
@@ -29,7 +27,7 @@ impl Desk {
     pub fn new(alloc: Global) -> Desk {
         Desk {
             alloc,
-            units: VecDeque::new(alloc),
+            units: Vec::new(alloc),
         }
     }
 
@@ -44,7 +42,7 @@ impl Desk {
     pub fn put(&mut self, parked: Parked)
         requires { 0 < self.old }
     {
-        self.units.push_back_reserved(parked);
+        self.units.push_reserved(parked);
     }
 
     /// Does a task with the unit of a seat. A unit that leaves is off the desk.
@@ -55,26 +53,23 @@ impl Desk {
         else {
             return Err(Refusal::NoSeat);
         };
-        self.units.rotate_left(place);
-        let Some(parked) = self.units.pop_front() else {
-            return Err(Refusal::NoSeat);
-        };
+        let parked = self.units.remove(place);
         let (parked, done) = done_with(self.alloc, garage, parked, task);
         if let Some(parked) = parked {
-            self.units.push_front_reserved(parked);
+            self.units.push_reserved(parked);
+            self.units[place..].rotate_right(1);
         }
-        self.units.rotate_right(place);
         done
     }
 
     /// Runs rounds, so many at most: each unit hears all that it has not heard, the station reads all, and one frame is carried.
     pub fn round(&mut self, garage: &mut Garage, most: u32) -> Result<Rounds, GarageError> {
-        garage.round(self.alloc, self.units.make_contiguous(), most)
+        garage.round(self.alloc, &mut self.units, most)
     }
 
     /// Takes each unit off the bus.
     pub fn clear(mut self, garage: &mut Garage) {
-        while let Some(parked) = self.units.pop_front() {
+        while let Some(parked) = self.units.pop() {
             let _ = garage.dismiss(parked);
         }
         let Desk { alloc: _, units } = self;

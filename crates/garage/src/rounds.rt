@@ -44,6 +44,7 @@ impl Garage {
         units: &mut [Parked],
         most: u32,
     ) -> Result<Rounds, GarageError>
+        requires { Unit {0} }
         ensures stranger { IsErrOf result GarageError.Stranger ↔ (¬ AreSeated (λ p. record { seat = p.seat; name = name_of p.unit; events = p.events; memory = memory_of p.unit }) self.old units.old) }
         ensures unchanged { IsErrOf result GarageError.Stranger → ((self.new ≡ self.old) × (units.new ≡ units.old)) }
         ensures seated { AreSeated (λ p. record { seat = p.seat; name = name_of p.unit; events = p.events; memory = memory_of p.unit }) self.old units.old → AreSeated (λ p. record { seat = p.seat; name = name_of p.unit; events = p.events; memory = memory_of p.unit }) self.new units.new }

@@ -9,9 +9,9 @@ none_of_input : (f : Fault) → (f ≡ Write) ⊎ (f ≡ Memory) → IsOfInput f
 none_of_input f (inl write) is = subst IsOfInput write is
 none_of_input f (inr memory) is = subst IsOfInput memory is
 
-unless_of_input : {T P : Type 0} (r : Result T Fault) → IfErr r (λ f. (f ≡ Write) ⊎ (f ≡ Memory)) → IfErr r (λ f. IsOfInput f → P)
-unless_of_input (Ok x) h = tt
-unless_of_input (Err f) h = λ is. absurd (none_of_input f h is)
+unless_of_input : {T : Type 0} (P : Type 0) (r : Result T Fault) → IfErr r (λ f. (f ≡ Write) ⊎ (f ≡ Memory)) → IfErr r (λ f. IsOfInput f → P)
+unless_of_input P (Ok x) h = tt
+unless_of_input P (Err f) h = λ is. absurd (none_of_input f h is)
 
 pub returns-clause-unanswered : goal.returns-clause-unanswered
-returns-clause-unanswered g c = unless_of_input c.write_run.result c.write_run.ensures
+returns-clause-unanswered g c = unless_of_input _ c.write_run.result c.write_run.ensures

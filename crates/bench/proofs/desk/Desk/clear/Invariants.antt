@@ -1,6 +1,6 @@
-use Rattle.std.specs.VecDeque.{deque_len}
+use Rattle.std.proofs.Common.{vec_len}
 use Rattle.bench.proofs.desk.Desk.clear.Given as goal
 
 -- the units that are left on the desk
 abbrev pub decreases-loop-parked : goal.decreases-loop-parked
-decreases-loop-parked g l = deque_len l.self-inside.units
+decreases-loop-parked g l = vec_len l.self-inside.units

@@ -41,7 +41,13 @@ fn rounds_carry_what_waits(rt: HostRuntime) -> Result<(), Fail> {
     let mut garage = open(rt.alloc(), 100)?;
     let parked = mounted(rt.alloc(), &mut garage, 0xA0)?;
     let rounds = ran(rt.alloc(), &mut garage, parked, 9)?;
-    assert_eq!(rt; rounds, Rounds { carried: 2, end: Some(Carried::Idle) });
+    assert_eq!(rt;
+        rounds,
+        Rounds {
+            carried: 2,
+            end: Some(Carried::Idle)
+        }
+    );
     assert_eq!(rt; garage.wire_len(), 2);
     Ok(())
 }
@@ -51,7 +57,13 @@ fn rounds_end_where_enough_were_run(rt: HostRuntime) -> Result<(), Fail> {
     let mut garage = open(rt.alloc(), 100)?;
     let parked = mounted(rt.alloc(), &mut garage, 0xA0)?;
     let rounds = ran(rt.alloc(), &mut garage, parked, 1)?;
-    assert_eq!(rt; rounds, Rounds { carried: 1, end: None });
+    assert_eq!(rt;
+        rounds,
+        Rounds {
+            carried: 1,
+            end: None
+        }
+    );
     Ok(())
 }
 

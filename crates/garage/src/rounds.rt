@@ -15,7 +15,7 @@ use can_frame::Reading;
 use std::alloc::Global;
 use unit_trait::Unit;
 
-/// How many units have a mark in a round: as many as can be live.
+/// How many units have a mark in a round. The memory of any further one would be compared at each hear.
 const MARKS: usize = 64;
 
 /// What came of rounds.

@@ -71,10 +71,19 @@ fn rounds_end_where_enough_were_run(rt: HostRuntime) -> Result<(), Fail> {
 fn rounds_refuse_a_stranger(rt: HostRuntime) -> Result<(), Fail> {
     let mut own = open(rt.alloc(), 100)?;
     let mut other = open(rt.alloc(), 100)?;
-    let mut parked = mounted(rt.alloc(), &mut own, 0xA0)?;
-    let refused = other.round(rt.alloc(), slice::from_mut(&mut parked), 9);
+    refused(&rt, rt.alloc(), &mut own, &mut other)
+}
+
+fn refused(
+    rt: &impl Abort,
+    alloc: Global,
+    own: &mut Garage,
+    other: &mut Garage,
+) -> Result<(), Fail> {
+    let mut parked = mounted(alloc, own, 0xA0)?;
+    let rounds = other.round(alloc, slice::from_mut(&mut parked), 9);
     own.dismiss(parked)?;
-    assert_eq!(rt; refused, Err(GarageError::Stranger));
+    assert_eq!(rt; rounds, Err(GarageError::Stranger));
     assert_eq!(rt; other.events(), 0);
     Ok(())
 }

@@ -2,7 +2,6 @@ mod bus;
 mod early_end;
 mod frame_text;
 mod node;
-mod rounds;
 mod seats;
 mod station;
 mod told;

@@ -10,12 +10,12 @@ use std::test::Fail;
 use unit_trait::Unit;
 
 /// A garage whose station has the NAME 01 and holds 249. Its journal has room for so many events.
-pub(crate) fn open(alloc: Global, limit: u32) -> Result<Garage, GarageError> {
+fn open(alloc: Global, limit: u32) -> Result<Garage, GarageError> {
     Garage::new(alloc, Name::from_number(1), 249, 64, 16, limit)
 }
 
 /// Gives a unit of this NAME a seat.
-pub(crate) fn mounted(alloc: Global, garage: &mut Garage, name: u64) -> Result<Parked, Fail>
+fn mounted(alloc: Global, garage: &mut Garage, name: u64) -> Result<Parked, Fail>
     requires { Unit {0} }
 {
     let told = Told::new(alloc, name, true, 0)?;

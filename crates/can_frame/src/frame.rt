@@ -95,6 +95,28 @@ impl Frame {
         requires { length bytes.now ≤ 8 }
         ensures { result ≡ frame id bytes.now }
     {
+        match <[u8; 8]>::try_from(bytes) {
+            Ok(room) => Frame::full(id, room),
+            Err(_) => Frame::short(id, bytes),
+        }
+    }
+
+    /// The frame of this identifier and these eight bytes.
+    pub fn full(id: Id, bytes: [u8; 8]) -> Frame
+        ensures { result ≡ frame id bytes }
+    {
+        Frame {
+            id,
+            len: 8,
+            room: bytes,
+        }
+    }
+
+    /// The frame of this identifier and fewer than eight bytes.
+    fn short(id: Id, bytes: &[u8]) -> Frame
+        requires { length bytes.now < 8 }
+        ensures { result ≡ frame id bytes.now }
+    {
         let len = bytes.len();
         let mut room = [0; 8];
         room[..len].copy_from_slice(bytes);

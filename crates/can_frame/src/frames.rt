@@ -4,19 +4,32 @@ use crate::frame::Frame;
 use std::alloc::{AllocError, Global};
 use std::marker::Model;
 
-/// Frames in order.
+/// Frames in order. Up to one frame takes no memory.
 #[derive(Debug, Drop)]
 pub struct Frames {
-    items: Vec<Frame>,
+    alloc: Global,
+    places: Places,
+}
+
+/// Where the frames of a list stand.
+#[derive(Debug, Drop)]
+enum Places {
+    /// There are none.
+    None,
+    /// There is one, which stands in the list itself.
+    One([Frame; 1]),
+    /// There may be more.
+    Many(Vec<Frame>),
 }
 
 impl Model for Frames {
     ghost use Rattle.std.specs.Prelude.{List};
     ghost use Rattle.can_frame.specs.FrameValue.{FrameValue};
+    ghost use Rattle.can_frame.specs.Places.{frames_of};
 
     ghost Value = { List FrameValue };
 
-    ghost view = { λ f. f.items.items };
+    ghost view = { λ f. frames_of f.places };
 }
 
 impl Frames {
@@ -25,7 +38,8 @@ impl Frames {
         ensures { result ≡ [] }
     {
         Frames {
-            items: Vec::new(alloc),
+            alloc,
+            places: Places::None,
         }
     }
 
@@ -34,7 +48,14 @@ impl Frames {
         ensures ok { OnOk result (self.new ≡ self.old ++ frame ∷ []) }
         ensures err { OnErr result (self.new ≡ self.old) }
     {
-        self.items.push(frame)?;
+        match &mut self.places {
+            Places::None => self.places = Places::One([frame]),
+            Places::One(frames) => {
+                let both = both(self.alloc, frames[0], frame)?;
+                self.places = Places::Many(both);
+            }
+            Places::Many(frames) => frames.push(frame)?,
+        }
         Ok(())
     }
 
@@ -42,29 +63,49 @@ impl Frames {
     pub fn as_slice(&self) -> &[Frame]
         ensures { result.now ≡ self.now }
     {
-        self.items.as_slice()
+        match &self.places {
+            Places::None => &[],
+            Places::One(frames) => frames,
+            Places::Many(frames) => frames.as_slice(),
+        }
     }
 
     /// How many frames there are.
     pub fn len(&self) -> usize
         ensures { result ≡ length self.now }
     {
-        self.items.len()
+        self.as_slice().len()
     }
 
     /// Whether there are none.
     pub fn is_empty(&self) -> bool
         ensures { IsTrue result ↔ (self.now ≡ []) }
     {
-        self.items.is_empty()
+        self.as_slice().is_empty()
     }
 
     /// The same frames in memory of their own.
     pub fn copy(&self) -> Result<Frames, AllocError>
         ensures { IfOk result (λ f. f ≡ self.now) }
     {
+        let places = match &self.places {
+            Places::None => Places::None,
+            Places::One(frames) => Places::One(*frames),
+            Places::Many(frames) => Places::Many(frames.clone()?),
+        };
         Ok(Frames {
-            items: self.items.clone()?,
+            alloc: self.alloc,
+            places,
         })
     }
+}
+
+/// Two frames, in memory of their own.
+fn both(alloc: Global, first: Frame, second: Frame) -> Result<Vec<Frame>, AllocError>
+    ensures { IfOk result (λ v. v.items ≡ first ∷ second ∷ []) }
+{
+    let mut frames = Vec::with_capacity(alloc, 2)?;
+    frames.push_reserved(first);
+    frames.push_reserved(second);
+    Ok(frames)
 }

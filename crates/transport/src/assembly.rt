@@ -1,4 +1,4 @@
-ghost use Rattle.std.specs.Prelude.{◌≡◌, ℕ, ◌<◌, ◌≤◌, ◌↔◌, ◌∷◌, [], ◌++◌, IfOk, IsTrue, IsSome, IsSomeAnd, Some, List, length, nat_eq, if◌then◌else◌};
+ghost use Rattle.std.specs.Prelude.{◌≡◌, ℕ, ◌+◌, ◌*◌, ◌/◌, ◌<◌, ◌≤◌, ◌↔◌, ◌∷◌, [], ◌++◌, IfOk, IsTrue, IsSome, IsSomeAnd, Some, List, length, drop, nat_eq, if◌then◌else◌};
 ghost use Rattle.transport.specs.Pieces.{IsNext};
 ghost use Rattle.transport.specs.Pieces.{packet_count, pieces, packets_of, joined};
 
@@ -64,28 +64,26 @@ impl Assembly {
         ensures after { self.new ≡ after_part self.old part.now }
         ensures answer { result ≡ took_of self.new.size self.new.taken }
     {
-        let taken = self.bytes.len() / 7;
-        let count = usize::from(packets(self.size));
-        if self.broken || !is_next(part, taken, count) {
+        let len = self.bytes.len();
+        if self.broken || !is_next(part, len, self.size) {
             self.broken = true;
             return Took::Broken;
         }
-        if self.bytes.extend_from_slice(&part[1..]).is_err() {
+        if self.bytes.extend_from_slice(piece_of(part)).is_err() {
             unreachable!()
         }
-        answered(taken + 1, count)
+        answered(len, self.size)
     }
 
     /// What `take` would answer to a packet; it changes nothing.
     pub fn answer(&self, part: &[u8]) -> Took
         ensures { result ≡ took_of self.now.size (with_part self.now.size self.now.taken part.now) }
     {
-        let taken = self.bytes.len() / 7;
-        let count = usize::from(packets(self.size));
-        if self.broken || !is_next(part, taken, count) {
+        let len = self.bytes.len();
+        if self.broken || !is_next(part, len, self.size) {
             return Took::Broken;
         }
-        answered(taken + 1, count)
+        answered(len, self.size)
     }
 
     /// Takes a packet that is the next one, without judging it again. It takes no memory.
@@ -93,7 +91,7 @@ impl Assembly {
         requires { IsSome (with_part self.old.size self.old.taken part.now) }
         ensures { self.new ≡ after_part self.old part.now }
     {
-        if self.bytes.extend_from_slice(&part[1..]).is_err() {
+        if self.bytes.extend_from_slice(piece_of(part)).is_err() {
             unreachable!()
         }
     }
@@ -147,17 +145,32 @@ impl Assembly {
     }
 }
 
-fn is_next(part: &[u8], taken: usize, count: usize) -> bool
-    ensures { IsTrue result ↔ IsNext part.now taken count }
+/// The piece that a packet carries: its bytes behind the number.
+fn piece_of(part: &[u8]) -> &[u8; 7]
+    requires { length part.now ≡ 8 }
+    ensures { result.now ≡ drop 1 part.now }
 {
-    part.len() == 8 && usize::from(part[0]) == taken.saturating_add(1) && taken < count
+    let Some((_, piece)) = part.split_last_chunk() else {
+        unreachable!()
+    };
+    piece
 }
 
-/// Whole once as many packets were taken as there are.
-fn answered(taken: usize, count: usize) -> Took
-    ensures { result ≡ (if nat_eq taken count then Took.Whole else Took.More) }
+/// Whether a packet is the next one of a message of this size, of which so many bytes were taken.
+fn is_next(part: &[u8], len: usize, size: u16) -> bool
+    requires { len ≡ 7 * packet_count len }
+    ensures { IsTrue result ↔ IsNext part.now (len / 7) (packet_count size) }
 {
-    if taken == count {
+    part.len() == 8 && len < usize::from(size) && 7 * usize::from(part[0]) == len + 7
+}
+
+/// What is answered to the next packet of a message of this size, of which so many bytes were taken: Whole to the last.
+fn answered(len: usize, size: u16) -> Took
+    requires whole { len ≡ 7 * packet_count len }
+    requires missing { len / 7 < packet_count size }
+    ensures { result ≡ (if nat_eq (len / 7 + 1) (packet_count size) then Took.Whole else Took.More) }
+{
+    if usize::from(size) - len <= 7 {
         Took::Whole
     } else {
         Took::More

@@ -12,7 +12,7 @@ use can_frame::{Frame, GLOBAL_ADDRESS, Id, Pgn};
 pub fn control_frame(control: Control, source: u8, dest: u8) -> Frame
     ensures { result ≡ message.control_frame control source dest }
 {
-    Frame::of(control_id(source, dest), &control.to_bytes())
+    Frame::full(control_id(source, dest), control.to_bytes())
 }
 
 /// The identifier of a connection management message.
@@ -26,7 +26,7 @@ pub(crate) fn control_id(source: u8, dest: u8) -> Id
 pub fn packet_frame(bytes: [u8; 8], source: u8, dest: u8) -> Frame
     ensures { result ≡ message.packet_frame bytes source dest }
 {
-    Frame::of(packet_id(source, dest), &bytes)
+    Frame::full(packet_id(source, dest), bytes)
 }
 
 /// The identifier of a data transfer packet.

@@ -1,8 +1,5 @@
-use Rattle.std.proofs.Common.{◌≡◌, ◌+◌, ◌*◌, ◌/◌, ◌≤◌, ◌<◌, ◌++◌, false, length, drop, arith, refl, rules, length-drop}
-use Rattle.std.specs.Prelude.{IsSome}
+use Rattle.std.proofs.Common.{◌≡◌, ◌++◌, length, drop, arith, refl, length-drop}
 use Rattle.std.proofs.lemmas.Grind.{common_steps}
-use Rattle.transport.specs.Pieces.{packet_count, IsNext}
-use Rattle.transport.specs.Assembling.{with_part}
 use Rattle.transport.proofs.Steps.{next_taken, with_next}
 use Rattle.transport.proofs.assembly.Assembly.add.Goals as goal
 

@@ -8,14 +8,14 @@ pub returns-then-self : goal.returns-then-self
 returns-then-self c = rw (← c.self.view_is) (elim c.then-self.branch [
   | then-self-via-then-self w ↦ rw w.if-self.true refl
   | then-self-via-else-self+then-not-is_next w ↦
-      let raw : ¬ IsNext c.args.part.now (c.len-taken.result / 7) c.from-count.result = search rules in
-      let other : ¬ IsNext c.args.part.now (c.self.inside.bytes.len / 7) (packet_count c.self.inside.size) = rw (c.len-taken.ensures, c.from-count.ensures, c.packets.ensures.count) at raw in
+      let raw : ¬ IsNext c.args.part.now (c.len-len.result / 7) (packet_count c.self.inside.size) = search rules in
+      let other : ¬ IsNext c.args.part.now (c.self.inside.bytes.len / 7) (packet_count c.self.inside.size) = rw c.len-len.ensures at raw in
       rw (w.if-self.false, with_other c.self.inside.size _ c.self.inside.bytes.items c.args.part.now c.self.inside.bytes.ok.0 c.self.invariant.whole other) refl
 ])
 
 pub returns : goal.returns
 returns c =
-    let raw : IsNext c.args.part.now (c.len-taken.result / 7) c.from-count.result = search rules in
-    let next : IsNext c.args.part.now (c.self.inside.bytes.len / 7) (packet_count c.self.inside.size) = rw (c.len-taken.ensures, c.from-count.ensures, c.packets.ensures.count) at raw in
+    let raw : IsNext c.args.part.now (c.len-len.result / 7) (packet_count c.self.inside.size) = search rules in
+    let next : IsNext c.args.part.now (c.self.inside.bytes.len / 7) (packet_count c.self.inside.size) = rw c.len-len.ensures at raw in
     let seven : length (drop 1 c.args.part.now) ≡ 7 = omega (arith, length-drop 1 c.args.part.now, raw.len) in
-    rw (← c.self.view_is, c.if-self.false, with_next c.self.inside.size _ c.self.inside.bytes.items c.args.part.now c.self.inside.bytes.ok.0 c.self.invariant.whole next, took_next c.self.inside.size _ c.self.inside.bytes.items c.self.inside.bytes.ok.0 c.self.invariant.whole (drop 1 c.args.part.now) seven, c.answered.ensures, c.len-taken.ensures, c.from-count.ensures, c.packets.ensures.count) refl
+    rw (← c.self.view_is, c.if-self.false, with_next c.self.inside.size _ c.self.inside.bytes.items c.args.part.now c.self.inside.bytes.ok.0 c.self.invariant.whole next, took_next c.self.inside.size _ c.self.inside.bytes.items c.self.inside.bytes.ok.0 c.self.invariant.whole (drop 1 c.args.part.now) seven, c.answered.ensures, c.len-len.ensures) refl

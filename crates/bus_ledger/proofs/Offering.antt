@@ -2,7 +2,7 @@
 use Rattle.std.proofs.Common.{ℕ, suc, zero, ◌≡◌, ◌<◌, ◌≤◌, List, [], map, length, get_or, Bool, true, false, MatchOption, cond, ◌&&◌, ◌==◌, Option, Some, None, slice_get, refl, sym, ap, ◌∙◌, subst, arith, ◌⊎◌, inl, inr}
 use Rattle.bus_ledger.specs.BusValue.{SeatValue, SeatBook, nobody, book_at, seat_at}
 use Rattle.bus_ledger.specs.Carrying.{offered, offer, Wins, IsCarriedNext, IsIdle}
-use Rattle.bus_ledger.specs.Offers.{IsInOrder, IsBest, IsBestIdSoFar, IsBestSoFar, offer_at}
+use Rattle.bus_ledger.specs.Offers.{IsInOrder, IsBest, IsBestSeatSoFar, IsBestSoFar, offer_at}
 use Rattle.bus_ledger.specs.BusValue.{BusValue}
 use Rattle.bus_ledger.specs.Inside.{bus_value_of, seat_of, traffic_of, live_numbers, IsKept}
 use Rattle.bus_ledger.specs.declared.bus.Bus.TheInside.{Inside}
@@ -89,10 +89,10 @@ sender_is a v n seats live (Some b) is kept es el en best =
     (subst (λ (s : List SeatBook). IsBestSoFar n s a.live.items (length a.live.items) (Some b)) es (subst (λ (l : List ℕ). IsBestSoFar n seats l (length l) (Some b)) el best))))
 
 -- the next seat, at what callers see
-pub next_seat_is : (a : Inside) (v : BusValue) (n : ℕ) (seats : List SeatBook) (live : List ℕ) (r : Option (ℕ × ℕ)) → bus_value_of a ≡ v → IsKept a → seats ≡ a.seats.items → live ≡ a.live.items → n ≡ length a.wire.items
-    → IsBestIdSoFar n seats live (length live) r → MatchOption r ((k : ℕ) → offer v.traffic k ≡ None) (λ b. (q : QueuedFrame) × IsCarriedNext v.traffic b.0 q)
-next_seat_is a v n seats live None is kept es el en best = sender_is a v n seats live None is kept es el en best
-next_seat_is a v n seats live (Some b) is kept es el en best = (best.1.0, sender_is a v n seats live (Some (b.0, best.1.0)) is kept es el en best.1.2)
+pub next_seat_is : (a : Inside) (v : BusValue) (n lowest : ℕ) (seats : List SeatBook) (live : List ℕ) (r : Option ℕ) → bus_value_of a ≡ v → IsKept a → seats ≡ a.seats.items → live ≡ a.live.items → n ≡ length a.wire.items
+    → IsBestSeatSoFar n seats live (length live) lowest r → MatchOption r ((k : ℕ) → offer v.traffic k ≡ None) (λ k. (q : QueuedFrame) × IsCarriedNext v.traffic k q)
+next_seat_is a v n lowest seats live None is kept es el en best = sender_is a v n seats live None is kept es el en best.1
+next_seat_is a v n lowest seats live (Some k) is kept es el en best = (best.1.0, sender_is a v n seats live (Some (k, best.1.0)) is kept es el en best.1.2)
 
 pub in_order_of : (a : Inside) (seats : List SeatBook) (live : List ℕ) → IsKept a → seats ≡ a.seats.items → live ≡ a.live.items → IsInOrder seats live
 in_order_of a seats live kept es el = rw (es, el) (in_order a kept)

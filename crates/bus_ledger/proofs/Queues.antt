@@ -1,16 +1,18 @@
 -- The frames of a queue, by the places that hold them.
-use Rattle.std.proofs.Common.{ℕ, ◌≡◌, ◌+◌, ◌<◌, ◌≤◌, ◌==◌, Bool, true, false, not, cond, List, [], ◌∷◌, ◌++◌, map, length, get_or, set, drop, Option, None, slice_get, nat_lt, ◌&&◌, refl, sym, ap, ◌∙◌, arith, length-append}
+use Rattle.std.proofs.Common.{ℕ, ◌≡◌, ◌+◌, ◌<◌, ◌≤◌, ◌==◌, Bool, true, false, not, cond, List, [], ◌∷◌, ◌++◌, map, length, get_or, set, drop, Option, None, Some, slice_get, ◌&&◌, refl, sym, ap, ◌∙◌, arith, length-append}
 use Rattle.std.proofs.lemmas.Bool.Decides.{nat_tests}
 use Rattle.std.proofs.lemmas.List.{append-nil}
 use Rattle.std.proofs.lemmas.List.Concat.{flat_map-append}
-use Rattle.std.proofs.lemmas.List.Elements.{All-head, filter-append}
+use Rattle.std.proofs.lemmas.List.Elements.{All-head, All-drop, filter-append}
 use Rattle.std.specs.List.{All, filter}
+use Rattle.std.specs.Option.{option_map}
 use Rattle.transport.specs.Runs.{NumberedFrame}
 use Rattle.bus_ledger.specs.BusValue.{SeatValue}
 use Rattle.bus_ledger.specs.Carrying.{offered}
-use Rattle.bus_ledger.specs.Changes.{kept, is_in_session, run_frame}
-use Rattle.bus_ledger.specs.Places.{IsFilled, frames_at, frames_in, is_session_place}
+use Rattle.bus_ledger.specs.Changes.{kept, is_in_session, run_frame, run_frames}
+use Rattle.bus_ledger.specs.Places.{IsFilled, IsFront, frames_at, frames_in, is_session_place}
 use Rattle.bus_ledger.specs.declared.queued.Queued.{Queued}
+use Rattle.bus_ledger.specs.declared.queued.TheConstants.{NO_FRONT}
 use Rattle.bus_ledger.specs.declared.queued.Queued.TheVariants.{One, Many}
 use Rattle.bus_ledger.specs.declared.traffic.QueuedFrame.{QueuedFrame}
 use Rattle.bus_ledger.specs.declared.traffic.Which.{Which}
@@ -36,38 +38,38 @@ first_in [] p filled h read = absurd (omega arith)
 first_in (x ∷ ps) p filled h read =
     ap (λ (y : Queued). slice_get (frames_at y) 0) read ∙ sym (first_of_both (frames_at x) (frames_in ps) (All-head IsFilled x ps filled))
 
-above_zero : (n : ℕ) → 0 < n → nat_lt 0 n ≡ true
-above_zero n h = grind (arith, nat_tests)
+same_number : (n m : ℕ) → n ≡ m → (n == m) ≡ true
+same_number n m e = grind (arith, nat_tests)
 
-not_zero : (n : ℕ) → 0 < n → not (n == 0) ≡ true
-not_zero n h = grind (arith, nat_tests)
+-- the front of a run
+pub run_front : (message : ℕ) (session : Bool) (run : List NumberedFrame) (n : ℕ) → Some n ≡ option_map (λ (f : NumberedFrame). f.frame.id) (slice_get run 0) → n < NO_FRONT → IsFront n (run_frames message session run)
+run_front message session [] n e h = absurd cc
+run_front message session (f ∷ run) n e h = (cc, h)
 
--- a queue has frames where it has places
-pub waits_in : (ps : List Queued) → All IsFilled ps → not (length ps == 0) ≡ nat_lt 0 (length (frames_in ps))
-waits_in [] filled = refl
-waits_in (x ∷ ps) filled =
-    let one = All-head IsFilled x ps filled in
-    let all = length-append (frames_at x) (frames_in ps) in
-    not_zero (length (x ∷ ps)) (omega arith) ∙ sym (above_zero (length (frames_at x ++ frames_in ps)) (omega arith))
+pub no_run_front : (message : ℕ) (session : Bool) (run : List NumberedFrame) → None ≡ option_map (λ (f : NumberedFrame). f.frame.id) (slice_get run 0) → IsFront NO_FRONT (run_frames message session run)
+no_run_front message session [] e = refl
+no_run_front message session (f ∷ run) e = absurd cc
 
 offered_at : (b c : Bool) (o p : Option QueuedFrame) → b ≡ true → c ≡ true → o ≡ p → o ≡ cond (b && c) p None
 offered_at true true o p e f h = h
 offered_at true false o p e f h = absurd cc
 offered_at false c o p e f h = absurd cc
 
-same_number : (n m : ℕ) → n ≡ m → (n == m) ≡ true
-same_number n m e = grind (arith, nat_tests)
-
 -- a live seat that has heard the whole wire offers the first of its queue
 pub offers_first : (n : ℕ) (s : SeatValue) (o : Option QueuedFrame) → s.live ≡ true → s.heard ≡ n → o ≡ slice_get s.queue 0 → o ≡ offered n s
 offers_first n s o live heard first = offered_at s.live (s.heard == n) o (slice_get s.queue 0) live (same_number s.heard n heard) first
 
--- without its first place, which held one frame
-pub without_place : (ps : List Queued) (p : Queued) → All IsFilled ps → 0 < length ps → p ≡ get_or ps 0 p → length (frames_at p) ≡ 1 → frames_in (drop 1 ps) ≡ drop 1 (frames_in ps)
-without_place [] p filled h read one = absurd (omega arith)
-without_place (x ∷ ps) p filled h read one =
-    let one' : length (frames_at x) ≡ 1 = sym (ap (λ (y : Queued). length (frames_at y)) read) ∙ one in
+-- without its first place, which held one frame, whatever became of that
+pub without_place : (ps : List Queued) (p y : Queued) → All IsFilled ps → 0 < length ps → p ≡ get_or ps 0 p → length (frames_at p) ≡ 1 → frames_in (drop 1 (set ps 0 y)) ≡ drop 1 (frames_in ps)
+without_place [] p y filled h read one = absurd (omega arith)
+without_place (x ∷ ps) p y filled h read one =
+    let one' : length (frames_at x) ≡ 1 = sym (ap (λ (z : Queued). length (frames_at z)) read) ∙ one in
     sym (rest_of_both (frames_at x) (frames_in ps) (omega arith) ∙ ap (λ (l : List QueuedFrame). l ++ frames_in ps) (none_left (frames_at x) one'))
+
+-- the places behind the first are those that they were
+pub others_filled : (ps : List Queued) (y : Queued) → All IsFilled ps → All IsFilled (drop 1 (set ps 0 y))
+others_filled [] y filled = filled
+others_filled (x ∷ ps) y filled = All-drop IsFilled 1 (x ∷ ps) filled
 
 -- its first place holds one frame fewer
 pub without_frame : (ps : List Queued) (p y : Queued) → All IsFilled ps → 0 < length ps → p ≡ get_or ps 0 p → frames_at y ≡ drop 1 (frames_at p) → frames_in (set ps 0 y) ≡ drop 1 (frames_in ps)

@@ -13,9 +13,6 @@ offered wire_len s = if s.live && (s.heard == wire_len) then slice_get s.queue 0
 abbrev pub offer : Traffic → ℕ → Option QueuedFrame
 offer t k = offered (length t.wire) (seat_at t k)
 
-abbrev pub id_of : QueuedFrame → ℕ
-id_of q = q.frame.id
-
 -- a frame wins against another by the lower identifier, and among equal ones by the lower seat
 abbrev pub Wins : ℕ → QueuedFrame → ℕ → QueuedFrame → Type 0
 Wins k q j r = (q.frame.id < r.frame.id) ⊎ ((q.frame.id ≡ r.frame.id) × (k ≤ j))

@@ -1,16 +1,16 @@
-ghost use Rattle.std.specs.Prelude.{◌≡◌, ◌<◌, ◌≤◌, ◌^◌, drop, length, slice_get};
+ghost use Rattle.std.specs.Prelude.{◌≡◌, ◌<◌, ◌≤◌, ◌^◌, ◌++◌, List, drop, length, slice_get};
 ghost use Rattle.std.specs.List.{All};
 ghost use Rattle.std.specs.VecDeque.{deque_capacity, deque_len};
-ghost use Rattle.std.specs.Option.{option_map};
-ghost use Rattle.bus_ledger.specs.Carrying.{id_of};
 ghost use Rattle.bus_ledger.specs.Changes.{kept, run_frames};
-ghost use Rattle.bus_ledger.specs.Places.{IsFilled, frames_at, frames_in, is_session_place};
+ghost use Rattle.bus_ledger.specs.Places.{IsFilled, IsFront, frames_at, frames_in, is_session_place};
 ghost use Rattle.bus_ledger.specs.declared.traffic.Which.TheVariants.{Session};
 
 use crate::traffic::{QueuedFrame, Tag, Which};
-use can_frame::Id;
 use std::collections::VecDeque;
 use transport::Run;
+
+/// The front of a queue in which no frame waits: no identifier's number.
+pub(crate) const NO_FRONT: u32 = u32::MAX;
 
 /// What one place of a queue holds.
 #[derive(Drop)]
@@ -40,13 +40,17 @@ impl Queued {
         }
     }
 
-    /// The identifier of the first of its frames, which is not made for it.
-    pub(crate) fn id(&self) -> Option<Id>
-        ensures { result ≡ option_map id_of (slice_get (frames_at self.now) 0) }
+    /// The number of the identifier of the first of its frames, which is not made for it.
+    #[tactic(auto, using(crate::proofs::Queues::run_front, crate::proofs::Queues::no_run_front))]
+    fn front(&self) -> u32
+        ensures { IsFront result (frames_at self.now) }
     {
         match self {
-            Queued::One(queued) => Some(queued.frame.id()),
-            Queued::Many { run, .. } => run.id(),
+            Queued::One(queued) => queued.frame.id().number(),
+            Queued::Many { run, .. } => match run.id() {
+                Some(id) => id.number(),
+                None => NO_FRONT,
+            },
         }
     }
 
@@ -70,14 +74,13 @@ impl Queued {
         }
     }
 
-    /// Takes the first of its frames; there are others behind it.
+    /// Takes the first of its frames; where it was the only one, the place is to be given up.
     fn take(&mut self) -> Option<QueuedFrame>
-        requires { 1 < length (frames_at self.old) }
         ensures first { result ≡ slice_get (frames_at self.old) 0 }
-        ensures rest { frames_at self.new ≡ drop 1 (frames_at self.old) }
+        ensures rest { 1 < length (frames_at self.old) → frames_at self.new ≡ drop 1 (frames_at self.old) }
     {
         match self {
-            Queued::One(_) => unreachable!(),
+            Queued::One(queued) => Some(*queued),
             Queued::Many {
                 run,
                 message,
@@ -120,6 +123,28 @@ fn take_first_of(run: &mut Run, message: u32, session: bool) -> Option<QueuedFra
     })
 }
 
+/// The number of the identifier of a queue's first frame, or that there is none.
+pub(crate) fn front_of(queue: &VecDeque<Queued>) -> u32
+    requires { All IsFilled queue.now.items }
+    ensures { IsFront result (frames_in queue.now.items) }
+{
+    match queue.front() {
+        Some(place) => place.front(),
+        None => NO_FRONT,
+    }
+}
+
+/// The front of a queue once this place stands at its end.
+pub(crate) fn front_before(front: u32, place: &Queued) -> u32
+    ensures { (frames : List QueuedFrame) → IsFront front frames → IsFront result (frames ++ frames_at place.now) }
+{
+    if front == NO_FRONT {
+        place.front()
+    } else {
+        front
+    }
+}
+
 /// How many frames a queue holds.
 pub(crate) fn count_frames(queue: &VecDeque<Queued>) -> u32
     requires { length (frames_in queue.now.items) < 2 ^ 32 }
@@ -141,14 +166,16 @@ pub(crate) fn take_first(queue: &mut VecDeque<Queued>) -> Option<QueuedFrame>
     ensures places { deque_len queue.new ≤ deque_len queue.old }
     ensures capacity { deque_capacity queue.new ≡ deque_capacity queue.old }
 {
-    let first = queue.front()?;
-    if first.left() == 1 {
-        let last = first.first();
-        let _ = queue.pop_front();
-        return last;
+    if queue.is_empty() {
+        return None;
     }
     let first = &mut queue[0];
-    first.take()
+    let is_last = first.left() == 1;
+    let taken = first.take();
+    if is_last {
+        let _ = queue.pop_front();
+    }
+    taken
 }
 
 /// Keeps the frames of a queue that are not withdrawn.

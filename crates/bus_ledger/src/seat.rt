@@ -1,14 +1,14 @@
 ghost use Rattle.std.specs.Prelude.{◌≡◌, ℕ, ◌+◌, ◌-◌, ◌<◌, ◌≤◌, ◌^◌, length, nat_lt, slice_get, None, Some, MatchOption, OnOk, IfOk, IfErr};
 ghost use Rattle.bus_ledger.specs.Changes.{newcomer, hearing, queueing, queueing_all, run_frames, withdrawing, leaving, sending};
-ghost use Rattle.std.specs.Option.{option_map};
-ghost use Rattle.bus_ledger.specs.Carrying.{id_of, offered};
+ghost use Rattle.std.specs.Bool.{MatchBool};
+ghost use Rattle.bus_ledger.specs.Carrying.{offered};
 ghost use Rattle.bus_ledger.specs.Ledger.{counts_of};
-ghost use Rattle.bus_ledger.specs.Places.{frames_at};
+ghost use Rattle.bus_ledger.specs.Offers.{OffersBelow, OffersNoneBelow};
+ghost use Rattle.bus_ledger.specs.Places.{IsFront, frames_at};
 
 use crate::error::BusError;
-use crate::queued::{Queued, count_frames, keep, take_first};
+use crate::queued::{NO_FRONT, Queued, count_frames, front_before, front_of, keep, take_first};
 use crate::traffic::{Counts, QueuedFrame, Which};
-use can_frame::Id;
 use name_field::Name;
 use std::alloc::Global;
 use std::collections::VecDeque;
@@ -24,6 +24,8 @@ pub(crate) struct Seat {
     queued: u32,
     carried: u32,
     withdrawn: u32,
+    // the number of the identifier of the queue's first frame
+    front: u32,
     queue: VecDeque<Queued>,
 }
 
@@ -32,7 +34,7 @@ impl Model for Seat {
     ghost use Rattle.std.specs.List.{All};
     ghost use Rattle.std.specs.VecDeque.{deque_capacity, deque_len};
     ghost use Rattle.bus_ledger.specs.BusValue.{SeatBook};
-    ghost use Rattle.bus_ledger.specs.Places.{IsFilled, frames_in};
+    ghost use Rattle.bus_ledger.specs.Places.{IsFilled, IsFront, frames_in};
 
     ghost Value = { SeatBook };
 
@@ -41,7 +43,7 @@ impl Model for Seat {
       spare = deque_capacity s.queue - deque_len s.queue;
     } };
 
-    ghost invariant = { λ s. (s.queued ≡ s.carried + s.withdrawn + length (frames_in s.queue.items)) × (s.queued < 2 ^ 32) × All IsFilled s.queue.items };
+    ghost invariant = { λ s. (s.queued ≡ s.carried + s.withdrawn + length (frames_in s.queue.items)) × (s.queued < 2 ^ 32) × All IsFilled s.queue.items × IsFront s.front (frames_in s.queue.items) };
 }
 
 impl Seat {
@@ -58,6 +60,7 @@ impl Seat {
             queued: 0,
             carried: 0,
             withdrawn: 0,
+            front: NO_FRONT,
             queue,
         })
     }
@@ -84,7 +87,7 @@ impl Seat {
     pub(crate) fn is_waiting(&self) -> bool
         ensures { result ≡ nat_lt 0 (length self.now.seat.queue) }
     {
-        !self.queue.is_empty()
+        self.front != NO_FRONT
     }
 
     /// The first of its queue, once it has heard the whole wire.
@@ -94,11 +97,18 @@ impl Seat {
         self.offering(wire_len)?.first()
     }
 
-    /// The identifier of the frame that it offers, which is not made for it.
-    pub(crate) fn offered_id(&self, wire_len: u32) -> Option<Id>
-        ensures { result ≡ option_map id_of (offered wire_len self.now.seat) }
+    /// Whether it offers a frame whose identifier's number is lower than this one.
+    pub(crate) fn offers_below(&self, lowest: u32, wire_len: u32) -> bool
+        ensures { MatchBool result (OffersBelow lowest (offered wire_len self.now.seat)) (OffersNoneBelow lowest (offered wire_len self.now.seat)) }
     {
-        self.offering(wire_len)?.id()
+        self.front < lowest && self.heard == wire_len && self.live
+    }
+
+    /// The number of the identifier of its queue's first frame.
+    pub(crate) fn front(&self) -> u32
+        ensures { IsFront result self.now.seat.queue }
+    {
+        self.front
     }
 
     /// The place of its queue whose first frame it offers, once it has heard the whole wire.
@@ -151,7 +161,9 @@ impl Seat {
         ensures seat { self.new.seat ≡ queueing queued self.old.seat }
         ensures spare { self.old.spare ≤ self.new.spare + 1 }
     {
-        self.queue.push_back_reserved(Queued::One(queued));
+        let place = Queued::One(queued);
+        self.front = front_before(self.front, &place);
+        self.queue.push_back_reserved(place);
         self.queued += 1;
     }
 
@@ -166,11 +178,13 @@ impl Seat {
         if count == 0 {
             return;
         }
-        self.queue.push_back_reserved(Queued::Many {
+        let place = Queued::Many {
             run,
             message,
             session,
-        });
+        };
+        self.front = front_before(self.front, &place);
+        self.queue.push_back_reserved(place);
         self.queued += count;
     }
 
@@ -183,6 +197,7 @@ impl Seat {
     {
         let before = self.queued - self.carried - self.withdrawn;
         keep(&mut self.queue, which);
+        self.front = front_of(&self.queue);
         let count = before - count_frames(&self.queue);
         self.withdrawn += count;
         count
@@ -210,6 +225,7 @@ impl Seat {
         let Some(sent) = take_first(&mut self.queue) else {
             unreachable!()
         };
+        self.front = front_of(&self.queue);
         self.carried += 1;
         self.heard += 1;
         sent

@@ -78,10 +78,7 @@ impl Bus {
         ensures { MatchOption result ((k : ℕ) → offer self.now.traffic k ≡ None) (λ k. (q : QueuedFrame) × IsCarriedNext self.now.traffic k q) }
     {
         let wire_len = self.wire.len() as u32;
-        match best_seat(self.seats.as_slice(), self.live.as_slice(), wire_len) {
-            Some((seat, _)) => Some(seat),
-            None => None,
-        }
+        best_seat(self.seats.as_slice(), self.live.as_slice(), wire_len)
     }
 
     /// The seat that carries next, and its frame.

@@ -1,7 +1,7 @@
 -- Numbers written by a fixed count of digits, to any base: that std's formatted output writes them so, with zeros in front, and
 -- which number such digits spell.
-use Rattle.std.proofs.Common.{◌≡◌, ◌≢◌, ℕ, zero, suc, ◌+◌, ◌-◌, ◌*◌, ◌/◌, ◌%◌, ◌^◌, ◌<◌, ◌≤◌, Bool, true, false, List, [], ◌∷◌, ◌++◌, length, arith, refl, ◌∙◌, ap, sym, ⊎_elim, add-zero}
-use Rattle.std.proofs.Math.Nat.{pow-suc, pow-zero, zero-div, zero-mod, mul_assoc, mul_comm, add-mul, add_assoc, div-lt_iff_lt-mul}
+use Rattle.std.proofs.Common.{◌≡◌, ◌≢◌, ℕ, zero, suc, ◌+◌, ◌-◌, ◌*◌, ◌/◌, ◌%◌, ◌^◌, ◌<◌, ◌≤◌, Bool, false, List, [], ◌∷◌, ◌++◌, length, arith, refl, ◌∙◌, ap, sym, ⊎_elim, add-zero}
+use Rattle.std.proofs.Math.Nat.{pow-suc, pow-zero, zero-div, zero-mod, mul_assoc, add-mul, add_assoc, div-lt_iff_lt-mul}
 use Rattle.std.proofs.lemmas.Nat.{div-add-mod', mod_below}
 use Rattle.std.proofs.lemmas.List.{append-nil}
 use Rattle.std.proofs.lemmas.Bool.{cases_eq}

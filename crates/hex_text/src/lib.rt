@@ -1,12 +1,15 @@
 //! Texts of hexadecimal digits: what `{n:08X}` writes, and a text of a fixed count of digits read back.
 #![tactic(auto)]
 
-ghost use Rattle.std.specs.Prelude.{◌≡◌, ℕ, ◌<◌, ◌≤◌, ◌↔◌, ◌^◌, [], Some, IsSome, IfSome, IsTrue};
+ghost use Rattle.std.specs.Prelude.{◌≡◌, ℕ, ◌<◌, ◌≤◌, ◌↔◌, ◌^◌, [], Some, IsSome, IfSome};
+ghost use Rattle.std.specs.Char.{digit_value};
+ghost use Rattle.std.specs.Option.{SomeIff};
 ghost use Rattle.hex_text.specs.Hex.{hex_digits, hex_value, IsHexText};
 
 /// The number that a text of exactly `digits` hexadecimal digits spells, of either case; `None` for
 /// any other text: too short, too long, with a sign, a space or any other character.
-#[tactic(auto, using(crate::proofs::Reading::hex_text_is_numeral, crate::proofs::Reading::digits_are_hex_text))]
+#[inline]
+#[tactic(auto, using(crate::proofs::Reading::none_read, crate::proofs::Reading::next_read, crate::proofs::Reading::no_digit, crate::proofs::Reading::room_for_digit, crate::proofs::Reading::all_read, crate::proofs::Reading::digits_are_hex_text))]
 pub fn read_hex(text: &str, digits: usize) -> Option<u64>
     requires some { 0 < digits }
     requires fits { digits ≤ 16 }
@@ -15,18 +18,29 @@ pub fn read_hex(text: &str, digits: usize) -> Option<u64>
     ensures bound { IfSome result (λ n. n < 16 ^ digits) }
     ensures reads_back { (n : ℕ) → n < 16 ^ digits → text.now ≡ hex_digits digits n [] → result ≡ Some n }
 {
-    if !is_hex_text(text, digits) {
+    if text.len() != digits {
         return None;
     }
-    match u64::from_str_radix(text, 16) {
-        Ok(number) => Some(number),
-        Err(_) => None,
+    // One pass: the library's `from_str_radix` takes a sign too, so that it needs a look at each digit before it.
+    let mut number: u64 = 0;
+    for byte in text.as_bytes() {
+        let Some(digit) = digit_of(*byte) else {
+            return None;
+        };
+        number = number * 16 + digit as u64;
     }
+    Some(number)
 }
 
-fn is_hex_text(text: &str, digits: usize) -> bool
-    ensures { IsTrue result ↔ IsHexText digits text.now }
+/// What a hexadecimal digit of either case stands for; `None` for any other character.
+#[inline]
+fn digit_of(byte: u8) -> Option<u8>
+    ensures { SomeIff result (digit_value byte < 16) (digit_value byte) }
 {
-    let bytes = text.as_bytes();
-    bytes.len() == digits && bytes.iter().all(|b| b.is_ascii_hexdigit())
+    match byte {
+        b'0'..=b'9' => Some(byte - b'0'),
+        b'A'..=b'F' => Some(byte - b'A' + 10),
+        b'a'..=b'f' => Some(byte - b'a' + 10),
+        _ => None,
+    }
 }

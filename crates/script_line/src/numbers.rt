@@ -8,14 +8,25 @@ use hex_text::read_hex;
 use trouble_code::Lamps;
 
 /// The number that decimal digits spell, below 2^32; `None` for any other word.
-#[tactic(auto, using(crate::proofs::NumberLemmas::plus_is_no_digit))]
+#[tactic(auto, using(crate::proofs::NumberLemmas::none_read, crate::proofs::NumberLemmas::next_digit, crate::proofs::NumberLemmas::no_digit, crate::proofs::NumberLemmas::too_large, crate::proofs::NumberLemmas::all_read))]
 pub fn read_number(word: &str) -> Option<u32>
     ensures { SomeIff result (IsNumberBelow (2 ^ 32) word.now) (decimal_value word.now) }
 {
-    if word.as_bytes().first() == Some(&b'+') {
+    if word.is_empty() {
         return None;
     }
-    word.parse::<u32>().ok()
+    // One pass: the library's `parse` takes a sign too, so that it needs a look at the first byte before it.
+    let mut number: u64 = 0;
+    for byte in word.as_bytes() {
+        if !byte.is_ascii_digit() {
+            return None;
+        }
+        number = number * 10 + (*byte - b'0') as u64;
+        if number > u32::MAX as u64 {
+            return None;
+        }
+    }
+    Some(number as u32)
 }
 
 /// The number that decimal digits spell, below 256; `None` for any other word.

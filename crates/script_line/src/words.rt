@@ -1,3 +1,6 @@
+ghost use Rattle.std.specs.Prelude.{◌≡◌, ◌<◌, [], length, MatchOption};
+ghost use Rattle.script_line.specs.Line.{first_word, behind_word};
+
 /// The words of a line that are still to be read.
 #[derive(Clone, Copy, Debug)]
 pub struct Words<'a> {
@@ -16,21 +19,26 @@ impl<'a> Words<'a> {
     }
 
     /// The next word, or `None` where there is none left.
-    pub fn next_word(&mut self) -> Option<&'a str> {
-        let start = self.rest.trim_start_matches(' ');
-        if start.is_empty() {
-            self.rest = start;
+    #[inline]
+    #[tactic(auto, using(crate::proofs::WordLemmas::after_space, crate::proofs::WordLemmas::run_none, crate::proofs::WordLemmas::one_more_space, crate::proofs::WordLemmas::one_more_character))]
+    pub fn next_word(&mut self) -> Option<&'a str>
+        ensures word { MatchOption result (first_word self.old.rest.now ≡ []) (λ word. (word.now ≡ first_word self.old.rest.now) × (0 < length word.now)) }
+        ensures rest { self.new.rest.now ≡ behind_word self.old.rest.now }
+    {
+        let bytes = self.rest.as_bytes();
+        let mut start = 0;
+        while start < bytes.len() && bytes[start] == b' ' {
+            start += 1;
+        }
+        let mut end = start;
+        while end < bytes.len() && bytes[end] != b' ' {
+            end += 1;
+        }
+        let word = &self.rest[start..end];
+        self.rest = &self.rest[end..];
+        if word.is_empty() {
             return None;
         }
-        match start.split_once(' ') {
-            Some((word, rest)) => {
-                self.rest = rest;
-                Some(word)
-            }
-            None => {
-                self.rest = "";
-                Some(start)
-            }
-        }
+        Some(word)
     }
 }

@@ -1,22 +1,20 @@
-use Rattle.std.proofs.Common.{rules}
-use Rattle.hex_text.specs.Hex.{IsHexText}
-use Rattle.hex_text.proofs.Reading.{hex_text_is_numeral}
+use Rattle.std.proofs.Common.{slice_index, ◌<◌, length}
+use Rattle.std.specs.Char.{digit_value}
+use Rattle.hex_text.proofs.Reading.{next_read, not_written}
 use Rattle.hex_text.proofs.read_hex.Goals as goal
 
-pub returns-in-Ok-clause-bound : goal.returns-in-Ok-clause-bound
-returns-in-Ok-clause-bound c =
-    let text : IsHexText c.args.digits c.args.text.now = search rules in
-    let facts = hex_text_is_numeral c.args.digits c.args.text.now c.requires.some c.requires.fits text in
-    rw (c.in-Ok.ensures.value.1, facts.1) facts.2
+-- the digit that was found goes on with the number
+pub loop-byte-preserved : goal.loop-byte-preserved
+loop-byte-preserved c =
+    let same = c.as_bytes-byte-items.ensures.value in
+    let read = rw same at c.in-Some.ensures in
+    let within : c.loop-byte.byte-index < length c.args.text.now = rw same at c.loop-byte-test.true in
+    next_read c.args.text.now c.loop-byte.byte-index c.loop-byte.number c.in-Some.digit within read.0 read.1 c.loop-byte.invariant
 
-pub returns-in-Err-clause-accepted : goal.returns-in-Err-clause-accepted
-returns-in-Err-clause-accepted c =
-    let text : IsHexText c.args.digits c.args.text.now = search rules in
-    let facts = hex_text_is_numeral c.args.digits c.args.text.now c.requires.some c.requires.fits text in
-    absurd (c.in-Err.ensures.value (facts.0, facts.3))
-
-pub returns-in-Err-clause-reads_back : goal.returns-in-Err-clause-reads_back
-returns-in-Err-clause-reads_back c =
-    let text : IsHexText c.args.digits c.args.text.now = search rules in
-    let facts = hex_text_is_numeral c.args.digits c.args.text.now c.requires.some c.requires.fits text in
-    absurd (c.in-Err.ensures.value (facts.0, facts.3))
+-- a text with another character is not what was written
+pub returns-in_default-clause-reads_back : goal.returns-in_default-clause-reads_back
+returns-in_default-clause-reads_back c = λ n h e.
+    let same = c.as_bytes-byte-items.ensures.value in
+    let within : c.loop-byte.byte-index < length c.args.text.now = rw same at c.loop-byte-test.true in
+    let other : digit_value (slice_index c.args.text.now c.loop-byte.byte-index) < 16 → ⊥ = rw same at c.in_default.ensures in
+    absurd (not_written c.args.digits n c.args.text.now c.loop-byte.byte-index within other h e)

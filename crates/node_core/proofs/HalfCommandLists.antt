@@ -1,9 +1,9 @@
 -- What is half joined from each source, as a list.
-use Rattle.std.proofs.Common.{◌≡◌, ◌≢◌, ◌≤◌, ℕ, replicate, Option, Some, None, arith, refl, sym, ap, ◌∙◌}
+use Rattle.std.proofs.Common.{◌≡◌, ◌≢◌, ◌≤◌, ℕ, replicate, Option, Some, None, IsSome, arith, refl, ap, ◌∙◌}
 use Rattle.std.specs.Prelude.{slice_set}
 use Rattle.std.specs.Ordering.{nat_cmp}
-use Rattle.std.specs.BTreeMap.{BTreeMap, IsEmpty, IsUnchanged, Updates, btree_map_len}
-use Rattle.std.proofs.lemmas.List.{nil_from_length}
+use Rattle.std.specs.BTreeMap.{BTreeMap, get, is_at, IsEmpty, IsUnchanged, Updates, WritesThrough}
+use Rattle.std.proofs.lemmas.Map.Steps.{set_value_same}
 use Rattle.node_core.specs.Commanding.{half_from}
 use Rattle.node_core.specs.HalfCommands.{half_at, half_or_nothing, halves_of}
 use Rattle.node_core.specs.declared.commanding.HalfCommand.{HalfCommand}
@@ -24,14 +24,10 @@ changed : (was now : Option (BTreeMap ℕ HalfCommand)) (source : ℕ) (half : H
 unfolding halves_of
 changed was now source half le here there = set_at (half_at was) (half_at now) 254 source half (omega (arith, le)) here there
 
-updated : (was now : BTreeMap ℕ HalfCommand) (source : ℕ) (half : Option HalfCommand) → source ≤ 253 → Updates nat_cmp was now source half
-    → halves_of (Some now) ≡ slice_set (halves_of (Some was)) source (half_or_nothing half)
-updated was now source half le u =
-    changed (Some was) (Some now) source (half_or_nothing half) le (ap half_or_nothing u.1) (λ q apart. ap half_or_nothing (u.2 q (not_equal source q apart)))
-
 pub half_kept : (was now : BTreeMap ℕ HalfCommand) (source : ℕ) (half : HalfCommand) → source ≤ 253 → Updates nat_cmp was now source (Some half)
     → halves_of (Some now) ≡ slice_set (halves_of (Some was)) source half
-half_kept was now source half le u = updated was now source (Some half) le u
+half_kept was now source half le u =
+    changed (Some was) (Some now) source half le (ap half_or_nothing u.1) (λ q apart. ap half_or_nothing (u.2 q (not_equal source q apart)))
 
 -- an empty map is as none
 empty_is_none : (m : BTreeMap ℕ HalfCommand) → IsEmpty m → (q : ℕ) → half_at (Some m) q ≡ Nothing
@@ -42,20 +38,27 @@ pub first_half_kept : (was now : BTreeMap ℕ HalfCommand) (source : ℕ) (half 
 first_half_kept was now source half le e u =
     changed None (Some now) source half le (ap half_or_nothing u.1) (λ q apart. ap half_or_nothing (u.2 q (not_equal source q apart)) ∙ empty_is_none was e q)
 
-pub half_dropped : (was now : BTreeMap ℕ HalfCommand) (source : ℕ) → source ≤ 253 → Updates nat_cmp was now source None
-    → halves_of (Some now) ≡ slice_set (halves_of (Some was)) source Nothing
-half_dropped was now source le u = updated was now source None le u
-
-pub last_half_dropped : (was now : BTreeMap ℕ HalfCommand) (source : ℕ) → source ≤ 253 → Updates nat_cmp was now source None → btree_map_len now ≡ 0
-    → halves_of None ≡ slice_set (halves_of (Some was)) source Nothing
-last_half_dropped was now source le u e =
-    changed (Some was) None source Nothing le refl (λ q apart. sym (empty_is_none now (nil_from_length now.entries e) q) ∙ ap half_or_nothing (u.2 q (not_equal source q apart)))
-
--- where nothing was kept, nothing is dropped
-pub none_dropped : (source : ℕ) → source ≤ 253 → halves_of None ≡ slice_set (halves_of None) source Nothing
-none_dropped source le = changed None None source Nothing le refl (λ q apart. refl)
-
 -- the same entries, the same list
 pub half_unchanged : (was now : BTreeMap ℕ HalfCommand) → IsUnchanged was now → halves_of (Some now) ≡ halves_of (Some was)
 unfolding halves_of
 half_unchanged was now e = rw e refl
+
+-- an entry that is written over
+pub half_overwritten : (was now : BTreeMap ℕ HalfCommand) (source : ℕ) (half : HalfCommand) → source ≤ 253 → IsSome (get nat_cmp was source)
+    → WritesThrough nat_cmp (nat_cmp source) was half now → halves_of (Some now) ≡ slice_set (halves_of (Some was)) source half
+half_overwritten was now source half le some w = half_kept was now source half le (w.3 some)
+
+-- an entry that is written over with itself
+pub half_read : (was now : BTreeMap ℕ HalfCommand) (source : ℕ) (half : HalfCommand) → get nat_cmp was source ≡ Some half
+    → WritesThrough nat_cmp (nat_cmp source) was half now → halves_of (Some now) ≡ halves_of (Some was)
+half_read was now source half there w = half_unchanged was now (w.0 ∙ set_value_same (is_at (nat_cmp source)) was.entries half there)
+
+-- where there is no entry, nothing is dropped
+pub half_missing : (was now : BTreeMap ℕ HalfCommand) (source : ℕ) → source ≤ 253 → get nat_cmp was source ≡ None → now ≡ was
+    → halves_of (Some now) ≡ slice_set (halves_of (Some was)) source Nothing
+half_missing was now source le none same =
+    ap (λ (m : BTreeMap ℕ HalfCommand). halves_of (Some m)) same ∙ changed (Some was) (Some was) source Nothing le (ap half_or_nothing none) (λ q apart. refl)
+
+-- where nothing was kept, nothing is dropped
+pub none_dropped : (source : ℕ) → source ≤ 253 → halves_of None ≡ slice_set (halves_of None) source Nothing
+none_dropped source le = changed None None source Nothing le refl (λ q apart. refl)

@@ -1,11 +1,11 @@
 -- The parts of a message, as the runs of their frames give them.
-use Rattle.std.proofs.Common.{◌≡◌, ℕ, ◌+◌, ◌-◌, ◌≤◌, ◌==◌, Bool, true, false, cond, List, [], ◌∷◌, length, map, Some, slice_get, arith, refl, sym, ap, ◌∙◌}
+use Rattle.std.proofs.Common.{◌≡◌, ℕ, suc, ◌+◌, ◌-◌, ◌≤◌, ◌==◌, Bool, true, false, cond, List, [], ◌∷◌, length, map, Some, slice_get, arith, refl, sym, ap, ◌∙◌}
 use Rattle.std.specs.List.{range_with_len}
 use borrow.Author.Tests.{eqb-true}
 use Rattle.std.specs.Option.{option_map}
 use Rattle.std.proofs.lemmas.List.{length-map}
-use Rattle.transport.specs.Messages.{part_of_message, last_part}
-use Rattle.transport.specs.Pieces.{packet_count}
+use Rattle.transport.specs.Messages.{part_of_message, packet_frame, last_part}
+use Rattle.transport.specs.Pieces.{packet, packet_count}
 use Rattle.transport.specs.Runs.{NumberedFrame, numbered, part_in, run_of}
 use Rattle.transport.proofs.Runs.{first_of_run, length_of_run}
 use Rattle.node_core.specs.Deed.{marked_part, marked_parts, parts_begun, parts_of_session}
@@ -59,6 +59,17 @@ run_of_session s source count first end f e =
     marked_session s.sending.payload s.sending.pgn source s.sending.dest first (range_with_len first (end + 1 - first))
     ∙ (ap (λ (k : ℕ). map (marked_part (λ j. Session j) s.sending.payload s.sending.pgn source s.sending.dest) (range_with_len first k)) n
     ∙ ap (λ (k : ℕ). map (marked_part (λ j. Session j) s.sending.payload s.sending.pgn source s.sending.dest) (range_with_len k (s.sending.queued + 1 + count - (s.sending.queued + 1)))) f)
+
+-- the one packet granted is the first one not yet queued
+pub one_packet : (s : OpenSession) (source first : ℕ) → first ≡ s.sending.queued + 1
+    → record { frame = packet_frame (packet s.sending.payload first) source s.sending.dest; part = Some (Session first) } ∷ [] ≡ parts_of_session s source 1
+one_packet s source first f =
+    let n : s.sending.queued + 1 + 1 - (s.sending.queued + 1) ≡ 1 = omega arith in
+    let k : s.sending.queued + 1 ≡ suc s.sending.queued = omega arith in
+    ap (λ (j : ℕ). record { frame = packet_frame (packet s.sending.payload j) source s.sending.dest; part = Some (Session j) } ∷ []) (f ∙ k)
+    ∙ sym
+    (ap (λ (m : ℕ). map (marked_part (λ j. Session j) s.sending.payload s.sending.pgn source s.sending.dest) (range_with_len (s.sending.queued + 1) m)) n
+    ∙ ap (λ (j : ℕ). map (marked_part (λ j. Session j) s.sending.payload s.sending.pgn source s.sending.dest) (range_with_len j 1)) k)
 
 -- where a run begins
 pub run_begins : (payload : List ℕ) (pgn source destination first end : ℕ) → first ≤ end → option_map part_in (slice_get (run_of payload pgn source destination first end) 0) ≡ Some first

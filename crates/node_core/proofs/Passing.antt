@@ -18,21 +18,21 @@ use Rattle.node_core.specs.Reaction.{command_heard, noted_from, on_command, put_
 use Rattle.node_core.specs.Deed.{Deed, Nothing, after_deed}
 use Rattle.node_core.specs.declared.heard.Answer.{Answer}
 use Rattle.fault_memory.specs.Memory.{MemoryValue}
-use Rattle.node_core.specs.Passing.{IsPassedOver}
+use Rattle.node_core.specs.Passing.{IsHeardQuietly}
 use Rattle.node_core.specs.declared.commanding.HalfCommand.{HalfCommand}
 use Rattle.node_core.specs.declared.commanding.HalfCommand.TheVariants as half
 
--- the same, by what was said
+-- it is passed over, by what was said
 record IsPassed (node : NodeValue) (g : Group) : Type 0 where
   pub unasked : put_to node g ≡ None
   pub idle : (memory : MemoryValue) (answer : Answer) → reaction_to node memory answer g ≡ Nothing
   pub unnoted : noted_from node g ≡ node
 
-passed_over : (node : NodeValue) (f : FrameValue) → IsPassed node (group_of f) → IsPassedOver node f
+passed_over : (node : NodeValue) (f : FrameValue) → IsPassed node (group_of f) → IsHeardQuietly node f node
 passed_over node f p = record {
   unasked = p.unasked;
   idle = p.idle;
-  kept = λ memory answer. ap (λ (d : Deed). after_deed (noted_from node (group_of f)) d) (p.idle memory answer) ∙ p.unnoted;
+  keeps = λ memory answer. ap (λ (d : Deed). after_deed (noted_from node (group_of f)) d) (p.idle memory answer) ∙ p.unnoted;
 }
 
 pub is_false : (b : Bool) → not b ≡ true → b ≡ false
@@ -68,14 +68,14 @@ rest_of_groups : (node : NodeValue) (f : FrameValue) → pgn_of f.id ≢ 60928 �
 unfolding group_of
 rest_of_groups node f a b c d = rest_passed node (pgn_of f.id) (pdu_specific_of f.id) (source_of f.id) f.bytes a b c d
 
-pub passes_other : (node : NodeValue) (f : FrameValue) → pgn_of f.id ≢ 60928 → pgn_of f.id ≢ 59904 → pgn_of f.id ≢ 60416 → pgn_of f.id ≢ 60160 → IsPassedOver node f
+pub passes_other : (node : NodeValue) (f : FrameValue) → pgn_of f.id ≢ 60928 → pgn_of f.id ≢ 59904 → pgn_of f.id ≢ 60416 → pgn_of f.id ≢ 60160 → IsHeardQuietly node f node
 passes_other node f a b c d = passed_over node f (rest_of_groups node f a b c d)
 
 -- a group that goes to all by its format
 apart : (id n : ℕ) → 240 ≤ pdu_format_of id → n < 61440 → pgn_of id ≢ n
 apart id n high low e = grind arith
 
-pub passes_to_all : (node : NodeValue) (f : FrameValue) → 240 ≤ pdu_format_of f.id → IsPassedOver node f
+pub passes_to_all : (node : NodeValue) (f : FrameValue) → 240 ≤ pdu_format_of f.id → IsHeardQuietly node f node
 passes_to_all node f high =
     passes_other node f (apart f.id 60928 high (omega arith)) (apart f.id 59904 high (omega arith)) (apart f.id 60416 high (omega arith)) (apart f.id 60160 high (omega arith))
 
@@ -109,14 +109,14 @@ same_destination : (id destination : ℕ) → pgn_of id < 61440 → destination_
 same_destination id destination low is = (let one = to_one id low in cc)
 
 pub passes_request : (node : NodeValue) (f : FrameValue) (destination : ℕ) → pgn_of f.id ≡ 59904 → destination_of f.id ≡ Some destination
-    → is_concerned node.claimer.held destination ≡ false → IsPassedOver node f
+    → is_concerned node.claimer.held destination ≡ false → IsHeardQuietly node f node
 passes_request node f destination group to e =
     let same = same_destination f.id destination (omega arith) to in
     passed_over node f (subst (IsPassed node) (sym (of_request f group))
     (request_passed node (pdu_specific_of f.id) (source_of f.id) f.bytes (subst (λ (d : ℕ). is_concerned node.claimer.held d ≡ false) same e)))
 
 pub passes_message : (node : NodeValue) (f : FrameValue) (destination : ℕ) → pgn_of f.id ≡ 60416 → destination_of f.id ≡ Some destination
-    → is_concerned node.claimer.held destination ≡ false → IsPassedOver node f
+    → is_concerned node.claimer.held destination ≡ false → IsHeardQuietly node f node
 passes_message node f destination group to e =
     let same = same_destination f.id destination (omega arith) to in
     passed_over node f (subst (IsPassed node) (sym (of_control f group))
@@ -162,7 +162,7 @@ lone_passed node destination source bytes e =
     }
 
 pub passes_packet : (node : NodeValue) (f : FrameValue) (destination : ℕ) → pgn_of f.id ≡ 60160 → destination_of f.id ≡ Some destination
-    → goes_on node.half_commands (source_of f.id) destination ≡ false → IsPassedOver node f
+    → goes_on node.half_commands (source_of f.id) destination ≡ false → IsHeardQuietly node f node
 passes_packet node f destination group to e =
     let same = same_destination f.id destination (omega arith) to in
     let source = source_of f.id in
@@ -172,3 +172,19 @@ passes_packet node f destination group to e =
       | inr lone ↦ lone_passed node destination source f.bytes (nothing_half (half_from node.half_commands source) lone)
     ] in
     passed_over node f (subst (IsPassed node) (sym (of_packet f group)) (subst (λ (d : ℕ). IsPassed node (DataTransfer source d f.bytes)) same passed))
+
+-- ---- a broadcast packet, at a unit that has nothing half joined from its source; and a packet to one address
+
+not_half : (a b : Bool) → b ≡ false → (a && b) ≡ false
+not_half true b e = e
+not_half false b e = refl
+
+pub passes_unjoined : (node : NodeValue) (f : FrameValue) (destination : ℕ) → pgn_of f.id ≡ 60160 → destination_of f.id ≡ Some destination
+    → is_half (half_from node.half_commands (source_of f.id)) ≡ false → IsHeardQuietly node f node
+passes_unjoined node f destination group to e =
+    passes_packet node f destination group to (not_half (is_to_all destination (source_of f.id)) (is_half (half_from node.half_commands (source_of f.id))) e)
+
+pub passes_single : (node : NodeValue) (f : FrameValue) (destination : ℕ) → pgn_of f.id ≡ 60160 → destination_of f.id ≡ Some destination
+    → is_to_all destination (source_of f.id) ≡ false → IsHeardQuietly node f node
+passes_single node f destination group to e =
+    passes_packet node f destination group to (ap (λ (b : Bool). b && is_half (half_from node.half_commands (source_of f.id))) e)

@@ -1,4 +1,4 @@
--- How what is half joined of commanded addresses is kept: by source, only where there is something.
+-- How what is half joined of commanded addresses is kept: by source, for those that began one.
 use Rattle.std.specs.Prelude.{ℕ, List, map, Option, Some, None}
 use Rattle.std.specs.List.{range_with_len}
 use Rattle.std.specs.Ordering.{nat_cmp}

@@ -1,6 +1,5 @@
--- What a unit puts, piece by piece.
-use Rattle.std.specs.Prelude.{ℕ, ◌≡◌, List, ◌∷◌, [], map, Some, slice_get}
-use Rattle.std.specs.List.{flat_map}
+-- What a unit puts: a frame, or parts of a message.
+use Rattle.std.specs.Prelude.{ℕ, ◌≡◌, List, ◌∷◌, [], map, Option, None, Some, slice_get}
 use Rattle.std.specs.Option.{option_map}
 use Rattle.transport.specs.Runs.{NumberedFrame, part_in}
 use Rattle.node_core.specs.declared.out.Out.{Out}
@@ -28,9 +27,10 @@ abbrev pub outs_of : Piece → List Out
 outs_of (One out) = out ∷ []
 outs_of (Many run mark) = map (run_out mark) run
 
--- the frames of the pieces, one after another
-abbrev pub outs_in : List Piece → List Out
-outs_in pieces = flat_map outs_of pieces
+-- the frames of the piece, if there is one
+abbrev pub outs_in : Option Piece → List Out
+outs_in None = []
+outs_in (Some piece) = outs_of piece
 
 -- the part of a run is that of its first frame
 abbrev pub IsMarked : Piece → Type 0

@@ -1,16 +1,18 @@
-ghost use Rattle.std.specs.Prelude.{◌≡◌, ◌≤◌, OnOk, OnErr, replicate, slice_set};
+ghost use Rattle.std.specs.Prelude.{◌≡◌, ◌≤◌, IsTrue, IsFalse, None, OnOk, OnErr, replicate, slice_set};
 ghost use Rattle.can_frame.specs.declared.address.TheConstants.{GREATEST_ADDRESS};
-ghost use Rattle.node_core.specs.Commanding.{half_from};
+ghost use Rattle.node_core.specs.Commanding.{completed, continued, for_name, half_from, is_half};
 
-use crate::commanding::HalfCommand;
+use crate::commanding::{HalfCommand, for_name};
 use can_frame::HOLDABLE_ADDRESSES;
+use name_field::Name;
 use std::alloc::{AllocError, Global};
 use std::collections::BTreeMap;
 use std::marker::Model;
 
 /// What a unit has of the commanded address that each source, 0 to 253, broadcasts.
 ///
-/// It takes memory only for sources from which something is half joined, and none where there is no such source.
+/// It takes memory only for sources that began a commanded address: a few bytes each, at most 254 of them. A place
+/// once taken stays, so what such a source sends from then on costs one look-up, and takes and gives back no memory.
 #[derive(Drop)]
 pub struct HalfCommands {
     by_source: Option<BTreeMap<u8, HalfCommand>>,
@@ -50,7 +52,22 @@ impl HalfCommands {
         }
     }
 
-    /// Keeps this as what is half joined from a source. Only where there was nothing can memory be refused.
+    /// Whether something is half joined from a source.
+    #[tactic(auto, using(crate::proofs::HalfCommandLists::half_there))]
+    pub fn is_half(&self, source: u8) -> bool
+        requires { source ≤ GREATEST_ADDRESS }
+        ensures { result ≡ is_half (half_from self.now source) }
+    {
+        let Some(halves) = &self.by_source else {
+            return false;
+        };
+        let Some(half) = halves.get(&source) else {
+            return false;
+        };
+        half.is_half()
+    }
+
+    /// Keeps this as what is half joined from a source. Only where its source has no place yet can memory be refused.
     pub fn keep(&mut self, alloc: Global, source: u8, half: HalfCommand) -> Result<(), AllocError>
         requires { source ≤ GREATEST_ADDRESS }
         ensures ok { OnOk result (self.new ≡ slice_set self.old source half) }
@@ -62,6 +79,28 @@ impl HalfCommands {
             self.forget(source);
             Ok(())
         }
+    }
+
+    /// A packet goes on with what is half joined from its source, unless it makes a command for this NAME whole: then nothing
+    /// changes. Answers whether it went on.
+    #[tactic(auto, using(crate::proofs::HalfCommandLists::half_there, crate::proofs::HalfCommandLists::none_dropped, crate::proofs::HalfCommandLists::half_missing, crate::proofs::HalfCommandLists::half_overwritten, crate::proofs::HalfCommandLists::half_read))]
+    pub fn go_on(&mut self, name: Name, source: u8, bytes: &[u8]) -> bool
+        requires { source ≤ GREATEST_ADDRESS }
+        ensures unless { IsTrue result → for_name name (completed (half_from self.old source) bytes.now) ≡ None }
+        ensures joined { IsTrue result → self.new ≡ slice_set self.old source (continued (half_from self.old source) bytes.now) }
+        ensures whole { IsFalse result → self.new ≡ self.old }
+    {
+        let Some(halves) = &mut self.by_source else {
+            return true;
+        };
+        let Some(half) = halves.get_mut(&source) else {
+            return true;
+        };
+        if for_name(name, half.completed(bytes)).is_some() {
+            return false;
+        }
+        *half = half.continued(bytes);
+        true
     }
 
     /// Keeps something half joined.
@@ -84,8 +123,8 @@ impl HalfCommands {
         Ok(())
     }
 
-    /// Drops what is half joined from a source. Where that was all, its memory is given back.
-    #[tactic(auto, using(crate::proofs::HalfCommandLists::none_dropped, crate::proofs::HalfCommandLists::half_dropped, crate::proofs::HalfCommandLists::last_half_dropped))]
+    /// Drops what is half joined from a source. Its place stays.
+    #[tactic(auto, using(crate::proofs::HalfCommandLists::none_dropped, crate::proofs::HalfCommandLists::half_missing, crate::proofs::HalfCommandLists::half_overwritten))]
     pub fn forget(&mut self, source: u8)
         requires { source ≤ GREATEST_ADDRESS }
         ensures { self.new ≡ slice_set self.old source HalfCommand.Nothing }
@@ -93,9 +132,9 @@ impl HalfCommands {
         let Some(halves) = &mut self.by_source else {
             return;
         };
-        let _ = halves.remove(&source);
-        if halves.is_empty() {
-            self.by_source = None;
-        }
+        let Some(half) = halves.get_mut(&source) else {
+            return;
+        };
+        *half = HalfCommand::Nothing;
     }
 }

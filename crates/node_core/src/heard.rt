@@ -1,9 +1,8 @@
-ghost use Rattle.std.specs.Prelude.{◌≡◌, IfOk, true};
+ghost use Rattle.std.specs.Prelude.{◌≡◌, true};
 
 use crate::out::Outs;
 use can_frame::Frame;
 use dm_messages::Kind;
-use std::alloc::{AllocError, Global};
 
 /// What a unit withdraws from its queue before it puts anything in.
 #[derive(Clone, Copy, Debug, PartialEq, Eq)]
@@ -54,28 +53,28 @@ pub struct Heard {
 impl Heard {
     ghost use Rattle.node_core.specs.Deed.{heard_of, Nothing, Replies};
 
-    /// Nothing is done. Takes no memory.
-    pub(crate) fn nothing(alloc: Global) -> Heard
+    /// Nothing is done.
+    pub(crate) fn nothing() -> Heard
         ensures { result ≡ heard_of Answer.NotAsked Nothing }
     {
         Heard {
             withdraw: Withdraw::Keep,
-            put: Outs::new(alloc),
+            put: Outs::new(),
             begun: None,
             answer: Answer::NotAsked,
         }
     }
 
     /// One frame is queued.
-    pub(crate) fn replies(alloc: Global, frame: Frame) -> Result<Heard, AllocError>
-        ensures { IfOk result (λ h. h ≡ heard_of Answer.NotAsked (Replies frame)) }
+    pub(crate) fn replies(frame: Frame) -> Heard
+        ensures { result ≡ heard_of Answer.NotAsked (Replies frame) }
     {
-        Ok(Heard {
+        Heard {
             withdraw: Withdraw::Keep,
-            put: Outs::plain(alloc, frame)?,
+            put: Outs::plain(frame),
             begun: None,
             answer: Answer::NotAsked,
-        })
+        }
     }
 }
 

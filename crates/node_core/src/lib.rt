@@ -11,8 +11,10 @@ mod out;
 mod parts;
 mod requested;
 mod session;
+mod sifted;
 
 pub use error::NodeError;
 pub use heard::{Answer, Begun, Heard, Started, Withdraw};
 pub use node::Node;
 pub use out::{Out, Outs, Part, Piece};
+pub use sifted::Passers;

@@ -109,7 +109,7 @@ impl Node {
             source,
             dest: GLOBAL_ADDRESS,
         };
-        let put = parts_to_all(alloc, payload, begun)?;
+        let put = parts_to_all(payload, begun);
         Ok(Started::Begun { begun, put })
     }
 
@@ -150,7 +150,7 @@ impl Node {
             ParameterGroup::CannotClaim { .. }
             | ParameterGroup::Acknowledgment(_)
             | ParameterGroup::Diagnostic { .. }
-            | ParameterGroup::Other => Ok(Heard::nothing(alloc)),
+            | ParameterGroup::Other => Ok(Heard::nothing()),
         }
     }
 
@@ -182,14 +182,14 @@ impl Node {
     }
 
     /// Ends the open session, and withdraws its frames.
-    fn end_session(&mut self, alloc: Global) -> Heard
+    fn end_session(&mut self) -> Heard
         ensures heard { result ≡ heard_of Answer.NotAsked EndsSession }
         ensures node { self.new ≡ after_deed self.old EndsSession }
     {
         self.session = None;
         Heard {
             withdraw: Withdraw::Session,
-            put: Outs::new(alloc),
+            put: Outs::new(),
             begun: None,
             answer: Answer::NotAsked,
         }

@@ -1,10 +1,8 @@
-ghost use Rattle.std.specs.Prelude.{◌≡◌, ◌<◌, [], ◌∷◌, ◌++◌, length, map, IfNone, IfOk, IfSome, MatchOption, Some, slice_get, option_map};
+ghost use Rattle.std.specs.Prelude.{◌≡◌, ◌<◌, [], ◌∷◌, ◌++◌, length, map, IfNone, IfSome, MatchOption, Some, slice_get, option_map};
 ghost use Rattle.transport.specs.Runs.{part_in};
 ghost use Rattle.node_core.specs.Pieces.{number_in, outs_of, run_out};
 
 use can_frame::Frame;
-use std::alloc::{AllocError, Global};
-use std::collections::VecDeque;
 use std::marker::Model;
 use transport::Run;
 
@@ -35,60 +33,58 @@ pub enum Piece {
     Many { run: Run, part: Part },
 }
 
-/// Frames that a unit wants carried, in order, piece by piece. A frame of a run is made when it is looked at.
+/// Frames that a unit wants carried, in order: none, or one piece. A frame of a run is made when it is looked at.
 #[derive(Debug, Drop)]
 pub struct Outs {
-    pieces: VecDeque<Piece>,
+    piece: Option<Piece>,
 }
 
 impl Model for Outs {
-    ghost use Rattle.std.specs.Prelude.{List};
-    ghost use Rattle.std.specs.List.{All};
+    ghost use Rattle.std.specs.Prelude.{List, IfSome};
     ghost use Rattle.node_core.specs.declared.out.Out.{Out};
     ghost use Rattle.node_core.specs.Pieces.{IsMarked, outs_in};
 
     ghost Value = { List Out };
 
-    ghost view = { λ o. outs_in o.pieces.items };
+    ghost view = { λ o. outs_in o.piece };
 
-    ghost invariant = { λ o. All IsMarked o.pieces.items };
+    ghost invariant = { λ o. IfSome o.piece IsMarked };
 }
 
 impl Outs {
     ghost use Rattle.node_core.specs.Deed.{plain};
 
-    /// No frames. Takes no memory.
-    pub fn new(alloc: Global) -> Outs
+    /// No frames.
+    pub fn new() -> Outs
         ensures { result ≡ [] }
     {
+        Outs { piece: None }
+    }
+
+    /// One frame that is no part of a message. Takes no memory.
+    pub fn plain(frame: Frame) -> Outs
+        ensures { result ≡ plain frame ∷ [] }
+    {
+        Outs::one(Out { frame, part: None })
+    }
+
+    /// One frame. Takes no memory.
+    pub fn one(out: Out) -> Outs
+        ensures { result ≡ out ∷ [] }
+    {
         Outs {
-            pieces: VecDeque::new(alloc),
+            piece: Some(Piece::One(out)),
         }
     }
 
-    /// One frame that is no part of a message.
-    pub fn plain(alloc: Global, frame: Frame) -> Result<Outs, AllocError>
-        ensures { IfOk result (λ o. o ≡ plain frame ∷ []) }
-    {
-        Outs::one(alloc, Out { frame, part: None })
-    }
-
-    /// One frame.
-    pub fn one(alloc: Global, out: Out) -> Result<Outs, AllocError>
-        ensures { IfOk result (λ o. o ≡ out ∷ []) }
-    {
-        let room = Room::new(alloc)?;
-        Ok(room.holding(out))
-    }
-
-    /// The frames that are left of a run; `part` is that of the first of them.
-    pub fn run(alloc: Global, run: Run, part: Part) -> Result<Outs, AllocError>
+    /// The frames that are left of a run; `part` is that of the first of them. Takes no memory.
+    pub fn run(run: Run, part: Part) -> Outs
         requires { option_map part_in (slice_get run 0) ≡ Some (number_in part) }
-        ensures { IfOk result (λ o. o ≡ map (run_out part) run) }
+        ensures { result ≡ map (run_out part) run }
     {
-        let mut pieces = VecDeque::with_capacity(alloc, 1)?;
-        pieces.push_back_reserved(Piece::Many { run, part });
-        Ok(Outs { pieces })
+        Outs {
+            piece: Some(Piece::Many { run, part }),
+        }
     }
 
     /// Takes the first piece, which has at least one frame.
@@ -97,41 +93,6 @@ impl Outs {
         ensures some { IfSome result (λ p. 0 < length (outs_of p)) }
         ensures none { IfNone result (self.new ≡ []) }
     {
-        self.pieces.pop_front()
-    }
-}
-
-/// Room for one frame, taken before anything changes that the frame tells of.
-#[derive(Drop)]
-pub(crate) struct Room {
-    pieces: VecDeque<Piece>,
-}
-
-impl Model for Room {
-    ghost use Rattle.std.specs.Prelude.{◌≡◌, ◌<◌, []};
-    ghost use Rattle.std.specs.VecDeque.{deque_capacity, deque_len};
-
-    ghost Value = { Unit {0} };
-
-    ghost view = { λ r. tt };
-
-    ghost invariant = { λ r. (r.pieces.items ≡ []) × (deque_len r.pieces < deque_capacity r.pieces) };
-}
-
-impl Room {
-    /// Takes the memory for one frame.
-    pub(crate) fn new(alloc: Global) -> Result<Room, AllocError> {
-        Ok(Room {
-            pieces: VecDeque::with_capacity(alloc, 1)?,
-        })
-    }
-
-    /// This frame alone. Takes no memory.
-    pub(crate) fn holding(self, out: Out) -> Outs
-        ensures { result ≡ out ∷ [] }
-    {
-        let Room { mut pieces } = self;
-        pieces.push_back_reserved(Piece::One(out));
-        Outs { pieces }
+        self.piece.take()
     }
 }

@@ -3,7 +3,7 @@ ghost use Rattle.transport.specs.Sending.{packets_granted, packets_left};
 
 use can_frame::Pgn;
 use dm_messages::Kind;
-use transport::{Sending, packets};
+use transport::Sending;
 
 /// An open session: the kind of its message, and what is still to be sent of it.
 #[derive(Debug, Drop)]
@@ -30,12 +30,6 @@ impl OpenSession {
         ensures count { result ≡ packets_granted self.now.sending granted next }
         ensures left { result ≤ packets_left self.now.sending }
     {
-        let sending = &self.sending;
-        let next_unsent = sending.next_unsent();
-        let count = u16::from(packets(sending.payload().len() as u16));
-        if u16::from(next) != next_unsent {
-            return 0;
-        }
-        u16::from(granted).min((count + 1).saturating_sub(next_unsent)) as u8
+        self.sending.granted(granted, next)
     }
 }

@@ -9,7 +9,7 @@ ghost use Rattle.node_core.specs.Requested as requested;
 use crate::error::NodeError;
 use crate::heard::{Answer, Begun, Heard, Withdraw};
 use crate::node::Node;
-use crate::out::{Out, Outs, Room};
+use crate::out::Outs;
 use crate::parts::{first_part, parts_to_all};
 use crate::requested::{Wanted, acknowledgment, counts_from, put};
 use crate::session::OpenSession;
@@ -46,16 +46,16 @@ impl Node {
         ensures asked { IfOk result (λ h. (u : _) × (unit.new ≡ (unit.old.0, u)) × IsAsked (Answers unit.old) (put_by_request self.old request.pgn request.dest request.source) h.answer unit.old.1 u) }
     {
         if !self.is_concerned(request.dest) {
-            return Ok(Heard::nothing(alloc));
+            return Ok(Heard::nothing());
         }
         if request.pgn == Pgn::ADDRESS_CLAIMED {
-            return Ok(Heard::replies(alloc, self.start())?);
+            return Ok(Heard::replies(self.start()));
         }
         let Some(address) = self.claimer.held() else {
-            return Ok(Heard::nothing(alloc));
+            return Ok(Heard::nothing());
         };
         if !counts_from(address, request.source) {
-            return Ok(Heard::nothing(alloc));
+            return Ok(Heard::nothing());
         }
         let wanted = Wanted::by(request.pgn);
         if request.dest == GLOBAL_ADDRESS {
@@ -94,11 +94,11 @@ impl Node {
             Wanted::Message(kind) => self.message_to_all(alloc, kind, address, unit.memory()),
             Wanted::Clear(which) => Ok(Heard {
                 withdraw: Withdraw::Keep,
-                put: Outs::new(alloc),
+                put: Outs::new(),
                 begun: None,
                 answer: put(Question::Clear(which), unit),
             }),
-            Wanted::Unsupported => Ok(Heard::nothing(alloc)),
+            Wanted::Unsupported => Ok(Heard::nothing()),
         }
     }
 
@@ -117,7 +117,7 @@ impl Node {
         ensures refused { IfErr result (λ e. e ≡ NodeError.OutOfMemory) }
     {
         if self.is_open(kind) {
-            return Ok(Heard::nothing(alloc));
+            return Ok(Heard::nothing());
         }
         let payload = payload(alloc, kind, memory)?;
         let begun = Begun {
@@ -125,7 +125,7 @@ impl Node {
             source: address,
             dest: GLOBAL_ADDRESS,
         };
-        Ok(message_begun(parts_to_all(alloc, payload, begun)?, begun))
+        Ok(message_begun(parts_to_all(payload, begun), begun))
     }
 
     /// Asked at the unit's own address for more than the claim.
@@ -157,11 +157,13 @@ impl Node {
                 address,
                 unit.memory(),
             ),
-            Wanted::Clear(which) => asked_to_clear(alloc, which, request, address, unit),
-            Wanted::Unsupported => Ok(Heard::replies(
-                alloc,
-                acknowledgment(Ack::NEGATIVE, request.source, request.pgn, address),
-            )?),
+            Wanted::Clear(which) => Ok(asked_to_clear(which, request, address, unit)),
+            Wanted::Unsupported => Ok(Heard::replies(acknowledgment(
+                Ack::NEGATIVE,
+                request.source,
+                request.pgn,
+                address,
+            ))),
         }
     }
 
@@ -184,7 +186,7 @@ impl Node {
         ensures kept { OnErr result (self.new ≡ self.old) }
     {
         if self.is_open(kind) {
-            return busy(alloc, request, address);
+            return Ok(busy(request, address));
         }
         let payload = payload(alloc, kind, memory)?;
         if payload.len() == 8 {
@@ -193,67 +195,51 @@ impl Node {
                 source: address,
                 dest: GLOBAL_ADDRESS,
             };
-            return Ok(message_begun(parts_to_all(alloc, payload, begun)?, begun));
+            return Ok(message_begun(parts_to_all(payload, begun), begun));
         }
         if self.session.is_some() {
-            return busy(alloc, request, address);
+            return Ok(busy(request, address));
         }
         let begun = Begun {
             kind,
             source: address,
             dest: request.source,
         };
-        let heard = message_begun(first_part(alloc, payload.as_slice(), begun)?, begun);
+        let heard = message_begun(first_part(payload.as_slice(), begun), begun);
         let sending = Sending::start(payload, request.source, kind.pgn());
         self.session = Some(OpenSession { kind, sending });
         Ok(heard)
     }
 }
 
-/// Asked to clear at the unit's own address: the unit is asked once the answer has its memory.
-fn asked_to_clear(
-    alloc: Global,
-    which: Clear,
-    request: Request,
-    address: u8,
-    unit: &mut dyn Unit,
-) -> Result<Heard, NodeError>
+/// Asked to clear at the unit's own address. Takes no memory, so nothing is refused once the unit was asked.
+fn asked_to_clear(which: Clear, request: Request, address: u8, unit: &mut dyn Unit) -> Heard
     ensures name { name_of unit.new ≡ name_of unit.old }
-    ensures heard { IfOk result (λ h. h ≡ heard_of h.answer (Replies (requested.acknowledgment (if is_agreed h.answer then POSITIVE else NEGATIVE) request.source request.pgn address))) }
-    ensures memory { IfOk result (λ h. memory_of unit.new ≡ memory_answered (Some (Question.Clear which)) h.answer (memory_of unit.old)) }
-    ensures refused { IfErr result (λ e. e ≡ NodeError.OutOfMemory) }
-    ensures unasked { OnErr result (unit.new ≡ unit.old) }
-    ensures answer { IfOk result (λ h. IsAnswerTo (Some (Question.Clear which)) h.answer) }
-    ensures asked { IfOk result (λ h. (u : _) × (unit.new ≡ (unit.old.0, u)) × IsAsked (Answers unit.old) (Some (Question.Clear which)) h.answer unit.old.1 u) }
+    ensures heard { result ≡ heard_of result.answer (Replies (requested.acknowledgment (if is_agreed result.answer then POSITIVE else NEGATIVE) request.source request.pgn address)) }
+    ensures memory { memory_of unit.new ≡ memory_answered (Some (Question.Clear which)) result.answer (memory_of unit.old) }
+    ensures answer { IsAnswerTo (Some (Question.Clear which)) result.answer }
+    ensures asked { (u : _) × (unit.new ≡ (unit.old.0, u)) × IsAsked (Answers unit.old) (Some (Question.Clear which)) result.answer unit.old.1 u }
 {
-    let room = Room::new(alloc)?;
     let answer = put(Question::Clear(which), unit);
     let control = if answer == Answer::Agreed {
         Ack::POSITIVE
     } else {
         Ack::NEGATIVE
     };
-    let out = Out {
-        frame: acknowledgment(control, request.source, request.pgn, address),
-        part: None,
-    };
-    Ok(Heard {
+    let frame = acknowledgment(control, request.source, request.pgn, address);
+    Heard {
         withdraw: Withdraw::Keep,
-        put: room.holding(out),
+        put: Outs::plain(frame),
         begun: None,
         answer,
-    })
+    }
 }
 
 /// The unit cannot respond now.
-fn busy(alloc: Global, request: Request, address: u8) -> Result<Heard, NodeError>
-    ensures heard { IfOk result (λ h. h ≡ heard_of Answer.NotAsked (Replies (requested.acknowledgment CANNOT_RESPOND request.source request.pgn address))) }
-    ensures refused { IfErr result (λ e. e ≡ NodeError.OutOfMemory) }
+fn busy(request: Request, address: u8) -> Heard
+    ensures { result ≡ heard_of Answer.NotAsked (Replies (requested.acknowledgment CANNOT_RESPOND request.source request.pgn address)) }
 {
-    Ok(Heard::replies(
-        alloc,
-        acknowledgment(Ack::CANNOT_RESPOND, request.source, request.pgn, address),
-    )?)
+    Heard::replies(acknowledgment(Ack::CANNOT_RESPOND, request.source, request.pgn, address))
 }
 
 /// A message begins, and these are the frames that are queued with it.

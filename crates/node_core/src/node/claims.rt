@@ -3,7 +3,7 @@ ghost use Rattle.can_frame.specs.declared.address.TheConstants.{GREATEST_ADDRESS
 
 use crate::heard::{Answer, Heard, Withdraw};
 use crate::node::Node;
-use crate::out::{Out, Room};
+use crate::out::Outs;
 use address_claim::ClaimStep;
 use name_field::Name;
 use std::alloc::{AllocError, Global};
@@ -28,15 +28,19 @@ impl Node {
     {
         if self.claimer.answer(source, name) == ClaimStep::Nothing {
             self.note_claim(alloc, source, name)?;
-            return Ok(self.end_session_with(alloc, source));
+            return Ok(self.end_session_with(source));
         }
-        let room = Room::new(alloc)?;
         self.note_claim(alloc, source, name)?;
-        Ok(self.claim_again(room, Answer::NotAsked))
+        Ok(self.claim_again(Answer::NotAsked))
     }
 
     /// Takes note of a claim; a half command from an address that was last claimed under another NAME is dropped.
-    fn note_claim(&mut self, alloc: Global, source: u8, name: Name) -> Result<(), AllocError>
+    pub(super) fn note_claim(
+        &mut self,
+        alloc: Global,
+        source: u8,
+        name: Name,
+    ) -> Result<(), AllocError>
         requires { source ≤ GREATEST_ADDRESS }
         ensures ok { OnOk result (self.new ≡ noted_from self.old (AddressClaimed source name)) }
         ensures err { OnErr result (self.new ≡ self.old) }
@@ -61,29 +65,25 @@ impl Node {
     }
 
     /// Ends the open session if this is its destination.
-    fn end_session_with(&mut self, alloc: Global, source: u8) -> Heard
+    fn end_session_with(&mut self, source: u8) -> Heard
         ensures heard { result ≡ heard_of Answer.NotAsked (on_uncontested self.old.session source) }
         ensures node { self.new ≡ after_deed self.old (on_uncontested self.old.session source) }
     {
         if !self.is_destination(source) {
-            return Heard::nothing(alloc);
+            return Heard::nothing();
         }
-        self.end_session(alloc)
+        self.end_session()
     }
 
     /// Withdraws all, ends the session, and claims the address held, or says that none is.
-    pub(super) fn claim_again(&mut self, room: Room, answer: Answer) -> Heard
+    pub(super) fn claim_again(&mut self, answer: Answer) -> Heard
         ensures heard { result ≡ heard_of answer (Claims self.old.claimer.name self.old.claimer.held) }
         ensures node { self.new ≡ after_deed self.old (Claims self.old.claimer.name self.old.claimer.held) }
     {
         self.session = None;
-        let out = Out {
-            frame: self.start(),
-            part: None,
-        };
         Heard {
             withdraw: Withdraw::All,
-            put: room.holding(out),
+            put: Outs::plain(self.start()),
             begun: None,
             answer,
         }

@@ -4,7 +4,7 @@ use crate::commanding::{HalfCommand, for_name, is_broadcast};
 use crate::error::NodeError;
 use crate::heard::{Answer, Heard, Withdraw};
 use crate::node::Node;
-use crate::out::{Outs, Room};
+use crate::out::Outs;
 use crate::requested::put;
 use can_frame::{GREATEST_ADDRESS, Pgn};
 use requests::Commanded;
@@ -56,17 +56,16 @@ impl Node {
         ensures answer { IfOk result (λ h. IsAnswerTo (put_by_command (command_heard self.old source destination bytes.now)) h.answer) }
         ensures asked { IfOk result (λ h. (u : _) × (unit.new ≡ (unit.old.0, u)) × IsAsked (Answers unit.old) (put_by_command (command_heard self.old source destination bytes.now)) h.answer unit.old.1 u) }
     {
-        let Some(command) = self.command_heard(source, destination, bytes) else {
-            self.join_packet(alloc, source, destination, bytes)?;
-            return Ok(Heard::nothing(alloc));
-        };
-        let room = Room::new(alloc)?;
+        let command = self.command_heard(source, destination, bytes);
         self.join_packet(alloc, source, destination, bytes)?;
+        let Some(command) = command else {
+            return Ok(Heard::nothing());
+        };
         match put(Question::Hold(command.address), unit) {
-            Answer::Agreed => Ok(self.obey(command.address, room)),
+            Answer::Agreed => Ok(self.obey(command.address)),
             answer => Ok(Heard {
                 withdraw: Withdraw::Keep,
-                put: Outs::new(alloc),
+                put: Outs::new(),
                 begun: None,
                 answer,
             }),
@@ -105,12 +104,12 @@ impl Node {
     }
 
     /// Holds the address from now on, and claims it.
-    fn obey(&mut self, address: u8, room: Room) -> Heard
+    fn obey(&mut self, address: u8) -> Heard
         requires { address ≤ GREATEST_ADDRESS }
         ensures heard { result ≡ heard_of Answer.Agreed (Claims self.old.claimer.name (Some address)) }
         ensures node { self.new ≡ after_deed self.old (Claims self.old.claimer.name (Some address)) }
     {
         self.claimer.hold(address);
-        self.claim_again(room, Answer::Agreed)
+        self.claim_again(Answer::Agreed)
     }
 }

@@ -31,38 +31,32 @@ impl Node {
         ensures kept { OnErr result (self.new ≡ self.old) }
     {
         match control {
-            Control::Rts { pgn, .. } => self.hear_rts(alloc, source, destination, pgn),
+            Control::Rts { pgn, .. } => Ok(self.hear_rts(source, destination, pgn)),
             Control::Cts { granted, next, pgn } => {
                 self.hear_cts(alloc, source, destination, granted, next, pgn)
             }
-            Control::EndAck { pgn, .. } => Ok(self.hear_end_ack(alloc, source, destination, pgn)),
-            Control::Abort { pgn, .. } => Ok(self.hear_abort(alloc, source, destination, pgn)),
+            Control::EndAck { pgn, .. } => Ok(self.hear_end_ack(source, destination, pgn)),
+            Control::Abort { pgn, .. } => Ok(self.hear_abort(source, destination, pgn)),
             Control::Bam { size, pgn, .. } => {
                 self.note_announcement(alloc, source, destination, size, pgn)?;
-                Ok(Heard::nothing(alloc))
+                Ok(Heard::nothing())
             }
         }
     }
 
     /// A request to send: this unit receives no sessions.
-    fn hear_rts(
-        &self,
-        alloc: Global,
-        source: u8,
-        destination: u8,
-        pgn: Pgn,
-    ) -> Result<Heard, AllocError>
-        ensures heard { IfOk result (λ h. h ≡ heard_of Answer.NotAsked (if is_held self.now.claimer.held destination && nat_le source GREATEST_ADDRESS then Replies (message.control_frame (control.Abort RESOURCES_NEEDED pgn) destination source) else Nothing)) }
-        ensures few { IfOk result (λ h. length h.put ≤ 256) }
+    fn hear_rts(&self, source: u8, destination: u8, pgn: Pgn) -> Heard
+        ensures heard { result ≡ heard_of Answer.NotAsked (if is_held self.now.claimer.held destination && nat_le source GREATEST_ADDRESS then Replies (message.control_frame (control.Abort RESOURCES_NEEDED pgn) destination source) else Nothing) }
+        ensures few { length result.put ≤ 256 }
     {
         if !self.is_held(destination) || source > GREATEST_ADDRESS {
-            return Ok(Heard::nothing(alloc));
+            return Heard::nothing();
         }
         let abort = Control::Abort {
             reason: Control::RESOURCES_NEEDED,
             pgn,
         };
-        Heard::replies(alloc, control_frame(abort, destination, source))
+        Heard::replies(control_frame(abort, destination, source))
     }
 
     /// A clear to send: the packets that it grants are queued.
@@ -81,13 +75,13 @@ impl Node {
         ensures kept { OnErr result (self.new ≡ self.old) }
     {
         if !self.is_held(destination) {
-            return Ok(Heard::nothing(alloc));
+            return Ok(Heard::nothing());
         }
         let Some(session) = &self.session else {
-            return Ok(Heard::nothing(alloc));
+            return Ok(Heard::nothing());
         };
         if !session.is_with(source, pgn) {
-            return Ok(Heard::nothing(alloc));
+            return Ok(Heard::nothing());
         }
         let count = session.granted(granted, next);
         let put = parts_of_session(alloc, session, destination, count)?;
@@ -104,37 +98,33 @@ impl Node {
     fn grant(&mut self, granted: u8, next: u8)
         ensures { self.new ≡ record self.old { session = option_map (λ s. further s (packets_granted s.sending granted next)) self.old.session } }
     {
-        self.session = match self.session.take() {
-            Some(mut session) => {
-                let _ = session.sending.grant(granted, next);
-                Some(session)
-            }
-            None => None,
-        };
+        if let Some(session) = &mut self.session {
+            let _ = session.sending.grant(granted, next);
+        }
     }
 
     /// An end of message acknowledgment ends the session once every packet was queued.
-    fn hear_end_ack(&mut self, alloc: Global, source: u8, destination: u8, pgn: Pgn) -> Heard
+    fn hear_end_ack(&mut self, source: u8, destination: u8, pgn: Pgn) -> Heard
         ensures few { length result.put ≤ 256 }
         ensures heard { result ≡ heard_of Answer.NotAsked (if is_held self.old.claimer.held destination then on_end_ack self.old.session source pgn else Nothing) }
         ensures node { self.new ≡ after_deed self.old (if is_held self.old.claimer.held destination then on_end_ack self.old.session source pgn else Nothing) }
     {
         if !self.is_held(destination) || !self.is_all_queued_with(source, pgn) {
-            return Heard::nothing(alloc);
+            return Heard::nothing();
         }
-        self.end_session(alloc)
+        self.end_session()
     }
 
     /// An abort ends the session.
-    fn hear_abort(&mut self, alloc: Global, source: u8, destination: u8, pgn: Pgn) -> Heard
+    fn hear_abort(&mut self, source: u8, destination: u8, pgn: Pgn) -> Heard
         ensures few { length result.put ≤ 256 }
         ensures heard { result ≡ heard_of Answer.NotAsked (if is_held self.old.claimer.held destination then on_abort self.old.session source pgn else Nothing) }
         ensures node { self.new ≡ after_deed self.old (if is_held self.old.claimer.held destination then on_abort self.old.session source pgn else Nothing) }
     {
         if !self.is_held(destination) || !self.is_open_with(source, pgn) {
-            return Heard::nothing(alloc);
+            return Heard::nothing();
         }
-        self.end_session(alloc)
+        self.end_session()
     }
 
     /// Whether a session about this group is open with this address.

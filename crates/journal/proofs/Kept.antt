@@ -1,31 +1,46 @@
 -- One copy more leaves what the notes tell as it was.
-use Rattle.std.proofs.Common.{◌≡◌, List, [], ◌∷◌, ◌++◌, map, length, refl, ap}
+use Rattle.std.proofs.Common.{ℕ, ◌≡◌, ◌<◌, ◌-◌, List, [], ◌∷◌, ◌++◌, reverse, length, refl, ap, ◌∙◌, sym, subst, arith}
 use Rattle.std.specs.List.{All}
-use Rattle.std.proofs.lemmas.List.{get_or_append_left}
+use Rattle.std.proofs.lemmas.List.{get_or_append_left, get_or-reverse, length-reverse}
 use Rattle.std.proofs.lemmas.List.Elements.{All-head, All-tail}
 use Rattle.fault_memory.specs.Memory.{MemoryValue, new_memory}
-use Rattle.journal.specs.Notes.{IsNoted, event_of}
+use Rattle.journal.specs.Notes.{IsNoted, events_of, newest_first, with_note}
+use Rattle.journal.specs.declared.event.Event.{Event}
 use Rattle.journal.specs.declared.event.Event.TheVariants.{Hear, Begin}
 use Rattle.journal.specs.declared.note.Note.{Note}
 use Rattle.journal.specs.declared.note.Note.TheVariants as note
+use Rattle.journal.specs.declared.passing.Passing.{Passing}
 
-note_more : (ms : List MemoryValue) (m : MemoryValue) (n : Note) → IsNoted (length ms) n → event_of (ms ++ m ∷ []) n ≡ event_of ms n
-note_more ms m (note.Join address name) h = refl
-note_more ms m (note.Hear answered k n) h = ap (λ (v : MemoryValue). Hear k v answered) (get_or_append_left ms (m ∷ []) new_memory n h)
-note_more ms m (note.Begin k n) h = ap (λ (v : MemoryValue). Begin k v) (get_or_append_left ms (m ∷ []) new_memory n h)
-note_more ms m (note.Turned k) h = refl
-note_more ms m (note.Carry k) h = refl
-note_more ms m (note.Frame bytes id) h = refl
-note_more ms m (note.Gap missed) h = refl
-note_more ms m note.Empty h = refl
-note_more ms m (note.Ask ask name) h = refl
-note_more ms m (note.AskOther group name) h = refl
-note_more ms m (note.AskAll ask) h = refl
-note_more ms m (note.Command address name) h = refl
-note_more ms m (note.Leave k) h = refl
-note_more ms m (note.Inject bytes id) h = refl
+note_more : (ms : List MemoryValue) (m : MemoryValue) (n : Note) (older : List Event) → IsNoted (length ms) n → with_note (ms ++ m ∷ []) n older ≡ with_note ms n older
+note_more ms m (note.Join address name) older h = refl
+note_more ms m (note.Hear answered k n) older h = ap (λ (v : MemoryValue). Hear k v answered ∷ older) (get_or_append_left ms (m ∷ []) new_memory n h)
+note_more ms m (note.Passed first count) older h = refl
+note_more ms m (note.Begin k n) older h = ap (λ (v : MemoryValue). Begin k v ∷ older) (get_or_append_left ms (m ∷ []) new_memory n h)
+note_more ms m (note.Turned k) older h = refl
+note_more ms m (note.Carry k) older h = refl
+note_more ms m (note.Frame bytes id) older h = refl
+note_more ms m (note.Gap missed) older h = refl
+note_more ms m note.Empty older h = refl
+note_more ms m (note.Ask ask name) older h = refl
+note_more ms m (note.AskOther group name) older h = refl
+note_more ms m (note.AskAll ask) older h = refl
+note_more ms m (note.Command address name) older h = refl
+note_more ms m (note.Leave k) older h = refl
+note_more ms m (note.Inject bytes id) older h = refl
+
+events_more : (ms : List MemoryValue) (m : MemoryValue) (ns : List Note) → All (IsNoted (length ms)) ns → events_of (ms ++ m ∷ []) ns ≡ events_of ms ns
+unfolding events_of
+events_more ms m [] all = refl
+events_more ms m (n ∷ ns) all =
+    ap (with_note (ms ++ m ∷ []) n) (events_more ms m ns (All-tail (IsNoted (length ms)) n ns all)) ∙ note_more ms m n (events_of ms ns) (All-head (IsNoted (length ms)) n ns all)
+
+all_reversed : (many : ℕ) (ns : List Note) → All (IsNoted many) ns → All (IsNoted many) (reverse ns)
+all_reversed many ns all = λ k d l.
+    (let few = length-reverse ns in
+    let low : k < length ns = omega arith in
+    subst (IsNoted many) (sym (get_or-reverse ns k d low)) (all (length ns - 1 - k) d (omega arith)))
 
 -- what the notes tell, with one copy more
-pub told_more : (ms : List MemoryValue) (m : MemoryValue) (ns : List Note) → All (IsNoted (length ms)) ns → map (event_of (ms ++ m ∷ [])) ns ≡ map (event_of ms) ns
-told_more ms m [] all = refl
-told_more ms m (n ∷ ns) all = rw (note_more ms m n (All-head (IsNoted (length ms)) n ns all), told_more ms m ns (All-tail (IsNoted (length ms)) n ns all)) refl
+pub told_more : (ms : List MemoryValue) (m : MemoryValue) (run : Passing) (ns : List Note) → All (IsNoted (length ms)) ns → events_of (ms ++ m ∷ []) (newest_first run ns) ≡ events_of ms (newest_first run ns)
+unfolding events_of
+told_more ms m run ns all = ap (with_note ms (note.Passed run.first (run.next - run.first))) (events_more ms m (reverse ns) (all_reversed (length ms) ns all))

@@ -24,5 +24,7 @@ pub mod Reaching
 pub mod Headline
 pub mod Lifted
 pub mod Living
+pub mod Runs
 pub mod Kept
 pub mod Told
+pub mod Keeping

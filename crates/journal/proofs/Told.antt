@@ -1,37 +1,43 @@
 -- What holds of the notes of a journal, after one note, one copy or one place more.
-use Rattle.std.proofs.Common.{ℕ, ◌≡◌, ◌<◌, ◌≤◌, true, false, nat_eq, eq-eqb, ne_eqb, List, [], ◌∷◌, ◌++◌, map, reverse, length, get_or, set, Option, None, Some, refl, sym, ap, ◌∙◌, subst, arith, inl, inr, if◌then◌else◌}
-use Rattle.std.proofs.lemmas.List.{get_or_append_left, get_or-set_same, get_or-set_other, length-set, length-append, map-append, reverse-append}
-use Rattle.std.proofs.lemmas.List.Elements.{All-append, All-cons, All-nil}
-use Rattle.std.specs.List.{All}
+use Rattle.std.proofs.Common.{ℕ, suc, ◌≡◌, ◌<◌, ◌≤◌, true, false, nat_eq, eq-eqb, ne_eqb, List, [], ◌∷◌, ◌++◌, length, get_or, set, Option, None, Some, IsSome, refl, sym, ap, ◌∙◌, subst, arith, inl, inr, if◌then◌else◌}
+use Rattle.std.proofs.lemmas.List.{get_or_append_left, get_or-set_same, get_or-set_other, length-set, length-append}
 use Rattle.bus_ledger.proofs.Numbers.{same_or_not}
 use Rattle.fault_memory.specs.Memory.{MemoryValue, new_memory}
+use Rattle.node_core.specs.declared.heard.Answer.TheVariants.{NotAsked}
 use Rattle.journal.specs.Journal.{memory_told}
-use Rattle.journal.specs.Notes.{AreTold, AreLawfulNotes, IsNoted, IsStored, event_of, memory_at, told_by}
+use Rattle.journal.specs.Notes.{AreTold, AreLawfulNotes, IsNoted, IsStored, event_of, latest, memory_at, told_by, with_note}
 use Rattle.journal.specs.declared.event.Event.{Event}
+use Rattle.journal.specs.declared.event.Event.TheVariants.{Hear}
 use Rattle.journal.specs.declared.note.Note.{Note}
 use Rattle.journal.specs.declared.note.Note.TheVariants as note
+use Rattle.journal.specs.declared.passing.Passing.{Passing}
 use Rattle.journal.proofs.Kept.{told_more}
+use Rattle.journal.proofs.Runs.{told_same}
 
--- the new note tells the newest event
-newest : (ms : List MemoryValue) (ns : List Note) (n : Note) → reverse (map (event_of ms) (ns ++ n ∷ [])) ≡ event_of ms n ∷ reverse (map (event_of ms) ns)
-newest ms ns n = ap reverse (map-append (event_of ms) ns (n ∷ [])) ∙ reverse-append (map (event_of ms) ns) (event_of ms n ∷ [])
+-- what a note does that tells an event and no memory: it names no copy, changes no memory that is told, and tells one event
+pub record Plain (ms : List MemoryValue) (n : Note) (older : List Event) : Type 0 where
+  pub noted : (many : ℕ) → IsNoted many n
+  pub untold : (k : ℕ) → memory_told k (with_note ms n older) ≡ memory_told k older
+  pub alone : (e : Event) → event_of ms n ≡ Some e → with_note ms n older ≡ e ∷ older
+  pub longer : length (with_note ms n older) ≡ suc (length older)
 
-untold : (ms : List MemoryValue) (n : Note) (k : ℕ) (older : List Event) → told_by n ≡ None → memory_told k (event_of ms n ∷ older) ≡ memory_told k older
+pub plain : (ms : List MemoryValue) (n : Note) (older : List Event) → told_by n ≡ None → IsSome (event_of ms n) → Plain ms n older
 unfolding memory_told
-untold ms (note.Join address name) k older h = refl
-untold ms (note.Hear answered j i) k older h = absurd cc
-untold ms (note.Begin j i) k older h = absurd cc
-untold ms (note.Turned j) k older h = refl
-untold ms (note.Carry j) k older h = refl
-untold ms (note.Frame bytes id) k older h = refl
-untold ms (note.Gap missed) k older h = refl
-untold ms note.Empty k older h = refl
-untold ms (note.Ask ask name) k older h = refl
-untold ms (note.AskOther group name) k older h = refl
-untold ms (note.AskAll ask) k older h = refl
-untold ms (note.Command address name) k older h = refl
-untold ms (note.Leave j) k older h = refl
-untold ms (note.Inject bytes id) k older h = refl
+plain ms (note.Join address name) older h single = record { noted = λ many. tt; untold = λ k. refl; alone = λ e is. cc; longer = refl }
+plain ms (note.Turned a) older h single = record { noted = λ many. tt; untold = λ k. refl; alone = λ e is. cc; longer = refl }
+plain ms (note.Carry a) older h single = record { noted = λ many. tt; untold = λ k. refl; alone = λ e is. cc; longer = refl }
+plain ms (note.Frame bytes id) older h single = record { noted = λ many. tt; untold = λ k. refl; alone = λ e is. cc; longer = refl }
+plain ms (note.Gap missed) older h single = record { noted = λ many. tt; untold = λ k. refl; alone = λ e is. cc; longer = refl }
+plain ms note.Empty older h single = record { noted = λ many. tt; untold = λ k. refl; alone = λ e is. cc; longer = refl }
+plain ms (note.Ask ask name) older h single = record { noted = λ many. tt; untold = λ k. refl; alone = λ e is. cc; longer = refl }
+plain ms (note.AskOther group name) older h single = record { noted = λ many. tt; untold = λ k. refl; alone = λ e is. cc; longer = refl }
+plain ms (note.AskAll ask) older h single = record { noted = λ many. tt; untold = λ k. refl; alone = λ e is. cc; longer = refl }
+plain ms (note.Command address name) older h single = record { noted = λ many. tt; untold = λ k. refl; alone = λ e is. cc; longer = refl }
+plain ms (note.Leave a) older h single = record { noted = λ many. tt; untold = λ k. refl; alone = λ e is. cc; longer = refl }
+plain ms (note.Inject bytes id) older h single = record { noted = λ many. tt; untold = λ k. refl; alone = λ e is. cc; longer = refl }
+plain ms (note.Hear answered a b) older h single = absurd cc
+plain ms (note.Begin a b) older h single = absurd cc
+plain ms (note.Passed first count) older h single = absurd cc
 
 first_of : Option (ℕ × ℕ) → ℕ
 first_of None = 0
@@ -54,38 +60,39 @@ at_seat : (ms : List MemoryValue) (a b j i k : ℕ) (older : List Event) → ◌
     → (if nat_eq a k then Some (memory_at ms b) else memory_told k older) ≡ (if nat_eq j k then Some (memory_at ms i) else memory_told k older)
 at_seat ms a b j i k older e = rw (pair_first a b j i e, pair_second a b j i e) refl
 
-telling : (ms : List MemoryValue) (n : Note) (j i k : ℕ) (older : List Event) → told_by n ≡ Some (j, i)
-    → memory_told k (event_of ms n ∷ older) ≡ (if nat_eq j k then Some (memory_at ms i) else memory_told k older)
-unfolding memory_told
-telling ms (note.Hear answered a b) j i k older h = at_seat ms a b j i k older h
-telling ms (note.Begin a b) j i k older h = at_seat ms a b j i k older h
-telling ms (note.Join address name) j i k older h = absurd cc
-telling ms (note.Turned a) j i k older h = absurd cc
-telling ms (note.Carry a) j i k older h = absurd cc
-telling ms (note.Frame bytes id) j i k older h = absurd cc
-telling ms (note.Gap missed) j i k older h = absurd cc
-telling ms note.Empty j i k older h = absurd cc
-telling ms (note.Ask ask name) j i k older h = absurd cc
-telling ms (note.AskOther group name) j i k older h = absurd cc
-telling ms (note.AskAll ask) j i k older h = absurd cc
-telling ms (note.Command address name) j i k older h = absurd cc
-telling ms (note.Leave a) j i k older h = absurd cc
-telling ms (note.Inject bytes id) j i k older h = absurd cc
+-- what a note does that tells this seat's memory: it names that copy, which is told of the seat then, and tells one event
+pub record Telling (ms : List MemoryValue) (n : Note) (j i : ℕ) (older : List Event) : Type 0 where
+  pub noted : (many : ℕ) → i < many → IsNoted many n
+  pub told : (k : ℕ) → memory_told k (with_note ms n older) ≡ (if nat_eq j k then Some (memory_at ms i) else memory_told k older)
+  pub alone : (e : Event) → event_of ms n ≡ Some e → with_note ms n older ≡ e ∷ older
+  pub longer : length (with_note ms n older) ≡ suc (length older)
 
-all_more : (many : ℕ) (ns : List Note) (n : Note) → All (IsNoted many) ns → IsNoted many n → All (IsNoted many) (ns ++ n ∷ [])
-all_more many ns n all one = All-append (IsNoted many) ns (n ∷ []) all (All-cons (IsNoted many) n [] one (All-nil (IsNoted many)))
-
--- no note
-pub kept_none : (ms : List MemoryValue) (told : List ℕ) → AreLawfulNotes ms told []
+pub telling : (ms : List MemoryValue) (n : Note) (j i : ℕ) (older : List Event) → told_by n ≡ Some (j, i) → Telling ms n j i older
 unfolding memory_told
-kept_none ms told = record { noted = All-nil (IsNoted (length ms)); told = λ k m h. absurd cc }
+telling ms (note.Hear answered a b) j i older h = record { noted = λ many l. (let e = pair_second a b j i h in omega arith); told = λ k. at_seat ms a b j i k older h; alone = λ e is. cc; longer = refl }
+telling ms (note.Begin a b) j i older h = record { noted = λ many l. (let e = pair_second a b j i h in omega arith); told = λ k. at_seat ms a b j i k older h; alone = λ e is. cc; longer = refl }
+telling ms (note.Join address name) j i older h = absurd cc
+telling ms (note.Turned a) j i older h = absurd cc
+telling ms (note.Carry a) j i older h = absurd cc
+telling ms (note.Frame bytes id) j i older h = absurd cc
+telling ms (note.Gap missed) j i older h = absurd cc
+telling ms note.Empty j i older h = absurd cc
+telling ms (note.Ask ask name) j i older h = absurd cc
+telling ms (note.AskOther group name) j i older h = absurd cc
+telling ms (note.AskAll ask) j i older h = absurd cc
+telling ms (note.Command address name) j i older h = absurd cc
+telling ms (note.Leave a) j i older h = absurd cc
+telling ms (note.Inject bytes id) j i older h = absurd cc
+telling ms (note.Passed first count) j i older h = absurd cc
 
 -- a note more that tells no memory
-pub kept_untold : (ms : List MemoryValue) (told : List ℕ) (ns : List Note) (n : Note) → AreLawfulNotes ms told ns → IsNoted (length ms) n → told_by n ≡ None → AreLawfulNotes ms told (ns ++ n ∷ [])
-kept_untold ms told ns n kept one none = record {
-  noted = all_more (length ms) ns n kept.noted one;
-  told = λ k m h. kept.told k m (sym (untold ms n k (reverse (map (event_of ms) ns)) none) ∙ (sym (ap (memory_told k) (newest ms ns n)) ∙ h));
-}
+pub told_plain : (ms : List MemoryValue) (told : List ℕ) (older : List Event) (n : Note) → AreTold ms told older → told_by n ≡ None → IsSome (event_of ms n) → AreTold ms told (with_note ms n older)
+told_plain ms told older n old none single = λ k m h. old k m (sym ((plain ms n older none single).untold k) ∙ h)
+
+-- a unit more that passes over a frame
+pub told_passed : (ms : List MemoryValue) (told : List ℕ) (older : List Event) (seat : ℕ) (v : MemoryValue) → AreTold ms told older → memory_told seat older ≡ Some v
+    → AreTold ms told (Hear seat (latest seat older) NotAsked ∷ older)
+told_passed ms told older seat v old is = λ k m h. old k m (sym (told_same seat k v older is) ∙ h)
 
 -- a note more that tells one, whose number its seat's place takes
 told_now : (ms : List MemoryValue) (told : List ℕ) (older : List Event) (j i k : ℕ) (m : MemoryValue) → AreTold ms told older → j < length told → i < length ms
@@ -105,30 +112,9 @@ told_now ms told older j i k m old placed stored h =
           (omega (arith, length-set told j i, o.0), subst (λ (x : ℕ). IsStored ms x m) (sym here) o.1)
     ]
 
-noted_told : (many : ℕ) (n : Note) (j i : ℕ) → i < many → told_by n ≡ Some (j, i) → IsNoted many n
-noted_told many (note.Hear answered a b) j i l h = (let e = pair_second a b j i h in omega arith)
-noted_told many (note.Begin a b) j i l h = (let e = pair_second a b j i h in omega arith)
-noted_told many (note.Join address name) j i l h = tt
-noted_told many (note.Turned a) j i l h = tt
-noted_told many (note.Carry a) j i l h = tt
-noted_told many (note.Frame bytes id) j i l h = tt
-noted_told many (note.Gap missed) j i l h = tt
-noted_told many note.Empty j i l h = tt
-noted_told many (note.Ask ask name) j i l h = tt
-noted_told many (note.AskOther group name) j i l h = tt
-noted_told many (note.AskAll ask) j i l h = tt
-noted_told many (note.Command address name) j i l h = tt
-noted_told many (note.Leave a) j i l h = tt
-noted_told many (note.Inject bytes id) j i l h = tt
-
-pub kept_telling : (ms : List MemoryValue) (told : List ℕ) (ns : List Note) (n : Note) (j i : ℕ) → AreLawfulNotes ms told ns → j < length told → i < length ms → told_by n ≡ Some (j, i)
-    → AreLawfulNotes ms (set told j i) (ns ++ n ∷ [])
-kept_telling ms told ns n j i kept placed stored tells = record {
-  noted = all_more (length ms) ns n kept.noted (noted_told (length ms) n j i stored tells);
-  told = λ k m h.
-      told_now ms told (reverse (map (event_of ms) ns)) j i k m kept.told placed stored
-      (sym (telling ms n j i k (reverse (map (event_of ms) ns)) tells) ∙ (sym (ap (memory_told k) (newest ms ns n)) ∙ h));
-}
+pub told_telling : (ms : List MemoryValue) (told : List ℕ) (older : List Event) (n : Note) (j i : ℕ) → AreTold ms told older → j < length told → i < length ms → told_by n ≡ Some (j, i)
+    → AreTold ms (set told j i) (with_note ms n older)
+told_telling ms told older n j i old placed stored tells = λ k m h. told_now ms told older j i k m old placed stored (sym ((telling ms n j i older tells).told k) ∙ h)
 
 -- one copy more
 stored_more : (ms : List MemoryValue) (m : MemoryValue) (n : ℕ) (v : MemoryValue) → IsStored ms n v → IsStored (ms ++ m ∷ []) n v
@@ -137,6 +123,7 @@ stored_more ms m n v h = (let t = h.there in record { there = omega (arith, leng
 noted_more : (ms : List MemoryValue) (m : MemoryValue) (n : Note) → IsNoted (length ms) n → IsNoted (length (ms ++ m ∷ [])) n
 noted_more ms m (note.Join address name) h = tt
 noted_more ms m (note.Hear answered k n) h = omega (arith, length-append ms (m ∷ []))
+noted_more ms m (note.Passed first count) h = tt
 noted_more ms m (note.Begin k n) h = omega (arith, length-append ms (m ∷ []))
 noted_more ms m (note.Turned k) h = tt
 noted_more ms m (note.Carry k) h = tt
@@ -150,18 +137,18 @@ noted_more ms m (note.Command address name) h = tt
 noted_more ms m (note.Leave k) h = tt
 noted_more ms m (note.Inject bytes id) h = tt
 
-pub kept_copied : (ms : List MemoryValue) (m : MemoryValue) (told : List ℕ) (ns : List Note) → AreLawfulNotes ms told ns → AreLawfulNotes (ms ++ m ∷ []) told ns
-kept_copied ms m told ns kept = record {
+pub kept_copied : (ms : List MemoryValue) (m : MemoryValue) (told : List ℕ) (run : Passing) (ns : List Note) → AreLawfulNotes ms told run ns → AreLawfulNotes (ms ++ m ∷ []) told run ns
+kept_copied ms m told run ns kept = record {
   noted = λ k d l. noted_more ms m (get_or ns k d) (kept.noted k d l);
   told = λ k v h.
-      (let o = kept.told k v (ap (λ (es : List Event). memory_told k (reverse es)) (sym (told_more ms m ns kept.noted)) ∙ h) in
+      (let o = kept.told k v (ap (memory_told k) (sym (told_more ms m run ns kept.noted)) ∙ h) in
       (o.0, stored_more ms m (get_or told k 0) v o.1));
 }
 
 -- places for the numbers of more seats
-pub kept_placed : (ms : List MemoryValue) (told told' : List ℕ) (ns : List Note) → AreLawfulNotes ms told ns → length told ≤ length told' → ((k : ℕ) → k < length told → get_or told' k 0 ≡ get_or told k 0)
-    → AreLawfulNotes ms told' ns
-kept_placed ms told told' ns kept longer same = record {
+pub kept_placed : (ms : List MemoryValue) (told told' : List ℕ) (run : Passing) (ns : List Note) → AreLawfulNotes ms told run ns → length told ≤ length told'
+    → ((k : ℕ) → k < length told → get_or told' k 0 ≡ get_or told k 0) → AreLawfulNotes ms told' run ns
+kept_placed ms told told' run ns kept longer same = record {
   noted = kept.noted;
   told = λ k v h. (let o = kept.told k v h in let l = o.0 in (omega arith, subst (λ (x : ℕ). IsStored ms x v) (sym (same k l)) o.1));
 }

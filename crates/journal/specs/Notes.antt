@@ -1,5 +1,6 @@
--- How the journal keeps events: a fault memory is told by the number of its stored copy.
-use Rattle.std.specs.Prelude.{◌≡◌, ℕ, ◌+◌, ◌<◌, List, [], ◌∷◌, ◌++◌, Option, None, Some, length, map, reverse, slice_index_or}
+-- How the journal keeps events: a fault memory is told by the number of its stored copy, and a run of units that pass over a frame
+-- by one note.
+use Rattle.std.specs.Prelude.{◌≡◌, ℕ, zero, suc, ◌+◌, ◌-◌, ◌<◌, min, List, [], ◌∷◌, ◌++◌, Option, None, Some, length, reverse, slice_index_or, option_to_list, unwrap_or}
 use Rattle.std.specs.List.{All}
 use Rattle.can_frame.specs.FrameValue.{frame}
 use Rattle.can_frame.specs.declared.reading.Reading.TheVariants as reading
@@ -14,6 +15,8 @@ use Rattle.journal.specs.declared.note.Note.TheVariants as note
 use Rattle.journal.specs.declared.note.ShortAsk.{ShortAsk}
 use Rattle.journal.specs.declared.note.ShortAsk.TheVariants as short
 use Rattle.journal.specs.declared.order.Order.TheVariants.{Ask, AskAll, Command}
+use Rattle.journal.specs.declared.passing.Passing.{Passing}
+use Rattle.node_core.specs.declared.heard.Answer.TheVariants.{NotAsked}
 
 -- a journal as contracts see it: its events, the oldest first, the copies of fault memories, how many more events there
 -- is room for, and below which number each seat has a place for the number of its copy
@@ -40,26 +43,60 @@ ask_of short.Dm3 = asked.Dm3
 ask_of short.Dm11 = asked.Dm11
 ask_of short.Claim = asked.Claim
 
--- the event that a note tells
-abbrev pub event_of : List MemoryValue → Note → Event
-event_of memories (note.Join address name) = Join name address
-event_of memories (note.Hear answered k n) = Hear k (memory_at memories n) answered
-event_of memories (note.Begin k n) = Begin k (memory_at memories n)
-event_of memories (note.Turned k) = Turned k
-event_of memories (note.Carry k) = Carry k
-event_of memories (note.Frame bytes id) = Read (reading.Frame (frame id bytes))
-event_of memories (note.Gap missed) = Read (reading.Gap missed)
-event_of memories note.Empty = Read reading.Empty
-event_of memories (note.Ask ask name) = Ordered (Ask name (ask_of ask))
-event_of memories (note.AskOther group name) = Ordered (Ask name (asked.Other group))
-event_of memories (note.AskAll ask) = Ordered (AskAll ask)
-event_of memories (note.Command address name) = Ordered (Command name address)
-event_of memories (note.Leave k) = Leave k
-event_of memories (note.Inject bytes id) = Inject (frame id bytes)
+-- the memory that the latest hear or begin of a seat tells; where there is none, a new one
+abbrev pub latest : ℕ → List Event → MemoryValue
+latest k events = unwrap_or (memory_told k events) new_memory
+
+-- the events, the newest first, and then a run of this many units, on the seats first, first + 1 and so on, one after another: each
+-- heard its next frame and was not asked, and its memory was the one that its own latest event tells
+unfoldable pub passed_over : ℕ → ℕ → List Event → List Event
+passed_over first zero older = older
+passed_over first (suc n) older = Hear (first + n) (latest (first + n) (passed_over first n older)) NotAsked ∷ passed_over first n older
+
+-- the event that a note tells, where it is no run
+abbrev pub event_of : List MemoryValue → Note → Option Event
+event_of memories (note.Join address name) = Some (Join name address)
+event_of memories (note.Hear answered k n) = Some (Hear k (memory_at memories n) answered)
+event_of memories (note.Passed first count) = None
+event_of memories (note.Begin k n) = Some (Begin k (memory_at memories n))
+event_of memories (note.Turned k) = Some (Turned k)
+event_of memories (note.Carry k) = Some (Carry k)
+event_of memories (note.Frame bytes id) = Some (Read (reading.Frame (frame id bytes)))
+event_of memories (note.Gap missed) = Some (Read (reading.Gap missed))
+event_of memories note.Empty = Some (Read reading.Empty)
+event_of memories (note.Ask ask name) = Some (Ordered (Ask name (ask_of ask)))
+event_of memories (note.AskOther group name) = Some (Ordered (Ask name (asked.Other group)))
+event_of memories (note.AskAll ask) = Some (Ordered (AskAll ask))
+event_of memories (note.Command address name) = Some (Ordered (Command name address))
+event_of memories (note.Leave k) = Some (Leave k)
+event_of memories (note.Inject bytes id) = Some (Inject (frame id bytes))
+
+-- the events, the newest first, and then what a note tells
+abbrev pub with_note : List MemoryValue → Note → List Event → List Event
+with_note memories (note.Passed first count) older = passed_over first count older
+with_note memories n older = option_to_list (event_of memories n) ++ older
+
+-- the events that notes tell, both the newest first
+unfoldable pub events_of : List MemoryValue → List Note → List Event
+events_of memories [] = []
+events_of memories (n ∷ older) = with_note memories n (events_of memories older)
+
+-- the note of the run that is growing
+abbrev pub run_note : Passing → Note
+run_note run = note.Passed run.first (run.next - run.first)
+
+-- the notes, the newest first: the run that is growing, and those that are stored
+abbrev pub newest_first : Passing → List Note → List Note
+newest_first run stored = run_note run ∷ reverse stored
+
+-- how many places are taken where this many notes are stored: a run that is growing has one too
+abbrev pub places_of : Passing → ℕ → ℕ
+places_of run stored = stored + min 1 (run.next - run.first)
 
 -- a note of one of this many copies, or of none
 abbrev pub IsNoted : ℕ → Note → Type 0
 IsNoted many (note.Hear answered k n) = n < many
+IsNoted many (note.Passed first count) = Unit {0}
 IsNoted many (note.Begin k n) = n < many
 IsNoted many (note.Join address name) = Unit {0}
 IsNoted many (note.Turned k) = Unit {0}
@@ -78,10 +115,11 @@ IsNoted many (note.Inject bytes id) = Unit {0}
 abbrev pub AreTold : List MemoryValue → List ℕ → List Event → Type 0
 AreTold memories told events = (k : ℕ) (m : MemoryValue) → memory_told k events ≡ Some m → (k < length told) × IsStored memories (slice_index_or told k 0) m
 
--- the seat of which a note tells the fault memory, and the number of the copy
+-- the seat of which a note tells the fault memory, and the number of the copy; a run names none
 abbrev pub told_by : Note → Option (ℕ × ℕ)
 told_by (note.Hear answered k n) = Some (k, n)
 told_by (note.Begin k n) = Some (k, n)
+told_by (note.Passed first count) = None
 told_by (note.Join address name) = None
 told_by (note.Turned k) = None
 told_by (note.Carry k) = None
@@ -96,9 +134,9 @@ told_by (note.Leave k) = None
 told_by (note.Inject bytes id) = None
 
 -- what holds of the notes of a journal: those that tell a memory tell a copy that is there
-pub record AreLawfulNotes (memories : List MemoryValue) (numbers : List ℕ) (notes : List Note) : Type 0 where
-  pub noted : All (IsNoted (length memories)) notes
-  pub told : AreTold memories numbers (reverse (map (event_of memories) notes))
+pub record AreLawfulNotes (memories : List MemoryValue) (numbers : List ℕ) (run : Passing) (stored : List Note) : Type 0 where
+  pub noted : All (IsNoted (length memories)) stored
+  pub told : AreTold memories numbers (events_of memories (newest_first run stored))
 
 -- a call that takes this event into room that there was
 pub record Gains (old : JournalValue) (e : Event) (new : JournalValue) : Type 0 where

@@ -4,7 +4,7 @@ use fault_memory::FaultMemory;
 use name_field::Name;
 use node_core::Answer;
 
-/// One event of the system, as contracts see it. What a unit chose is recorded with it. `Journal` keeps it in 16 bytes.
+/// One event of the system, as contracts see it. What a unit chose is recorded with it. `Journal` keeps it in a note.
 #[derive(Drop)]
 pub enum Event {
     /// A unit of this NAME got the next seat and claims this address.

@@ -1,8 +1,8 @@
-ghost use Rattle.std.specs.Prelude.{◌≡◌, ◌≤◌, ℕ, List, None, length};
+ghost use Rattle.std.specs.Prelude.{◌≡◌, ◌≤◌, List, None, Some, length};
 ghost use Rattle.fault_memory.specs.Memory.{MemoryValue};
 ghost use Rattle.journal.specs.declared.event.Event.TheVariants.{Ordered};
 ghost use Rattle.journal.specs.declared.order.Order.TheVariants as order;
-ghost use Rattle.journal.specs.Notes.{IsNoted, event_of, told_by};
+ghost use Rattle.journal.specs.Notes.{event_of, told_by};
 
 use can_frame::{Id, Pgn};
 use name_field::Name;
@@ -61,6 +61,12 @@ impl FrameBytes {
         requires { length bytes.now ≤ 8 }
         ensures { result ≡ bytes.now }
     {
+        if let Some(room) = bytes.as_array() {
+            return FrameBytes {
+                len: 8,
+                room: *room,
+            };
+        }
         let len = bytes.len();
         let mut room = [0; 8];
         room[..len].copy_from_slice(bytes);
@@ -86,7 +92,7 @@ pub(crate) enum ShortAsk {
     Claim,
 }
 
-/// An event as the journal keeps it, in 16 bytes: a fault memory is told by the number of its copy.
+/// What the journal keeps, in 16 bytes: an event, whose fault memory is told by the number of its copy, or a run of events.
 #[derive(Drop)]
 pub(crate) enum Note {
     /// A unit joined.
@@ -99,6 +105,12 @@ pub(crate) enum Note {
         answer: Answer,
         seat: u32,
         memory: u32,
+    },
+    /// The units on the seats `first`, `first + 1` and so on, so many as `count` says, one after another heard their next frames and
+    /// were not asked. The memory of each was the one that its own latest event before tells.
+    Passed {
+        first: u32,
+        count: u32,
     },
     /// A unit began a DM1.
     Begin {
@@ -157,8 +169,7 @@ pub(crate) enum Note {
 impl Note {
     /// The station asked the unit of this NAME.
     pub(crate) fn ask(name: Name, ask: Ask) -> Note
-        ensures event { (memories : List MemoryValue) → event_of memories result ≡ Ordered (order.Ask name ask) }
-        ensures noted { (many : ℕ) → IsNoted many result }
+        ensures event { (memories : List MemoryValue) → event_of memories result ≡ Some (Ordered (order.Ask name ask)) }
         ensures untold { told_by result ≡ None }
     {
         let name = SplitName::of(name);

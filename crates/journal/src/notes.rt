@@ -1,11 +1,13 @@
-ghost use Rattle.std.specs.Prelude.{◌≡◌, ℕ, [], ◌<◌, ◌≤◌, length, reverse, slice_index_or, IfOk, IfSome, IsTrue, None, OnOk, Some};
+ghost use Rattle.std.specs.Prelude.{◌≡◌, ℕ, [], ◌<◌, ◌≤◌, ◌↔◌, length, reverse, slice_index_or, IfOk, IfSome, IsSome, IsTrue, None, OnOk, Some};
 ghost use Rattle.fault_memory.specs.Memory.{IsLawfulMemory, MemoryValue};
 ghost use Rattle.journal.specs.Journal.{memory_told};
 ghost use Rattle.journal.specs.declared.event.Event.TheVariants as event;
-ghost use Rattle.journal.specs.Notes.{Gains, IsNoted, IsStored, event_of, memory_at, told_by};
+ghost use Rattle.node_core.specs.declared.heard.Answer.TheVariants as answer;
+ghost use Rattle.journal.specs.Notes.{Gains, IsStored, event_of, memory_at, told_by};
 
 use crate::note::{FrameBytes, Note, SplitName};
 use crate::order::Order;
+use crate::passing::{NO_RUN, Passing, end_run, store};
 use can_frame::{Frame, Reading};
 use fault_memory::FaultMemory;
 use name_field::Name;
@@ -16,32 +18,33 @@ use std::marker::Model;
 /// The number of no copy.
 const NO_COPY: u32 = u32::MAX;
 
-/// The journal: all events, the oldest first, each in 16 bytes.
+/// The journal: all events, the oldest first, each in a note of 16 bytes; a run of units that pass over their next frames, in the
+/// order of their seats, has one note.
 ///
 /// What a unit's fault memory was at an event is kept once, as long as it stays the same: the event has the number of a stored
 /// copy. Contracts see the events themselves (`Event`), the stored copies, and how many more events there is room for.
 #[derive(Drop)]
 pub struct Journal {
     notes: Vec<Note>,
+    // the run that is growing, whose note is not stored yet
+    passing: Passing,
+    events: u32,
+    // so many events there is room for in all
+    limit: u32,
     memories: Vec<FaultMemory>,
     // for each seat the number of the copy that its latest hear or begin tells
     told: Vec<u32>,
 }
 
 impl Model for Journal {
-    ghost use Rattle.std.specs.Prelude.{◌-◌, map, length, vec_len, vec_capacity};
-    ghost use Rattle.journal.specs.Notes.{AreLawfulNotes, JournalValue, event_of};
+    ghost use Rattle.journal.specs.Notes.{JournalValue};
+    ghost use Rattle.journal.specs.Inside.{KeepsEvents, journal_value_of};
 
     ghost Value = { JournalValue };
 
-    ghost view = { λ j. record {
-      items = map (event_of j.memories.items) j.notes.items;
-      memories = j.memories.items;
-      room = vec_capacity j.notes - vec_len j.notes;
-      placed = length j.told.items;
-    } };
+    ghost view = { journal_value_of };
 
-    ghost invariant = { λ j. AreLawfulNotes j.memories.items j.told.items j.notes.items };
+    ghost invariant = { KeepsEvents };
 }
 
 impl Journal {
@@ -51,6 +54,9 @@ impl Journal {
     {
         Journal {
             notes: Vec::new(alloc),
+            passing: NO_RUN,
+            events: 0,
+            limit: 0,
             memories: Vec::new(alloc),
             told: Vec::new(alloc),
         }
@@ -60,17 +66,54 @@ impl Journal {
     pub fn len(&self) -> usize
         ensures { result ≡ length self.now.items }
     {
-        self.notes.len()
+        self.events as usize
+    }
+
+    /// Whether there is room for `count` more events.
+    #[inline]
+    pub fn has_room(&self, count: u32) -> bool
+        ensures { IsTrue result ↔ (count ≤ self.now.room) }
+    {
+        count <= self.limit - self.events
     }
 
     /// Makes room for `count` more events. Where memory is refused there is the room that there was.
+    ///
+    /// Refused, too, where there would be 2^32 events.
+    #[inline]
     pub fn reserve(&mut self, count: u32) -> Result<(), AllocError>
         ensures items { self.new.items ≡ self.old.items }
         ensures memories { self.new.memories ≡ self.old.memories }
         ensures grows { self.old.room ≤ self.new.room }
         ensures ok { OnOk result (count ≤ self.new.room) }
     {
-        self.notes.reserve(count as usize)
+        if self.has_room(count) {
+            return Ok(());
+        }
+        self.make_room(count)
+    }
+
+    /// As `reserve`, where there is not enough room: takes all that the notes have then.
+    #[inline(never)]
+    fn make_room(&mut self, count: u32) -> Result<(), AllocError>
+        requires { self.old.room < count }
+        ensures items { self.new.items ≡ self.old.items }
+        ensures memories { self.new.memories ≡ self.old.memories }
+        ensures grows { self.old.room ≤ self.new.room }
+        ensures ok { OnOk result (count ≤ self.new.room) }
+    {
+        let most = u32::MAX - self.events;
+        if most < count {
+            return Err(AllocError);
+        }
+        self.notes.reserve(count as usize + 1)?;
+        let free = self.notes.capacity() - self.notes.len() - 1;
+        self.limit = if free < most as usize {
+            self.events + free as u32
+        } else {
+            u32::MAX
+        };
+        Ok(())
     }
 
     /// The number of a copy of the memory that the unit on a seat has now: of the one that its latest event tells or of the newest
@@ -145,6 +188,36 @@ impl Journal {
             memory,
         };
         self.tell(seat, memory, note);
+    }
+
+    /// A unit heard its next frame and was not asked. Its memory was the one that its latest event tells.
+    #[inline]
+    pub fn note_passed(&mut self, seat: u32)
+        requires room { 0 < self.old.room }
+        requires told { (m : MemoryValue) × (memory_told seat (reverse self.old.items) ≡ Some m) }
+        ensures { (m : MemoryValue) → memory_told seat (reverse self.old.items) ≡ Some m → Gains self.old (event.Hear seat m answer.NotAsked) self.new }
+    {
+        if self.passing.next == u64::from(seat) {
+            self.passing.next += 1;
+            self.events += 1;
+        } else {
+            self.begin_run(seat);
+        }
+    }
+
+    /// As `note_passed`, where the run that is growing does not go on with the seat: it ends, and one begins.
+    #[inline(never)]
+    fn begin_run(&mut self, seat: u32)
+        requires room { 0 < self.old.room }
+        requires told { (m : MemoryValue) × (memory_told seat (reverse self.old.items) ≡ Some m) }
+        ensures { (m : MemoryValue) → memory_told seat (reverse self.old.items) ≡ Some m → Gains self.old (event.Hear seat m answer.NotAsked) self.new }
+    {
+        end_run(&mut self.notes, &mut self.passing);
+        self.passing = Passing {
+            first: seat,
+            next: u64::from(seat) + 1,
+        };
+        self.events += 1;
     }
 
     /// A unit began a DM1 of the memory of this number.
@@ -225,11 +298,12 @@ impl Journal {
     /// One event more, for which there is room, that tells no memory.
     fn push(&mut self, note: Note)
         requires room { 0 < self.old.room }
-        requires noted { IsNoted (length self.old.memories) note }
+        requires single { IsSome (event_of self.old.memories note) }
         requires untold { told_by note ≡ None }
-        ensures { Gains self.old (event_of self.old.memories note) self.new }
+        ensures { IfSome (event_of self.old.memories note) (λ e. Gains self.old e self.new) }
     {
-        self.notes.push_reserved(note);
+        store(&mut self.notes, &mut self.passing, note);
+        self.events += 1;
     }
 
     /// One event more, for which there is room, that tells the memory of this number of the unit on a seat.
@@ -238,10 +312,11 @@ impl Journal {
         requires stored { memory < length self.old.memories }
         requires placed { seat < self.old.placed }
         requires telling { told_by note ≡ Some (seat, memory) }
-        ensures { Gains self.old (event_of self.old.memories note) self.new }
+        ensures { IfSome (event_of self.old.memories note) (λ e. Gains self.old e self.new) }
     {
-        self.notes.push_reserved(note);
+        store(&mut self.notes, &mut self.passing, note);
         self.told[seat as usize] = memory;
+        self.events += 1;
     }
 }
 

@@ -1,9 +1,27 @@
-use Rattle.std.proofs.Common.{subst, sym, List}
-use Rattle.journal.specs.Notes.{AreLawfulNotes}
-use Rattle.journal.specs.declared.note.Note.{Note}
-use Rattle.journal.proofs.Told.{kept_none}
+use Rattle.std.proofs.Common.{◌≡◌, List, [], refl, subst, sym, arith}
+use Rattle.std.proofs.lemmas.List.Elements.{All-nil}
+use Rattle.std.specs.List.{All}
+use Rattle.journal.specs.Journal.{memory_told}
+use Rattle.journal.specs.Notes.{AreTold, IsNoted, events_of, newest_first, passed_over}
+use Rattle.journal.specs.declared.event.Event.{Event}
 use Rattle.journal.proofs.notes.Journal.new.Goals as goal
 
 pub invariant_of-result : goal.invariant_of-result
+unfolding events_of passed_over memory_told
 invariant_of-result c =
-    subst (λ (ns : List Note). AreLawfulNotes c.new-2.result.items c.new-3.result.items ns) (sym c.new.ensures.items) (kept_none c.new-2.result.items c.new-3.result.items)
+    let ms = c.new-2.result.items in
+    let none : events_of ms (newest_first (record { first = 0; next = 0 }) c.new.result.items) ≡ [] = rw c.new.ensures.items refl in
+    record {
+      notes = record {
+        noted = subst (All (IsNoted _)) (sym c.new.ensures.items) (All-nil (IsNoted _));
+        told = subst (λ (es : List Event). AreTold ms c.new-3.result.items es) (sym none) (λ k m h. absurd cc);
+      };
+      counted = rw none refl;
+      grows = omega arith;
+      within = omega arith;
+      places = omega arith;
+    }
+
+pub returns : goal.returns
+unfolding events_of passed_over
+returns c = rw c.new.ensures.items refl

@@ -1,5 +1,5 @@
 -- Many units in their seats: each step of a round leaves the others there.
-use Rattle.std.proofs.Common.{ℕ, zero, suc, ◌≡◌, ◌≢◌, ◌+◌, ◌-◌, ◌<◌, ◌⊎◌, nat_eq, ne_eqb, Bool, true, false, List, [], ◌∷◌, ◌++◌, append_assoc, Some, get_or, replicate, set, slice_get, length, refl, sym, ap, ◌∙◌, subst, arith, inl, inr}
+use Rattle.std.proofs.Common.{ℕ, zero, suc, ◌≡◌, ◌≢◌, ◌+◌, ◌-◌, ◌<◌, ◌≤◌, ◌⊎◌, nat_eq, ne_eqb, Bool, true, false, List, [], ◌∷◌, ◌++◌, append_assoc, Some, get_or, replicate, set, slice_get, length, refl, sym, ap, ◌∙◌, subst, arith, inl, inr}
 use Rattle.std.proofs.lemmas.List.{set-get_or}
 use Rattle.std.proofs.lemmas.Option.{slice_get_within, slice_get-get_or}
 use Rattle.bus_ledger.proofs.Numbers.{same_or_not}
@@ -17,9 +17,9 @@ use Rattle.journal.specs.declared.event.Event.{Event}
 use Rattle.journal.specs.declared.event.Event.TheVariants.{Hear, Carry, Read}
 use Rattle.journal.specs.declared.tally.Tally.{Tally}
 use Rattle.journal.proofs.Lifted.{keeps_adds, keeps_same}
-use Rattle.garage.specs.Answers.{Hears, Reads}
+use Rattle.garage.specs.Answers.{Hears, Reads, counted_hearing}
 use Rattle.garage.specs.Carrying.{AddsCarry}
-use Rattle.garage.specs.Crew.{AreSeated, AreUntouched, Comes, IsCrew, IsOfRound, IsTold, IsUntouched, KeepsUnit, LeadTo, Sits, Sitting}
+use Rattle.garage.specs.Crew.{AreOthersUntouched, AreSeated, AreUntouched, Comes, IsCrew, IsOfRound, IsTold, IsUntouched, KeepsUnit, LeadTo, Sits, Sitting}
 use Rattle.garage.specs.declared.steps.HeardOne.{HeardOne}
 use Rattle.garage.specs.declared.steps.HeardOne.TheVariants as heard
 use Rattle.garage.proofs.SeatKept.{keeps_both, keeps_itself, seat_hears, still_seated, still_there, unit_carried, unit_read}
@@ -83,6 +83,27 @@ untouched_both a b c h h' = λ k l.
       counted = two.counted ∙ one.counted;
       told = two.told ∙ one.told;
     })
+
+-- ---- all but one
+
+pub others_same : (j : ℕ) (g g' : GarageValue) → g' ≡ g → AreOthersUntouched j g g'
+others_same j g g' e = λ k n l. untouched_same k g g' e
+
+pub others_both : (j : ℕ) (a b c : GarageValue) → AreOthersUntouched j a b → AreOthersUntouched j b c → AreOthersUntouched j a c
+others_both j a b c h h' = λ k n l.
+    (let one = h k n l in
+    let two = h' k n (still_there k (state_of a).traffic (state_of b).traffic one.keeps l) in
+    record {
+      keeps = keeps_both k (state_of a).traffic (state_of b).traffic (state_of c).traffic one.keeps two.keeps;
+      counted = two.counted ∙ one.counted;
+      told = two.told ∙ one.told;
+    })
+
+-- one more hearing of the unit on that seat
+pub others_heard : {X : Type 0} (j : ℕ) (a g : GarageValue) (k : ℕ) (memory : MemoryValue) (answers : Question → Bool → X → Type 0) (unit : X) (h : HeardOne) (g' : GarageValue) (memory' : MemoryValue) (unit' : X)
+    → k ≡ j → AreOthersUntouched j a g → Hears g k memory answers unit h g' memory' unit' → AreOthersUntouched j a g'
+others_heard j a g k memory answers unit h g' memory' unit' same before hears =
+    others_both j a g g' before (λ i n l. heard_untouched i g k memory answers unit h g' memory' unit' hears (λ e. n (e ∙ same)) l)
 
 -- ---- all of them
 
@@ -226,6 +247,38 @@ pub comes_carried : (g g' : GarageValue) (c : Carried) → AddsCarry g c g' → 
 comes_carried g g' (carried.Frame j f) h = comes_one g g' (Carry j) h.1 tt
 comes_carried g g' carried.Idle h = comes_same g g' h.1
 comes_carried g g' carried.Waiting h = comes_same g g' h.1
+
+-- ---- one that hears again and again
+
+pub record Hearing (a g : GarageValue) (s s' : Sitting) : Type 0 where
+  pub seat : s'.seat ≡ s.seat
+  pub name : s'.name ≡ s.name
+  pub sits : Sits g s'
+  pub others : AreOthersUntouched s.seat a g
+  pub more : s.events ≤ s'.events
+  pub comes : Comes a g
+
+pub hearing_begins : (g : GarageValue) (s : Sitting) → Sits g s → Hearing g g s s
+unfolding LeadTo
+hearing_begins g s sits = record { seat = refl; name = refl; sits = sits; others = others_same s.seat g g refl; more = omega arith; comes = ([], refl) }
+
+counted_more : (n : ℕ) (h : HeardOne) → n ≤ counted_hearing n h
+counted_more n (heard.Frame f) = omega arith
+counted_more n heard.Nothing = omega arith
+
+pub hearing_goes_on : {X : Type 0} (a g g' : GarageValue) (s s' s'' : Sitting) (memory : MemoryValue) (answers : Question → Bool → X → Type 0) (unit : X) (h : HeardOne) (memory' : MemoryValue) (unit' : X) → Hearing a g s s'
+    → Hears g s'.seat memory answers unit h g' memory' unit' → s''.seat ≡ s'.seat → s''.name ≡ s'.name → Sits g' s'' → s''.events ≡ counted_hearing s'.events h → Hearing a g' s s''
+hearing_goes_on a g g' s s' s'' memory answers unit h memory' unit' so hears seat name sits counted = record {
+  seat = seat ∙ so.seat;
+  name = name ∙ so.name;
+  sits = sits;
+  others = others_heard s.seat a g s'.seat memory answers unit h g' memory' unit' so.seat so.others hears;
+  more = (let m = counted_more s'.events h in let n = so.more in omega arith);
+  comes = comes_both a g g' so.comes (comes_heard g s'.seat memory answers unit h g' memory' unit' hears);
+}
+
+pub hearing_refused : (a g g' : GarageValue) (s s' s'' : Sitting) → Hearing a g s s' → g' ≡ g → s'' ≡ s' → Hearing a g' s s''
+hearing_refused a g g' s s' s'' so same kept = subst (λ (v : GarageValue). Hearing a v s s'') (sym same) (subst (λ (x : Sitting). Hearing a g s x) (sym kept) so)
 
 lists_both : (a b c : GarageValue) → KeepsLists a b → KeepsLists b c → KeepsLists a c
 lists_both a b c h h' = record {

@@ -1,6 +1,7 @@
 pub mod Standing
 pub mod Traffics
 mod Passing
+mod LastFrames
 mod Pieces
 pub mod Headline
 mod Lists

@@ -1,11 +1,13 @@
 -- What a call with this answer did.
 use Rattle.std.specs.Prelude.{◌≡◌, ℕ, Bool, true, Option, Some, None, Result, Ok, Err, ◌+◌}
+use Rattle.can_frame.specs.FrameValue.{FrameValue}
 use Rattle.can_frame.specs.declared.reading.Reading.{Reading}
 use Rattle.can_frame.specs.declared.reading.Reading.TheVariants as reading
 use Rattle.fault_memory.specs.Memory.{MemoryValue}
 use Rattle.dm_messages.specs.declared.kind.Kind.TheVariants.{Dm1}
 use Rattle.bus_ledger.specs.Reception.{next_reading}
 use Rattle.node_core.specs.declared.heard.Answer.{Answer as UnitAnswer}
+use Rattle.node_core.specs.declared.heard.Answer.TheVariants.{NotAsked}
 use Rattle.node_core.specs.NodeValue.{is_open}
 use Rattle.node_core.specs.declared.heard.Begun.{Begun}
 use Rattle.unit_trait.specs.declared.question.Question.{Question}
@@ -29,6 +31,15 @@ Hears old k memory answers unit (heard.Frame f) new memory' unit' =
     × ((answered : UnitAnswer) × Adds old (event.Hear k memory answered) new × (memory' ≡ memory_after (unit_at (state_of old) k).node memory answered f)
     × IsAsked answers (question (unit_at (state_of old) k).node f) answered unit unit')
 Hears old k memory answers unit heard.Nothing new memory' unit' = (next_for (state_of old) k ≡ None) × (new ≡ old) × (memory' ≡ memory) × (unit' ≡ unit)
+
+-- the next frame was heard, and the unit was not asked: the frame puts nothing to it
+pub record Passes (old : GarageValue) (k : ℕ) (memory : MemoryValue) (f : FrameValue) (new : GarageValue) : Type 0 where
+  pub adds : Adds old (event.Hear k memory NotAsked) new
+  pub unasked : question (unit_at (state_of old) k).node f ≡ None
+
+-- its next frame is one that it passes over so
+abbrev pub PassesNext : GarageValue → ℕ → MemoryValue → GarageValue → Type 0
+PassesNext old k memory new = (f : FrameValue) × (next_for (state_of old) k ≡ Some f) × Passes old k memory f new
 
 -- what was heard, without whether the memory is told
 abbrev pub heard_one : {T E : Type 0} → Result (HeardOne × T) E → Result HeardOne E

@@ -1,21 +1,14 @@
 -- What a hear and a begin look at.
 use Rattle.std.specs.Prelude.{ℕ, ◌≡◌, Bool, List, Option, Some}
-use Rattle.can_frame.specs.FrameValue.{FrameValue}
 use Rattle.fault_memory.specs.Memory.{MemoryValue}
 use Rattle.dm_messages.specs.declared.kind.Kind.TheVariants.{Dm1}
 use Rattle.node_core.specs.NodeValue.{NodeValue, is_open}
 use Rattle.node_core.specs.Beginning.{begins}
-use Rattle.node_core.specs.Passing.{IsPassedOver}
 use Rattle.node_core.specs.declared.heard.Begun.{Begun as Message}
 use Rattle.node_core.specs.declared.heard.Started.TheVariants.{Begun}
 use Rattle.node_core.specs.declared.out.Out.{Out}
 use Rattle.journal.specs.State.{unit_at}
-use Rattle.journal.specs.Steps.{next_for}
 use Rattle.journal.specs.Journal.{GarageValue, state_of}
-
--- there is a next frame for a unit, and the unit passes over it
-abbrev pub PassesNext : GarageValue → ℕ → Type 0
-PassesNext g k = (f : FrameValue) × (next_for (state_of g) k ≡ Some f) × IsPassedOver (unit_at (state_of g) k).node f
 
 -- the address that a unit holds
 abbrev pub held_at : GarageValue → ℕ → Option ℕ

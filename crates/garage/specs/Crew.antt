@@ -1,5 +1,9 @@
 -- Many units in their seats, in turn.
-use Rattle.std.specs.Prelude.{◌≡◌, ℕ, suc, ◌<◌, Bool, true, List, [], ◌∷◌, Some, length, slice_get}
+use Rattle.std.specs.Prelude.{◌≡◌, ◌≢◌, ℕ, suc, ◌-◌, ◌<◌, Bool, true, List, [], ◌∷◌, Option, Some, length, slice_get}
+use Rattle.std.specs.Option.{option_map}
+use Rattle.can_frame.specs.FrameValue.{FrameValue}
+use Rattle.node_core.specs.Passing.{ArePassers}
+use Rattle.node_core.specs.declared.sifted.Passers.{Passers}
 use Rattle.bus_ledger.specs.BusValue.{Traffic, seat_at}
 use Rattle.fault_memory.specs.Memory.{MemoryValue}
 use Rattle.journal.specs.Journal.{GarageValue, Adds, IsSeated, memory_told, state_of, tally_of}
@@ -30,6 +34,14 @@ pub record IsCrew {P : Type 0} (sitting : P → Sitting) (g : GarageValue) (unit
   pub seated : AreSeated sitting g units
   pub told : (i : ℕ) (p : P) → slice_get units i ≡ Some p → slice_get marks i ≡ Some true → IsTold g (sitting p)
 
+-- the last frame of the wire
+abbrev pub last_frame : GarageValue → Option FrameValue
+last_frame g = option_map (λ c. c.frame) (slice_get (state_of g).traffic.wire (length (state_of g).traffic.wire - 1))
+
+-- these units pass it over
+abbrev pub AreLastPassers : Passers → GarageValue → Type 0
+AreLastPassers passers g = (f : FrameValue) → last_frame g ≡ Some f → ArePassers passers f
+
 -- a seat is as live as it was, under the same NAME, among as many seats
 pub record KeepsSeat (k : ℕ) (t t' : Traffic) : Type 0 where
   pub seats : length t'.seats ≡ length t.seats
@@ -48,6 +60,10 @@ pub record IsUntouched (k : ℕ) (g g' : GarageValue) : Type 0 where
 -- so are all seats
 abbrev pub AreUntouched : GarageValue → GarageValue → Type 0
 AreUntouched g g' = (k : ℕ) → k < length (state_of g).traffic.seats → IsUntouched k g g'
+
+-- so are all but this one
+abbrev pub AreOthersUntouched : ℕ → GarageValue → GarageValue → Type 0
+AreOthersUntouched j g g' = (k : ℕ) → k ≢ j → k < length (state_of g).traffic.seats → IsUntouched k g g'
 
 -- the events of a round: a unit hears, the station reads, a frame is carried
 abbrev pub IsOfRound : Event → Type 0

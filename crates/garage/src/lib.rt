@@ -7,6 +7,7 @@ mod garage;
 mod opening;
 mod orders;
 mod outside;
+mod parked;
 mod plug;
 mod queries;
 mod queueing;
@@ -15,6 +16,7 @@ mod room;
 mod rounds;
 mod seats;
 mod shown;
+mod sifting;
 mod snapshot;
 mod steps;
 

@@ -260,7 +260,7 @@ impl<'a> Plug<'a> {
         ensures unasked { OnErr result (self.new.unit ≡ self.old.unit) }
         ensures lists { KeepsLists self.old.garage.now self.new.garage.now }
     {
-        let (heard, _) = self.garage.hear(alloc, self.seat, &mut *self.unit, false)?;
+        let (heard, _) = self.garage.hear(alloc, self.seat, &mut *self.unit)?;
         self.events = self.garage.events_of(self.seat);
         Ok(heard)
     }

@@ -1,7 +1,6 @@
-ghost use Rattle.std.specs.Prelude.{◌≡◌, ◌+◌, ◌<◌, ◌≤◌, ◌^◌, ◌↔◌, ◌⊎◌, length, reverse, OnOk, IfOk, IfErr, IsErrOf, IsTrue, Some};
+ghost use Rattle.std.specs.Prelude.{◌≡◌, ◌+◌, ◌<◌, ◌≤◌, ◌^◌, ◌↔◌, ◌⊎◌, length, OnOk, IfOk, IfErr, IsErrOf, IsTrue};
 ghost use Rattle.fault_memory.specs.Memory.{IsLawfulMemory};
 ghost use Rattle.bus_ledger.specs.BusValue.{IsLive, spare_at};
-ghost use Rattle.journal.specs.Journal.{memory_told};
 ghost use Rattle.journal.specs.Notes.{IsStored};
 ghost use Rattle.garage.specs.Calls.{IsWant};
 
@@ -12,6 +11,18 @@ use unit_trait::Unit;
 
 /// The most frames that a unit puts at once: the announcement and 255 packets.
 const MOST_OUTS: usize = 256;
+
+/// Whether the limit allows `count` more events, and there is room for them. It may be that the limit does and there is none:
+/// `make_room` makes it.
+#[inline]
+pub(crate) fn has_room(journal: &Journal, count: u32, limit: u32) -> bool
+    ensures { IsTrue result → ((length journal.now.items + count ≤ limit) × (count ≤ journal.now.room)) }
+{
+    match limit.checked_sub(count) {
+        Some(most) => journal.len() <= most as usize && journal.has_room(count),
+        None => false,
+    }
+}
 
 /// Makes room for `count` more events, where the limit allows them.
 ///
@@ -32,7 +43,7 @@ pub(crate) fn make_room(journal: &mut Journal, count: u32, limit: u32) -> Result
 }
 
 /// Makes ready to note an event of the unit on the seat: room for `count` more events, and the number of a copy of its memory,
-/// which the event tells. Where the memory is `told`, which is that of the seat's latest event, it is not looked at.
+/// which the event tells.
 ///
 /// Refused first where the limit does not allow the events, then where there is no memory; then the journal's events are as they
 /// were.
@@ -42,10 +53,8 @@ pub(crate) fn ready_to_note(
     limit: u32,
     seat: u32,
     unit: &dyn Unit,
-    told: bool,
 ) -> Result<u32, GarageError>
-    requires few { limit ≤ 2 ^ 24 }
-    requires told { IsTrue told → ((memory_told seat (reverse journal.old.items) ≡ Some (memory_of unit.now)) × IsLawfulMemory (memory_of unit.now)) }
+    requires { limit ≤ 2 ^ 24 }
     ensures items { journal.new.items ≡ journal.old.items }
     ensures grows { journal.old.room ≤ journal.new.room }
     ensures memory { IfOk result (λ n. IsStored journal.new.memories n (memory_of unit.now)) }
@@ -56,9 +65,6 @@ pub(crate) fn ready_to_note(
     ensures only { IfErr result IsWant }
 {
     make_room(journal, count, limit)?;
-    if told {
-        return Ok(journal.told(seat));
-    }
     Ok(journal.remember(seat, unit.memory())?)
 }
 
@@ -87,7 +93,7 @@ pub(crate) fn make_ready(
     ensures full { IsErrOf result GarageError.BookFull ↔ (limit < length journal.old.items + count) }
     ensures only { IfErr result IsWant }
 {
-    let memory = ready_to_note(journal, count, limit, seat, unit, false)?;
+    let memory = ready_to_note(journal, count, limit, seat, unit)?;
     bus.reserve(seat, MOST_OUTS)?;
     Ok(memory)
 }

@@ -1,17 +1,15 @@
-ghost use Rattle.std.specs.Prelude.{◌≡◌, ◌≢◌, ◌<◌, ◌↔◌, ℕ, suc, length, slice_get, true, IfOk, IfErr, IfSome, IsErrOf, IsTrue, OnErr, OnOk, Some};
+ghost use Rattle.std.specs.Prelude.{◌≡◌, ◌≢◌, ◌<◌, ◌+◌, ◌↔◌, ℕ, suc, length, slice_get, true, IfOk, IfErr, IfSome, IsErrOf, IsTrue, OnErr, OnOk, Some};
 ghost use Rattle.std.specs.Bool.{MatchBool};
-ghost use Rattle.journal.specs.Journal.{memory_told, IsSeated};
 ghost use Rattle.journal.specs.Promises.{KeepsLists};
-ghost use Rattle.garage.specs.Answers.{Hears, counted_hearing};
 ghost use Rattle.garage.specs.Calls.{IsWant};
-ghost use Rattle.garage.specs.Crew.{AreSeated, AreUntouched, Comes, IsCrew};
+ghost use Rattle.garage.specs.Crew.{AreLastPassers, AreSeated, AreUntouched, Comes, IsCrew};
 
 use crate::error::GarageError;
 use crate::garage::Garage;
 use crate::plug::Parked;
-use crate::steps::HeardOne;
 use bus_ledger::Carried;
 use can_frame::Reading;
+use node_core::Passers;
 use std::alloc::Global;
 use unit_trait::Unit;
 
@@ -118,13 +116,38 @@ impl Garage {
         ensures comes { Comes self.old self.new }
         ensures only { IfErr result IsWant }
     {
+        let mut passers = self.last_passers();
         for i in 0..units.len() {
-            self.hear_rest(alloc, &mut *units, &mut *marks, i)?;
+            passers = self.hear_in_turn(alloc, &mut *units, &mut *marks, i, passers)?;
         }
         self.read_rest(alloc)
     }
 
-    /// The i-th unit hears all that it has not heard.
+    /// The i-th unit hears all that it has not heard. `passers` are those of the last frame of the wire; answers them as they are
+    /// afterwards.
+    fn hear_in_turn(
+        &mut self,
+        alloc: Global,
+        units: &mut [Parked],
+        marks: &mut [bool],
+        i: usize,
+        passers: Passers,
+    ) -> Result<Passers, GarageError>
+        requires crew { IsCrew (λ p. record { seat = p.seat; name = name_of p.unit; events = p.events; memory = memory_of p.unit }) self.old units.old marks.old }
+        requires last { AreLastPassers passers self.old }
+        ensures crew { IsCrew (λ p. record { seat = p.seat; name = name_of p.unit; events = p.events; memory = memory_of p.unit }) self.new units.new marks.new }
+        ensures last { IfOk result (λ p. AreLastPassers p self.new) }
+        ensures comes { Comes self.old self.new }
+        ensures only { IfErr result IsWant }
+    {
+        if self.pass_marked(&mut *units, &*marks, i, passers) {
+            return Ok(passers);
+        }
+        self.hear_rest(alloc, units, marks, i)?;
+        Ok(self.last_passers())
+    }
+
+    /// The i-th unit hears all that it has not heard; nothing, where there is no such unit.
     fn hear_rest(
         &mut self,
         alloc: Global,
@@ -137,59 +160,14 @@ impl Garage {
         ensures comes { Comes self.old self.new }
         ensures only { IfErr result IsWant }
     {
-        for _ in 0..u32::MAX {
-            match self.hear_at(alloc, &mut *units, &mut *marks, i)? {
-                HeardOne::Nothing => break,
-                HeardOne::Frame(_) => {}
-            }
-        }
-        Ok(())
-    }
-
-    /// The i-th unit hears its next frame; nothing, where there is no such unit.
-    fn hear_at(
-        &mut self,
-        alloc: Global,
-        units: &mut [Parked],
-        marks: &mut [bool],
-        i: usize,
-    ) -> Result<HeardOne, GarageError>
-        requires { IsCrew (λ p. record { seat = p.seat; name = name_of p.unit; events = p.events; memory = memory_of p.unit }) self.old units.old marks.old }
-        ensures crew { IsCrew (λ p. record { seat = p.seat; name = name_of p.unit; events = p.events; memory = memory_of p.unit }) self.new units.new marks.new }
-        ensures comes { Comes self.old self.new }
-        ensures only { IfErr result IsWant }
-    {
         if i >= units.len() {
-            return Ok(HeardOne::Nothing);
+            return Ok(());
         }
-        let (heard, told) = self.hear_seated(alloc, &mut units[i], is_marked(&*marks, i))?;
+        let told = is_marked(&*marks, i);
+        mark(&mut *marks, i, false);
+        let (_, told) = self.hear_some(alloc, &mut units[i], told, u32::MAX)?;
         mark(marks, i, told);
-        Ok(heard)
-    }
-
-    /// A unit in its seat hears its next frame. `told` is whether its memory is the one that its latest event tells; the answer says
-    /// so of it afterwards.
-    ///
-    /// Refused where there is a frame and the journal has no room, then where there is no memory; then nothing changed.
-    fn hear_seated(
-        &mut self,
-        alloc: Global,
-        parked: &mut Parked,
-        told: bool,
-    ) -> Result<(HeardOne, bool), GarageError>
-        requires seated { IsSeated self.old parked.old.seat (name_of parked.old.unit) parked.old.events }
-        requires told { IsTrue told → memory_told parked.old.seat self.old.journal ≡ Some (memory_of parked.old.unit) }
-        ensures kept { (parked.new.seat ≡ parked.old.seat) × (name_of parked.new.unit ≡ name_of parked.old.unit) }
-        ensures ok { IfOk result (λ h. (u : _) × (parked.new.unit ≡ record parked.old.unit { value = u }) × Hears self.old parked.old.seat (memory_of parked.old.unit) (Answers parked.old.unit) parked.old.unit.value h.0 self.new (memory_of parked.new.unit) u) }
-        ensures counted { IfOk result (λ h. parked.new.events ≡ counted_hearing parked.old.events h.0) }
-        ensures seated { OnOk result (IsSeated self.new parked.new.seat (name_of parked.new.unit) parked.new.events) }
-        ensures told { IfOk result (λ h. IsTrue h.1 → memory_told parked.new.seat self.new.journal ≡ Some (memory_of parked.new.unit)) }
-        ensures only { IfErr result IsWant }
-        ensures err { OnErr result ((self.new ≡ self.old) × (parked.new ≡ parked.old)) }
-    {
-        let heard = self.hear(alloc, parked.seat, &mut *parked.unit, told)?;
-        parked.events = self.events_of(parked.seat);
-        Ok(heard)
+        Ok(())
     }
 
     /// The station reads all.
@@ -218,7 +196,7 @@ fn seat_before(units: &[Parked], i: usize) -> u32
 }
 
 /// Whether there is a mark of this number, and it is set.
-fn is_marked(marks: &[bool], i: usize) -> bool
+pub(crate) fn is_marked(marks: &[bool], i: usize) -> bool
     ensures { IsTrue result → slice_get marks.now i ≡ Some true }
 {
     match marks.get(i) {

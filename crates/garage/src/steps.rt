@@ -31,21 +31,21 @@ pub enum Begin {
 }
 
 impl Garage {
-    ghost use Rattle.std.specs.Prelude.{◌↔◌, ◌≤◌, length, IfOk, IfErr, IsErrOf, IsTrue, OnErr, OnOk, Some};
+    ghost use Rattle.std.specs.Prelude.{◌↔◌, ◌≤◌, length, false, IfOk, IfErr, IsErrOf, IsTrue, Ok, OnErr, OnOk, Some};
     ghost use Rattle.bus_ledger.specs.BusValue.{IsUnit};
-    ghost use Rattle.node_core.specs.Passing.{IsPassedOver};
     ghost use Rattle.journal.specs.Journal.{memory_told, state_of, Adds};
     ghost use Rattle.journal.specs.State.{unit_at};
     ghost use Rattle.journal.specs.Steps.{next_for};
     ghost use Rattle.journal.specs.declared.event.Event.TheVariants.{Hear, Turned};
-    ghost use Rattle.garage.specs.Answers.{Hears, Begins, heard_one};
+    ghost use Rattle.fault_memory.specs.Memory.{MemoryValue};
+    ghost use Rattle.garage.specs.Answers.{Hears, Begins, Passes, heard_one};
     ghost use Rattle.garage.specs.Calls.{BeginsFull, BeginsHeld, BeginsUnclaimed, HearsFull, HearsNothing, IsBeginRefusal, IsWant};
-    ghost use Rattle.garage.specs.Causes.{BeginsWith, PassesNext};
+    ghost use Rattle.garage.specs.Causes.{BeginsWith};
     ghost use Rattle.garage.specs.Room.{IsFull};
 
     /// The unit on the seat hears its next frame. It is asked exactly what the frame puts to it, and is else as it was.
     ///
-    /// `told` is whether its memory is known to be the one that the seat's latest event tells; the answer says so of it afterwards.
+    /// The answer says also whether its memory is known to be the one that the seat's latest event tells now.
     ///
     /// Refused where there is a frame and the journal has no room, then where there is no memory; then nothing changed, and the
     /// unit was not asked.
@@ -54,10 +54,8 @@ impl Garage {
         alloc: Global,
         seat: u32,
         unit: &mut dyn Unit,
-        told: bool,
     ) -> Result<(HeardOne, bool), GarageError>
         requires unit { IsUnit (state_of self.old).traffic seat }
-        requires told { IsTrue told → memory_told seat self.old.journal ≡ Some (memory_of unit.old) }
         ensures name { name_of unit.new ≡ name_of unit.old }
         ensures ok { IfOk result (λ h. (u : _) × (unit.new ≡ (unit.old.0, u)) × Hears self.old seat (memory_of unit.old) (Answers unit.old) unit.old.1 h.0 self.new (memory_of unit.new) u) }
         ensures told { IfOk result (λ h. IsTrue h.1 → memory_told seat self.new.journal ≡ Some (memory_of unit.new)) }
@@ -68,58 +66,79 @@ impl Garage {
         ensures unasked { OnErr result (unit.new ≡ unit.old) }
     {
         let Some(frame) = self.next_for(seat) else {
-            return Ok((HeardOne::Nothing, told));
+            return Ok((HeardOne::Nothing, false));
         };
-        if !self.passes(seat, &frame) {
-            return Ok((self.react_to(alloc, seat, frame, unit)?, false));
+        if self.hear_quietly(alloc, seat, &frame, &*unit)? {
+            return Ok((HeardOne::Frame(frame), true));
         }
-        self.pass(seat, &*unit, told)?;
-        Ok((HeardOne::Frame(frame), true))
+        self.react_to(alloc, seat, frame, unit)
     }
 
     /// The next frame that the unit on the seat has not heard.
     #[tactic(auto, using(crate::proofs::Passing::next_is))]
-    fn next_for(&self, seat: u32) -> Option<Frame>
+    pub(crate) fn next_for(&self, seat: u32) -> Option<Frame>
         requires { IsUnit (state_of self.now).traffic seat }
         ensures { result ≡ next_for (state_of self.now) seat }
     {
         self.bus.next_for(seat)
     }
 
-    /// Whether the unit on the seat passes over a frame.
-    #[tactic(auto, using(crate::proofs::Passing::passed_at))]
-    fn passes(&self, seat: u32, frame: &Frame) -> bool
-        requires { IsUnit (state_of self.now).traffic seat }
-        ensures { IsTrue result → IsPassedOver (unit_at (state_of self.now) seat).node frame.now }
-    {
-        self.places[seat as usize - 1].node.passes(frame)
-    }
-
-    /// The unit on the seat hears its next frame, and passes over it: that is noted, and it counts as heard.
+    /// The unit on the seat hears this frame, its next one, where that asks nothing of it and makes it do nothing; answers whether
+    /// it is such a frame. Else nothing changes.
     ///
     /// Refused where the journal has no room, then where there is no memory; then nothing changed.
-    fn pass(&mut self, seat: u32, unit: &dyn Unit, told: bool) -> Result<(), GarageError>
+    fn hear_quietly(
+        &mut self,
+        alloc: Global,
+        seat: u32,
+        frame: &Frame,
+        unit: &dyn Unit,
+    ) -> Result<bool, GarageError>
         requires unit { IsUnit (state_of self.old).traffic seat }
-        requires passed { PassesNext self.old seat }
-        requires told { IsTrue told → memory_told seat self.old.journal ≡ Some (memory_of unit.now) }
-        ensures ok { OnOk result (Adds self.old (Hear seat (memory_of unit.now) Answer.NotAsked) self.new) }
+        requires next { next_for (state_of self.old) seat ≡ Some frame.now }
+        ensures quiet { IfOk result (λ q. IsTrue q → Passes self.old seat (memory_of unit.now) frame.now self.new) }
+        ensures loud { result ≡ Ok false → self.new ≡ self.old }
         ensures full { IsErrOf result GarageError.BookFull ↔ IsFull self.old }
         ensures only { IfErr result IsWant }
         ensures err { OnErr result (self.new ≡ self.old) }
     {
-        let memory = ready_to_note(
-            &mut self.journal,
-            self.live + 1,
-            self.limit,
-            seat,
-            unit,
-            told,
-        )?;
+        let memory = ready_to_note(&mut self.journal, self.live + 1, self.limit, seat, unit)?;
         let place = &mut self.places[seat as usize - 1];
+        if !place.node.hear_quietly(alloc, frame)? {
+            return Ok(false);
+        }
         place.tally.events += 1;
         self.bus.mark_heard(seat);
         self.journal.note_hear(seat, memory, Answer::NotAsked);
-        Ok(())
+        Ok(true)
+    }
+
+    /// What `hear_quietly` does for a unit whose memory is the one that its latest event tells, which is not looked at.
+    ///
+    /// Refused where the journal has no room, then where there is no memory; then nothing changed.
+    pub(crate) fn pass(
+        &mut self,
+        alloc: Global,
+        seat: u32,
+        frame: &Frame,
+    ) -> Result<bool, GarageError>
+        requires unit { IsUnit (state_of self.old).traffic seat }
+        requires next { next_for (state_of self.old) seat ≡ Some frame.now }
+        requires told { (m : MemoryValue) × (memory_told seat self.old.journal ≡ Some m) }
+        ensures quiet { (m : MemoryValue) → memory_told seat self.old.journal ≡ Some m → IfOk result (λ q. IsTrue q → Passes self.old seat m frame.now self.new) }
+        ensures loud { result ≡ Ok false → self.new ≡ self.old }
+        ensures only { IfErr result IsWant }
+        ensures err { OnErr result (self.new ≡ self.old) }
+    {
+        make_room(&mut self.journal, self.live + 1, self.limit)?;
+        let place = &mut self.places[seat as usize - 1];
+        if !place.node.hear_quietly(alloc, frame)? {
+            return Ok(false);
+        }
+        place.tally.events += 1;
+        self.bus.mark_heard(seat);
+        self.journal.note_passed(seat);
+        Ok(true)
     }
 
     /// The unit on the seat hears this frame, its next one. It is asked exactly what the frame puts to it, and is else as it was.
@@ -131,12 +150,13 @@ impl Garage {
         seat: u32,
         frame: Frame,
         unit: &mut dyn Unit,
-    ) -> Result<HeardOne, GarageError>
+    ) -> Result<(HeardOne, bool), GarageError>
         requires unit { IsUnit (state_of self.old).traffic seat }
         requires next { next_for (state_of self.old) seat ≡ Some frame }
         ensures name { name_of unit.new ≡ name_of unit.old }
-        ensures ok { IfOk result (λ h. (u : _) × (unit.new ≡ (unit.old.0, u)) × Hears self.old seat (memory_of unit.old) (Answers unit.old) unit.old.1 h self.new (memory_of unit.new) u) }
-        ensures full { HearsFull self.old seat result }
+        ensures ok { IfOk result (λ h. (u : _) × (unit.new ≡ (unit.old.0, u)) × Hears self.old seat (memory_of unit.old) (Answers unit.old) unit.old.1 h.0 self.new (memory_of unit.new) u) }
+        ensures untold { IfOk result (λ h. h.1 ≡ false) }
+        ensures full { HearsFull self.old seat (heard_one result) }
         ensures only { IfErr result IsWant }
         ensures err { OnErr result (self.new ≡ self.old) }
         ensures unasked { OnErr result (unit.new ≡ unit.old) }
@@ -163,7 +183,7 @@ impl Garage {
         do_heard(&mut self.bus, seat, heard, numbering);
         self.begun = begun;
         self.journal.note_hear(seat, memory, answer);
-        Ok(HeardOne::Frame(frame))
+        Ok((HeardOne::Frame(frame), false))
     }
 
     /// The unit on the seat begins a DM1 of its memory.

@@ -1,20 +1,16 @@
-use Rattle.std.proofs.Common.{◌≡◌, refl, sym, ap, ◌∙◌, subst, Some}
-use Rattle.journal.specs.Journal.{IsSeated, memory_told}
+use Rattle.std.proofs.Common.{refl, sym, ap, ◌∙◌, subst}
+use Rattle.journal.specs.Journal.{IsSeated}
 use Rattle.garage.specs.Answers.{Hears}
 use Rattle.garage.proofs.Lent.{lent_as, given_back, on_err}
 use Rattle.garage.specs.Crew.{KeepsUnit}
 use Rattle.garage.proofs.SeatKept.{hearing_counted, is_unit, still_seated, unit_hears}
-use Rattle.garage.proofs.garage.Garage.hear_seated.Goals as goal
-
-pub hear-requires-clause-told : goal.hear-requires-clause-told
-hear-requires-clause-told g c =
-    λ t. subst (λ s. memory_told c.args.parked.now.seat c.args.self.now.journal ≡ Some ((goal.Unit-dyn g s).memory_of s.1)) (sym c.deref_box_mut-1.ensures.value.1) (c.requires.told t)
+use Rattle.garage.proofs.garage.Garage.hear_untold.Goals as goal
 
 pub events_of-parked-requires : goal.events_of-parked-requires
 events_of-parked-requires g c =
     is_unit c.args.self.now c.hear.new.self c.args.parked.now.seat
-    (unit_hears c.args.self.now c.args.parked.now.seat _ ((goal.Unit-dyn g c.deref_box_mut-1.result.now).Answers c.deref_box_mut-1.result.now.1) c.deref_box_mut-1.result.now.1 c.in_ok-heard.heard.0 c.hear.new.self ((goal.Unit-dyn g c.deref_box_mut-1.result.now).memory_of c.hear.new.unit) c.in_ok-heard.ensures.ok.0 c.in_ok-heard.ensures.ok.2 c.requires.seated.unit.1)
-    c.requires.seated.unit
+    (unit_hears c.args.self.now c.args.parked.now.seat _ ((goal.Unit-dyn g c.deref_box_mut-1.result.now).Answers c.deref_box_mut-1.result.now.1) c.deref_box_mut-1.result.now.1 c.in_ok-heard.heard.0 c.hear.new.self ((goal.Unit-dyn g c.deref_box_mut-1.result.now).memory_of c.hear.new.unit) c.in_ok-heard.ensures.ok.0 c.in_ok-heard.ensures.ok.2 c.requires.unit.1)
+    c.requires.unit
 
 pub returns-in_err-heard-clause-kept : goal.returns-in_err-heard-clause-kept
 returns-in_err-heard-clause-kept g c = (refl, c.in_err-heard.ensures.name ∙ ap (λ s. (goal.Unit-dyn g s).name_of s.1) c.deref_box_mut-1.ensures.value.1)
@@ -37,12 +33,12 @@ returns-clause-ok g c =
 pub returns-clause-counted : goal.returns-clause-counted
 returns-clause-counted g c =
     c.events_of-parked.ensures.count
-    ∙ hearing_counted c.args.self.now c.args.parked.now.seat _ ((goal.Unit-dyn g c.deref_box_mut-1.result.now).Answers c.deref_box_mut-1.result.now.1) c.deref_box_mut-1.result.now.1 c.in_ok-heard.heard.0 c.hear.new.self ((goal.Unit-dyn g c.deref_box_mut-1.result.now).memory_of c.hear.new.unit) c.in_ok-heard.ensures.ok.0 c.args.parked.now.events c.in_ok-heard.ensures.ok.2 c.requires.seated.counted
+    ∙ hearing_counted c.args.self.now c.args.parked.now.seat _ ((goal.Unit-dyn g c.deref_box_mut-1.result.now).Answers c.deref_box_mut-1.result.now.1) c.deref_box_mut-1.result.now.1 c.in_ok-heard.heard.0 c.hear.new.self ((goal.Unit-dyn g c.deref_box_mut-1.result.now).memory_of c.hear.new.unit) c.in_ok-heard.ensures.ok.0 c.args.parked.now.events c.in_ok-heard.ensures.ok.2 c.requires.counted
 
 pub returns-clause-seated : goal.returns-clause-seated
 returns-clause-seated g c =
     let keeps : KeepsUnit c.args.parked.now.seat c.args.self.now c.hear.new.self =
-    unit_hears c.args.self.now c.args.parked.now.seat _ ((goal.Unit-dyn g c.deref_box_mut-1.result.now).Answers c.deref_box_mut-1.result.now.1) c.deref_box_mut-1.result.now.1 c.in_ok-heard.heard.0 c.hear.new.self ((goal.Unit-dyn g c.deref_box_mut-1.result.now).memory_of c.hear.new.unit) c.in_ok-heard.ensures.ok.0 c.in_ok-heard.ensures.ok.2 c.requires.seated.unit.1 in
+    unit_hears c.args.self.now c.args.parked.now.seat _ ((goal.Unit-dyn g c.deref_box_mut-1.result.now).Answers c.deref_box_mut-1.result.now.1) c.deref_box_mut-1.result.now.1 c.in_ok-heard.heard.0 c.hear.new.self ((goal.Unit-dyn g c.deref_box_mut-1.result.now).memory_of c.hear.new.unit) c.in_ok-heard.ensures.ok.0 c.in_ok-heard.ensures.ok.2 c.requires.unit.1 in
     let name = c.in_ok-heard.ensures.name ∙ ap (λ s. (goal.Unit-dyn g s).name_of s.1) c.deref_box_mut-1.ensures.value.1 in
-    let seated = still_seated c.args.self.now c.hear.new.self c.args.parked.now.seat _ c.args.parked.now.events c.events_of-parked.result keeps c.requires.seated c.events_of-parked.ensures.count in
+    let seated = still_seated c.args.self.now c.hear.new.self c.args.parked.now.seat _ c.args.parked.now.events c.events_of-parked.result keeps c.requires c.events_of-parked.ensures.count in
     subst (λ n. IsSeated c.hear.new.self c.args.parked.now.seat n c.events_of-parked.result) (sym name) seated

@@ -1,0 +1,62 @@
+use Rattle.std.proofs.Common.{arith, refl, ap, ◌∙◌, sym, subst, List, ◌++◌, ◌∷◌, [], ◌-◌}
+use Rattle.std.specs.Vec.{with_item}
+use Rattle.fault_memory.specs.Memory.{IsLawfulMemory}
+use Rattle.journal.specs.Journal.{one_more}
+use Rattle.journal.specs.Notes.{memory_at}
+use Rattle.journal.specs.declared.event.Event.{Event}
+use Rattle.journal.specs.declared.event.Event.TheVariants.{Hear}
+use Rattle.node_core.specs.declared.heard.Answer.TheVariants.{NotAsked}
+use Rattle.garage.proofs.Passing.{next_inside, next_there, quiet_passes, quiet_stands}
+use Rattle.garage.proofs.Standing.{place_few, place_within, unit_now}
+use Rattle.garage.proofs.garage.Garage.hear_quietly.Goals as goal
+
+pub overflow_add-place : goal.overflow_add-place
+overflow_add-place g c =
+    let a = c.self.inside in
+    let u = unit_now a c.args.self.now c.args.seat c.self.view_is c.requires.unit in
+    let h = place_within a c.args.seat c.self.invariant u in
+    let f = place_few a (c.args.seat - 1) c.index_mut-place.result.now c.self.invariant h c.index_mut-place.ensures.value in
+    let w = c.self.invariant.within in let l = c.self.invariant.few in let t = f.events in omega arith
+
+pub mark_heard-requires-clause-next : goal.mark_heard-requires-clause-next
+mark_heard-requires-clause-next g c =
+    next_there c.self.inside c.args.seat c.args.frame.now c.self.invariant (next_inside c.self.inside c.args.self.now c.args.seat c.args.frame.now c.self.view_is c.requires.next)
+
+pub invariant_of-self-2 : goal.invariant_of-self-2
+invariant_of-self-2 g c =
+    let a = c.self.inside in
+    let seat = c.args.seat in
+    let memory = memory_at c.ready_to_note.new.journal.memories c.in_ok-memory.memory in
+    let lawful : IsLawfulMemory memory = subst IsLawfulMemory (sym c.in_ok-memory.ensures.memory.value) c.in_ok-memory.ensures.lawful in
+    let ok = c.in_ok-memory.ensures.room in
+    let fits = ok.0 in
+    let room = ok.1 in
+    let n = c.note_hear.ensures.room in
+    quiet_stands a _ seat memory c.args.frame.now c.index_mut-place.result.now c.hear_quietly.new.self c.self.invariant (unit_now a c.args.self.now seat c.self.view_is c.requires.unit) lawful
+    (next_inside a c.args.self.now seat c.args.frame.now c.self.view_is c.requires.next) c.index_mut-place.ensures.value (c.in_ok-hear_quietly.ensures.quiet c.if-not-branch.false)
+    refl (c.note_hear.ensures.items ∙ ap (λ (l : List Event). l ++ Hear seat memory NotAsked ∷ []) c.ready_to_note.ensures.items) c.mark_heard.ensures.traffic refl refl refl refl refl (omega arith) (omega arith)
+
+pub returns-clause-quiet : goal.returns-clause-quiet
+returns-clause-quiet g c = λ t.
+    (let a = c.self.inside in
+    let seat = c.args.seat in
+    let x = c.index_mut-place.result.now in
+    let memory = memory_at c.ready_to_note.new.journal.memories c.in_ok-memory.memory in
+    let lawful : IsLawfulMemory memory = subst IsLawfulMemory (sym c.in_ok-memory.ensures.memory.value) c.in_ok-memory.ensures.lawful in
+    quiet_passes a (record {
+      name = a.name;
+      address = a.address;
+      window = a.window;
+      grant = a.grant;
+      limit = a.limit;
+      bus = c.mark_heard.new.self;
+      station = a.station;
+      places = with_item a.places (seat - 1) (record x { node = c.hear_quietly.new.self; tally = one_more x.tally });
+      begun = a.begun;
+      live = a.live;
+      injected = a.injected;
+      journal = c.note_hear.new.self;
+    })
+    c.args.self.now seat memory _ c.args.frame.now x c.hear_quietly.new.self c.self.view_is c.self.invariant refl
+    (c.note_hear.ensures.items ∙ ap (λ (l : List Event). l ++ Hear seat memory NotAsked ∷ []) c.ready_to_note.ensures.items) c.in_ok-memory.ensures.memory.value (unit_now a c.args.self.now seat c.self.view_is c.requires.unit) lawful
+    (next_inside a c.args.self.now seat c.args.frame.now c.self.view_is c.requires.next) c.index_mut-place.ensures.value (c.in_ok-hear_quietly.ensures.quiet c.if-not-branch.false))

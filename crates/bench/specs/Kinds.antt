@@ -2,7 +2,7 @@
 use Rattle.std.specs.Prelude.{◌≡◌, Bool, true, false}
 use Rattle.fault_memory.specs.Memory.{MemoryValue}
 use Rattle.script_line.specs.declared.command.UnitKind.{UnitKind}
-use Rattle.script_line.specs.declared.command.UnitKind.TheVariants.{Plain, Guarded, Flicker}
+use Rattle.script_line.specs.declared.command.UnitKind.TheVariants.{Guarded, Flicker}
 
 -- it clears and obeys, and wants to tell of its active codes
 abbrev pub is_willing : UnitKind → Bool

@@ -1,8 +1,8 @@
-ghost use Rattle.std.specs.Prelude.{◌<◌, OnOk};
+ghost use Rattle.std.specs.Prelude.{◌≡◌, ◌<◌, length, slice_get, IfSome, OnOk};
 
 use crate::answer::Answer;
 use crate::refusal::Refusal;
-use crate::task::{Task, done_with};
+use crate::task::{Task, carry_out};
 use garage::{Garage, GarageError, Parked, Rounds};
 use std::alloc::{AllocError, Global};
 use std::marker::Model;
@@ -45,21 +45,26 @@ impl Desk {
         self.units.push_reserved(parked);
     }
 
-    /// Does a task with the unit of a seat. A unit that leaves is off the desk.
+    /// Does a task with the unit of a seat where it stands. One that the garage does not know is off the desk then, and let go.
     pub fn act(&mut self, garage: &mut Garage, seat: u32, task: Task) -> Result<Answer, Refusal> {
-        let Ok(place) = self
-            .units
-            .binary_search_by_key(&seat, |parked| parked.seat())
-        else {
+        let Some(place) = place_of(&self.units, seat) else {
             return Err(Refusal::NoSeat);
         };
-        let parked = self.units.remove(place);
-        let (parked, done) = done_with(self.alloc, garage, parked, task);
-        if let Some(parked) = parked {
-            self.units.push_reserved(parked);
-            self.units[place..].rotate_right(1);
+        let answer = carry_out(self.alloc, garage, &mut self.units[place], task);
+        if let Err(Refusal::Garage(GarageError::Stranger)) = answer {
+            let stranger = self.units.remove(place);
+            drop(garage.disown(stranger));
         }
-        done
+        answer
+    }
+
+    /// Takes the unit of a seat off the bus and off the desk.
+    pub fn dismiss(&mut self, garage: &mut Garage, seat: u32) -> Result<(), Refusal> {
+        let Some(place) = place_of(&self.units, seat) else {
+            return Err(Refusal::NoSeat);
+        };
+        garage.dismiss(self.units.remove(place))?;
+        Ok(())
     }
 
     /// Runs rounds, so many at most: each unit hears all that it has not heard, the station reads all, and one frame is carried.
@@ -74,5 +79,26 @@ impl Desk {
         }
         let Desk { alloc: _, units } = self;
         units.destroy_empty();
+    }
+}
+
+/// Where the unit of a seat stands among units in the order of their seats. That is right before the seat's number where no unit
+/// has left, so there it is looked for first.
+fn place_of(units: &[Parked], seat: u32) -> Option<usize>
+    ensures within { IfSome result (λ i. i < length units.now) }
+    ensures its { IfSome result (λ i. IfSome (slice_get units.now i) (λ parked. parked.seat ≡ seat)) }
+{
+    let likely = seat.saturating_sub(1) as usize;
+    if let Some(parked) = units.get(likely) {
+        if parked.seat() == seat {
+            return Some(likely);
+        }
+    }
+    let seat_of = |parked: &Parked|
+        ensures { result ≡ parked.now.seat }
+    { parked.seat() };
+    match units.binary_search_by_key(&seat, seat_of) {
+        Ok(place) => Some(place),
+        Err(_) => None,
     }
 }

@@ -1,3 +1,5 @@
+ghost use Rattle.std.specs.Prelude.{◌≡◌};
+
 use can_frame::{FrameError, PgnTooLarge};
 use fault_memory::FaultError;
 use garage::GarageError;
@@ -56,12 +58,20 @@ impl From<FrameError> for Refusal {
 }
 
 impl From<FaultError> for Refusal {
+    ghost use Rattle.bench.specs.declared.refusal.Refusal.TheVariants.{Fault};
+
+    ghost from_gives = { λ error refusal. refusal ≡ Fault error };
+
     fn from(error: FaultError) -> Refusal {
         Refusal::Fault(error)
     }
 }
 
 impl From<GarageError> for Refusal {
+    ghost use Rattle.bench.specs.declared.refusal.Refusal.TheVariants.{Garage};
+
+    ghost from_gives = { λ error refusal. refusal ≡ Garage error };
+
     fn from(error: GarageError) -> Refusal {
         Refusal::Garage(error)
     }

@@ -103,6 +103,10 @@ impl Workshop {
             }
             Command::Injected => Ok(Answer::Injected(self.garage.injected())),
             Command::Frame { index } => Ok(Answer::Frame(self.garage.wire_frame(index))),
+            Command::Leave { seat } => {
+                self.desk.dismiss(&mut self.garage, seat)?;
+                Ok(Answer::Done)
+            }
             _ => {
                 let (seat, task) = task_of(command)?;
                 self.desk.act(&mut self.garage, seat, task)
@@ -190,7 +194,6 @@ fn task_of(command: Command) -> Result<(u32, Task), Refusal> {
         Command::Lamps { seat, lamps } => Ok((seat, Task::Lamps { lamps })),
         Command::Think { seat } => Ok((seat, Task::Think)),
         Command::Turn { seat } => Ok((seat, Task::Turn)),
-        Command::Leave { seat } => Ok((seat, Task::Leave)),
         Command::Hear { seat, most } => Ok((seat, Task::Hear { most })),
         Command::Dm1 { seat } => Ok((seat, Task::Dm1)),
         Command::Shown { name, .. } | Command::Join { name, .. } => {

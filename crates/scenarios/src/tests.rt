@@ -2,6 +2,8 @@ mod bus;
 mod early_end;
 mod frame_text;
 mod node;
+mod parked;
+mod rounds;
 mod seats;
 mod station;
 mod told;

@@ -284,31 +284,33 @@ fn each_scene(rt: HostRuntime) -> Result<(), Fail> {
 /// The announcement of a commanded address, to all.
 const ANNOUNCED: &str = "1CECFFF9 20 09 00 02 FF D8 FE 00";
 
-/// Whether the unit passes over each of these frames, after that announcement.
-const PASSED: [(&str, bool); 12] = [
+/// Whether the unit hears each of these frames quietly, one after another, after that announcement.
+const QUIET: [(&str, bool); 14] = [
     ("18FECAF9 00 FF 64 00 01 01 FF FF", true),
     ("18FECBF9 00 FF 64 00 01 01 FF FF", true),
     ("18E8FFF9 00 FF FF FF 00 D3 FE 00", true),
     ("18EA05F9 CA FE 00", true),
     ("18EA00F9 CA FE 00", false),
     ("18EAFFF9 CA FE 00", false),
-    ("18EEFFF9 C0 00 00 00 00 00 00 00", false),
+    ("18EEFFF9 C0 00 00 00 00 00 00 00", true),
+    ("18EEFF00 00 00 00 00 00 00 00 00", false),
     ("1CEC05F9 10 16 00 04 FF CA FE 00", true),
     ("1CEC00F9 10 16 00 04 FF CA FE 00", false),
-    ("1CECFFF8 20 09 00 02 FF D8 FE 00", false),
-    ("1CEBFFF9 01 A0 00 00 00 00 00 00", false),
-    ("1CEBFFF8 01 A0 00 00 00 00 00 00", true),
+    ("1CECFFF8 20 09 00 02 FF D8 FE 00", true),
+    ("1CEBFFF9 01 A0 00 00 00 00 00 00", true),
+    ("1CEBFFF9 02 00 05 FF FF FF FF FF", false),
+    ("1CEBFFF8 01 A1 00 00 00 00 00 00", true),
 ];
 
 #[test]
-fn passes_over(rt: HostRuntime) -> Result<(), Fail> {
+fn hears_quietly(rt: HostRuntime) -> Result<(), Fail> {
     let alloc = rt.alloc();
     let mut node = Node::new(Name::from_number(UNIT), 0);
     let mut unit = Told::new(alloc, UNIT, true, 0)?;
     hears(alloc, &mut node, &mut unit, ANNOUNCED)?;
-    for (text, is_passed) in &PASSED {
+    for (text, is_quiet) in &QUIET {
         let frame = frame(alloc, text)?;
-        assert_eq!(rt; node.passes(&frame), *is_passed, "{text}");
+        assert_eq!(rt; node.hear_quietly(alloc, &frame)?, *is_quiet, "{text}");
     }
     Ok(())
 }

@@ -10,15 +10,27 @@ use std::test::Fail;
 use unit_trait::Unit;
 
 /// A garage whose station has the NAME 01 and holds 249. Its journal has room for so many events.
-fn open(alloc: Global, limit: u32) -> Result<Garage, GarageError> {
+pub fn open(alloc: Global, limit: u32) -> Result<Garage, GarageError> {
     Garage::new(alloc, Name::from_number(1), 249, 64, 16, limit)
 }
 
 /// Gives a unit of this NAME a seat.
-fn mounted(alloc: Global, garage: &mut Garage, name: u64) -> Result<Parked, Fail>
+pub fn mounted(alloc: Global, garage: &mut Garage, name: u64) -> Result<Parked, Fail>
     requires { Unit {0} }
 {
-    let told = Told::new(alloc, name, true, 0)?;
+    mounted_with(alloc, garage, name, 0)
+}
+
+/// Gives a unit of this NAME a seat, which has so many active codes.
+pub fn mounted_with(
+    alloc: Global,
+    garage: &mut Garage,
+    name: u64,
+    codes: u32,
+) -> Result<Parked, Fail>
+    requires { Unit {0} }
+{
+    let told = Told::new(alloc, name, true, codes)?;
     let unit: Box<dyn Unit> = Box::new(alloc, told)?;
     match garage.mount(alloc, unit, 0) {
         Ok(parked) => Ok(parked),

@@ -1,8 +1,8 @@
 -- The claims noted, as a list.
-use Rattle.std.proofs.Common.{◌≡◌, ◌≢◌, ◌<◌, ◌≤◌, ℕ, List, replicate, Option, Some, None, length, arith, refl, sym, ◌∙◌}
+use Rattle.std.proofs.Common.{◌≡◌, ◌≢◌, ◌<◌, ◌≤◌, ℕ, List, replicate, Option, Some, None, IsSome, length, arith, refl, sym, ◌∙◌}
 use Rattle.std.specs.Prelude.{slice_set, slice_index_or}
 use Rattle.std.specs.Ordering.{nat_cmp}
-use Rattle.std.specs.BTreeMap.{BTreeMap, get, IsEmpty, IsUnchanged, Updates}
+use Rattle.std.specs.BTreeMap.{BTreeMap, get, IsEmpty, IsUnchanged, Updates, WritesThrough}
 use Rattle.std.proofs.lemmas.List.{get_or-set_same, get_or-set_other}
 use Rattle.std.proofs.lemmas.List.FromFn.{length-map-range_with_len}
 use Rattle.address_claim.specs.Noted.{noted_at, noted_of}
@@ -25,6 +25,11 @@ changed was now address name le here there = set_at (noted_at was) (noted_at (So
 pub noted_more : (was now : BTreeMap ℕ ℕ) (address name : ℕ) → address ≤ 253 → Updates nat_cmp was now address (Some name)
     → noted_of (Some now) ≡ slice_set (noted_of (Some was)) address (Some name)
 noted_more was now address name le u = changed (Some was) now address name le u.1 (λ q apart. u.2 q (not_equal address q apart))
+
+-- a claim of an address that has one
+pub noted_over : (was now : BTreeMap ℕ ℕ) (address name : ℕ) → address ≤ 253 → IsSome (get nat_cmp was address)
+    → WritesThrough nat_cmp (nat_cmp address) was name now → noted_of (Some now) ≡ slice_set (noted_of (Some was)) address (Some name)
+noted_over was now address name le some w = noted_more was now address name le (w.3 some)
 
 -- an empty map has no claims
 empty_is_none : (m : BTreeMap ℕ ℕ) → IsEmpty m → (q : ℕ) → get nat_cmp m q ≡ None

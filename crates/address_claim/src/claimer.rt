@@ -1,4 +1,4 @@
-ghost use Rattle.std.specs.Prelude.{◌≡◌, ◌≤◌, ◌↔◌, Some, None, IfSome, IfOk, IsErrOf, IsOk, OnOk, OnErr, slice_index_or, slice_set};
+ghost use Rattle.std.specs.Prelude.{◌≡◌, ◌≤◌, ◌↔◌, Some, None, IfSome, IfOk, IsErrOf, IsNone, IsOk, IsSome, OnOk, OnErr, slice_index_or, slice_set};
 ghost use Rattle.address_claim.specs.Claiming.{new_claimer, claim_step, after_claim, after_command, is_free, free_address, noted_after, next_address, IsOwnChoice, IsLawfulStep};
 
 use crate::error::ClaimError;
@@ -119,6 +119,17 @@ impl Claimer {
             ClaimStep::CannotClaim => self.held = None,
         }
         Ok(step)
+    }
+
+    /// Notes a claim of an address, 0 to 253, of which one was noted before, and answers the NAME in that one; else nothing changes.
+    /// What is held stays as it is. Takes no memory.
+    pub fn renote(&mut self, source: u8, name: Name) -> Option<Name>
+        requires { source ≤ GREATEST_ADDRESS }
+        ensures last { result ≡ slice_index_or self.old.noted source None }
+        ensures noted { IsSome result → self.new ≡ record self.old { noted = slice_set self.old.noted source (Some name) } }
+        ensures kept { IsNone result → self.new ≡ self.old }
+    {
+        self.noted.renote(source, name)
     }
 
     /// Holds this address from now on; `NotAnAddress`, with nothing changed, where it is 254 or 255.

@@ -1,4 +1,4 @@
-ghost use Rattle.std.specs.Prelude.{◌≡◌, ◌≤◌, OnOk, OnErr, Some, None, length, replicate, slice_set, slice_index_or};
+ghost use Rattle.std.specs.Prelude.{◌≡◌, ◌≤◌, IsNone, IsSome, OnOk, OnErr, Some, None, length, replicate, slice_set, slice_index_or};
 ghost use Rattle.can_frame.specs.declared.address.TheConstants.{GREATEST_ADDRESS};
 
 use can_frame::HOLDABLE_ADDRESSES;
@@ -76,5 +76,25 @@ impl Noted {
             }
         }
         Ok(())
+    }
+
+    /// Notes a claim of an address of which one was noted before, and answers the NAME in that one; else nothing changes. Takes no
+    /// memory.
+    #[tactic(auto, using(crate::proofs::NotedLists::noted_there, crate::proofs::NotedLists::noted_over))]
+    pub fn renote(&mut self, address: u8, name: Name) -> Option<Name>
+        requires { address ≤ GREATEST_ADDRESS }
+        ensures last { result ≡ slice_index_or self.old address None }
+        ensures noted { IsSome result → self.new ≡ slice_set self.old address (Some name) }
+        ensures kept { IsNone result → self.new ≡ self.old }
+    {
+        let Some(names) = &mut self.by_address else {
+            return None;
+        };
+        let Some(last) = names.get_mut(&address) else {
+            return None;
+        };
+        let before = *last;
+        *last = name;
+        Some(before)
     }
 }

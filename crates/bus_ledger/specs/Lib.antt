@@ -8,4 +8,5 @@ pub mod Window
 pub mod Ledger
 pub mod Refusals
 pub mod Offers
+pub mod Origins
 pub mod Inside

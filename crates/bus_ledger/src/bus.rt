@@ -5,7 +5,8 @@ use crate::error::BusError;
 use crate::offers::is_name_among;
 use crate::seat::Seat;
 use crate::tap::Tap;
-use crate::traffic::{CarriedFrame, Counts};
+use crate::traffic::Counts;
+use crate::wire_frame::WireFrame;
 use can_frame::Frame;
 use name_field::Name;
 use std::alloc::{AllocFailed, Global};
@@ -24,7 +25,7 @@ const MOST_UNITS: usize = 64;
 /// The wire with all that was carried, the seats with their queues, and the station's window of unread frames.
 #[derive(Drop)]
 pub struct Bus {
-    wire: Vec<CarriedFrame>,
+    wire: Vec<WireFrame>,
     seats: Vec<Seat>,
     // the numbers of the live seats, in order
     live: Vec<u32>,
@@ -167,7 +168,7 @@ impl Bus {
         ensures { result ≡ option_map (λ c. c.frame) (slice_get self.now.traffic.wire i) }
     {
         let carried = self.wire.get(i as usize)?;
-        Some(carried.frame)
+        Some(carried.frame())
     }
 }
 

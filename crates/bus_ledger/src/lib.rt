@@ -13,6 +13,7 @@ mod queued;
 mod seat;
 mod tap;
 mod traffic;
+mod wire_frame;
 
 pub use bus::{Bus, MOST_UNREAD};
 pub use error::BusError;

@@ -78,6 +78,7 @@ impl Seat {
     }
 
     /// How many frames of the wire it has heard.
+    #[inline]
     pub(crate) fn heard(&self) -> u32
         ensures { result ≡ self.now.seat.heard }
     {

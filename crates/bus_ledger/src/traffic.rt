@@ -34,6 +34,8 @@ impl QueuedFrame {
 }
 
 /// A frame on the wire, and the seat that it came from: none where it was put there from outside.
+///
+/// The bus keeps it in less memory.
 #[derive(Clone, Copy, Debug, PartialEq, Eq)]
 pub struct CarriedFrame {
     pub seat: Option<u32>,

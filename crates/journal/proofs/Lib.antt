@@ -28,3 +28,5 @@ pub mod Runs
 pub mod Kept
 pub mod Told
 pub mod Keeping
+pub mod Over
+pub mod Storing

@@ -38,6 +38,8 @@ plain ms (note.Inject bytes id) older h single = record { noted = λ many. tt; u
 plain ms (note.Hear answered a b) older h single = absurd cc
 plain ms (note.Begin a b) older h single = absurd cc
 plain ms (note.Passed first count) older h single = absurd cc
+plain ms (note.Relayed bytes a id) older h single = absurd cc
+plain ms (note.ReadAndCarried bytes a id) older h single = absurd cc
 
 first_of : Option (ℕ × ℕ) → ℕ
 first_of None = 0
@@ -84,6 +86,8 @@ telling ms (note.Command address name) j i older h = absurd cc
 telling ms (note.Leave a) j i older h = absurd cc
 telling ms (note.Inject bytes id) j i older h = absurd cc
 telling ms (note.Passed first count) j i older h = absurd cc
+telling ms (note.Relayed bytes a id) j i older h = absurd cc
+telling ms (note.ReadAndCarried bytes a id) j i older h = absurd cc
 
 -- a note more that tells no memory
 pub told_plain : (ms : List MemoryValue) (told : List ℕ) (older : List Event) (n : Note) → AreTold ms told older → told_by n ≡ None → IsSome (event_of ms n) → AreTold ms told (with_note ms n older)
@@ -128,6 +132,8 @@ noted_more ms m (note.Begin k n) h = omega (arith, length-append ms (m ∷ []))
 noted_more ms m (note.Turned k) h = tt
 noted_more ms m (note.Carry k) h = tt
 noted_more ms m (note.Frame bytes id) h = tt
+noted_more ms m (note.Relayed bytes k id) h = tt
+noted_more ms m (note.ReadAndCarried bytes k id) h = tt
 noted_more ms m (note.Gap missed) h = tt
 noted_more ms m note.Empty h = tt
 noted_more ms m (note.Ask ask name) h = tt

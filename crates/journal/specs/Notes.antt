@@ -1,6 +1,6 @@
--- How the journal keeps events: a fault memory is told by the number of its stored copy, and a run of units that pass over a frame
--- by one note.
-use Rattle.std.specs.Prelude.{◌≡◌, ℕ, zero, suc, ◌+◌, ◌-◌, ◌<◌, min, List, [], ◌∷◌, ◌++◌, Option, None, Some, length, reverse, slice_index_or, option_to_list, unwrap_or}
+-- How the journal keeps events: a fault memory is told by the number of its stored copy, a run of units that pass over a frame
+-- by one note, and a carry and a reading next to each other by one note.
+use Rattle.std.specs.Prelude.{◌≡◌, ℕ, zero, suc, ◌+◌, ◌-◌, ◌<◌, min, List, [], ◌∷◌, ◌++◌, Option, None, Some, length, reverse, slice_index_or, slice_set, option_to_list, unwrap_or}
 use Rattle.std.specs.List.{All}
 use Rattle.can_frame.specs.FrameValue.{frame}
 use Rattle.can_frame.specs.declared.reading.Reading.TheVariants as reading
@@ -53,7 +53,7 @@ unfoldable pub passed_over : ℕ → ℕ → List Event → List Event
 passed_over first zero older = older
 passed_over first (suc n) older = Hear (first + n) (latest (first + n) (passed_over first n older)) NotAsked ∷ passed_over first n older
 
--- the event that a note tells, where it is no run
+-- the event that a note tells, where it tells one alone
 abbrev pub event_of : List MemoryValue → Note → Option Event
 event_of memories (note.Join address name) = Some (Join name address)
 event_of memories (note.Hear answered k n) = Some (Hear k (memory_at memories n) answered)
@@ -62,6 +62,8 @@ event_of memories (note.Begin k n) = Some (Begin k (memory_at memories n))
 event_of memories (note.Turned k) = Some (Turned k)
 event_of memories (note.Carry k) = Some (Carry k)
 event_of memories (note.Frame bytes id) = Some (Read (reading.Frame (frame id bytes)))
+event_of memories (note.Relayed bytes k id) = None
+event_of memories (note.ReadAndCarried bytes k id) = None
 event_of memories (note.Gap missed) = Some (Read (reading.Gap missed))
 event_of memories note.Empty = Some (Read reading.Empty)
 event_of memories (note.Ask ask name) = Some (Ordered (Ask name (ask_of ask)))
@@ -74,6 +76,8 @@ event_of memories (note.Inject bytes id) = Some (Inject (frame id bytes))
 -- the events, the newest first, and then what a note tells
 abbrev pub with_note : List MemoryValue → Note → List Event → List Event
 with_note memories (note.Passed first count) older = passed_over first count older
+with_note memories (note.Relayed bytes k id) older = Read (reading.Frame (frame id bytes)) ∷ Carry k ∷ older
+with_note memories (note.ReadAndCarried bytes k id) older = Carry k ∷ Read (reading.Frame (frame id bytes)) ∷ older
 with_note memories n older = option_to_list (event_of memories n) ++ older
 
 -- the events that notes tell, both the newest first
@@ -93,6 +97,10 @@ newest_first run stored = run_note run ∷ reverse stored
 abbrev pub places_of : Passing → ℕ → ℕ
 places_of run stored = stored + min 1 (run.next - run.first)
 
+-- written over the note that is stored last, this one tells an event more
+abbrev pub TellsOver : Passing → List Note → Event → Note → Type 0
+TellsOver run stored e n = (memories : List MemoryValue) → events_of memories (newest_first run (slice_set stored (length stored - 1) n)) ≡ e ∷ events_of memories (newest_first run stored)
+
 -- a note of one of this many copies, or of none
 abbrev pub IsNoted : ℕ → Note → Type 0
 IsNoted many (note.Hear answered k n) = n < many
@@ -102,6 +110,8 @@ IsNoted many (note.Join address name) = Unit {0}
 IsNoted many (note.Turned k) = Unit {0}
 IsNoted many (note.Carry k) = Unit {0}
 IsNoted many (note.Frame bytes id) = Unit {0}
+IsNoted many (note.Relayed bytes k id) = Unit {0}
+IsNoted many (note.ReadAndCarried bytes k id) = Unit {0}
 IsNoted many (note.Gap missed) = Unit {0}
 IsNoted many note.Empty = Unit {0}
 IsNoted many (note.Ask ask name) = Unit {0}
@@ -124,6 +134,8 @@ told_by (note.Join address name) = None
 told_by (note.Turned k) = None
 told_by (note.Carry k) = None
 told_by (note.Frame bytes id) = None
+told_by (note.Relayed bytes k id) = None
+told_by (note.ReadAndCarried bytes k id) = None
 told_by (note.Gap missed) = None
 told_by note.Empty = None
 told_by (note.Ask ask name) = None

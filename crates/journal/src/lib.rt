@@ -12,6 +12,7 @@ mod notes;
 mod order;
 mod passing;
 mod promises;
+mod sharing;
 mod tally;
 
 pub use event::Event;

@@ -57,22 +57,43 @@ impl Model for FrameBytes {
 
 impl FrameBytes {
     /// These bytes.
+    #[inline]
     pub(crate) fn of(bytes: &[u8]) -> FrameBytes
         requires { length bytes.now ≤ 8 }
         ensures { result ≡ bytes.now }
     {
-        if let Some(room) = bytes.as_array() {
-            return FrameBytes {
+        match bytes.as_array() {
+            Some(room) => FrameBytes {
                 len: 8,
                 room: *room,
-            };
+            },
+            None => FrameBytes::short(bytes),
         }
+    }
+
+    /// As `of`, where there may be fewer than eight.
+    #[inline(never)]
+    fn short(bytes: &[u8]) -> FrameBytes
+        requires { length bytes.now ≤ 8 }
+        ensures { result ≡ bytes.now }
+    {
         let len = bytes.len();
         let mut room = [0; 8];
         room[..len].copy_from_slice(bytes);
         FrameBytes {
             len: len as u8,
             room,
+        }
+    }
+
+    /// The same bytes once more.
+    #[inline]
+    pub(crate) fn copy(&self) -> FrameBytes
+        ensures { result ≡ self.now }
+    {
+        FrameBytes {
+            len: self.len,
+            room: self.room,
         }
     }
 }
@@ -92,7 +113,7 @@ pub(crate) enum ShortAsk {
     Claim,
 }
 
-/// What the journal keeps, in 16 bytes: an event, whose fault memory is told by the number of its copy, or a run of events.
+/// What the journal keeps, in 16 bytes: an event, whose fault memory is told by the number of its copy, two events, or a run of them.
 #[derive(Drop)]
 pub(crate) enum Note {
     /// A unit joined.
@@ -128,6 +149,18 @@ pub(crate) enum Note {
     /// The station read a frame.
     Frame {
         bytes: FrameBytes,
+        id: Id,
+    },
+    /// The first frame of a seat's queue was carried, and then the station read this frame.
+    Relayed {
+        bytes: FrameBytes,
+        seat: u16,
+        id: Id,
+    },
+    /// The station read this frame, and then the first frame of a seat's queue was carried.
+    ReadAndCarried {
+        bytes: FrameBytes,
+        seat: u16,
         id: Id,
     },
     /// The station missed this many frames.

@@ -1,4 +1,5 @@
 ghost use Rattle.std.specs.Prelude.{◌≡◌, ℕ, [], ◌<◌, ◌≤◌, ◌↔◌, length, reverse, slice_index_or, IfOk, IfSome, IsSome, IsTrue, None, OnOk, Some};
+ghost use Rattle.can_frame.specs.declared.reading.Reading.TheVariants as reading;
 ghost use Rattle.fault_memory.specs.Memory.{IsLawfulMemory, MemoryValue};
 ghost use Rattle.journal.specs.Journal.{memory_told};
 ghost use Rattle.journal.specs.declared.event.Event.TheVariants as event;
@@ -8,6 +9,7 @@ ghost use Rattle.journal.specs.Notes.{Gains, IsStored, event_of, memory_at, told
 use crate::note::{FrameBytes, Note, SplitName};
 use crate::order::Order;
 use crate::passing::{NO_RUN, Passing, end_run, store};
+use crate::sharing::{store_carry, store_frame};
 use can_frame::{Frame, Reading};
 use fault_memory::FaultMemory;
 use name_field::Name;
@@ -19,7 +21,7 @@ use std::marker::Model;
 const NO_COPY: u32 = u32::MAX;
 
 /// The journal: all events, the oldest first, each in a note of 16 bytes; a run of units that pass over their next frames, in the
-/// order of their seats, has one note.
+/// order of their seats, has one note, and so have the carry of a frame and a reading of one next to each other.
 ///
 /// What a unit's fault memory was at an event is kept once, as long as it stays the same: the event has the number of a stored
 /// copy. Contracts see the events themselves (`Event`), the stored copies, and how many more events there is room for.
@@ -239,26 +241,37 @@ impl Journal {
     }
 
     /// The first frame of this seat's queue was carried.
+    #[inline]
     pub fn note_carry(&mut self, seat: u32)
         requires { 0 < self.old.room }
         ensures { Gains self.old (event.Carry seat) self.new }
     {
-        self.push(Note::Carry { seat });
+        store_carry(&mut self.notes, &mut self.passing, seat);
+        self.events += 1;
     }
 
     /// The station took this reading.
+    #[inline]
     pub fn note_read(&mut self, reading: Reading)
         requires { 0 < self.old.room }
         ensures { Gains self.old (event.Read reading) self.new }
     {
-        match reading {
-            Reading::Frame(frame) => self.push(Note::Frame {
-                bytes: FrameBytes::of(frame.bytes()),
-                id: frame.id(),
-            }),
-            Reading::Gap(missed) => self.push(Note::Gap { missed }),
+        match &reading {
+            Reading::Frame(frame) => self.note_frame(frame),
+            Reading::Gap(missed) => self.push(Note::Gap { missed: *missed }),
             Reading::Empty => self.push(Note::Empty),
         }
+    }
+
+    /// The station read this frame.
+    #[inline]
+    fn note_frame(&mut self, frame: &Frame)
+        requires { 0 < self.old.room }
+        ensures { Gains self.old (event.Read (reading.Frame frame.now)) self.new }
+    {
+        let bytes = FrameBytes::of(frame.bytes());
+        store_frame(&mut self.notes, &mut self.passing, bytes, frame.id());
+        self.events += 1;
     }
 
     /// The station queued what it was told to send.

@@ -6,7 +6,8 @@ ghost use Rattle.bus_ledger.specs.Changes.{injected};
 use crate::bus::Bus;
 use crate::error::BusError;
 use crate::offers::{best_offer, best_seat, is_any_waiting};
-use crate::traffic::{Carried, CarriedFrame, QueuedFrame};
+use crate::traffic::{Carried, QueuedFrame};
+use crate::wire_frame::WireFrame;
 use can_frame::Frame;
 
 impl Bus {
@@ -28,11 +29,7 @@ impl Bus {
         let place = &mut self.seats[seat as usize];
         let sent = place.send();
         self.tap.take_in(seat, sent.frame);
-        self.wire.push_reserved(CarriedFrame {
-            seat: Some(seat),
-            frame: sent.frame,
-            tag: sent.tag,
-        });
+        self.wire.push_reserved(WireFrame::sent(seat, &sent));
         Ok(Carried::Frame {
             seat,
             frame: sent.frame,
@@ -49,13 +46,8 @@ impl Bus {
         ensures err { IfErr result (λ e. (e ≡ BusError.OutOfMemory) × (self.new.traffic ≡ self.old.traffic)) }
         ensures spares { self.new.spares ≡ self.old.spares }
     {
-        let stray = CarriedFrame {
-            seat: None,
-            frame,
-            tag: None,
-        };
         self.wire.reserve(1)?;
-        self.wire.push_reserved(stray);
+        self.wire.push_reserved(WireFrame::stray(frame));
         self.tap.push(frame);
         Ok(())
     }

@@ -1,4 +1,4 @@
-ghost use Rattle.std.specs.Prelude.{◌≡◌, ◌≢◌, ◌<◌, ◌+◌, ◌-◌, ◌↔◌, Some, IsSome, IfSome, length, slice_get};
+ghost use Rattle.std.specs.Prelude.{◌≡◌, ◌≢◌, ◌<◌, ◌≤◌, ◌-◌, Some, length, slice_get};
 ghost use Rattle.std.specs.Bool.{MatchBool};
 ghost use Rattle.std.specs.List.{All};
 ghost use Rattle.std.specs.Option.{option_map};
@@ -19,24 +19,18 @@ impl Bus {
     {
         let heard = self.seats[seat as usize].heard();
         let next = self.wire.get(heard as usize)?;
-        Some(next.frame)
+        Some(next.frame())
     }
 
-    /// The wire's last frame, where it is the next one and the only one that the seat has not heard. Then it is what
-    /// `next_for` gives, at this seat and at each other one of which that holds.
-    pub fn last_for(&self, seat: u32) -> Option<Frame>
+    /// How many frames of the wire the seat has not heard. Where it is one, `next_for` gives the wire's last frame.
+    #[inline]
+    pub fn unheard(&self, seat: u32) -> u32
         requires { IsUnit self.now.traffic seat }
-        ensures only { IsSome result ↔ ((seat_at self.now.traffic seat).heard + 1 ≡ length self.now.traffic.wire) }
-        ensures last { IfSome result (λ f. option_map (λ c. c.frame) (slice_get self.now.traffic.wire (length self.now.traffic.wire - 1)) ≡ Some f) }
-        ensures next { IfSome result (λ f. option_map (λ c. c.frame) (slice_get self.now.traffic.wire (seat_at self.now.traffic seat).heard) ≡ Some f) }
+        ensures count { result ≡ length self.now.traffic.wire - (seat_at self.now.traffic seat).heard }
+        ensures within { (seat_at self.now.traffic seat).heard ≤ length self.now.traffic.wire }
         ensures sound { IsSound self.now.traffic }
     {
-        let heard = self.seats[seat as usize].heard();
-        if heard as usize + 1 != self.wire.len() {
-            return None;
-        }
-        let last = self.wire.last()?;
-        Some(last.frame)
+        self.wire.len() as u32 - self.seats[seat as usize].heard()
     }
 
     /// The frame that `next_for` gives counts as heard by the seat.

@@ -1,0 +1,110 @@
+ghost use Rattle.std.specs.Prelude.{◌≡◌, ◌+◌, ◌-◌, ◌<◌, ◌≤◌, ◌^◌, ℕ, List, length, slice_get, slice_set, vec_len, vec_capacity, IfSome, OnSome, Some};
+ghost use Rattle.std.specs.List.{All};
+ghost use Rattle.can_frame.specs.FrameValue.{frame};
+ghost use Rattle.can_frame.specs.declared.reading.Reading.TheVariants as reading;
+ghost use Rattle.fault_memory.specs.Memory.{MemoryValue};
+ghost use Rattle.journal.specs.Notes.{IsNoted, TellsOver, events_of, newest_first, places_of, with_note};
+ghost use Rattle.journal.specs.declared.event.Event.TheVariants as event;
+ghost use Rattle.journal.specs.declared.note.Note.TheVariants as note;
+
+use crate::note::{FrameBytes, Note};
+use crate::passing::{Passing, store};
+use can_frame::Id;
+
+/// Stores the carry of a frame from this seat, for whose note there is a place: in the note of the reading right before it, where
+/// there is one that is stored alone and the seat's number has a place in a note of both; else in a note of its own.
+pub(crate) fn store_carry(notes: &mut Vec<Note>, run: &mut Passing, seat: u32)
+    requires few { run.old.next - run.old.first < 2 ^ 32 }
+    requires place { places_of run.old (vec_len notes.old) < vec_capacity notes.old }
+    ensures events { (memories : List MemoryValue) → events_of memories (newest_first run.new notes.new.items) ≡ with_note memories (note.Carry seat) (events_of memories (newest_first run.old notes.old.items)) }
+    ensures noted { (many : ℕ) → All (IsNoted many) notes.old.items → All (IsNoted many) notes.new.items }
+    ensures none { run.new.first ≡ run.new.next }
+    ensures places { vec_len notes.new ≤ places_of run.old (vec_len notes.old) + 1 }
+    ensures capacity { vec_capacity notes.new ≡ vec_capacity notes.old }
+{
+    match with_carry(notes.as_slice(), run, seat) {
+        Some(both) => overwrite_last(notes, both),
+        None => store(notes, run, Note::Carry { seat }),
+    }
+}
+
+/// Stores the reading of a frame, for whose note there is a place: in the note of the carry right before it, where there is one that
+/// is stored alone and its seat's number has a place in a note of both; else in a note of its own.
+pub(crate) fn store_frame(notes: &mut Vec<Note>, run: &mut Passing, bytes: FrameBytes, id: Id)
+    requires few { run.old.next - run.old.first < 2 ^ 32 }
+    requires place { places_of run.old (vec_len notes.old) < vec_capacity notes.old }
+    ensures events { (memories : List MemoryValue) → events_of memories (newest_first run.new notes.new.items) ≡ with_note memories (note.Frame bytes id) (events_of memories (newest_first run.old notes.old.items)) }
+    ensures noted { (many : ℕ) → All (IsNoted many) notes.old.items → All (IsNoted many) notes.new.items }
+    ensures none { run.new.first ≡ run.new.next }
+    ensures places { vec_len notes.new ≤ places_of run.old (vec_len notes.old) + 1 }
+    ensures capacity { vec_capacity notes.new ≡ vec_capacity notes.old }
+{
+    match with_frame(notes.as_slice(), run, &bytes, id) {
+        Some(both) => overwrite_last(notes, both),
+        None => store(notes, run, Note::Frame { bytes, id }),
+    }
+}
+
+/// The note of the reading that is told last, and of a carry from this seat after it, where there is such a note.
+#[inline]
+fn with_carry(notes: &[Note], run: &Passing, seat: u32) -> Option<Note>
+    ensures none { OnSome result (run.now.first ≡ run.now.next) }
+    ensures some { OnSome result (0 < length notes.now) }
+    ensures events { IfSome result (λ n. TellsOver run.now notes.now (event.Carry seat) n) }
+    ensures noted { IfSome result (λ n. (many : ℕ) → IsNoted many n) }
+{
+    let Note::Frame { bytes, id } = newest(notes, run)? else {
+        return None;
+    };
+    let seat = u16::try_from(seat).ok()?;
+    Some(Note::ReadAndCarried {
+        bytes: bytes.copy(),
+        seat,
+        id: *id,
+    })
+}
+
+/// The note of the carry that is told last, and of the reading of a frame of these bytes after it, where there is such a note.
+#[inline]
+fn with_frame(notes: &[Note], run: &Passing, bytes: &FrameBytes, id: Id) -> Option<Note>
+    ensures none { OnSome result (run.now.first ≡ run.now.next) }
+    ensures some { OnSome result (0 < length notes.now) }
+    ensures events { IfSome result (λ n. TellsOver run.now notes.now (event.Read (reading.Frame (frame id bytes.now))) n) }
+    ensures noted { IfSome result (λ n. (many : ℕ) → IsNoted many n) }
+{
+    let Note::Carry { seat } = newest(notes, run)? else {
+        return None;
+    };
+    let seat = u16::try_from(*seat).ok()?;
+    Some(Note::Relayed {
+        bytes: bytes.copy(),
+        seat,
+        id,
+    })
+}
+
+/// The note that is stored last, where no run grows after it.
+#[inline]
+fn newest<'a>(notes: &'a [Note], run: &Passing) -> Option<&'a Note>
+    ensures none { OnSome result (run.now.first ≡ run.now.next) }
+    ensures some { OnSome result (0 < length notes.now) }
+    ensures last { IfSome result (λ n. slice_get notes.now (length notes.now - 1) ≡ Some n.now) }
+{
+    if u64::from(run.first) == run.next {
+        notes.last()
+    } else {
+        None
+    }
+}
+
+/// Writes this note over the one that is stored last.
+#[inline]
+fn overwrite_last(notes: &mut Vec<Note>, note: Note)
+    requires { 0 < vec_len notes.old }
+    ensures items { notes.new.items ≡ slice_set notes.old.items (length notes.old.items - 1) note }
+    ensures len { vec_len notes.new ≡ vec_len notes.old }
+    ensures capacity { vec_capacity notes.new ≡ vec_capacity notes.old }
+{
+    let last = notes.len() - 1;
+    notes[last] = note;
+}

@@ -9,6 +9,7 @@ use Rattle.bus_ledger.specs.Changes.{heard_more}
 use Rattle.bus_ledger.specs.Newcomers.{live_units}
 use Rattle.bus_ledger.specs.declared.traffic.CarriedFrame.{CarriedFrame}
 use Rattle.unit_trait.specs.declared.question.Question.{Question}
+use Rattle.unit_trait.specs.declared.question.Question.TheVariants.{Clear, Hold}
 use Rattle.node_core.specs.NodeValue.{NodeValue}
 use Rattle.node_core.specs.Deed.{Deed, Nothing, heard_of}
 use Rattle.node_core.specs.Asking.{IsAnswerTo, IsAsked, memory_answered}
@@ -168,3 +169,9 @@ told_hearing v w k m answered h =
     let t : nat_eq k k ≡ true = eq-eqb k k refl in
     let now : memory_told k (Hear k m answered ∷ v.journal) ≡ Some m = rw t refl in
     ap (λ (g : GarageValue). memory_told k g.journal) h.adds ∙ now
+
+-- a unit that was not asked has the memory that it had
+pub memory_unasked : (q : Option Question) (answered : UnitAnswer) (m : MemoryValue) → answered ≡ NotAsked → memory_answered q answered m ≡ m
+memory_unasked None answered m e = refl
+memory_unasked (Some (Clear which)) answered m e = rw e refl
+memory_unasked (Some (Hold address)) answered m e = refl

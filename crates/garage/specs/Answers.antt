@@ -37,7 +37,7 @@ pub record Passes (old : GarageValue) (k : ℕ) (memory : MemoryValue) (f : Fram
   pub adds : Adds old (event.Hear k memory NotAsked) new
   pub unasked : question (unit_at (state_of old) k).node f ≡ None
 
--- its next frame is one that it passes over so
+-- its next frame was heard so
 abbrev pub PassesNext : GarageValue → ℕ → MemoryValue → GarageValue → Type 0
 PassesNext old k memory new = (f : FrameValue) × (next_for (state_of old) k ≡ Some f) × Passes old k memory f new
 

@@ -2,8 +2,8 @@
 use Rattle.std.specs.Prelude.{◌≡◌, ◌≢◌, ℕ, suc, ◌-◌, ◌<◌, Bool, true, List, [], ◌∷◌, Option, Some, length, slice_get}
 use Rattle.std.specs.Option.{option_map}
 use Rattle.can_frame.specs.FrameValue.{FrameValue}
-use Rattle.node_core.specs.Passing.{ArePassers}
-use Rattle.node_core.specs.declared.sifted.Passers.{Passers}
+use Rattle.node_core.specs.Passing.{IsSifted}
+use Rattle.node_core.specs.declared.sifted.Sifted.{Sifted}
 use Rattle.bus_ledger.specs.BusValue.{Traffic, seat_at}
 use Rattle.fault_memory.specs.Memory.{MemoryValue}
 use Rattle.journal.specs.Journal.{GarageValue, Adds, IsSeated, memory_told, state_of, tally_of}
@@ -38,9 +38,9 @@ pub record IsCrew {P : Type 0} (sitting : P → Sitting) (g : GarageValue) (unit
 abbrev pub last_frame : GarageValue → Option FrameValue
 last_frame g = option_map (λ c. c.frame) (slice_get (state_of g).traffic.wire (length (state_of g).traffic.wire - 1))
 
--- these units pass it over
-abbrev pub AreLastPassers : Passers → GarageValue → Type 0
-AreLastPassers passers g = (f : FrameValue) → last_frame g ≡ Some f → ArePassers passers f
+-- that is what it tells the units that it asks nothing of
+abbrev pub IsLastSifted : Sifted → GarageValue → Type 0
+IsLastSifted sifted g = (f : FrameValue) → last_frame g ≡ Some f → IsSifted sifted f
 
 -- a seat is as live as it was, under the same NAME, among as many seats
 pub record KeepsSeat (k : ℕ) (t t' : Traffic) : Type 0 where

@@ -1,6 +1,7 @@
 ghost use Rattle.std.specs.Prelude.{◌≡◌, ◌+◌, ◌↔◌, ◌⊎◌, IfOk, IfErr, IsErrOf, IsTrue, OnErr, OnOk, Some};
-ghost use Rattle.journal.specs.Journal.{memory_told, Adds, IsSeated};
+ghost use Rattle.journal.specs.Journal.{memory_told, Adds, IsSeated, state_of};
 ghost use Rattle.journal.specs.Promises.{KeepsLists};
+ghost use Rattle.journal.specs.Steps.{next_for};
 ghost use Rattle.journal.specs.declared.event.Event.TheVariants.{Turned};
 ghost use Rattle.garage.specs.Answers.{Hears, Begins, counted_hearing, counted_beginning};
 ghost use Rattle.garage.specs.Calls.{BeginsFull, BeginsHeld, BeginsUnclaimed, IsBeginRefusal, IsWant};
@@ -11,6 +12,7 @@ use crate::error::GarageError;
 use crate::garage::Garage;
 use crate::plug::Parked;
 use crate::steps::{Begin, HeardOne};
+use can_frame::Frame;
 use std::alloc::Global;
 use unit_trait::Unit;
 
@@ -201,8 +203,7 @@ impl Garage {
         }
     }
 
-    /// A unit in its seat hears its next frame. Its memory is the one that its latest event tells, and is looked at only where the
-    /// frame asks something of it.
+    /// A unit in its seat hears its next frame. Its memory is the one that its latest event tells, and is not looked at.
     ///
     /// Refused as `hear_seated` is.
     fn hear_told(
@@ -223,11 +224,36 @@ impl Garage {
         let Some(frame) = self.next_for(parked.seat) else {
             return Ok((HeardOne::Nothing, true));
         };
-        if self.pass(alloc, parked.seat, &frame)? {
+        if self.pass(parked.seat, &frame)? {
             parked.events = self.events_of(parked.seat);
             return Ok((HeardOne::Frame(frame), true));
         }
-        self.hear_untold(alloc, parked)
+        self.react_seated(alloc, parked, frame)
+    }
+
+    /// A unit in its seat hears this frame, its next one. Its memory is the one that its latest event tells, and is not looked at.
+    ///
+    /// Refused as `hear_seated` is.
+    fn react_seated(
+        &mut self,
+        alloc: Global,
+        parked: &mut Parked,
+        frame: Frame,
+    ) -> Result<(HeardOne, bool), GarageError>
+        requires seated { IsSeated self.old parked.old.seat (name_of parked.old.unit) parked.old.events }
+        requires told { memory_told parked.old.seat self.old.journal ≡ Some (memory_of parked.old.unit) }
+        requires next { next_for (state_of self.old) parked.old.seat ≡ Some frame }
+        ensures kept { (parked.new.seat ≡ parked.old.seat) × (name_of parked.new.unit ≡ name_of parked.old.unit) }
+        ensures ok { IfOk result (λ h. (u : _) × (parked.new.unit ≡ record parked.old.unit { value = u }) × Hears self.old parked.old.seat (memory_of parked.old.unit) (Answers parked.old.unit) parked.old.unit.value h.0 self.new (memory_of parked.new.unit) u) }
+        ensures counted { IfOk result (λ h. parked.new.events ≡ counted_hearing parked.old.events h.0) }
+        ensures seated { OnOk result (IsSeated self.new parked.new.seat (name_of parked.new.unit) parked.new.events) }
+        ensures told { IfOk result (λ h. IsTrue h.1 → memory_told parked.new.seat self.new.journal ≡ Some (memory_of parked.new.unit)) }
+        ensures only { IfErr result IsWant }
+        ensures err { OnErr result ((self.new ≡ self.old) × (parked.new ≡ parked.old)) }
+    {
+        let heard = self.react_to(alloc, parked.seat, frame, &mut *parked.unit, true)?;
+        parked.events = self.events_of(parked.seat);
+        Ok(heard)
     }
 
     /// A unit in its seat hears its next frame.

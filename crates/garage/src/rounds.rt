@@ -1,15 +1,14 @@
-ghost use Rattle.std.specs.Prelude.{◌≡◌, ◌≢◌, ◌<◌, ◌+◌, ◌↔◌, ℕ, suc, length, slice_get, true, IfOk, IfErr, IfSome, IsErrOf, IsTrue, OnErr, OnOk, Some};
+ghost use Rattle.std.specs.Prelude.{◌≡◌, ◌≢◌, ◌<◌, ◌+◌, ◌↔◌, ℕ, suc, length, slice_get, true, IfOk, IfErr, IfSome, IsErrOf, IsTrue, Some};
 ghost use Rattle.std.specs.Bool.{MatchBool};
 ghost use Rattle.journal.specs.Promises.{KeepsLists};
 ghost use Rattle.garage.specs.Calls.{IsWant};
-ghost use Rattle.garage.specs.Crew.{AreLastPassers, AreSeated, AreUntouched, Comes, IsCrew};
+ghost use Rattle.garage.specs.Crew.{AreSeated, AreUntouched, Comes, IsCrew};
 
 use crate::error::GarageError;
 use crate::garage::Garage;
 use crate::plug::Parked;
 use bus_ledger::Carried;
 use can_frame::Reading;
-use node_core::Passers;
 use std::alloc::Global;
 use unit_trait::Unit;
 
@@ -116,35 +115,17 @@ impl Garage {
         ensures comes { Comes self.old self.new }
         ensures only { IfErr result IsWant }
     {
-        let mut passers = self.last_passers();
-        for i in 0..units.len() {
-            passers = self.hear_in_turn(alloc, &mut *units, &mut *marks, i, passers)?;
+        let mut next = 0;
+        for _ in 0..units.len() {
+            let sifted = self.sifted_last();
+            next = self.hear_last(&mut *units, &*marks, next, &sifted);
+            if next >= units.len() {
+                return self.read_rest(alloc);
+            }
+            self.hear_rest(alloc, &mut *units, &mut *marks, next)?;
+            next += 1;
         }
         self.read_rest(alloc)
-    }
-
-    /// The i-th unit hears all that it has not heard. `passers` are those of the last frame of the wire; answers them as they are
-    /// afterwards.
-    fn hear_in_turn(
-        &mut self,
-        alloc: Global,
-        units: &mut [Parked],
-        marks: &mut [bool],
-        i: usize,
-        passers: Passers,
-    ) -> Result<Passers, GarageError>
-        requires crew { IsCrew (λ p. record { seat = p.seat; name = name_of p.unit; events = p.events; memory = memory_of p.unit }) self.old units.old marks.old }
-        requires last { AreLastPassers passers self.old }
-        ensures crew { IsCrew (λ p. record { seat = p.seat; name = name_of p.unit; events = p.events; memory = memory_of p.unit }) self.new units.new marks.new }
-        ensures last { IfOk result (λ p. AreLastPassers p self.new) }
-        ensures comes { Comes self.old self.new }
-        ensures only { IfErr result IsWant }
-    {
-        if self.pass_marked(&mut *units, &*marks, i, passers) {
-            return Ok(passers);
-        }
-        self.hear_rest(alloc, units, marks, i)?;
-        Ok(self.last_passers())
     }
 
     /// The i-th unit hears all that it has not heard; nothing, where there is no such unit.

@@ -1,13 +1,14 @@
 ghost use Rattle.std.specs.Prelude.{◌≡◌, ◌+◌, ◌<◌, ◌≤◌, ◌^◌};
 ghost use Rattle.fault_memory.specs.Memory.{MemoryValue};
 ghost use Rattle.garage.specs.Answers.{PassesNext};
-ghost use Rattle.garage.specs.Crew.{AreLastPassers, AreOthersUntouched, Comes, IsCrew};
+ghost use Rattle.garage.specs.Crew.{AreOthersUntouched, Comes, IsCrew, IsLastSifted};
 
 use crate::garage::Garage;
 use crate::plug::Parked;
 use crate::room::has_room;
 use crate::rounds::is_marked;
-use node_core::Passers;
+use can_frame::GLOBAL_ADDRESS;
+use node_core::Sifted;
 use unit_trait::Unit;
 
 /// What a frame says is found once for all units: most frames can be told from their identifier to concern none of them.
@@ -16,82 +17,119 @@ impl Garage {
     ghost use Rattle.bus_ledger.specs.BusValue.{IsUnit};
     ghost use Rattle.journal.specs.Journal.{memory_told, state_of, IsSeated};
 
-    /// The units that are known to pass over the last frame of the wire.
-    pub(crate) fn last_passers(&self) -> Passers
-        ensures { AreLastPassers result self.now }
+    /// What the last frame of the wire tells the units that it asks nothing of.
+    #[tactic(auto, using(crate::proofs::LastFrames::none_sifted))]
+    pub(crate) fn sifted_last(&self) -> Sifted
+        ensures { IsLastSifted result self.now }
     {
         let Some(last) = self.bus.wire_len().checked_sub(1) else {
-            return Passers::Unknown;
+            return Sifted::Elsewhere(GLOBAL_ADDRESS);
         };
         match self.bus.wire_frame(last) {
-            Some(frame) => Passers::of(&frame),
-            None => Passers::Unknown,
+            Some(frame) => Sifted::of(&frame),
+            None => Sifted::Elsewhere(GLOBAL_ADDRESS),
         }
     }
 
-    /// The i-th unit passes over the last frame of the wire, where it is marked, one of these passers, and has heard all but that
-    /// frame; answers whether that is so. Else nothing changes, and the unit is to hear as others do.
+    /// From the i-th unit on each in turn hears the last frame of the wire by what was sifted of it, as far as that goes: where a unit
+    /// is not marked, has more to hear, or does not settle the frame, it and all after it are as they were, and its number is
+    /// answered.
     ///
     /// Takes no memory: where the journal has no room ready, nothing changes either.
-    pub(crate) fn pass_marked(
+    pub(crate) fn hear_last(
+        &mut self,
+        units: &mut [Parked],
+        marks: &[bool],
+        first: usize,
+        sifted: &Sifted,
+    ) -> usize
+        requires crew { IsCrew (λ p. record { seat = p.seat; name = name_of p.unit; events = p.events; memory = memory_of p.unit }) self.old units.old marks.now }
+        requires last { IsLastSifted sifted.now self.old }
+        ensures crew { IsCrew (λ p. record { seat = p.seat; name = name_of p.unit; events = p.events; memory = memory_of p.unit }) self.new units.new marks.now }
+        ensures comes { Comes self.old self.new }
+    {
+        for i in first..units.len() {
+            if !self.settle_marked(&mut *units, marks, i, sifted) {
+                return i;
+            }
+        }
+        units.len()
+    }
+
+    /// The i-th unit, where it is marked, settles the last frame of the wire, or has heard all; answers whether that is so. Else
+    /// nothing changes, and the unit is to hear as others do.
+    #[inline(always)]
+    fn settle_marked(
         &mut self,
         units: &mut [Parked],
         marks: &[bool],
         i: usize,
-        passers: Passers,
+        sifted: &Sifted,
     ) -> bool
         requires crew { IsCrew (λ p. record { seat = p.seat; name = name_of p.unit; events = p.events; memory = memory_of p.unit }) self.old units.old marks.now }
-        requires last { AreLastPassers passers self.old }
+        requires last { IsLastSifted sifted.now self.old }
         ensures crew { IsCrew (λ p. record { seat = p.seat; name = name_of p.unit; events = p.events; memory = memory_of p.unit }) self.new units.new marks.now }
-        ensures last { AreLastPassers passers self.new }
+        ensures last { IsLastSifted sifted.now self.new }
         ensures comes { Comes self.old self.new }
     {
         if i >= units.len() || !is_marked(marks, i) {
             return false;
         }
-        self.pass_parked(&mut units[i], passers)
+        self.settle_parked(&mut units[i], sifted)
     }
 
-    /// A unit in its seat, whose memory is the one that its latest event tells, passes over the last frame of the wire, where it
-    /// has heard all but that frame, is one of its passers, and the journal has room; answers whether that is so. Else nothing
+    /// A unit in its seat, whose memory is the one that its latest event tells, settles the last frame of the wire, where that is the
+    /// only one that it has not heard, and the journal has room; or it has heard all. Answers whether that is so; else nothing
     /// changes.
-    fn pass_parked(&mut self, parked: &mut Parked, passers: Passers) -> bool
+    #[inline(always)]
+    fn settle_parked(&mut self, parked: &mut Parked, sifted: &Sifted) -> bool
         requires seated { IsSeated self.old parked.old.seat (name_of parked.old.unit) parked.old.events }
         requires told { memory_told parked.old.seat self.old.journal ≡ Some (memory_of parked.old.unit) }
-        requires last { AreLastPassers passers self.old }
+        requires last { IsLastSifted sifted.now self.old }
         ensures kept { (parked.new.seat ≡ parked.old.seat) × (name_of parked.new.unit ≡ name_of parked.old.unit) }
         ensures seated { IsSeated self.new parked.new.seat (name_of parked.new.unit) parked.new.events }
         ensures told { memory_told parked.new.seat self.new.journal ≡ Some (memory_of parked.new.unit) }
         ensures others { AreOthersUntouched parked.old.seat self.old self.new }
-        ensures last { AreLastPassers passers self.new }
+        ensures last { IsLastSifted sifted.now self.new }
         ensures comes { Comes self.old self.new }
     {
-        if !self.pass_last(parked.seat, passers) {
+        if self.has_heard_all(parked.seat) {
+            return true;
+        }
+        if !self.settle_last(parked.seat, sifted) {
             return false;
         }
         parked.events = self.events_of(parked.seat);
         true
     }
 
-    /// The unit on the seat, whose memory is the one that its latest event tells, passes over the last frame of the wire, where it
-    /// has heard all but that frame, is one of its passers, and the journal has room; answers whether that is so. Else nothing
-    /// changes.
-    fn pass_last(&mut self, seat: u32, passers: Passers) -> bool
+    /// Whether the unit on the seat has heard the whole wire.
+    #[inline(always)]
+    fn has_heard_all(&self, seat: u32) -> bool
+        requires { IsUnit (state_of self.now).traffic seat }
+    {
+        self.bus.unheard(seat) == 0
+    }
+
+    /// The unit on the seat, whose memory is the one that its latest event tells, settles the last frame of the wire, where that is
+    /// the only one that it has not heard, and the journal has room; answers whether that is so. Else nothing changes.
+    #[inline(always)]
+    fn settle_last(&mut self, seat: u32, sifted: &Sifted) -> bool
         requires unit { IsUnit (state_of self.old).traffic seat }
         requires told { (m : MemoryValue) × (memory_told seat self.old.journal ≡ Some m) }
-        requires last { AreLastPassers passers self.old }
-        ensures passed { (m : MemoryValue) → memory_told seat self.old.journal ≡ Some m → IsTrue result → PassesNext self.old seat m self.new }
+        requires last { IsLastSifted sifted.now self.old }
+        ensures settled { (m : MemoryValue) → memory_told seat self.old.journal ≡ Some m → IsTrue result → PassesNext self.old seat m self.new }
         ensures stays { IsFalse result → self.new ≡ self.old }
-        ensures last { AreLastPassers passers self.new }
+        ensures last { IsLastSifted sifted.now self.new }
     {
-        let Some(_) = self.bus.last_for(seat) else {
-            return false;
-        };
-        let place = &mut self.places[seat as usize - 1];
-        if !place.node.passes_over(passers) {
+        if self.bus.unheard(seat) != 1 {
             return false;
         }
         if !has_room(&self.journal, self.live + 1, self.limit) {
+            return false;
+        }
+        let place = &mut self.places[seat as usize - 1];
+        if !place.node.settle(sifted) {
             return false;
         }
         place.tally.events += 1;

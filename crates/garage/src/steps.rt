@@ -1,4 +1,4 @@
-ghost use Rattle.std.specs.Prelude.{◌≡◌, ◌+◌, ◌<◌, ◌^◌};
+ghost use Rattle.std.specs.Prelude.{◌≡◌, ◌+◌, ◌<◌, ◌^◌, IsTrue};
 ghost use Rattle.journal.specs.Steps.{begins_session, session_message_after};
 ghost use Rattle.garage.specs.Answers.{count_with_begun};
 
@@ -8,7 +8,7 @@ use crate::queueing::{Numbering, do_heard, queue_outs};
 use crate::room::{make_ready, make_room, ready_to_note};
 use can_frame::{Frame, GLOBAL_ADDRESS};
 use dm_messages::Kind;
-use node_core::{Answer, Begun, NodeError, Outs, Started};
+use node_core::{Answer, Begun, NodeError, Outs, Sifted, Started};
 use std::alloc::Global;
 use unit_trait::Unit;
 
@@ -68,10 +68,10 @@ impl Garage {
         let Some(frame) = self.next_for(seat) else {
             return Ok((HeardOne::Nothing, false));
         };
-        if self.hear_quietly(alloc, seat, &frame, &*unit)? {
+        if self.hear_quietly(seat, &frame, &*unit)? {
             return Ok((HeardOne::Frame(frame), true));
         }
-        self.react_to(alloc, seat, frame, unit)
+        self.react_to(alloc, seat, frame, unit, false)
     }
 
     /// The next frame that the unit on the seat has not heard.
@@ -89,7 +89,6 @@ impl Garage {
     /// Refused where the journal has no room, then where there is no memory; then nothing changed.
     fn hear_quietly(
         &mut self,
-        alloc: Global,
         seat: u32,
         frame: &Frame,
         unit: &dyn Unit,
@@ -103,8 +102,9 @@ impl Garage {
         ensures err { OnErr result (self.new ≡ self.old) }
     {
         let memory = ready_to_note(&mut self.journal, self.live + 1, self.limit, seat, unit)?;
+        let sifted = Sifted::of(frame);
         let place = &mut self.places[seat as usize - 1];
-        if !place.node.hear_quietly(alloc, frame)? {
+        if !place.node.settle(&sifted) {
             return Ok(false);
         }
         place.tally.events += 1;
@@ -116,12 +116,7 @@ impl Garage {
     /// What `hear_quietly` does for a unit whose memory is the one that its latest event tells, which is not looked at.
     ///
     /// Refused where the journal has no room, then where there is no memory; then nothing changed.
-    pub(crate) fn pass(
-        &mut self,
-        alloc: Global,
-        seat: u32,
-        frame: &Frame,
-    ) -> Result<bool, GarageError>
+    pub(crate) fn pass(&mut self, seat: u32, frame: &Frame) -> Result<bool, GarageError>
         requires unit { IsUnit (state_of self.old).traffic seat }
         requires next { next_for (state_of self.old) seat ≡ Some frame.now }
         requires told { (m : MemoryValue) × (memory_told seat self.old.journal ≡ Some m) }
@@ -131,8 +126,9 @@ impl Garage {
         ensures err { OnErr result (self.new ≡ self.old) }
     {
         make_room(&mut self.journal, self.live + 1, self.limit)?;
+        let sifted = Sifted::of(frame);
         let place = &mut self.places[seat as usize - 1];
-        if !place.node.hear_quietly(alloc, frame)? {
+        if !place.node.settle(&sifted) {
             return Ok(false);
         }
         place.tally.events += 1;
@@ -142,20 +138,23 @@ impl Garage {
     }
 
     /// The unit on the seat hears this frame, its next one. It is asked exactly what the frame puts to it, and is else as it was.
+    /// `told` is whether its memory is known to be the one that its latest event tells, and the answer says so of it afterwards.
     ///
     /// Refused where the journal has no room, then where there is no memory; then nothing changed, and the unit was not asked.
-    fn react_to(
+    pub(crate) fn react_to(
         &mut self,
         alloc: Global,
         seat: u32,
         frame: Frame,
         unit: &mut dyn Unit,
+        told: bool,
     ) -> Result<(HeardOne, bool), GarageError>
         requires unit { IsUnit (state_of self.old).traffic seat }
         requires next { next_for (state_of self.old) seat ≡ Some frame }
+        requires told { IsTrue told → memory_told seat self.old.journal ≡ Some (memory_of unit.old) }
         ensures name { name_of unit.new ≡ name_of unit.old }
         ensures ok { IfOk result (λ h. (u : _) × (unit.new ≡ (unit.old.0, u)) × Hears self.old seat (memory_of unit.old) (Answers unit.old) unit.old.1 h.0 self.new (memory_of unit.new) u) }
-        ensures untold { IfOk result (λ h. h.1 ≡ false) }
+        ensures told { IfOk result (λ h. IsTrue h.1 → memory_told seat self.new.journal ≡ Some (memory_of unit.new)) }
         ensures full { HearsFull self.old seat (heard_one result) }
         ensures only { IfErr result IsWant }
         ensures err { OnErr result (self.new ≡ self.old) }
@@ -168,6 +167,7 @@ impl Garage {
             self.limit,
             seat,
             &*unit,
+            told,
         )?;
         let place = &mut self.places[seat as usize - 1];
         let heard = place.node.hear(alloc, &frame, &mut *unit)?;
@@ -183,7 +183,7 @@ impl Garage {
         do_heard(&mut self.bus, seat, heard, numbering);
         self.begun = begun;
         self.journal.note_hear(seat, memory, answer);
-        Ok((HeardOne::Frame(frame), false))
+        Ok((HeardOne::Frame(frame), is_unasked(answer)))
     }
 
     /// The unit on the seat begins a DM1 of its memory.
@@ -239,6 +239,7 @@ impl Garage {
             self.limit,
             seat,
             unit,
+            false,
         )?;
         let place = &mut self.places[seat as usize - 1];
         place.tally.events += 1;
@@ -269,6 +270,16 @@ impl Garage {
         place.tally.events += 1;
         self.journal.note_turned(seat);
         Ok(())
+    }
+}
+
+/// Whether nothing was put to the unit.
+fn is_unasked(answer: Answer) -> bool
+    ensures { IsTrue result → answer ≡ Answer.NotAsked }
+{
+    match answer {
+        Answer::NotAsked => true,
+        Answer::Agreed | Answer::Declined => false,
     }
 }
 

@@ -3,5 +3,5 @@ pub mod Unasked
 pub mod NineBytes
 pub mod PartLists
 pub mod Contested
-pub mod Passing
+pub mod Sifting
 pub mod HalfCommandLists

@@ -1,4 +1,4 @@
--- What a unit passes over.
+-- What is sifted of a frame.
 use Rattle.std.proofs.Common.{◌≡◌, ◌≢◌, ℕ, ◌≤◌, ◌<◌, ◌⊎◌, inl, inr, Bool, true, false, not, ◌&&◌, ◌||◌, ◌==◌, nat_le, List, length, slice_index, slice_set, Option, Some, None, if◌then◌else◌, arith, refl, sym, ap, ◌∙◌, subst, ne_eqb}
 use Rattle.std.proofs.lemmas.List.{set-get_or}
 use Rattle.can_frame.specs.Fields.{pgn_of, pdu_format_of, pdu_specific_of, source_of, destination_of}
@@ -9,16 +9,18 @@ use Rattle.transport.specs.declared.control.Control.TheVariants.{Rts, Cts, EndAc
 use Rattle.address_claim.specs.Claiming.{is_held}
 use Rattle.requests.specs.declared.commanded.Commanded.{Commanded}
 use Rattle.dm_messages.specs.declared.kind.Kind.TheVariants.{Dm1, Dm2}
-use Rattle.parameter_group.specs.Group.{Group, Request, Acknowledgment, Diagnostic, ConnectionManagement, DataTransfer, Other, group_number, request_group, acknowledgment_group, control_group, group_by, group_of}
+use Rattle.parameter_group.specs.Group.{Group, AddressClaimed, CannotClaim, Request, Acknowledgment, Diagnostic, ConnectionManagement, DataTransfer, Other, group_number, request_group, acknowledgment_group, control_group, group_by, group_of}
 use Rattle.parameter_group.proofs.Cases.{of_control, of_packet, of_request, to_one}
 use Rattle.node_core.specs.NodeValue.{NodeValue}
-use Rattle.node_core.specs.Commanding.{completed, continued, half_from, is_half, is_to_all, for_name, goes_on}
+use Rattle.node_core.specs.Commanding.{command_started, completed, continued, half_from, is_half, is_to_all, for_name}
 use Rattle.node_core.specs.Requested.{is_concerned}
-use Rattle.node_core.specs.Reaction.{command_heard, noted_from, on_command, put_by_command, put_to, reaction_to}
+use Rattle.node_core.specs.Reaction.{announced, command_heard, noted_from, on_claim, on_command, packet_heard, put_by_command, put_to, reaction_to}
 use Rattle.node_core.specs.Deed.{Deed, Nothing, after_deed}
 use Rattle.node_core.specs.declared.heard.Answer.{Answer}
 use Rattle.fault_memory.specs.Memory.{MemoryValue}
-use Rattle.node_core.specs.Passing.{IsHeardQuietly}
+use Rattle.node_core.specs.Passing.{IsHeardQuietly, IsSifted, Settles, begun_half, with_half}
+use Rattle.node_core.specs.declared.sifted.Sifted.{Sifted}
+use Rattle.node_core.specs.declared.sifted.Sifted.TheVariants.{Passed, Elsewhere, Claimed, Announced, Packet}
 use Rattle.node_core.specs.declared.commanding.HalfCommand.{HalfCommand}
 use Rattle.node_core.specs.declared.commanding.HalfCommand.TheVariants as half
 
@@ -122,69 +124,100 @@ passes_message node f destination group to e =
     passed_over node f (subst (IsPassed node) (sym (of_control f group))
     (control_passed node (pdu_specific_of f.id) (source_of f.id) (control_of f.bytes) (subst (λ (d : ℕ). is_concerned node.claimer.held d ≡ false) same e)))
 
--- ---- packets that go on with nothing
+-- ---- what each unit passes over, or each that it does not concern
 
-nothing_half : (h : HalfCommand) → is_half h ≡ false → h ≡ half.Nothing
-nothing_half half.Nothing e = refl
-nothing_half half.Started e = absurd cc
-nothing_half (half.First piece) e = absurd cc
+all_pass : (f : FrameValue) → ((node : NodeValue) → IsHeardQuietly node f node) → IsSifted Passed f
+all_pass f passes = record { heard = λ node node' s. subst (λ (n : NodeValue). IsHeardQuietly node f n) (sym s) (passes node) }
 
-one_of : (a b : Bool) → (a && b) ≡ false → (a ≡ false) ⊎ (b ≡ false)
-one_of true b e = inr e
-one_of false b e = inl refl
+pub sifted_to_all : (f : FrameValue) → 240 ≤ pdu_format_of f.id → IsSifted Passed f
+sifted_to_all f high = all_pass f (λ node. passes_to_all node f high)
+
+pub sifted_other : (f : FrameValue) → pgn_of f.id ≢ 60928 → pgn_of f.id ≢ 59904 → pgn_of f.id ≢ 60416 → pgn_of f.id ≢ 60160 → IsSifted Passed f
+sifted_other f a b c d = all_pass f (λ node. passes_other node f a b c d)
+
+elsewhere : (f : FrameValue) (destination : ℕ) → ((node : NodeValue) → is_concerned node.claimer.held destination ≡ false → IsHeardQuietly node f node) → IsSifted (Elsewhere destination) f
+elsewhere f destination passes = record { heard = λ node node' s. subst (λ (n : NodeValue). IsHeardQuietly node f n) (sym s.1) (passes node s.0) }
+
+pub sifted_request : (f : FrameValue) (destination : ℕ) → pgn_of f.id ≡ 59904 → destination_of f.id ≡ Some destination → IsSifted (Elsewhere destination) f
+sifted_request f destination group to = elsewhere f destination (λ node e. passes_request node f destination group to e)
+
+pub sifted_message : (f : FrameValue) (destination : ℕ) → pgn_of f.id ≡ 60416 → destination_of f.id ≡ Some destination → IsSifted (Elsewhere destination) f
+sifted_message f destination group to = elsewhere f destination (λ node e. passes_message node f destination group to e)
+
+-- a frame to all concerns each
+pub sifted_unknown : (f : FrameValue) → IsSifted (Elsewhere 255) f
+sifted_unknown f = elsewhere f 255 (λ node e. absurd (concerned node e))
+  where
+    concerned : (node : NodeValue) → is_concerned node.claimer.held 255 ≡ false → ⊥
+    concerned node e = cc
+
+-- ---- what tells a unit something to keep
+
+-- by what was said: nothing is put to the unit, it does nothing, and keeps this
+record IsTold (node : NodeValue) (g : Group) (node' : NodeValue) : Type 0 where
+  pub unasked : put_to node g ≡ None
+  pub idle : (memory : MemoryValue) (answer : Answer) → reaction_to node memory answer g ≡ Nothing
+  pub noted : noted_from node g ≡ node'
+
+told : (node node' : NodeValue) (f : FrameValue) (g : Group) → group_of f ≡ g → IsTold node g node' → IsHeardQuietly node f node'
+told node node' f g is t =
+    let t' : IsTold node (group_of f) node' = subst (λ (h : Group). IsTold node h node') (sym is) t in
+    record {
+      unasked = t'.unasked;
+      idle = t'.idle;
+      keeps = λ memory answer. ap (λ (d : Deed). after_deed (noted_from node (group_of f)) d) (t'.idle memory answer) ∙ t'.noted;
+    }
+
+pub sifted_claim : (f : FrameValue) (source name : ℕ) → group_of f ≡ AddressClaimed source name → IsSifted (Claimed source name) f
+sifted_claim f source name is = record { heard = λ node node' s. told node node' f (AddressClaimed source name) is (record { unasked = refl; idle = λ memory answer. s.0; noted = sym s.1 }) }
+
+pub sifted_cannot_claim : (f : FrameValue) (name : ℕ) → group_of f ≡ CannotClaim name → IsSifted Passed f
+sifted_cannot_claim f name is = all_pass f (λ node. told node node f (CannotClaim name) is (record { unasked = refl; idle = λ memory answer. refl; noted = refl }))
+
+pub sifted_nothing : (f : FrameValue) → group_of f ≡ Other → IsSifted Passed f
+sifted_nothing f is = all_pass f (λ node. told node node f Other is (record { unasked = refl; idle = λ memory answer. refl; noted = refl }))
+
+-- an announcement
+started_again : (b : Bool) → begun_half (is_half (if b then half.Started else half.Nothing)) ≡ (if b then half.Started else half.Nothing)
+started_again true = refl
+started_again false = refl
+
+is_announced : (b : Bool) (node node' : NodeValue) (source size pgn : ℕ) → b ≡ true → node' ≡ with_half node source (begun_half (is_half (command_started size pgn)))
+    → (if b then with_half node source (command_started size pgn) else node) ≡ node'
+is_announced true node node' source size pgn e s = sym (s ∙ ap (λ (h : HalfCommand). with_half node source h) (started_again ((size == 9) && (pgn == 65240))))
+is_announced false node node' source size pgn e s = absurd cc
+
+pub sifted_announcement : (f : FrameValue) (source destination size packets pgn : ℕ) → group_of f ≡ ConnectionManagement source destination (Bam size packets pgn) → is_to_all destination source ≡ true
+    → IsSifted (Announced source (is_half (command_started size pgn))) f
+sifted_announcement f source destination size packets pgn is all = record {
+  heard = λ node node' s. told node node' f (ConnectionManagement source destination (Bam size packets pgn)) is
+      (record { unasked = refl; idle = λ memory answer. refl; noted = is_announced (is_to_all destination source) node node' source size pgn all s });
+}
+
+-- ---- packets
 
 -- a packet to one address, or from one that cannot be held
 single_passed : (node : NodeValue) (destination source : ℕ) (bytes : List ℕ) → is_to_all destination source ≡ false → IsPassed node (DataTransfer source destination bytes)
 single_passed node destination source bytes e = record { unasked = rw e refl; idle = λ memory answer. rw e refl; unnoted = rw e refl }
 
-none_heard : (b : Bool) (name : ℕ) (o : Option Commanded) → o ≡ None → (if b then for_name name o else None) ≡ None
-none_heard true name o e = ap (for_name name) e
-none_heard false name o e = refl
+pub sifted_single : (f : FrameValue) (destination : ℕ) → pgn_of f.id ≡ 60160 → destination_of f.id ≡ Some destination → is_to_all destination (source_of f.id) ≡ false → IsSifted Passed f
+sifted_single f destination group to e = all_pass f (λ node. passes node)
+  where
+    passes : (node : NodeValue) → IsHeardQuietly node f node
+    passes node =
+        let same = same_destination f.id destination (omega arith) to in
+        passed_over node f (subst (IsPassed node) (sym (of_packet f group))
+        (single_passed node (pdu_specific_of f.id) (source_of f.id) f.bytes (subst (λ (d : ℕ). is_to_all d (source_of f.id) ≡ false) same e)))
 
-kept_halves : (b : Bool) (node : NodeValue) (halves : List HalfCommand) → halves ≡ node.half_commands → (if b then record node { half_commands = halves } else node) ≡ node
-kept_halves true node halves e = ap (λ (l : List HalfCommand). let n : NodeValue = record node { half_commands = l } in n) e
-kept_halves false node halves e = refl
+-- a packet to all
+packet_told : (node node' : NodeValue) (destination source : ℕ) (bytes : List ℕ) → is_to_all destination source ≡ true → for_name node.claimer.name (completed (half_from node.half_commands source) bytes) ≡ None
+    → node' ≡ with_half node source (continued (half_from node.half_commands source) bytes) → IsTold node (DataTransfer source destination bytes) node'
+packet_told node node' destination source bytes all none kept =
+    let lone : command_heard node source destination bytes ≡ None = rw all none in
+    record { unasked = ap put_by_command lone; idle = λ memory answer. ap (on_command node answer) lone; noted = rw all (sym kept) }
 
--- one of which nothing is half joined
-lone_passed : (node : NodeValue) (destination source : ℕ) (bytes : List ℕ) → half_from node.half_commands source ≡ half.Nothing → IsPassed node (DataTransfer source destination bytes)
-lone_passed node destination source bytes e =
-    let all = is_to_all destination source in
-    let was = half_from node.half_commands source in
-    let none : command_heard node source destination bytes ≡ None =
-    none_heard all node.claimer.name (completed was bytes) (ap (λ (h : HalfCommand). completed h bytes) e) in
-    let same : continued was bytes ≡ was = ap (λ (h : HalfCommand). continued h bytes) e ∙ sym e in
-    let halves : slice_set node.half_commands source (continued was bytes) ≡ node.half_commands =
-    ap (λ (h : HalfCommand). slice_set node.half_commands source h) same ∙ set-get_or node.half_commands source half.Nothing in
-    record {
-      unasked = ap put_by_command none;
-      idle = λ memory answer. ap (on_command node answer) none;
-      unnoted = kept_halves all node (slice_set node.half_commands source (continued was bytes)) halves;
-    }
-
-pub passes_packet : (node : NodeValue) (f : FrameValue) (destination : ℕ) → pgn_of f.id ≡ 60160 → destination_of f.id ≡ Some destination
-    → goes_on node.half_commands (source_of f.id) destination ≡ false → IsHeardQuietly node f node
-passes_packet node f destination group to e =
+pub sifted_packet : (f : FrameValue) (destination : ℕ) → pgn_of f.id ≡ 60160 → destination_of f.id ≡ Some destination → is_to_all destination (source_of f.id) ≡ true → IsSifted (Packet (source_of f.id) f) f
+sifted_packet f destination group to e =
     let same = same_destination f.id destination (omega arith) to in
-    let source = source_of f.id in
-    let one = one_of (is_to_all destination source) (is_half (half_from node.half_commands source)) e in
-    let passed : IsPassed node (DataTransfer source destination f.bytes) = elim one [
-      | inl single ↦ single_passed node destination source f.bytes single
-      | inr lone ↦ lone_passed node destination source f.bytes (nothing_half (half_from node.half_commands source) lone)
-    ] in
-    passed_over node f (subst (IsPassed node) (sym (of_packet f group)) (subst (λ (d : ℕ). IsPassed node (DataTransfer source d f.bytes)) same passed))
-
--- ---- a broadcast packet, at a unit that has nothing half joined from its source; and a packet to one address
-
-not_half : (a b : Bool) → b ≡ false → (a && b) ≡ false
-not_half true b e = e
-not_half false b e = refl
-
-pub passes_unjoined : (node : NodeValue) (f : FrameValue) (destination : ℕ) → pgn_of f.id ≡ 60160 → destination_of f.id ≡ Some destination
-    → is_half (half_from node.half_commands (source_of f.id)) ≡ false → IsHeardQuietly node f node
-passes_unjoined node f destination group to e =
-    passes_packet node f destination group to (not_half (is_to_all destination (source_of f.id)) (is_half (half_from node.half_commands (source_of f.id))) e)
-
-pub passes_single : (node : NodeValue) (f : FrameValue) (destination : ℕ) → pgn_of f.id ≡ 60160 → destination_of f.id ≡ Some destination
-    → is_to_all destination (source_of f.id) ≡ false → IsHeardQuietly node f node
-passes_single node f destination group to e =
-    passes_packet node f destination group to (ap (λ (b : Bool). b && is_half (half_from node.half_commands (source_of f.id))) e)
+    let all : is_to_all (pdu_specific_of f.id) (source_of f.id) ≡ true = subst (λ (d : ℕ). is_to_all d (source_of f.id) ≡ true) same e in
+    record { heard = λ node node' s. told node node' f (DataTransfer (source_of f.id) (pdu_specific_of f.id) f.bytes) (of_packet f group) (packet_told node node' (pdu_specific_of f.id) (source_of f.id) f.bytes all s.0 s.1) }

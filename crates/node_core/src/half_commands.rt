@@ -1,6 +1,7 @@
 ghost use Rattle.std.specs.Prelude.{◌≡◌, ◌≤◌, IsTrue, IsFalse, None, OnOk, OnErr, replicate, slice_set};
 ghost use Rattle.can_frame.specs.declared.address.TheConstants.{GREATEST_ADDRESS};
-ghost use Rattle.node_core.specs.Commanding.{completed, continued, for_name, half_from, is_half};
+ghost use Rattle.node_core.specs.Commanding.{completed, continued, for_name, half_from};
+ghost use Rattle.node_core.specs.Passing.{begun_half};
 
 use crate::commanding::{HalfCommand, for_name};
 use can_frame::HOLDABLE_ADDRESSES;
@@ -52,21 +53,6 @@ impl HalfCommands {
         }
     }
 
-    /// Whether something is half joined from a source.
-    #[tactic(auto, using(crate::proofs::HalfCommandLists::half_there))]
-    pub fn is_half(&self, source: u8) -> bool
-        requires { source ≤ GREATEST_ADDRESS }
-        ensures { result ≡ is_half (half_from self.now source) }
-    {
-        let Some(halves) = &self.by_source else {
-            return false;
-        };
-        let Some(half) = halves.get(&source) else {
-            return false;
-        };
-        half.is_half()
-    }
-
     /// Keeps this as what is half joined from a source. Only where its source has no place yet can memory be refused.
     pub fn keep(&mut self, alloc: Global, source: u8, half: HalfCommand) -> Result<(), AllocError>
         requires { source ≤ GREATEST_ADDRESS }
@@ -100,6 +86,28 @@ impl HalfCommands {
             return false;
         }
         *half = half.continued(bytes);
+        true
+    }
+
+    /// An announcement from a source leaves nothing half joined, or the start of a commanded address; answers whether it could be kept:
+    /// where it starts one and its source has no place yet, nothing changes. Takes no memory.
+    #[tactic(auto, using(crate::proofs::HalfCommandLists::none_dropped, crate::proofs::HalfCommandLists::half_missing, crate::proofs::HalfCommandLists::half_overwritten))]
+    pub fn restart(&mut self, source: u8, starts: bool) -> bool
+        requires { source ≤ GREATEST_ADDRESS }
+        ensures begun { IsTrue result → self.new ≡ slice_set self.old source (begun_half starts) }
+        ensures left { IsFalse result → self.new ≡ self.old }
+    {
+        let Some(halves) = &mut self.by_source else {
+            return !starts;
+        };
+        let Some(half) = halves.get_mut(&source) else {
+            return !starts;
+        };
+        *half = if starts {
+            HalfCommand::Started
+        } else {
+            HalfCommand::Nothing
+        };
         true
     }
 

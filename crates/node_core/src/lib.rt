@@ -17,4 +17,4 @@ pub use error::NodeError;
 pub use heard::{Answer, Begun, Heard, Started, Withdraw};
 pub use node::Node;
 pub use out::{Out, Outs, Part, Piece};
-pub use sifted::Passers;
+pub use sifted::Sifted;

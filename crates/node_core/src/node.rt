@@ -20,8 +20,8 @@ use unit_trait::Unit;
 mod asked;
 mod claims;
 mod commands;
-mod passing;
 mod sessions;
+mod settling;
 
 /// A unit's place on the bus: its NAME, the address that it holds, the claims that it has noted, what it has of commanded
 /// addresses, and its open session.

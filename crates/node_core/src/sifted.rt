@@ -1,43 +1,122 @@
-ghost use Rattle.std.specs.Prelude.{◌≡◌, ◌≢◌};
-ghost use Rattle.node_core.specs.Passing.{ArePassers};
+ghost use Rattle.std.specs.Prelude.{◌≡◌, Some};
+ghost use Rattle.can_frame.specs.Fields.{destination_of, pgn_of};
+ghost use Rattle.can_frame.specs.declared.group_numbers.TheConstants.{ADDRESS_CLAIMED, CONNECTION_MANAGEMENT, DATA_TRANSFER};
+ghost use Rattle.node_core.specs.Passing.{IsSifted};
+ghost use Rattle.parameter_group.specs.Group.{ConnectionManagement, group_of};
 
-use crate::commanding::is_broadcast;
-use can_frame::{Frame, Pgn};
+use crate::commanding::{HalfCommand, is_broadcast};
+use can_frame::{Frame, GLOBAL_ADDRESS, Pgn};
+use name_field::Name;
+use parameter_group::ParameterGroup;
+use transport::Control;
 
-/// Which units are known to pass a frame over, whatever they hold and have heard.
+/// What a frame tells the units that it asks nothing of, found once for all of them.
 ///
-/// A unit passes a frame over where hearing it puts nothing to the unit, makes it do nothing, and leaves it as it is.
+/// A unit that finds by it that the frame asks nothing of it and makes it do nothing, settles it (`Node::settle`) and need not hear it
+/// in full.
 #[derive(Clone, Copy, Debug, PartialEq, Eq)]
-pub enum Passers {
-    /// All units.
-    All,
-    /// The units that have nothing half joined of a commanded address from this source, 0 to 253.
-    Unjoined(u8),
-    /// Each unit has to look at the frame by itself.
-    Unknown,
+pub enum Sifted {
+    /// Nothing: each unit passes it over.
+    Passed,
+    /// Nothing, but to the units that a frame to this address concerns: each other one passes it over.
+    Elsewhere(u8),
+    /// An address, 0 to 253, is claimed under a NAME (SAE J1939-81).
+    Claimed {
+        source: u8,
+        name: Name,
+    },
+    /// A source, 0 to 253, announces a broadcast, which may start a commanded address (SAE J1939-21, TP.CM_BAM; -81).
+    Announced {
+        source: u8,
+        starts: bool,
+    },
+    /// A packet of a broadcast from a source, 0 to 253 (SAE J1939-21, TP.DT).
+    Packet {
+        source: u8,
+        frame: Frame,
+    },
 }
 
-impl Passers {
-    /// The units that are known to pass a frame over, as its identifier tells: all of them, where it is no claim, no request, no
-    /// connection management and no broadcast packet (SAE J1939-21, -81).
-    #[inline]
-    pub fn of(frame: &Frame) -> Passers
-        ensures { ArePassers result frame.now }
+impl Sifted {
+    /// What the frame tells those units. Most frames are told by their identifier alone.
+    pub fn of(frame: &Frame) -> Sifted
+        ensures { IsSifted result frame.now }
     {
         let id = frame.id();
         let Some(dest) = id.dest() else {
-            return Passers::All;
+            return Sifted::Passed;
         };
         match id.pgn() {
-            Pgn::ADDRESS_CLAIMED | Pgn::REQUEST | Pgn::CONNECTION_MANAGEMENT => Passers::Unknown,
-            Pgn::DATA_TRANSFER => {
-                if is_broadcast(dest, id.source()) {
-                    Passers::Unjoined(id.source())
-                } else {
-                    Passers::All
-                }
-            }
-            _ => Passers::All,
+            Pgn::ADDRESS_CLAIMED => of_claim(frame),
+            Pgn::REQUEST => Sifted::Elsewhere(dest),
+            Pgn::CONNECTION_MANAGEMENT => of_message(frame, dest),
+            Pgn::DATA_TRANSFER => of_packet(frame, dest),
+            _ => Sifted::Passed,
         }
+    }
+}
+
+/// What a claim tells.
+fn of_claim(frame: &Frame) -> Sifted
+    requires { pgn_of frame.now.id ≡ ADDRESS_CLAIMED }
+    ensures { IsSifted result frame.now }
+{
+    match ParameterGroup::read(frame) {
+        ParameterGroup::AddressClaimed { source, name } => Sifted::Claimed { source, name },
+        ParameterGroup::CannotClaim { .. } | ParameterGroup::Other => Sifted::Passed,
+        _ => Sifted::Elsewhere(GLOBAL_ADDRESS),
+    }
+}
+
+/// What a message of connection management tells.
+fn of_message(frame: &Frame, dest: u8) -> Sifted
+    requires group { pgn_of frame.now.id ≡ CONNECTION_MANAGEMENT }
+    requires dest { destination_of frame.now.id ≡ Some dest }
+    ensures { IsSifted result frame.now }
+{
+    if dest != GLOBAL_ADDRESS {
+        return Sifted::Elsewhere(dest);
+    }
+    match ParameterGroup::read(frame) {
+        ParameterGroup::ConnectionManagement {
+            source,
+            dest,
+            control,
+        } => of_control(frame, source, dest, control),
+        _ => Sifted::Elsewhere(dest),
+    }
+}
+
+/// What a message of connection management to all tells, by what it says.
+fn of_control(frame: &Frame, source: u8, dest: u8, control: Control) -> Sifted
+    requires { group_of frame.now ≡ ConnectionManagement source dest control }
+    ensures { IsSifted result frame.now }
+{
+    let Control::Bam { size, pgn, .. } = control else {
+        return Sifted::Elsewhere(GLOBAL_ADDRESS);
+    };
+    if !is_broadcast(dest, source) {
+        return Sifted::Elsewhere(GLOBAL_ADDRESS);
+    }
+    Sifted::Announced {
+        source,
+        starts: HalfCommand::started(size, pgn).is_half(),
+    }
+}
+
+/// What a packet tells.
+fn of_packet(frame: &Frame, dest: u8) -> Sifted
+    requires group { pgn_of frame.now.id ≡ DATA_TRANSFER }
+    requires dest { destination_of frame.now.id ≡ Some dest }
+    ensures { IsSifted result frame.now }
+{
+    let source = frame.id().source();
+    if is_broadcast(dest, source) {
+        Sifted::Packet {
+            source,
+            frame: *frame,
+        }
+    } else {
+        Sifted::Passed
     }
 }

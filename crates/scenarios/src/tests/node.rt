@@ -4,7 +4,7 @@ use crate::tests::frame_text::{assert_written, frame};
 use crate::tests::told::Told;
 use dm_messages::Kind;
 use name_field::Name;
-use node_core::{Answer, Heard, Node, NodeError, Out, Outs, Part, Piece, Started, Withdraw};
+use node_core::{Answer, Heard, Node, NodeError, Out, Outs, Part, Piece, Sifted, Started, Withdraw};
 use std::alloc::Global;
 use std::process::Abort;
 use std::test::Fail;
@@ -284,8 +284,11 @@ fn each_scene(rt: HostRuntime) -> Result<(), Fail> {
 /// The announcement of a commanded address, to all.
 const ANNOUNCED: &str = "1CECFFF9 20 09 00 02 FF D8 FE 00";
 
-/// Whether the unit hears each of these frames quietly, one after another, after that announcement.
-const QUIET: [(&str, bool); 14] = [
+/// A claim of another address.
+const CLAIMED: &str = "18EEFFF9 C0 00 00 00 00 00 00 00";
+
+/// Whether the unit settles each of these frames by what was sifted of it, one after another, after that announcement and that claim.
+const SETTLED: [(&str, bool); 17] = [
     ("18FECAF9 00 FF 64 00 01 01 FF FF", true),
     ("18FECBF9 00 FF 64 00 01 01 FF FF", true),
     ("18E8FFF9 00 FF FF FF 00 D3 FE 00", true),
@@ -293,24 +296,28 @@ const QUIET: [(&str, bool); 14] = [
     ("18EA00F9 CA FE 00", false),
     ("18EAFFF9 CA FE 00", false),
     ("18EEFFF9 C0 00 00 00 00 00 00 00", true),
+    ("18EEFFF8 C1 00 00 00 00 00 00 00", false),
     ("18EEFF00 00 00 00 00 00 00 00 00", false),
     ("1CEC05F9 10 16 00 04 FF CA FE 00", true),
     ("1CEC00F9 10 16 00 04 FF CA FE 00", false),
-    ("1CECFFF8 20 09 00 02 FF D8 FE 00", true),
+    ("1CECFFF8 20 09 00 02 FF D8 FE 00", false),
+    ("1CECFFF8 20 16 00 04 FF CA FE 00", true),
+    ("1CECFFF9 20 09 00 02 FF D8 FE 00", true),
     ("1CEBFFF9 01 A0 00 00 00 00 00 00", true),
     ("1CEBFFF9 02 00 05 FF FF FF FF FF", false),
     ("1CEBFFF8 01 A1 00 00 00 00 00 00", true),
 ];
 
 #[test]
-fn hears_quietly(rt: HostRuntime) -> Result<(), Fail> {
+fn settles(rt: HostRuntime) -> Result<(), Fail> {
     let alloc = rt.alloc();
     let mut node = Node::new(Name::from_number(UNIT), 0);
     let mut unit = Told::new(alloc, UNIT, true, 0)?;
     hears(alloc, &mut node, &mut unit, ANNOUNCED)?;
-    for (text, is_quiet) in &QUIET {
-        let frame = frame(alloc, text)?;
-        assert_eq!(rt; node.hear_quietly(alloc, &frame)?, *is_quiet, "{text}");
+    hears(alloc, &mut node, &mut unit, CLAIMED)?;
+    for (text, is_settled) in &SETTLED {
+        let sifted = Sifted::of(&frame(alloc, text)?);
+        assert_eq!(rt; node.settle(&sifted), *is_settled, "{text}");
     }
     Ok(())
 }

@@ -6,6 +6,7 @@ use Rattle.journal.specs.Notes.{memory_at}
 use Rattle.journal.specs.declared.event.Event.{Event}
 use Rattle.journal.specs.declared.event.Event.TheVariants.{Hear}
 use Rattle.node_core.specs.declared.heard.Answer.TheVariants.{NotAsked}
+use Rattle.garage.proofs.LastFrames.{settled_quietly}
 use Rattle.garage.proofs.Passing.{next_inside, next_there, quiet_passes, quiet_stands}
 use Rattle.garage.proofs.Standing.{place_few, place_within, unit_now}
 use Rattle.garage.proofs.garage.Garage.hear_quietly.Goals as goal
@@ -32,8 +33,8 @@ invariant_of-self-2 g c =
     let fits = ok.0 in
     let room = ok.1 in
     let n = c.note_hear.ensures.room in
-    quiet_stands a _ seat memory c.args.frame.now c.index_mut-place.result.now c.hear_quietly.new.self c.self.invariant (unit_now a c.args.self.now seat c.self.view_is c.requires.unit) lawful
-    (next_inside a c.args.self.now seat c.args.frame.now c.self.view_is c.requires.next) c.index_mut-place.ensures.value (c.in_ok-hear_quietly.ensures.quiet c.if-not-branch.false)
+    quiet_stands a _ seat memory c.args.frame.now c.index_mut-place.result.now c.settle.new.self c.self.invariant (unit_now a c.args.self.now seat c.self.view_is c.requires.unit) lawful
+    (next_inside a c.args.self.now seat c.args.frame.now c.self.view_is c.requires.next) c.index_mut-place.ensures.value (settled_quietly c.of-sifted.result c.args.frame.now c.index_mut-place.result.now.node c.settle.new.self c.of-sifted.ensures (c.settle.ensures.settled c.if-not-settle.false))
     refl (c.note_hear.ensures.items ∙ ap (λ (l : List Event). l ++ Hear seat memory NotAsked ∷ []) c.ready_to_note.ensures.items) c.mark_heard.ensures.traffic refl refl refl refl refl (omega arith) (omega arith)
 
 pub returns-clause-quiet : goal.returns-clause-quiet
@@ -51,12 +52,12 @@ returns-clause-quiet g c = λ t.
       limit = a.limit;
       bus = c.mark_heard.new.self;
       station = a.station;
-      places = with_item a.places (seat - 1) (record x { node = c.hear_quietly.new.self; tally = one_more x.tally });
+      places = with_item a.places (seat - 1) (record x { node = c.settle.new.self; tally = one_more x.tally });
       begun = a.begun;
       live = a.live;
       injected = a.injected;
       journal = c.note_hear.new.self;
     })
-    c.args.self.now seat memory _ c.args.frame.now x c.hear_quietly.new.self c.self.view_is c.self.invariant refl
+    c.args.self.now seat memory _ c.args.frame.now x c.settle.new.self c.self.view_is c.self.invariant refl
     (c.note_hear.ensures.items ∙ ap (λ (l : List Event). l ++ Hear seat memory NotAsked ∷ []) c.ready_to_note.ensures.items) c.in_ok-memory.ensures.memory.value (unit_now a c.args.self.now seat c.self.view_is c.requires.unit) lawful
-    (next_inside a c.args.self.now seat c.args.frame.now c.self.view_is c.requires.next) c.index_mut-place.ensures.value (c.in_ok-hear_quietly.ensures.quiet c.if-not-branch.false))
+    (next_inside a c.args.self.now seat c.args.frame.now c.self.view_is c.requires.next) c.index_mut-place.ensures.value (settled_quietly c.of-sifted.result c.args.frame.now c.index_mut-place.result.now.node c.settle.new.self c.of-sifted.ensures (c.settle.ensures.settled c.if-not-settle.false)))

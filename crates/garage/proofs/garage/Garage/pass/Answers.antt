@@ -4,6 +4,7 @@ use Rattle.journal.specs.Journal.{memory_told, one_more}
 use Rattle.journal.specs.declared.event.Event.{Event}
 use Rattle.journal.specs.declared.event.Event.TheVariants.{Hear}
 use Rattle.node_core.specs.declared.heard.Answer.TheVariants.{NotAsked}
+use Rattle.garage.proofs.LastFrames.{settled_quietly}
 use Rattle.garage.proofs.Passing.{next_inside, next_there, quiet_passes, quiet_stands, told_inside}
 use Rattle.garage.proofs.Standing.{place_few, place_within, unit_now}
 use Rattle.garage.proofs.garage.Garage.pass.Goals as goal
@@ -31,8 +32,8 @@ invariant_of-self-2 c =
     let fits = ok.0 in
     let room = ok.1 in
     let n = gains.room in
-    quiet_stands a _ seat m c.args.frame.now c.index_mut-place.result.now c.hear_quietly.new.self c.self.invariant (unit_now a c.args.self.now seat c.self.view_is c.requires.unit) told.1
-    (next_inside a c.args.self.now seat c.args.frame.now c.self.view_is c.requires.next) c.index_mut-place.ensures.value (c.in_ok-hear_quietly.ensures.quiet c.if-not-branch.false)
+    quiet_stands a _ seat m c.args.frame.now c.index_mut-place.result.now c.settle.new.self c.self.invariant (unit_now a c.args.self.now seat c.self.view_is c.requires.unit) told.1
+    (next_inside a c.args.self.now seat c.args.frame.now c.self.view_is c.requires.next) c.index_mut-place.ensures.value (settled_quietly c.of-sifted.result c.args.frame.now c.index_mut-place.result.now.node c.settle.new.self c.of-sifted.ensures (c.settle.ensures.settled c.if-not-settle.false))
     refl (gains.items ∙ ap (λ (l : List Event). l ++ Hear seat m NotAsked ∷ []) c.make_room.ensures.items) c.mark_heard.ensures.traffic refl refl refl refl refl (omega arith) (omega arith)
 
 pub returns-clause-quiet : goal.returns-clause-quiet
@@ -50,12 +51,12 @@ returns-clause-quiet c = λ m e t.
       limit = a.limit;
       bus = c.mark_heard.new.self;
       station = a.station;
-      places = with_item a.places (seat - 1) (record x { node = c.hear_quietly.new.self; tally = one_more x.tally });
+      places = with_item a.places (seat - 1) (record x { node = c.settle.new.self; tally = one_more x.tally });
       begun = a.begun;
       live = a.live;
       injected = a.injected;
       journal = c.note_passed.new.self;
     })
-    c.args.self.now seat m m c.args.frame.now x c.hear_quietly.new.self c.self.view_is c.self.invariant refl
+    c.args.self.now seat m m c.args.frame.now x c.settle.new.self c.self.view_is c.self.invariant refl
     (gains.items ∙ ap (λ (l : List Event). l ++ Hear seat m NotAsked ∷ []) c.make_room.ensures.items) refl (unit_now a c.args.self.now seat c.self.view_is c.requires.unit) told.1
-    (next_inside a c.args.self.now seat c.args.frame.now c.self.view_is c.requires.next) c.index_mut-place.ensures.value (c.in_ok-hear_quietly.ensures.quiet c.if-not-branch.false))
+    (next_inside a c.args.self.now seat c.args.frame.now c.self.view_is c.requires.next) c.index_mut-place.ensures.value (settled_quietly c.of-sifted.result c.args.frame.now c.index_mut-place.result.now.node c.settle.new.self c.of-sifted.ensures (c.settle.ensures.settled c.if-not-settle.false)))

@@ -5,24 +5,32 @@ use Rattle.bus_ledger.specs.BusValue.{Traffic, seat_at}
 use Rattle.bus_ledger.specs.Changes.{heard_more}
 use Rattle.bus_ledger.specs.Newcomers.{live_units}
 use Rattle.node_core.specs.NodeValue.{NodeValue}
-use Rattle.node_core.specs.Reaction.{reaction, node_after}
+use Rattle.node_core.specs.Reaction.{reaction, node_after, question}
 use Rattle.unit_trait.specs.declared.question.Question.{Question}
 use Rattle.node_core.specs.Deed.{heard_of}
 use Rattle.journal.specs.State.{State, UnitState, unit_at}
 use Rattle.journal.specs.Steps.{put_all, tagged, begins_session, session_message_after, withdrawn_by, next_for}
-use Rattle.journal.specs.Journal.{GarageValue, state_of, one_more}
+use Rattle.journal.specs.Journal.{Adds, GarageValue, state_of, one_more}
 use Rattle.journal.specs.Notes.{memory_at}
 use Rattle.journal.specs.declared.event.Event.{Event}
 use Rattle.journal.specs.declared.event.Event.TheVariants.{Hear}
 use Rattle.std.specs.Vec.{with_item}
-use Rattle.garage.specs.Inside.{unit_of}
+use Rattle.garage.specs.Inside.{garage_value_of, unit_of}
 use Rattle.garage.specs.Answers.{count_with_begun}
+use Rattle.garage.specs.declared.garage.Garage.TheInside.{Inside}
 use Rattle.garage.specs.declared.garage.Place.{Place}
 use Rattle.garage.proofs.Traffics.{some_live, puts, keeps_heard, keeps_withdrawn_by, keeps_then}
 use Rattle.garage.proofs.InHand.{station_lives}
-use Rattle.garage.proofs.Standing.{state, place_few, place_within, unit_now, bus_unit, unit_is, hear_did, begun_length, begun_few, next_within, is_answered, joins_hear, place_tally, stands_more, tallies_one, fresh_one, hears_of, still, same_place}
+use Rattle.garage.proofs.Standing.{state, added, place_few, place_within, unit_now, bus_unit, unit_is, hear_did, begun_length, begun_few, next_within, is_answered, joins_hear, place_tally, stands_more, tallies_one, fresh_one, hears_of, still, same_place}
 use Rattle.garage.proofs.Lent.{on_err}
+use Rattle.garage.proofs.Passing.{memory_unasked, told_hearing, told_inside}
 use Rattle.garage.proofs.garage.Garage.react_to.Goals as goal
+
+pub make_ready-requires-clause-told : goal.make_ready-requires-clause-told
+make_ready-requires-clause-told g c = λ t. (told_inside c.self.inside c.args.self.now c.args.seat _ c.self.view_is c.self.invariant (c.requires.told t)).0
+
+pub make_ready-requires-clause-lawful : goal.make_ready-requires-clause-lawful
+make_ready-requires-clause-lawful g c = λ t. (told_inside c.self.inside c.args.self.now c.args.seat _ c.self.view_is c.self.invariant (c.requires.told t)).1
 
 pub invariant_of-self-in_err-heard : goal.invariant_of-self-in_err-heard
 invariant_of-self-in_err-heard g c =
@@ -183,6 +191,46 @@ returns-clause-ok g c =
           mem_is next (u, there, lawful, is_answered (unit_at (state a) seat).node x.node (next_for (state a) seat) f heard.answer (ap (λ (v : UnitState). v.node) same) next reacts.answer_is)
           (ap (λ (v : UnitState). v.node) same) reacts.memory_is asked.2,
     )
+
+pub returns-clause-told : goal.returns-clause-told
+returns-clause-told g c = λ unasked.
+    (let asked = c.in_ok-heard.ensures.asked in
+    let a = c.self.inside in
+    let stands = c.self.invariant in
+    let seat = c.args.seat in
+    let t = a.bus.traffic in
+    let x = c.index_mut-place.result.now in
+    let u = unit_now a c.args.self.now seat c.self.view_is c.requires.unit in
+    let h = place_within a seat stands u in
+    let f = c.args.frame in
+    let heard = c.in_ok-heard.heard in
+    let memory = memory_at c.make_ready.new.journal.memories c.in_ok-memory.memory in
+    let same = unit_is a seat x stands h c.index_mut-place.ensures.value in
+    let s = state a in
+    let next : next_for s seat ≡ Some f = ap (λ (w : GarageValue). next_for (state_of w) seat) c.self.view_is ∙ c.requires.next in
+    let there = next_within s.traffic.wire (seat_at s.traffic seat).heard f next in
+    let mem_is = c.in_ok-memory.ensures.memory.value in
+    let lawful = c.in_ok-memory.ensures.lawful in
+    let reacts = c.in_ok-heard.ensures.heard in
+    let b : Inside = record {
+      name = a.name;
+      address = a.address;
+      window = a.window;
+      grant = a.grant;
+      limit = a.limit;
+      bus = c.do_heard.new.bus;
+      station = a.station;
+      places = with_item a.places (seat - 1) (record { node = c.hear.new.self; session_message = c.last_session-place.result; tally = one_more x.tally });
+      begun = c.begun_count-begun.result;
+      live = a.live;
+      injected = a.injected;
+      journal = c.note_hear.new.self;
+    } in
+    let adds = added a b c.args.self.now (Hear seat memory heard.answer) c.self.view_is refl
+    (c.note_hear.ensures.items ∙ ap (λ (l : List Event). l ++ Hear seat memory heard.answer ∷ []) c.make_ready.ensures.items)
+    (u, there, subst IsLawfulMemory (sym mem_is) lawful, is_answered (unit_at s seat).node x.node (next_for s seat) f heard.answer (ap (λ (v : UnitState). v.node) same) next reacts.answer_is) in
+    told_hearing c.args.self.now (garage_value_of b) seat _ heard.answer (subst (λ (m : MemoryValue). Adds c.args.self.now (Hear seat m heard.answer) (garage_value_of b)) mem_is adds)
+    ∙ ap Some (sym (reacts.memory_is ∙ memory_unasked (question x.node f) heard.answer _ (c.is_unasked.ensures unasked))))
 
 pub returns-in_err-heard-clause-unasked : goal.returns-in_err-heard-clause-unasked
 returns-in_err-heard-clause-unasked g c = on_err c.from_residual-in_err-heard.result c.in_err-heard.ensures.unasked

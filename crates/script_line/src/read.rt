@@ -29,8 +29,35 @@ pub fn read_command(line: &str) -> Option<Command> {
     }
 }
 
+/// The commands of which scripts have most stand first.
 fn read_words(words: &mut Words<'_>) -> Option<Command> {
     match words.next_word()? {
+        "hear" => Some(Command::Hear {
+            seat: next_number(words)?,
+            most: next_count(words)?,
+        }),
+        "dm1" => Some(Command::Dm1 {
+            seat: next_number(words)?,
+        }),
+        "round" => Some(Command::Round {
+            count: next_number(words)?,
+        }),
+        "carry" => Some(Command::Carry {
+            most: next_count(words)?,
+        }),
+        "read" => Some(Command::Read {
+            most: next_count(words)?,
+        }),
+        "inject" => Some(Command::Inject {
+            frame: read_frame(words)?,
+        }),
+        keyword => read_of_garage(keyword, words),
+    }
+}
+
+/// The commands of the garage and its station.
+fn read_of_garage(keyword: &str, words: &mut Words<'_>) -> Option<Command> {
+    match keyword {
         "garage" => read_garage(words),
         "join" => read_join(words),
         "ask" => read_ask(words),
@@ -45,20 +72,8 @@ fn read_words(words: &mut Words<'_>) -> Option<Command> {
         "stats" => Some(Command::Stats),
         "report" => Some(Command::Report),
         "injected" => Some(Command::Injected),
-        "inject" => Some(Command::Inject {
-            frame: read_frame(words)?,
-        }),
         "frame" => Some(Command::Frame {
             index: next_number(words)?,
-        }),
-        "round" => Some(Command::Round {
-            count: next_number(words)?,
-        }),
-        "carry" => Some(Command::Carry {
-            most: next_count(words)?,
-        }),
-        "read" => Some(Command::Read {
-            most: next_count(words)?,
         }),
         keyword => read_of_seat(keyword, words),
     }
@@ -77,12 +92,7 @@ fn read_of_seat(keyword: &str, words: &mut Words<'_>) -> Option<Command> {
         "think" => Some(Command::Think { seat }),
         "turn" => Some(Command::Turn { seat }),
         "leave" => Some(Command::Leave { seat }),
-        "dm1" => Some(Command::Dm1 { seat }),
         "counts" => Some(Command::Counts { seat }),
-        "hear" => Some(Command::Hear {
-            seat,
-            most: next_count(words)?,
-        }),
         _ => None,
     }
 }

@@ -176,6 +176,60 @@ impl Garage {
         Ok((parked.events - before, told))
     }
 
+    /// A unit in its seat hears all that it has not heard. `told` is whether its memory is the one that its latest event tells; the
+    /// answer says so of it afterwards. Where it is, the next frame is one that the unit did not settle, and is not sifted again.
+    ///
+    /// Where the journal has no room, or there is no memory, what was heard before stays.
+    pub(crate) fn hear_all(
+        &mut self,
+        alloc: Global,
+        parked: &mut Parked,
+        told: bool,
+    ) -> Result<bool, GarageError>
+        requires seated { IsSeated self.old parked.old.seat (name_of parked.old.unit) parked.old.events }
+        requires told { IsTrue told → memory_told parked.old.seat self.old.journal ≡ Some (memory_of parked.old.unit) }
+        ensures kept { (parked.new.seat ≡ parked.old.seat) × (name_of parked.new.unit ≡ name_of parked.old.unit) }
+        ensures seated { IsSeated self.new parked.new.seat (name_of parked.new.unit) parked.new.events }
+        ensures others { AreOthersUntouched parked.old.seat self.old self.new }
+        ensures told { IfOk result (λ t. IsTrue t → memory_told parked.new.seat self.new.journal ≡ Some (memory_of parked.new.unit)) }
+        ensures comes { Comes self.old self.new }
+        ensures only { IfErr result IsWant }
+    {
+        let told = self.react_first(alloc, &mut *parked, told)?;
+        if self.has_heard_all(parked.seat) {
+            return Ok(told);
+        }
+        let (_, told) = self.hear_some(alloc, parked, told, u32::MAX)?;
+        Ok(told)
+    }
+
+    /// A unit in its seat, whose memory is the one that its latest event tells, hears its next frame in full, where there is one; another
+    /// does nothing. Answers whether its memory is told afterwards, as far as that is known.
+    fn react_first(
+        &mut self,
+        alloc: Global,
+        parked: &mut Parked,
+        told: bool,
+    ) -> Result<bool, GarageError>
+        requires seated { IsSeated self.old parked.old.seat (name_of parked.old.unit) parked.old.events }
+        requires told { IsTrue told → memory_told parked.old.seat self.old.journal ≡ Some (memory_of parked.old.unit) }
+        ensures kept { (parked.new.seat ≡ parked.old.seat) × (name_of parked.new.unit ≡ name_of parked.old.unit) }
+        ensures seated { IsSeated self.new parked.new.seat (name_of parked.new.unit) parked.new.events }
+        ensures others { AreOthersUntouched parked.old.seat self.old self.new }
+        ensures told { IfOk result (λ t. IsTrue t → memory_told parked.new.seat self.new.journal ≡ Some (memory_of parked.new.unit)) }
+        ensures comes { Comes self.old self.new }
+        ensures only { IfErr result IsWant }
+    {
+        if !told {
+            return Ok(false);
+        }
+        let Some(frame) = self.next_for(parked.seat) else {
+            return Ok(true);
+        };
+        let (_, told) = self.react_seated(alloc, parked, frame)?;
+        Ok(told)
+    }
+
     /// A unit in its seat hears its next frame. `told` is whether its memory is the one that its latest event tells; the answer says
     /// so of it afterwards.
     ///

@@ -115,10 +115,13 @@ impl Garage {
         ensures comes { Comes self.old self.new }
         ensures only { IfErr result IsWant }
     {
-        let mut next = 0;
+        let mut next = self.first_behind(&*units, &*marks);
+        if next >= units.len() {
+            return self.read_rest(alloc);
+        }
         for _ in 0..units.len() {
             let sifted = self.sifted_last();
-            next = self.hear_last(&mut *units, &*marks, next, &sifted);
+            next = self.hear_last(&mut *units, &mut *marks, next, &sifted);
             if next >= units.len() {
                 return self.read_rest(alloc);
             }
@@ -146,7 +149,7 @@ impl Garage {
         }
         let told = is_marked(&*marks, i);
         mark(&mut *marks, i, false);
-        let (_, told) = self.hear_some(alloc, &mut units[i], told, u32::MAX)?;
+        let told = self.hear_all(alloc, &mut units[i], told)?;
         mark(marks, i, told);
         Ok(())
     }
@@ -187,7 +190,7 @@ pub(crate) fn is_marked(marks: &[bool], i: usize) -> bool
 }
 
 /// Sets the mark of this number, where there is one, or takes it away.
-fn mark(marks: &mut [bool], i: usize, told: bool)
+pub(crate) fn mark(marks: &mut [bool], i: usize, told: bool)
     ensures others { (j : ℕ) → j ≢ i → slice_get marks.new j ≡ slice_get marks.old j }
     ensures this { slice_get marks.new i ≡ Some true → told ≡ true }
 {

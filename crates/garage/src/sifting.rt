@@ -5,10 +5,10 @@ ghost use Rattle.garage.specs.Crew.{AreOthersUntouched, Comes, IsCrew, IsLastSif
 
 use crate::garage::Garage;
 use crate::plug::Parked;
-use crate::room::has_room;
-use crate::rounds::is_marked;
+use crate::room::{has_room, ready_to_note};
+use crate::rounds::{is_marked, mark};
 use can_frame::GLOBAL_ADDRESS;
-use node_core::Sifted;
+use node_core::{Answer, Sifted};
 use unit_trait::Unit;
 
 /// What a frame says is found once for all units: most frames can be told from their identifier to concern none of them.
@@ -31,58 +31,78 @@ impl Garage {
         }
     }
 
-    /// From the i-th unit on each in turn hears the last frame of the wire by what was sifted of it, as far as that goes: where a unit
-    /// is not marked, has more to hear, or does not settle the frame, it and all after it are as they were, and its number is
-    /// answered.
-    ///
-    /// Takes no memory: where the journal has no room ready, nothing changes either.
-    pub(crate) fn hear_last(
-        &mut self,
-        units: &mut [Parked],
-        marks: &[bool],
-        first: usize,
-        sifted: &Sifted,
-    ) -> usize
-        requires crew { IsCrew (λ p. record { seat = p.seat; name = name_of p.unit; events = p.events; memory = memory_of p.unit }) self.old units.old marks.now }
-        requires last { IsLastSifted sifted.now self.old }
-        ensures crew { IsCrew (λ p. record { seat = p.seat; name = name_of p.unit; events = p.events; memory = memory_of p.unit }) self.new units.new marks.now }
-        ensures comes { Comes self.old self.new }
+    /// The number of the first unit that has not heard all; how many units there are, where each has.
+    pub(crate) fn first_behind(&self, units: &[Parked], marks: &[bool]) -> usize
+        requires { IsCrew (λ p. record { seat = p.seat; name = name_of p.unit; events = p.events; memory = memory_of p.unit }) self.now units.now marks.now }
     {
-        for i in first..units.len() {
-            if !self.settle_marked(&mut *units, marks, i, sifted) {
+        for i in 0..units.len() {
+            if !self.has_heard_all(units[i].seat) {
                 return i;
             }
         }
         units.len()
     }
 
-    /// The i-th unit, where it is marked, settles the last frame of the wire, or has heard all; answers whether that is so. Else
-    /// nothing changes, and the unit is to hear as others do.
-    #[inline(always)]
-    fn settle_marked(
+    /// From the `first` unit on each in turn hears the last frame of the wire by what was sifted of it, as far as that goes: where a
+    /// unit has more to hear, or does not settle the frame, it and all after it are as they were, and its number is answered.
+    pub(crate) fn hear_last(
         &mut self,
         units: &mut [Parked],
-        marks: &[bool],
+        marks: &mut [bool],
+        first: usize,
+        sifted: &Sifted,
+    ) -> usize
+        requires crew { IsCrew (λ p. record { seat = p.seat; name = name_of p.unit; events = p.events; memory = memory_of p.unit }) self.old units.old marks.old }
+        requires last { IsLastSifted sifted.now self.old }
+        ensures crew { IsCrew (λ p. record { seat = p.seat; name = name_of p.unit; events = p.events; memory = memory_of p.unit }) self.new units.new marks.new }
+        ensures comes { Comes self.old self.new }
+    {
+        for i in first..units.len() {
+            if !self.settle_in_turn(&mut *units, &mut *marks, i, sifted) {
+                return i;
+            }
+        }
+        units.len()
+    }
+
+    /// The i-th unit settles the last frame of the wire, or has heard all; answers whether that is so. Else nothing changes, and the
+    /// unit is to hear as others do. One that settles it is marked.
+    #[inline(always)]
+    fn settle_in_turn(
+        &mut self,
+        units: &mut [Parked],
+        marks: &mut [bool],
         i: usize,
         sifted: &Sifted,
     ) -> bool
-        requires crew { IsCrew (λ p. record { seat = p.seat; name = name_of p.unit; events = p.events; memory = memory_of p.unit }) self.old units.old marks.now }
+        requires crew { IsCrew (λ p. record { seat = p.seat; name = name_of p.unit; events = p.events; memory = memory_of p.unit }) self.old units.old marks.old }
         requires last { IsLastSifted sifted.now self.old }
-        ensures crew { IsCrew (λ p. record { seat = p.seat; name = name_of p.unit; events = p.events; memory = memory_of p.unit }) self.new units.new marks.now }
+        ensures crew { IsCrew (λ p. record { seat = p.seat; name = name_of p.unit; events = p.events; memory = memory_of p.unit }) self.new units.new marks.new }
         ensures last { IsLastSifted sifted.now self.new }
         ensures comes { Comes self.old self.new }
     {
-        if i >= units.len() || !is_marked(marks, i) {
+        if i >= units.len() {
             return false;
         }
-        self.settle_parked(&mut units[i], sifted)
+        if self.has_heard_all(units[i].seat) {
+            return true;
+        }
+        if is_marked(&*marks, i) {
+            return self.settle_told(&mut units[i], sifted);
+        }
+        if !self.settle_untold(&mut units[i], sifted) {
+            return false;
+        }
+        mark(marks, i, true);
+        true
     }
 
     /// A unit in its seat, whose memory is the one that its latest event tells, settles the last frame of the wire, where that is the
-    /// only one that it has not heard, and the journal has room; or it has heard all. Answers whether that is so; else nothing
-    /// changes.
+    /// only one that it has not heard, and the journal has room; answers whether that is so. Else nothing changes.
+    ///
+    /// Takes no memory: where the journal has no room ready, nothing changes either.
     #[inline(always)]
-    fn settle_parked(&mut self, parked: &mut Parked, sifted: &Sifted) -> bool
+    fn settle_told(&mut self, parked: &mut Parked, sifted: &Sifted) -> bool
         requires seated { IsSeated self.old parked.old.seat (name_of parked.old.unit) parked.old.events }
         requires told { memory_told parked.old.seat self.old.journal ≡ Some (memory_of parked.old.unit) }
         requires last { IsLastSifted sifted.now self.old }
@@ -93,10 +113,28 @@ impl Garage {
         ensures last { IsLastSifted sifted.now self.new }
         ensures comes { Comes self.old self.new }
     {
-        if self.has_heard_all(parked.seat) {
-            return true;
-        }
         if !self.settle_last(parked.seat, sifted) {
+            return false;
+        }
+        parked.events = self.events_of(parked.seat);
+        true
+    }
+
+    /// A unit in its seat settles the last frame of the wire, where that is the only one that it has not heard, and the journal has
+    /// room; answers whether that is so. Else nothing changes.
+    #[inline(never)]
+    fn settle_untold(&mut self, parked: &mut Parked, sifted: &Sifted) -> bool
+        requires seated { IsSeated self.old parked.old.seat (name_of parked.old.unit) parked.old.events }
+        requires last { IsLastSifted sifted.now self.old }
+        ensures kept { (parked.new.seat ≡ parked.old.seat) × (name_of parked.new.unit ≡ name_of parked.old.unit) }
+        ensures seated { IsSeated self.new parked.new.seat (name_of parked.new.unit) parked.new.events }
+        ensures told { IsTrue result → memory_told parked.new.seat self.new.journal ≡ Some (memory_of parked.new.unit) }
+        ensures left { IsFalse result → ((self.new ≡ self.old) × (parked.new ≡ parked.old)) }
+        ensures others { AreOthersUntouched parked.old.seat self.old self.new }
+        ensures last { IsLastSifted sifted.now self.new }
+        ensures comes { Comes self.old self.new }
+    {
+        if !self.settle_anew(parked.seat, sifted, &*parked.unit) {
             return false;
         }
         parked.events = self.events_of(parked.seat);
@@ -105,7 +143,7 @@ impl Garage {
 
     /// Whether the unit on the seat has heard the whole wire.
     #[inline(always)]
-    fn has_heard_all(&self, seat: u32) -> bool
+    pub(crate) fn has_heard_all(&self, seat: u32) -> bool
         requires { IsUnit (state_of self.now).traffic seat }
     {
         self.bus.unheard(seat) == 0
@@ -135,6 +173,31 @@ impl Garage {
         place.tally.events += 1;
         self.bus.mark_heard(seat);
         self.journal.note_passed(seat);
+        true
+    }
+
+    /// The unit on the seat settles the last frame of the wire, where that is the only one that it has not heard, and there is room in
+    /// the journal or memory for it; answers whether that is so. Else nothing changes.
+    fn settle_anew(&mut self, seat: u32, sifted: &Sifted, unit: &dyn Unit) -> bool
+        requires unit { IsUnit (state_of self.old).traffic seat }
+        requires last { IsLastSifted sifted.now self.old }
+        ensures settled { IsTrue result → PassesNext self.old seat (memory_of unit.now) self.new }
+        ensures stays { IsFalse result → self.new ≡ self.old }
+        ensures last { IsLastSifted sifted.now self.new }
+    {
+        if self.bus.unheard(seat) != 1 {
+            return false;
+        }
+        let Ok(memory) = ready_to_note(&mut self.journal, self.live + 1, self.limit, seat, unit) else {
+            return false;
+        };
+        let place = &mut self.places[seat as usize - 1];
+        if !place.node.settle(sifted) {
+            return false;
+        }
+        place.tally.events += 1;
+        self.bus.mark_heard(seat);
+        self.journal.note_hear(seat, memory, Answer::NotAsked);
         true
     }
 }

@@ -1,20 +1,14 @@
-use Rattle.std.proofs.Common.{rules, refl}
+use Rattle.std.proofs.Common.{rules}
 use Rattle.node_core.specs.declared.heard.Answer.TheVariants.{NotAsked}
 use Rattle.garage.specs.Crew.{KeepsUnit}
 use Rattle.garage.specs.declared.steps.HeardOne.TheVariants as heard
-use Rattle.garage.proofs.Crew.{comes_heard, comes_same, heard_untouched, others_same}
+use Rattle.garage.proofs.Crew.{comes_heard, comes_same, heard_untouched}
 use Rattle.garage.proofs.Passing.{hears_quietly, told_hearing}
 use Rattle.garage.proofs.SeatKept.{is_unit, still_seated, unit_hears}
-use Rattle.garage.proofs.garage.Garage.settle_parked.Goals as goal
+use Rattle.garage.proofs.garage.Garage.settle_told.Goals as goal
 
 pub returns-then-not-settle_last-clause-comes : goal.returns-then-not-settle_last-clause-comes
 returns-then-not-settle_last-clause-comes g c = comes_same c.args.self.now c.settle_last.new.self (search (rules, c.if-not-settle_last.true))
-
-pub returns-then-has_heard_all-clause-comes : goal.returns-then-has_heard_all-clause-comes
-returns-then-has_heard_all-clause-comes g c = comes_same c.args.self.now c.args.self.now refl
-
-pub returns-then-has_heard_all-clause-others : goal.returns-then-has_heard_all-clause-others
-returns-then-has_heard_all-clause-others g c = others_same c.args.parked.now.seat c.args.self.now c.args.self.now refl
 
 pub events_of-parked-requires : goal.events_of-parked-requires
 events_of-parked-requires g c =

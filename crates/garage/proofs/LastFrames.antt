@@ -1,5 +1,5 @@
 -- A unit that settles the last frame of the wire.
-use Rattle.std.proofs.Common.{◌≡◌, ◌-◌, ◌+◌, ◌<◌, ℕ, List, [], length, slice_get, get_or, Option, Some, None, arith, sym, ap, ◌∙◌, subst}
+use Rattle.std.proofs.Common.{◌≡◌, ◌-◌, ◌+◌, ◌<◌, ℕ, List, [], length, slice_get, get_or, Option, Some, arith, sym, ap, ◌∙◌, subst}
 use Rattle.std.specs.Option.{option_map}
 use Rattle.std.proofs.lemmas.Option.{slice_get-get_or}
 use Rattle.can_frame.specs.FrameValue.{FrameValue, frame}

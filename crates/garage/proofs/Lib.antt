@@ -2,6 +2,7 @@ pub mod Standing
 pub mod Traffics
 mod Passing
 mod LastFrames
+mod Sweeping
 mod Pieces
 pub mod Headline
 mod Lists

@@ -1,4 +1,4 @@
-ghost use Rattle.std.specs.Prelude.{◌≡◌, ◌+◌, ◌<◌, ◌≤◌, ◌^◌};
+ghost use Rattle.std.specs.Prelude.{◌≡◌, ◌+◌, ◌<◌, ◌≤◌, ◌^◌, ◌⊎◌, ◌-◌};
 ghost use Rattle.fault_memory.specs.Memory.{MemoryValue};
 ghost use Rattle.garage.specs.Answers.{PassesNext};
 ghost use Rattle.garage.specs.Crew.{AreOthersUntouched, Comes, IsCrew, IsLastSifted};
@@ -57,10 +57,57 @@ impl Garage {
         ensures crew { IsCrew (λ p. record { seat = p.seat; name = name_of p.unit; events = p.events; memory = memory_of p.unit }) self.new units.new marks.new }
         ensures comes { Comes self.old self.new }
     {
+        let mut next = first;
+        for _ in first..units.len() {
+            next = self.sweep(&mut *units, &*marks, next, sifted);
+            if !self.settle_in_turn(&mut *units, &mut *marks, next, sifted) {
+                return next;
+            }
+            next = next.saturating_add(1);
+        }
+        next
+    }
+
+    /// From the `first` unit on each in turn, where it is marked, settles the last frame of the wire, or has heard all, as far as that
+    /// goes; the number of the first for which that is not so is answered, and it and all after it are as they were.
+    ///
+    /// The journal's room is looked at once for all: where it has none ready for so many events, nothing is done.
+    fn sweep(
+        &mut self,
+        units: &mut [Parked],
+        marks: &[bool],
+        first: usize,
+        sifted: &Sifted,
+    ) -> usize
+        requires crew { IsCrew (λ p. record { seat = p.seat; name = name_of p.unit; events = p.events; memory = memory_of p.unit }) self.old units.old marks.now }
+        requires last { IsLastSifted sifted.now self.old }
+        ensures crew { IsCrew (λ p. record { seat = p.seat; name = name_of p.unit; events = p.events; memory = memory_of p.unit }) self.new units.new marks.now }
+        ensures last { IsLastSifted sifted.now self.new }
+        ensures comes { Comes self.old self.new }
+    {
+        if !has_room(&self.journal, with_live(units.len(), self.live), self.limit) {
+            return first;
+        }
         for i in first..units.len() {
-            if !self.settle_in_turn(&mut *units, &mut *marks, i, sifted) {
+            let seat = units[i].seat;
+            let unheard = self.bus.unheard(seat);
+            if unheard == 0 {
+                continue;
+            }
+            if unheard != 1 {
                 return i;
             }
+            if !is_marked(marks, i) {
+                return i;
+            }
+            let place = &mut self.places[seat as usize - 1];
+            if !place.node.settle(sifted) {
+                return i;
+            }
+            place.tally.events += 1;
+            units[i].events = place.tally.events;
+            self.bus.mark_heard(seat);
+            self.journal.note_passed(seat);
         }
         units.len()
     }
@@ -188,7 +235,8 @@ impl Garage {
         if self.bus.unheard(seat) != 1 {
             return false;
         }
-        let Ok(memory) = ready_to_note(&mut self.journal, self.live + 1, self.limit, seat, unit) else {
+        let Ok(memory) = ready_to_note(&mut self.journal, self.live + 1, self.limit, seat, unit)
+        else {
             return false;
         };
         let place = &mut self.places[seat as usize - 1];
@@ -199,5 +247,15 @@ impl Garage {
         self.bus.mark_heard(seat);
         self.journal.note_hear(seat, memory, Answer::NotAsked);
         true
+    }
+}
+
+/// How many events so many units may hear and all live ones leave by; the most that can be said, where it is more.
+fn with_live(count: usize, live: u32) -> u32
+    ensures { (result ≡ 2 ^ 32 - 1) ⊎ (result ≡ count + live) }
+{
+    match u32::try_from(count) {
+        Ok(count) => count.saturating_add(live),
+        Err(_) => u32::MAX,
     }
 }

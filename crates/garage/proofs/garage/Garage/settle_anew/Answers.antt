@@ -1,11 +1,10 @@
-use Rattle.std.proofs.Common.{◌≡◌, arith, refl, sym, ap, ◌∙◌, subst, List, ◌++◌, ◌∷◌, [], ◌-◌, Some}
+use Rattle.std.proofs.Common.{arith, refl, sym, ap, ◌∙◌, subst, List, ◌++◌, ◌∷◌, [], ◌-◌}
 use Rattle.std.specs.Vec.{with_item}
-use Rattle.fault_memory.specs.Memory.{IsLawfulMemory, MemoryValue}
+use Rattle.fault_memory.specs.Memory.{IsLawfulMemory}
 use Rattle.journal.specs.Journal.{GarageValue, one_more, state_of}
 use Rattle.journal.specs.Notes.{memory_at}
 use Rattle.journal.specs.declared.event.Event.{Event}
 use Rattle.journal.specs.declared.event.Event.TheVariants.{Hear}
-use Rattle.garage.specs.Answers.{Passes, PassesNext}
 use Rattle.garage.specs.Inside.{garage_value_of}
 use Rattle.garage.specs.declared.garage.Garage.TheInside.{Inside}
 use Rattle.journal.specs.Steps.{next_for}
@@ -13,7 +12,7 @@ use Rattle.node_core.specs.Passing.{IsHeardQuietly}
 use Rattle.node_core.specs.declared.heard.Answer.TheVariants.{NotAsked}
 use Rattle.garage.proofs.LastFrames.{heard_so, last_for, settled_last}
 use Rattle.garage.proofs.Passing.{quiet_passes, quiet_stands}
-use Rattle.garage.proofs.Standing.{place_few, place_within, state, unit_now}
+use Rattle.garage.proofs.Standing.{place_few, place_within, unit_now}
 use Rattle.garage.proofs.garage.Garage.settle_anew.Goals as goal
 
 pub overflow_add-place : goal.overflow_add-place

@@ -1,4 +1,4 @@
-use Rattle.std.proofs.Common.{rules, ◌≡◌, arith, refl, sym, ap, ◌∙◌, ◌-◌, Some}
+use Rattle.std.proofs.Common.{◌≡◌, arith, refl, sym, ap, ◌∙◌, ◌-◌, Some}
 use Rattle.std.specs.Vec.{with_item}
 use Rattle.journal.specs.Journal.{GarageValue, one_more, state_of}
 use Rattle.garage.specs.Inside.{garage_value_of}

@@ -112,8 +112,8 @@ impl Garage {
         units.len()
     }
 
-    /// The i-th unit settles the last frame of the wire, or has heard all; answers whether that is so. Else nothing changes, and the
-    /// unit is to hear as others do. One that settles it is marked.
+    /// The i-th unit, where it is not marked, settles the last frame of the wire and is marked, or it has heard all; answers whether that
+    /// is so. Else nothing changes, and the unit is to hear as others do.
     #[inline(always)]
     fn settle_in_turn(
         &mut self,
@@ -135,35 +135,12 @@ impl Garage {
             return true;
         }
         if is_marked(&*marks, i) {
-            return self.settle_told(&mut units[i], sifted);
+            return false;
         }
         if !self.settle_untold(&mut units[i], sifted) {
             return false;
         }
         mark(marks, i, true);
-        true
-    }
-
-    /// A unit in its seat, whose memory is the one that its latest event tells, settles the last frame of the wire, where that is the
-    /// only one that it has not heard, and the journal has room; answers whether that is so. Else nothing changes.
-    ///
-    /// Takes no memory: where the journal has no room ready, nothing changes either.
-    #[inline(always)]
-    fn settle_told(&mut self, parked: &mut Parked, sifted: &Sifted) -> bool
-        requires seated { IsSeated self.old parked.old.seat (name_of parked.old.unit) parked.old.events }
-        requires told { memory_told parked.old.seat self.old.journal ≡ Some (memory_of parked.old.unit) }
-        requires last { IsLastSifted sifted.now self.old }
-        ensures kept { (parked.new.seat ≡ parked.old.seat) × (name_of parked.new.unit ≡ name_of parked.old.unit) }
-        ensures seated { IsSeated self.new parked.new.seat (name_of parked.new.unit) parked.new.events }
-        ensures told { memory_told parked.new.seat self.new.journal ≡ Some (memory_of parked.new.unit) }
-        ensures others { AreOthersUntouched parked.old.seat self.old self.new }
-        ensures last { IsLastSifted sifted.now self.new }
-        ensures comes { Comes self.old self.new }
-    {
-        if !self.settle_last(parked.seat, sifted) {
-            return false;
-        }
-        parked.events = self.events_of(parked.seat);
         true
     }
 
@@ -194,33 +171,6 @@ impl Garage {
         requires { IsUnit (state_of self.now).traffic seat }
     {
         self.bus.unheard(seat) == 0
-    }
-
-    /// The unit on the seat, whose memory is the one that its latest event tells, settles the last frame of the wire, where that is
-    /// the only one that it has not heard, and the journal has room; answers whether that is so. Else nothing changes.
-    #[inline(always)]
-    fn settle_last(&mut self, seat: u32, sifted: &Sifted) -> bool
-        requires unit { IsUnit (state_of self.old).traffic seat }
-        requires told { (m : MemoryValue) × (memory_told seat self.old.journal ≡ Some m) }
-        requires last { IsLastSifted sifted.now self.old }
-        ensures settled { (m : MemoryValue) → memory_told seat self.old.journal ≡ Some m → IsTrue result → PassesNext self.old seat m self.new }
-        ensures stays { IsFalse result → self.new ≡ self.old }
-        ensures last { IsLastSifted sifted.now self.new }
-    {
-        if self.bus.unheard(seat) != 1 {
-            return false;
-        }
-        if !has_room(&self.journal, self.live + 1, self.limit) {
-            return false;
-        }
-        let place = &mut self.places[seat as usize - 1];
-        if !place.node.settle(sifted) {
-            return false;
-        }
-        place.tally.events += 1;
-        self.bus.mark_heard(seat);
-        self.journal.note_passed(seat);
-        true
     }
 
     /// The unit on the seat settles the last frame of the wire, where that is the only one that it has not heard, and there is room in

@@ -12,16 +12,8 @@ has_heard_all-requires g c = (c.requires.crew.seated.each c.args.i (get_or c.arg
 pub returns-then-has_heard_all-clause-comes : goal.returns-then-has_heard_all-clause-comes
 returns-then-has_heard_all-clause-comes g c = comes_same c.args.self.now c.args.self.now refl
 
-pub settle_told-requires-clause-seated : goal.settle_told-requires-clause-seated
-settle_told-requires-clause-seated g c = c.requires.crew.seated.each c.args.i (get_or c.args.units.now c.args.i c.index-units-i-then-is_marked.result) (slice_get-get_or c.args.units.now c.args.i c.index-units-i-then-is_marked.result c.if-i-units.false)
-
-pub settle_told-requires-clause-told : goal.settle_told-requires-clause-told
-settle_told-requires-clause-told g c = c.requires.crew.told c.args.i (get_or c.args.units.now c.args.i c.index-units-i-then-is_marked.result) (slice_get-get_or c.args.units.now c.args.i c.index-units-i-then-is_marked.result c.if-i-units.false) (c.is_marked.ensures c.if-is_marked.true)
-
-pub returns-then-is_marked-clause-crew : goal.returns-then-is_marked-clause-crew
-returns-then-is_marked-clause-crew g c =
-    crew_heard _ c.args.self.now c.settle_told.new.self c.args.units.now c.args.marks.now c.args.marks.now c.args.i (get_or c.args.units.now c.args.i c.index-units-i-then-is_marked.result) c.settle_told.new.parked true c.requires.crew
-    (slice_get-get_or c.args.units.now c.args.i c.index-units-i-then-is_marked.result c.if-i-units.false) c.settle_told.ensures.kept.0 c.settle_told.ensures.seated (λ t. c.settle_told.ensures.told) c.settle_told.ensures.others (λ j n m. m) (λ m. refl)
+pub returns-then-is_marked-clause-comes : goal.returns-then-is_marked-clause-comes
+returns-then-is_marked-clause-comes g c = comes_same c.args.self.now c.args.self.now refl
 
 pub settle_untold-requires-clause-seated : goal.settle_untold-requires-clause-seated
 settle_untold-requires-clause-seated g c = c.requires.crew.seated.each c.args.i (get_or c.args.units.now c.args.i c.index-units-i-2.result) (slice_get-get_or c.args.units.now c.args.i c.index-units-i-2.result c.if-i-units.false)

@@ -21,20 +21,11 @@ pub enum Sifted {
     /// Nothing, but to the units that a frame to this address concerns: each other one passes it over.
     Elsewhere(u8),
     /// An address, 0 to 253, is claimed under a NAME (SAE J1939-81).
-    Claimed {
-        source: u8,
-        name: Name,
-    },
+    Claimed { source: u8, name: Name },
     /// A source, 0 to 253, announces a broadcast, which may start a commanded address (SAE J1939-21, TP.CM_BAM; -81).
-    Announced {
-        source: u8,
-        starts: bool,
-    },
+    Announced { source: u8, starts: bool },
     /// A packet of a broadcast from a source, 0 to 253 (SAE J1939-21, TP.DT).
-    Packet {
-        source: u8,
-        frame: Frame,
-    },
+    Packet { source: u8, frame: Frame },
 }
 
 impl Sifted {

@@ -4,7 +4,9 @@ use crate::tests::frame_text::{assert_written, frame};
 use crate::tests::told::Told;
 use dm_messages::Kind;
 use name_field::Name;
-use node_core::{Answer, Heard, Node, NodeError, Out, Outs, Part, Piece, Sifted, Started, Withdraw};
+use node_core::{
+    Answer, Heard, Node, NodeError, Out, Outs, Part, Piece, Sifted, Started, Withdraw,
+};
 use std::alloc::Global;
 use std::process::Abort;
 use std::test::Fail;

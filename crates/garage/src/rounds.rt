@@ -115,7 +115,7 @@ impl Garage {
         ensures comes { Comes self.old self.new }
         ensures only { IfErr result IsWant }
     {
-        let mut next = self.first_behind(&*units, &*marks);
+        let mut next = self.first_behind(&*units);
         if next >= units.len() {
             return self.read_rest(alloc);
         }

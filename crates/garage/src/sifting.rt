@@ -1,7 +1,7 @@
 ghost use Rattle.std.specs.Prelude.{◌≡◌, ◌+◌, ◌<◌, ◌≤◌, ◌^◌, ◌⊎◌, ◌-◌};
 ghost use Rattle.fault_memory.specs.Memory.{MemoryValue};
 ghost use Rattle.garage.specs.Answers.{PassesNext};
-ghost use Rattle.garage.specs.Crew.{AreOthersUntouched, Comes, IsCrew, IsLastSifted};
+ghost use Rattle.garage.specs.Crew.{AreOthersUntouched, AreSeated, Comes, IsCrew, IsLastSifted};
 
 use crate::garage::Garage;
 use crate::plug::Parked;
@@ -32,8 +32,8 @@ impl Garage {
     }
 
     /// The number of the first unit that has not heard all; how many units there are, where each has.
-    pub(crate) fn first_behind(&self, units: &[Parked], marks: &[bool]) -> usize
-        requires { IsCrew (λ p. record { seat = p.seat; name = name_of p.unit; events = p.events; memory = memory_of p.unit }) self.now units.now marks.now }
+    pub(crate) fn first_behind(&self, units: &[Parked]) -> usize
+        requires { AreSeated (λ p. record { seat = p.seat; name = name_of p.unit; events = p.events; memory = memory_of p.unit }) self.now units.now }
     {
         for i in 0..units.len() {
             if !self.has_heard_all(units[i].seat) {

@@ -13,9 +13,10 @@ use unit_trait::Unit;
 
 /// What a frame says is found once for all units: most frames can be told from their identifier to concern none of them.
 impl Garage {
-    ghost use Rattle.std.specs.Prelude.{IsFalse, IsTrue, Some};
+    ghost use Rattle.std.specs.Prelude.{IsFalse, IsTrue, None, Some};
     ghost use Rattle.bus_ledger.specs.BusValue.{IsUnit};
     ghost use Rattle.journal.specs.Journal.{memory_told, state_of, IsSeated};
+    ghost use Rattle.journal.specs.Steps.{next_for};
 
     /// What the last frame of the wire tells the units that it asks nothing of.
     #[tactic(auto, using(crate::proofs::LastFrames::none_sifted))]
@@ -169,6 +170,7 @@ impl Garage {
     #[inline(always)]
     pub(crate) fn has_heard_all(&self, seat: u32) -> bool
         requires { IsUnit (state_of self.now).traffic seat }
+        ensures { IsTrue result → next_for (state_of self.now) seat ≡ None }
     {
         self.bus.unheard(seat) == 0
     }

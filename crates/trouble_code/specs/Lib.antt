@@ -2,3 +2,4 @@ pub mod Code
 pub mod DtcRefusals
 pub mod LampBytes
 pub mod Numbers
+pub mod Places

@@ -52,13 +52,13 @@ read_more xs x (a ∷ b ∷ c ∷ []) all l e h = absurd (omega arith)
 read_more xs x (a ∷ b ∷ c ∷ d ∷ bs) all l e h =
     rw (take_rest (a ∷ b ∷ c ∷ d ∷ bs) 4) (sym (codes_onto-one xs x (codes_of_bytes bs)) ∙ (rw e at h))
 
--- and no fault
-pub no_fault_more : (bs : List ℕ) → 4 ≤ length bs → fault_of_group (get_or bs 0 0) (get_or bs 1 0) (get_or bs 2 0) (get_or bs 3 0) ≡ None → fault_of_groups bs ≡ None → fault_of_groups (take (length bs - 4) (drop 4 bs)) ≡ None
-no_fault_more [] l e h = absurd (omega arith)
-no_fault_more (a ∷ []) l e h = absurd (omega arith)
-no_fault_more (a ∷ b ∷ []) l e h = absurd (omega arith)
-no_fault_more (a ∷ b ∷ c ∷ []) l e h = absurd (omega arith)
-no_fault_more (a ∷ b ∷ c ∷ d ∷ bs) l e h = rw (take_rest (a ∷ b ∷ c ∷ d ∷ bs) 4) (rw e at h)
+-- the first fault is that of the others
+pub fault_more : (bs : List ℕ) → 4 ≤ length bs → fault_of_group (get_or bs 0 0) (get_or bs 1 0) (get_or bs 2 0) (get_or bs 3 0) ≡ None → fault_of_groups (take (length bs - 4) (drop 4 bs)) ≡ fault_of_groups bs
+fault_more [] l e = absurd (omega arith)
+fault_more (a ∷ []) l e = absurd (omega arith)
+fault_more (a ∷ b ∷ []) l e = absurd (omega arith)
+fault_more (a ∷ b ∷ c ∷ []) l e = absurd (omega arith)
+fault_more (a ∷ b ∷ c ∷ d ∷ bs) l e = rw (take_rest (a ∷ b ∷ c ∷ d ∷ bs) 4, e) refl
 
 -- and whole groups are left
 pub whole_more : (bs : List ℕ) → 4 ≤ length bs → length bs % 4 ≡ 0 → length (take (length bs - 4) (drop 4 bs)) % 4 ≡ 0

@@ -12,4 +12,4 @@ pub use error::ReadError;
 pub use kind::Kind;
 pub use reading::read;
 pub use shown::Shown;
-pub use writing::payload;
+pub use writing::{payload, short_payload};

@@ -14,7 +14,7 @@ use trouble_code::{Codes, Dtc, DtcError, Lamps};
 ///
 /// Refused, in this order: `BadLength` where there are neither 8 bytes nor 2 + 4n for n from 2 to 445; `OldConversion` or
 /// `NoCodeInside`, whichever the first group at fault has; `OutOfMemory`. In 8 bytes, bytes 3 to 6 all 00 or all FF are no
-/// code, and bytes 7 and 8 are not looked at.
+/// code, and bytes 7 and 8 are not looked at. Up to three codes take no memory.
 pub fn read(alloc: Global, bytes: &[u8]) -> Result<Shown, ReadError>
     ensures ok { IfOk result (λ v. Encodes v bytes.now) }
     ensures decoded { IfOk result (λ v. decoding bytes.now ≡ Some v) }
@@ -75,17 +75,30 @@ fn read_groups(alloc: Global, groups: &[u8]) -> Result<Codes, ReadError>
     requires { length groups.now % 4 ≡ 0 }
     ensures { ReadsCodes (codes_of_bytes groups.now) (fault_of_groups groups.now) result }
 {
-    if let Some(fault) = first_fault(groups) {
-        return Err(fault);
-    }
-    let mut codes = Codes::with_capacity(alloc, groups.len() / 4)?;
+    let Ok(mut codes) = Codes::with_capacity(alloc, groups.len() / 4) else {
+        return Err(fault_or_no_memory(groups));
+    };
     let mut rest = groups;
     while let [low, middle, top, last, after @ ..] = rest {
         let code = read_code([*low, *middle, *top, *last])?;
-        codes.push(code)?;
+        let Ok(()) = codes.push(code) else {
+            return Err(fault_or_no_memory(groups));
+        };
         rest = after;
     }
     Ok(codes)
+}
+
+/// Why groups are refused where memory is: for the first fault, if there is one.
+#[cold]
+fn fault_or_no_memory(groups: &[u8]) -> ReadError
+    ensures fault { (e : ReadError) → fault_of_groups groups.now ≡ Some e → result ≡ e }
+    ensures why { (result ≡ ReadError.OutOfMemory) ⊎ (fault_of_groups groups.now ≡ Some result) }
+{
+    match first_fault(groups) {
+        Some(fault) => fault,
+        None => ReadError::OutOfMemory,
+    }
 }
 
 /// The fault of the first group of four bytes that has one.

@@ -8,3 +8,5 @@ pub struct Shown {
     /// The codes in the order of the message, repeats too.
     pub codes: Codes,
 }
+
+const _: () = prove!(size_of::<Shown>() == 24);

@@ -1,16 +1,14 @@
-ghost use Rattle.std.specs.Prelude.{◌≡◌, ◌<◌, ◌≤◌, ◌++◌, length, IfOk, OnOk, Some};
+ghost use Rattle.std.specs.Prelude.{◌≡◌, ◌<◌, ◌≤◌, ◌++◌, length, IfNone, IfOk, IfSome, OnOk, Some};
 ghost use Rattle.std.specs.List.{All};
 ghost use Rattle.dm_messages.specs.View.{view, encoding, decoding, codes_of_kind, written_codes, codes_bytes};
+ghost use Rattle.trouble_code.specs.LampBytes.{lamps_bytes};
 
 use crate::kind::Kind;
 use can_frame::FILLER;
 use fault_memory::FaultMemory;
 use std::alloc::{AllocError, Global};
 use transport::Payload;
-use trouble_code::Dtc;
-
-/// How many bytes a payload of fewer than two codes has.
-const SHORTEST: usize = 8;
+use trouble_code::{Dtc, Lamps};
 
 /// The bytes of a message of this kind about a fault memory (SAE J1939-73): the two bytes of the lamps, then the codes.
 ///
@@ -21,11 +19,16 @@ pub fn payload(alloc: Global, kind: Kind, memory: &FaultMemory) -> Result<Payloa
     ensures bytes { IfOk result (λ p. All (λ n. n < 256) p) }
     ensures read_back { IfOk result (λ p. decoding p ≡ Some (view kind memory.now)) }
 {
-    let codes = codes_of(kind, memory);
-    let mut bytes = Vec::with_capacity(alloc, SHORTEST.max(2 + 4 * codes.len()))?;
-    bytes.extend_from_slice(&memory.lamps().to_bytes())?;
-    write_codes(&mut bytes, codes)?;
-    Ok(Payload::of(bytes))
+    let payload = written(alloc, memory.lamps(), codes_of(kind, memory))?;
+    Ok(payload)
+}
+
+/// The same bytes where there are eight, so that the message goes in one frame: it shows no code or one. Takes no memory.
+pub fn short_payload(kind: Kind, memory: &FaultMemory) -> Option<[u8; 8]>
+    ensures some { IfSome result (λ b. b ≡ encoding (view kind memory.now)) }
+    ensures none { IfNone result (8 < length (encoding (view kind memory.now))) }
+{
+    short(memory.lamps(), codes_of(kind, memory))
 }
 
 /// The codes that a message of this kind shows.
@@ -38,31 +41,46 @@ fn codes_of(kind: Kind, memory: &FaultMemory) -> &[Dtc]
     }
 }
 
-/// Adds the codes, fewer than two filled to six bytes.
-fn write_codes(payload: &mut Vec<u8>, codes: &[Dtc]) -> Result<(), AllocError>
-    ensures { OnOk result (payload.new.items ≡ payload.old.items ++ written_codes codes.now) }
+/// The lamps and the codes.
+fn written(alloc: Global, lamps: Lamps, codes: &[Dtc]) -> Result<Payload, AllocError>
+    ensures { IfOk result (λ p. p ≡ lamps_bytes lamps ++ written_codes codes.now) }
 {
+    if let Some(bytes) = short(lamps, codes) {
+        return Payload::from_slice(alloc, &bytes);
+    }
+    let mut many = Vec::with_capacity(alloc, 2 + 4 * codes.len())?;
+    many.extend_from_slice(&lamps.to_bytes())?;
+    write_groups(&mut many, codes)?;
+    Ok(Payload::of(many))
+}
+
+/// The lamps and fewer than two codes, filled to eight bytes.
+fn short(lamps: Lamps, codes: &[Dtc]) -> Option<[u8; 8]>
+    ensures some { IfSome result (λ b. b ≡ lamps_bytes lamps ++ written_codes codes.now) }
+    ensures none { IfNone result (1 < length codes.now) }
+{
+    let [states, flashes] = lamps.to_bytes();
     match codes {
-        [] => payload.extend_from_slice(&[0x00, 0x00, 0x00, 0x00, FILLER, FILLER]),
+        [] => Some([states, flashes, 0x00, 0x00, 0x00, 0x00, FILLER, FILLER]),
         [code] => {
-            payload.extend_from_slice(&code.to_bytes())?;
-            payload.extend_from_slice(&[FILLER, FILLER])
+            let [low, middle, top, last] = code.to_bytes();
+            Some([states, flashes, low, middle, top, last, FILLER, FILLER])
         }
-        _ => write_groups(payload, codes),
+        _ => None,
     }
 }
 
 /// Adds four bytes for each code.
-fn write_groups(payload: &mut Vec<u8>, codes: &[Dtc]) -> Result<(), AllocError>
-    ensures { OnOk result (payload.new.items ≡ payload.old.items ++ codes_bytes codes.now) }
+fn write_groups(bytes: &mut Vec<u8>, codes: &[Dtc]) -> Result<(), AllocError>
+    ensures { OnOk result (bytes.new.items ≡ bytes.old.items ++ codes_bytes codes.now) }
 {
-    payload.reserve(4 * codes.len())?;
+    bytes.reserve(4 * codes.len())?;
     for code in codes {
         let [low, middle, top, last] = code.to_bytes();
-        payload.push_reserved(low);
-        payload.push_reserved(middle);
-        payload.push_reserved(top);
-        payload.push_reserved(last);
+        bytes.push_reserved(low);
+        bytes.push_reserved(middle);
+        bytes.push_reserved(top);
+        bytes.push_reserved(last);
     }
     Ok(())
 }

@@ -6,11 +6,11 @@ use crate::error::NodeError;
 use crate::half_commands::HalfCommands;
 use crate::heard::{Answer, Begun, Heard, Started, Withdraw};
 use crate::out::Outs;
-use crate::parts::parts_to_all;
+use crate::parts::{first_part, parts_to_all};
 use crate::session::OpenSession;
 use address_claim::{Claimer, claim_frame};
 use can_frame::{Frame, GLOBAL_ADDRESS};
-use dm_messages::{Kind, payload};
+use dm_messages::{Kind, payload, short_payload};
 use name_field::Name;
 use parameter_group::ParameterGroup;
 use std::alloc::Global;
@@ -103,13 +103,16 @@ impl Node {
         if self.is_open(kind) {
             return Ok(Started::Held);
         }
-        let payload = payload(alloc, kind, unit.memory())?;
         let begun = Begun {
             kind,
             source,
             dest: GLOBAL_ADDRESS,
         };
-        let put = parts_to_all(payload, begun);
+        let memory = unit.memory();
+        let put = match short_payload(kind, memory) {
+            Some(bytes) => first_part(&bytes, begun),
+            None => parts_to_all(payload(alloc, kind, memory)?, begun),
+        };
         Ok(Started::Begun { begun, put })
     }
 

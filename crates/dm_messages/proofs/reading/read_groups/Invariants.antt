@@ -1,4 +1,4 @@
-use Rattle.std.proofs.Common.{◌≡◌, ◌%◌, length, None}
+use Rattle.std.proofs.Common.{◌≡◌, ◌%◌, length}
 use Rattle.dm_messages.specs.View.{codes_of_bytes}
 use Rattle.dm_messages.specs.Refusals.{fault_of_groups}
 use Rattle.dm_messages.proofs.Groups.{codes_onto}
@@ -8,7 +8,7 @@ use Rattle.dm_messages.proofs.reading.read_groups.Given as goal
 abbrev pub invariant-loop-rest : goal.invariant-loop-rest
 invariant-loop-rest l = record {
   read : codes_onto l.codes (codes_of_bytes l.rest) ≡ codes_of_bytes l.groups;
-  fault : fault_of_groups l.rest ≡ None;
+  fault : fault_of_groups l.rest ≡ fault_of_groups l.groups;
   whole : length l.rest % 4 ≡ 0;
 }
 

@@ -15,6 +15,7 @@ note_more : (ms : List MemoryValue) (m : MemoryValue) (n : Note) (older : List E
 note_more ms m (note.Join address name) older h = refl
 note_more ms m (note.Hear answered k n) older h = ap (λ (v : MemoryValue). Hear k v answered ∷ older) (get_or_append_left ms (m ∷ []) new_memory n h)
 note_more ms m (note.Passed first count) older h = refl
+note_more ms m (note.PassedAgain k count) older h = refl
 note_more ms m (note.Begin k n) older h = ap (λ (v : MemoryValue). Begin k v ∷ older) (get_or_append_left ms (m ∷ []) new_memory n h)
 note_more ms m (note.Turned k) older h = refl
 note_more ms m (note.Carry k) older h = refl

@@ -6,7 +6,8 @@ pub mod Carrying
 pub mod Queues
 pub mod Parts
 pub mod Deeds
-pub mod Answers
+pub mod Again
+mod Answers
 pub mod Doing
 pub mod Places
 pub mod Hearing

@@ -14,7 +14,7 @@ use Rattle.journal.specs.declared.passing.Passing.{Passing}
 use Rattle.journal.proofs.Runs.{events_note}
 
 -- what stands before the last note, which another takes the place of
-ends_with : (ns : List Note) (i : ℕ) (n n' : Note) → i + 1 ≡ length ns → slice_get ns i ≡ Some n
+pub ends_with : (ns : List Note) (i : ℕ) (n n' : Note) → i + 1 ≡ length ns → slice_get ns i ≡ Some n
     → (xs : List Note) × (ns ≡ xs ++ n ∷ []) × (set ns i n' ≡ xs ++ n' ∷ [])
 ends_with [] i n n' e last = absurd (omega (arith, e))
 ends_with (a ∷ []) zero n n' e last = ([], (let same : a ≡ n = cc in ap (λ (x : Note). x ∷ []) same), refl)

@@ -38,6 +38,7 @@ plain ms (note.Inject bytes id) older h single = record { noted = λ many. tt; u
 plain ms (note.Hear answered a b) older h single = absurd cc
 plain ms (note.Begin a b) older h single = absurd cc
 plain ms (note.Passed first count) older h single = absurd cc
+plain ms (note.PassedAgain k count) older h single = absurd cc
 plain ms (note.Relayed bytes a id) older h single = absurd cc
 plain ms (note.ReadAndCarried bytes a id) older h single = absurd cc
 
@@ -86,6 +87,7 @@ telling ms (note.Command address name) j i older h = absurd cc
 telling ms (note.Leave a) j i older h = absurd cc
 telling ms (note.Inject bytes id) j i older h = absurd cc
 telling ms (note.Passed first count) j i older h = absurd cc
+telling ms (note.PassedAgain k count) j i older h = absurd cc
 telling ms (note.Relayed bytes a id) j i older h = absurd cc
 telling ms (note.ReadAndCarried bytes a id) j i older h = absurd cc
 
@@ -128,6 +130,7 @@ noted_more : (ms : List MemoryValue) (m : MemoryValue) (n : Note) → IsNoted (l
 noted_more ms m (note.Join address name) h = tt
 noted_more ms m (note.Hear answered k n) h = omega (arith, length-append ms (m ∷ []))
 noted_more ms m (note.Passed first count) h = tt
+noted_more ms m (note.PassedAgain k count) h = tt
 noted_more ms m (note.Begin k n) h = omega (arith, length-append ms (m ∷ []))
 noted_more ms m (note.Turned k) h = tt
 noted_more ms m (note.Carry k) h = tt

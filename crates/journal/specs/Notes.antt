@@ -1,5 +1,5 @@
 -- How the journal keeps events: a fault memory is told by the number of its stored copy, a run of units that pass over a frame
--- by one note, and a carry and a reading next to each other by one note.
+-- by one note, one unit's frames by one, and a carry and a reading next to each other by one note.
 use Rattle.std.specs.Prelude.{◌≡◌, ℕ, zero, suc, ◌+◌, ◌-◌, ◌<◌, min, List, [], ◌∷◌, ◌++◌, Option, None, Some, length, reverse, slice_index_or, slice_set, option_to_list, unwrap_or}
 use Rattle.std.specs.List.{All}
 use Rattle.can_frame.specs.FrameValue.{frame}
@@ -53,11 +53,18 @@ unfoldable pub passed_over : ℕ → ℕ → List Event → List Event
 passed_over first zero older = older
 passed_over first (suc n) older = Hear (first + n) (latest (first + n) (passed_over first n older)) NotAsked ∷ passed_over first n older
 
+-- the events, the newest first, and then this many hears of the unit on one seat, one after another: it was not asked, and its memory
+-- was the one that its latest event tells
+unfoldable pub passed_again : ℕ → ℕ → List Event → List Event
+passed_again k zero older = older
+passed_again k (suc n) older = Hear k (latest k (passed_again k n older)) NotAsked ∷ passed_again k n older
+
 -- the event that a note tells, where it tells one alone
 abbrev pub event_of : List MemoryValue → Note → Option Event
 event_of memories (note.Join address name) = Some (Join name address)
 event_of memories (note.Hear answered k n) = Some (Hear k (memory_at memories n) answered)
 event_of memories (note.Passed first count) = None
+event_of memories (note.PassedAgain k count) = None
 event_of memories (note.Begin k n) = Some (Begin k (memory_at memories n))
 event_of memories (note.Turned k) = Some (Turned k)
 event_of memories (note.Carry k) = Some (Carry k)
@@ -76,6 +83,7 @@ event_of memories (note.Inject bytes id) = Some (Inject (frame id bytes))
 -- the events, the newest first, and then what a note tells
 abbrev pub with_note : List MemoryValue → Note → List Event → List Event
 with_note memories (note.Passed first count) older = passed_over first count older
+with_note memories (note.PassedAgain k count) older = passed_again k count older
 with_note memories (note.Relayed bytes k id) older = Read (reading.Frame (frame id bytes)) ∷ Carry k ∷ older
 with_note memories (note.ReadAndCarried bytes k id) older = Carry k ∷ Read (reading.Frame (frame id bytes)) ∷ older
 with_note memories n older = option_to_list (event_of memories n) ++ older
@@ -105,6 +113,7 @@ TellsOver run stored e n = (memories : List MemoryValue) → events_of memories 
 abbrev pub IsNoted : ℕ → Note → Type 0
 IsNoted many (note.Hear answered k n) = n < many
 IsNoted many (note.Passed first count) = Unit {0}
+IsNoted many (note.PassedAgain k count) = Unit {0}
 IsNoted many (note.Begin k n) = n < many
 IsNoted many (note.Join address name) = Unit {0}
 IsNoted many (note.Turned k) = Unit {0}
@@ -130,6 +139,7 @@ abbrev pub told_by : Note → Option (ℕ × ℕ)
 told_by (note.Hear answered k n) = Some (k, n)
 told_by (note.Begin k n) = Some (k, n)
 told_by (note.Passed first count) = None
+told_by (note.PassedAgain k count) = None
 told_by (note.Join address name) = None
 told_by (note.Turned k) = None
 told_by (note.Carry k) = None

@@ -133,6 +133,12 @@ pub(crate) enum Note {
         first: u32,
         count: u32,
     },
+    /// The unit on the seat heard its next frames one after another, so many as `count` says, and was not asked. Its memory was at
+    /// each the one that its latest event before tells.
+    PassedAgain {
+        seat: u32,
+        count: u32,
+    },
     /// A unit began a DM1.
     Begin {
         seat: u32,

@@ -8,7 +8,7 @@ ghost use Rattle.journal.specs.Notes.{Gains, IsStored, event_of, memory_at, told
 
 use crate::note::{FrameBytes, Note, SplitName};
 use crate::order::Order;
-use crate::passing::{NO_RUN, Passing, end_run, store};
+use crate::passing::{NO_RUN, Passing, pass_apart, store};
 use crate::sharing::{store_carry, store_frame};
 use can_frame::{Frame, Reading};
 use fault_memory::FaultMemory;
@@ -20,8 +20,9 @@ use std::marker::Model;
 /// The number of no copy.
 const NO_COPY: u32 = u32::MAX;
 
-/// The journal: all events, the oldest first, each in a note of 16 bytes; a run of units that pass over their next frames, in the
-/// order of their seats, has one note, and so have the carry of a frame and a reading of one next to each other.
+/// The journal: all events, the oldest first, each in a note of 16 bytes. Some that stand next to each other share a note: a run of
+/// units that pass over their next frames, in the order of their seats; one unit that passes over several frames; the carry of a frame
+/// and a reading of one, from a seat below 2^16.
 ///
 /// What a unit's fault memory was at an event is kept once, as long as it stays the same: the event has the number of a stored
 /// copy. Contracts see the events themselves (`Event`), the stored copies, and how many more events there is room for.
@@ -207,18 +208,14 @@ impl Journal {
         }
     }
 
-    /// As `note_passed`, where the run that is growing does not go on with the seat: it ends, and one begins.
+    /// As `note_passed`, where the run that is growing does not go on with the seat.
     #[inline(never)]
     fn begin_run(&mut self, seat: u32)
         requires room { 0 < self.old.room }
         requires told { (m : MemoryValue) × (memory_told seat (reverse self.old.items) ≡ Some m) }
         ensures { (m : MemoryValue) → memory_told seat (reverse self.old.items) ≡ Some m → Gains self.old (event.Hear seat m answer.NotAsked) self.new }
     {
-        end_run(&mut self.notes, &mut self.passing);
-        self.passing = Passing {
-            first: seat,
-            next: u64::from(seat) + 1,
-        };
+        pass_apart(&mut self.notes, &mut self.passing, seat);
         self.events += 1;
     }
 

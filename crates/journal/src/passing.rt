@@ -1,10 +1,11 @@
-ghost use Rattle.std.specs.Prelude.{◌≡◌, ◌+◌, ◌-◌, ◌<◌, ◌≤◌, ◌^◌, ℕ, List, reverse, vec_len, vec_capacity};
+ghost use Rattle.std.specs.Prelude.{◌≡◌, ◌+◌, ◌-◌, ◌<◌, ◌≤◌, ◌^◌, ℕ, List, length, reverse, slice_set, vec_len, vec_capacity, IfSome, OnSome};
 ghost use Rattle.std.specs.List.{All};
 ghost use Rattle.fault_memory.specs.Memory.{MemoryValue};
-ghost use Rattle.journal.specs.Notes.{IsNoted, events_of, newest_first, places_of, with_note};
+ghost use Rattle.journal.specs.Notes.{IsNoted, events_of, newest_first, passed_again, places_of, with_note};
 ghost use Rattle.journal.specs.declared.event.Event.{Event};
 
 use crate::note::Note;
+use crate::sharing::overwrite_last;
 
 /// A run of units, on the seats from `first` up to `next`, that one after another heard their next frames and were not asked.
 #[derive(Clone, Copy)]
@@ -18,7 +19,7 @@ pub(crate) struct Passing {
 pub(crate) const NO_RUN: Passing = Passing { first: 0, next: 0 };
 
 /// Ends the run that is growing: its note takes its place. The events stay.
-pub(crate) fn end_run(notes: &mut Vec<Note>, run: &mut Passing)
+fn end_run(notes: &mut Vec<Note>, run: &mut Passing)
     requires few { run.old.next - run.old.first < 2 ^ 32 }
     requires place { places_of run.old (vec_len notes.old) ≤ vec_capacity notes.old }
     ensures events { (memories : List MemoryValue) → events_of memories (reverse notes.new.items) ≡ events_of memories (newest_first run.old notes.old.items) }
@@ -34,6 +35,59 @@ pub(crate) fn end_run(notes: &mut Vec<Note>, run: &mut Passing)
         });
     }
     *run = NO_RUN;
+}
+
+/// One hear more, of the unit on this seat, which was not asked, and with which the run that is growing does not go on. Where that is
+/// one hear of the very seat, the hear is stored before it, which tells the same; else the run ends, and one begins. There is a place for
+/// one note more.
+pub(crate) fn pass_apart(notes: &mut Vec<Note>, run: &mut Passing, seat: u32)
+    requires few { run.old.next - run.old.first < 2 ^ 32 }
+    requires place { places_of run.old (vec_len notes.old) < vec_capacity notes.old }
+    ensures events { (memories : List MemoryValue) → events_of memories (newest_first run.new notes.new.items) ≡ passed_again seat 1 (events_of memories (newest_first run.old notes.old.items)) }
+    ensures noted { (many : ℕ) → All (IsNoted many) notes.old.items → All (IsNoted many) notes.new.items }
+    ensures order { run.new.first ≤ run.new.next }
+    ensures places { places_of run.new (vec_len notes.new) ≤ places_of run.old (vec_len notes.old) + 1 }
+    ensures capacity { vec_capacity notes.new ≡ vec_capacity notes.old }
+{
+    let next = u64::from(seat) + 1;
+    if run.first == seat && run.next == next {
+        store_again(notes, seat);
+        return;
+    }
+    end_run(notes, run);
+    *run = Passing { first: seat, next };
+}
+
+/// Stores one hear more of the unit on this seat, which was not asked, right before the run that is growing: in the note of its hears
+/// that is stored last, where there is such a note; else in a note of its own, for which there is a place.
+fn store_again(notes: &mut Vec<Note>, seat: u32)
+    requires place { vec_len notes.old < vec_capacity notes.old }
+    ensures events { (memories : List MemoryValue) → events_of memories (reverse notes.new.items) ≡ passed_again seat 1 (events_of memories (reverse notes.old.items)) }
+    ensures noted { (many : ℕ) → All (IsNoted many) notes.old.items → All (IsNoted many) notes.new.items }
+    ensures places { vec_len notes.new ≤ vec_len notes.old + 1 }
+    ensures capacity { vec_capacity notes.new ≡ vec_capacity notes.old }
+{
+    match with_one_more(notes.as_slice(), seat) {
+        Some(more) => overwrite_last(notes, more),
+        None => notes.push_reserved(Note::PassedAgain { seat, count: 1 }),
+    }
+}
+
+/// The note of the hears of this seat that is stored last, with one hear more, where there is such a note and its number has room.
+fn with_one_more(notes: &[Note], seat: u32) -> Option<Note>
+    ensures some { OnSome result (0 < length notes.now) }
+    ensures events { IfSome result (λ n. (memories : List MemoryValue)
+        → events_of memories (reverse (slice_set notes.now (length notes.now - 1) n)) ≡ passed_again seat 1 (events_of memories (reverse notes.now))) }
+    ensures noted { IfSome result (λ n. (many : ℕ) → IsNoted many n) }
+{
+    let Note::PassedAgain { seat: last, count } = notes.last()? else {
+        return None;
+    };
+    if *last != seat {
+        return None;
+    }
+    let count = count.checked_add(1)?;
+    Some(Note::PassedAgain { seat, count })
 }
 
 /// Stores a note, for which there is a place, after the run that was growing.

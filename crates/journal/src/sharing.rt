@@ -99,7 +99,7 @@ fn newest<'a>(notes: &'a [Note], run: &Passing) -> Option<&'a Note>
 
 /// Writes this note over the one that is stored last.
 #[inline]
-fn overwrite_last(notes: &mut Vec<Note>, note: Note)
+pub(crate) fn overwrite_last(notes: &mut Vec<Note>, note: Note)
     requires { 0 < vec_len notes.old }
     ensures items { notes.new.items ≡ slice_set notes.old.items (length notes.old.items - 1) note }
     ensures len { vec_len notes.new ≡ vec_len notes.old }

@@ -278,7 +278,7 @@ impl Garage {
         let Some(frame) = self.next_for(parked.seat) else {
             return Ok((HeardOne::Nothing, true));
         };
-        if self.pass(parked.seat, &frame)? {
+        if self.pass(parked.seat, &frame) {
             parked.events = self.events_of(parked.seat);
             return Ok((HeardOne::Frame(frame), true));
         }

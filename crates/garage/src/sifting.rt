@@ -73,6 +73,7 @@ impl Garage {
     /// goes; the number of the first for which that is not so is answered, and it and all after it are as they were.
     ///
     /// The journal's room is looked at once for all: where it has none ready for so many events, nothing is done.
+    #[inline(never)]
     fn sweep(
         &mut self,
         units: &mut [Parked],

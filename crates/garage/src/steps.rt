@@ -5,7 +5,7 @@ ghost use Rattle.garage.specs.Answers.{count_with_begun};
 use crate::error::GarageError;
 use crate::garage::Garage;
 use crate::queueing::{Numbering, do_heard, queue_outs};
-use crate::room::{make_ready, make_room, ready_to_note};
+use crate::room::{has_room, make_ready, make_room, ready_to_note};
 use can_frame::{Frame, GLOBAL_ADDRESS};
 use dm_messages::Kind;
 use node_core::{Answer, Begun, NodeError, Outs, Sifted, Started};
@@ -31,7 +31,7 @@ pub enum Begin {
 }
 
 impl Garage {
-    ghost use Rattle.std.specs.Prelude.{◌↔◌, ◌≤◌, length, false, IfOk, IfErr, IsErrOf, IsTrue, Ok, OnErr, OnOk, Some};
+    ghost use Rattle.std.specs.Prelude.{◌↔◌, ◌≤◌, length, false, IfOk, IsFalse, IfErr, IsErrOf, IsTrue, Ok, OnErr, OnOk, Some};
     ghost use Rattle.bus_ledger.specs.BusValue.{IsUnit};
     ghost use Rattle.journal.specs.Journal.{memory_told, state_of, Adds};
     ghost use Rattle.journal.specs.State.{unit_at};
@@ -113,28 +113,28 @@ impl Garage {
         Ok(true)
     }
 
-    /// What `hear_quietly` does for a unit whose memory is the one that its latest event tells, which is not looked at.
-    ///
-    /// Refused where the journal has no room, then where there is no memory; then nothing changed.
-    pub(crate) fn pass(&mut self, seat: u32, frame: &Frame) -> Result<bool, GarageError>
+    /// The unit on the seat, whose memory is the one that its latest event tells and is not looked at, settles this frame, its next
+    /// one; answers whether it did. Else, and where the journal has no room ready, nothing changes.
+    #[inline(always)]
+    pub(crate) fn pass(&mut self, seat: u32, frame: &Frame) -> bool
         requires unit { IsUnit (state_of self.old).traffic seat }
         requires next { next_for (state_of self.old) seat ≡ Some frame.now }
         requires told { (m : MemoryValue) × (memory_told seat self.old.journal ≡ Some m) }
-        ensures quiet { (m : MemoryValue) → memory_told seat self.old.journal ≡ Some m → IfOk result (λ q. IsTrue q → Passes self.old seat m frame.now self.new) }
-        ensures loud { result ≡ Ok false → self.new ≡ self.old }
-        ensures only { IfErr result IsWant }
-        ensures err { OnErr result (self.new ≡ self.old) }
+        ensures quiet { (m : MemoryValue) → memory_told seat self.old.journal ≡ Some m → IsTrue result → Passes self.old seat m frame.now self.new }
+        ensures loud { IsFalse result → self.new ≡ self.old }
     {
-        make_room(&mut self.journal, self.live + 1, self.limit)?;
+        if !has_room(&self.journal, self.live + 1, self.limit) {
+            return false;
+        }
         let sifted = Sifted::of(frame);
         let place = &mut self.places[seat as usize - 1];
         if !place.node.settle(&sifted) {
-            return Ok(false);
+            return false;
         }
         place.tally.events += 1;
         self.bus.mark_heard(seat);
         self.journal.note_passed(seat);
-        Ok(true)
+        true
     }
 
     /// The unit on the seat hears this frame, its next one. It is asked exactly what the frame puts to it, and is else as it was.

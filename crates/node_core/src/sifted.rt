@@ -30,6 +30,7 @@ pub enum Sifted {
 
 impl Sifted {
     /// What the frame tells those units. Most frames are told by their identifier alone.
+    #[inline(always)]
     pub fn of(frame: &Frame) -> Sifted
         ensures { IsSifted result frame.now }
     {

@@ -56,6 +56,7 @@ pub enum ParameterGroup<'a> {
 impl<'a> ParameterGroup<'a> {
     /// What the frame says. The priority is not looked at; each parameter group number is compared in all
     /// its bits, the data pages included.
+    #[inline(always)]
     #[tactic(auto, using(crate::proofs::Cases::of_active_codes, crate::proofs::Cases::of_previous_codes, crate::proofs::Cases::of_control, crate::proofs::Cases::of_packet, crate::proofs::Cases::of_other, crate::specs::Laws::reads_back, crate::proofs::Cases::to_one))]
     pub fn read(frame: &'a Frame) -> ParameterGroup<'a>
         ensures value { said result ≡ group_of frame.entry.now }

@@ -57,6 +57,7 @@ impl Run {
     }
 
     /// The first frame that is left; it stays. Takes no memory.
+    #[inline(always)]
     #[tactic(auto, using(crate::proofs::Runs::first_of_run, crate::proofs::Runs::empty_run))]
     pub fn peek(&self) -> Option<Frame>
         ensures { result ≡ option_map frame_in (slice_get self.now 0) }

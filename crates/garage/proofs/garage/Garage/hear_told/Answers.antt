@@ -16,39 +16,39 @@ events_of-parked-requires g c =
     let p = c.args.parked.now in
     let unit = (goal.Unit-dyn g (p.unit.vtable, p.unit.value)) in
     let next : next_for (state_of c.args.self.now) p.seat ≡ Some c.in-Some.frame = sym c.next_for.ensures ∙ c.in-Some.is in
-    let hears = hears_quietly c.args.self.now c.pass.new.self p.seat c.in-Some.frame _ (unit.Answers p.unit.value) p.unit.value next (c.in_ok-pass.ensures.quiet _ c.requires.told c.if-branch.true) in
+    let hears = hears_quietly c.args.self.now c.pass.new.self p.seat c.in-Some.frame _ (unit.Answers p.unit.value) p.unit.value next (c.pass.ensures.quiet _ c.requires.told c.if-pass.true) in
     is_unit c.args.self.now c.pass.new.self p.seat
     (unit_hears c.args.self.now p.seat _ (unit.Answers p.unit.value) p.unit.value (heard.Frame c.in-Some.frame) c.pass.new.self _ p.unit.value hears c.requires.seated.unit.1) c.requires.seated.unit
 
-pub returns-then-branch-clause-ok : goal.returns-then-branch-clause-ok
-returns-then-branch-clause-ok g c =
+pub returns-then-pass-clause-ok : goal.returns-then-pass-clause-ok
+returns-then-pass-clause-ok g c =
     let p = c.args.parked.now in
     let unit = (goal.Unit-dyn g (p.unit.vtable, p.unit.value)) in
     let next : next_for (state_of c.args.self.now) p.seat ≡ Some c.in-Some.frame = sym c.next_for.ensures ∙ c.in-Some.is in (
       p.unit.value,
       refl,
-      hears_quietly c.args.self.now c.pass.new.self p.seat c.in-Some.frame _ (unit.Answers p.unit.value) p.unit.value next (c.in_ok-pass.ensures.quiet _ c.requires.told c.if-branch.true),
+      hears_quietly c.args.self.now c.pass.new.self p.seat c.in-Some.frame _ (unit.Answers p.unit.value) p.unit.value next (c.pass.ensures.quiet _ c.requires.told c.if-pass.true),
     )
 
-pub returns-then-branch-clause-counted : goal.returns-then-branch-clause-counted
-returns-then-branch-clause-counted g c =
+pub returns-then-pass-clause-counted : goal.returns-then-pass-clause-counted
+returns-then-pass-clause-counted g c =
     let p = c.args.parked.now in
     let unit = (goal.Unit-dyn g (p.unit.vtable, p.unit.value)) in
     let next : next_for (state_of c.args.self.now) p.seat ≡ Some c.in-Some.frame = sym c.next_for.ensures ∙ c.in-Some.is in
-    let hears = hears_quietly c.args.self.now c.pass.new.self p.seat c.in-Some.frame _ (unit.Answers p.unit.value) p.unit.value next (c.in_ok-pass.ensures.quiet _ c.requires.told c.if-branch.true) in
+    let hears = hears_quietly c.args.self.now c.pass.new.self p.seat c.in-Some.frame _ (unit.Answers p.unit.value) p.unit.value next (c.pass.ensures.quiet _ c.requires.told c.if-pass.true) in
     c.events_of-parked.ensures.count
     ∙ hearing_counted c.args.self.now p.seat _ (unit.Answers p.unit.value) p.unit.value (heard.Frame c.in-Some.frame) c.pass.new.self _ p.unit.value p.events hears c.requires.seated.counted
 
-pub returns-then-branch-clause-seated : goal.returns-then-branch-clause-seated
-returns-then-branch-clause-seated g c =
+pub returns-then-pass-clause-seated : goal.returns-then-pass-clause-seated
+returns-then-pass-clause-seated g c =
     let p = c.args.parked.now in
     let unit = (goal.Unit-dyn g (p.unit.vtable, p.unit.value)) in
     let next : next_for (state_of c.args.self.now) p.seat ≡ Some c.in-Some.frame = sym c.next_for.ensures ∙ c.in-Some.is in
-    let hears = hears_quietly c.args.self.now c.pass.new.self p.seat c.in-Some.frame _ (unit.Answers p.unit.value) p.unit.value next (c.in_ok-pass.ensures.quiet _ c.requires.told c.if-branch.true) in
+    let hears = hears_quietly c.args.self.now c.pass.new.self p.seat c.in-Some.frame _ (unit.Answers p.unit.value) p.unit.value next (c.pass.ensures.quiet _ c.requires.told c.if-pass.true) in
     let keeps : KeepsUnit p.seat c.args.self.now c.pass.new.self =
     unit_hears c.args.self.now p.seat _ (unit.Answers p.unit.value) p.unit.value (heard.Frame c.in-Some.frame) c.pass.new.self _ p.unit.value hears c.requires.seated.unit.1 in
     still_seated c.args.self.now c.pass.new.self p.seat _ p.events c.events_of-parked.result keeps c.requires.seated c.events_of-parked.ensures.count
 
-pub returns-then-branch-clause-told : goal.returns-then-branch-clause-told
-returns-then-branch-clause-told g c =
-    λ t. told_hearing c.args.self.now c.pass.new.self c.args.parked.now.seat _ NotAsked (c.in_ok-pass.ensures.quiet _ c.requires.told c.if-branch.true).adds
+pub returns-then-pass-clause-told : goal.returns-then-pass-clause-told
+returns-then-pass-clause-told g c =
+    λ t. told_hearing c.args.self.now c.pass.new.self c.args.parked.now.seat _ NotAsked (c.pass.ensures.quiet _ c.requires.told c.if-pass.true).adds

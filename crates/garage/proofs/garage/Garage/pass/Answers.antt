@@ -1,9 +1,6 @@
-use Rattle.std.proofs.Common.{arith, refl, ap, ◌∙◌, List, ◌++◌, ◌∷◌, [], ◌-◌, reverse}
+use Rattle.std.proofs.Common.{arith, refl, ◌-◌}
 use Rattle.std.specs.Vec.{with_item}
-use Rattle.journal.specs.Journal.{memory_told, one_more}
-use Rattle.journal.specs.declared.event.Event.{Event}
-use Rattle.journal.specs.declared.event.Event.TheVariants.{Hear}
-use Rattle.node_core.specs.declared.heard.Answer.TheVariants.{NotAsked}
+use Rattle.journal.specs.Journal.{one_more}
 use Rattle.garage.proofs.LastFrames.{settled_quietly}
 use Rattle.garage.proofs.Passing.{next_inside, next_there, quiet_passes, quiet_stands, told_inside}
 use Rattle.garage.proofs.Standing.{place_few, place_within, unit_now}
@@ -27,14 +24,14 @@ invariant_of-self-2 c =
     let seat = c.args.seat in
     let m = c.requires.told.0 in
     let told = told_inside a c.args.self.now seat m c.self.view_is c.self.invariant c.requires.told.1 in
-    let gains = c.note_passed.ensures m (ap (λ (es : List Event). memory_told seat (reverse es)) c.make_room.ensures.items ∙ told.0) in
-    let ok = c.in_ok-make_room.ensures.ok in
+    let gains = c.note_passed.ensures m told.0 in
+    let ok = c.has_room.ensures c.if-not-has_room.false in
     let fits = ok.0 in
     let room = ok.1 in
     let n = gains.room in
     quiet_stands a _ seat m c.args.frame.now c.index_mut-place.result.now c.settle.new.self c.self.invariant (unit_now a c.args.self.now seat c.self.view_is c.requires.unit) told.1
     (next_inside a c.args.self.now seat c.args.frame.now c.self.view_is c.requires.next) c.index_mut-place.ensures.value (settled_quietly c.of-sifted.result c.args.frame.now c.index_mut-place.result.now.node c.settle.new.self c.of-sifted.ensures (c.settle.ensures.settled c.if-not-settle.false))
-    refl (gains.items ∙ ap (λ (l : List Event). l ++ Hear seat m NotAsked ∷ []) c.make_room.ensures.items) c.mark_heard.ensures.traffic refl refl refl refl refl (omega arith) (omega arith)
+    refl gains.items c.mark_heard.ensures.traffic refl refl refl refl refl (omega arith) (omega arith)
 
 pub returns-clause-quiet : goal.returns-clause-quiet
 returns-clause-quiet c = λ m e t.
@@ -42,7 +39,7 @@ returns-clause-quiet c = λ m e t.
     let seat = c.args.seat in
     let x = c.index_mut-place.result.now in
     let told = told_inside a c.args.self.now seat m c.self.view_is c.self.invariant e in
-    let gains = c.note_passed.ensures m (ap (λ (es : List Event). memory_told seat (reverse es)) c.make_room.ensures.items ∙ told.0) in
+    let gains = c.note_passed.ensures m told.0 in
     quiet_passes a (record {
       name = a.name;
       address = a.address;
@@ -58,5 +55,5 @@ returns-clause-quiet c = λ m e t.
       journal = c.note_passed.new.self;
     })
     c.args.self.now seat m m c.args.frame.now x c.settle.new.self c.self.view_is c.self.invariant refl
-    (gains.items ∙ ap (λ (l : List Event). l ++ Hear seat m NotAsked ∷ []) c.make_room.ensures.items) refl (unit_now a c.args.self.now seat c.self.view_is c.requires.unit) told.1
+    gains.items refl (unit_now a c.args.self.now seat c.self.view_is c.requires.unit) told.1
     (next_inside a c.args.self.now seat c.args.frame.now c.self.view_is c.requires.next) c.index_mut-place.ensures.value (settled_quietly c.of-sifted.result c.args.frame.now c.index_mut-place.result.now.node c.settle.new.self c.of-sifted.ensures (c.settle.ensures.settled c.if-not-settle.false)))

@@ -85,5 +85,15 @@ fn lists(rt: HostRuntime) -> Result<(), Fail> {
     let mut more = Codes::with_capacity(rt.alloc(), 2)?;
     more.push(second)?;
     assert_eq!(rt; more.as_slice(), [second].as_slice());
+    // Up to three codes take no memory, and further ones do.
+    for _ in 0..2 {
+        copy.push(second)?;
+    }
+    let five = [first, second, first, second, second];
+    assert_eq!(rt; copy.as_slice(), five.as_slice());
+    assert_eq!(rt; copy.copy()?.as_slice(), five.as_slice());
+    let mut four = Codes::with_capacity(rt.alloc(), 4)?;
+    four.push(first)?;
+    assert_eq!(rt; four.as_slice(), [first].as_slice());
     Ok(())
 }

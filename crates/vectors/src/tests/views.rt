@@ -1,6 +1,6 @@
 //! DM1 and DM2.
 
-use dm_messages::{Kind, ReadError, Shown, payload, read};
+use dm_messages::{Kind, ReadError, Shown, payload, read, short_payload};
 use fault_memory::{FaultChange, FaultMemory};
 use std::alloc::Global;
 use std::process::Abort;
@@ -38,6 +38,7 @@ fn one_code_and_none(rt: HostRuntime) -> Result<(), Fail> {
         payload(alloc, Kind::Dm2, &memory)?.as_slice(),
         zeros.as_slice()
     );
+    assert_eq!(rt; short_payload(Kind::Dm2, &memory), Some(zeros));
     Ok(())
 }
 
@@ -66,12 +67,11 @@ fn bit_ends(rt: HostRuntime) -> Result<(), Fail> {
         (&[], "15 BadLength"),
     ];
     for (bytes, name) in refused {
-        if let Err(error) = read(alloc, bytes) {
-            let text = format!(in alloc; "{} {error}", error.number())?;
-            assert_eq!(rt; text.as_str(), name);
-        } else {
-            assert!(rt; false, "{name} is not refused");
-        }
+        let text = match read(alloc, bytes) {
+            Ok(_) => format!(in alloc; "not refused")?,
+            Err(error) => format!(in alloc; "{} {error}", error.number())?,
+        };
+        assert_eq!(rt; text.as_str(), name);
     }
     assert_eq!(rt; ReadError::OutOfMemory.number(), 0);
     Ok(())
@@ -84,6 +84,7 @@ fn two_codes(rt: HostRuntime) -> Result<(), Fail> {
     let written = payload(alloc, Kind::Dm1, &memory)?;
     let bytes = [0x00, 0xFF, 0x64, 0x00, 0x01, 0x01, 0xC8, 0x00, 0x02, 0x01];
     assert_eq!(rt; written.as_slice(), bytes.as_slice());
+    assert_eq!(rt; short_payload(Kind::Dm1, &memory), None);
     assert_shown(&rt, &read(alloc, &bytes)?, [0x00, 0xFF], memory.active());
     let same = [0x00, 0xFF, 0x64, 0x00, 0x01, 0x7F, 0x64, 0x00, 0x01, 0x7F];
     let code = Dtc::new(100, 1, 127)?;
@@ -120,10 +121,9 @@ fn occurrence_count(rt: HostRuntime) -> Result<(), Fail> {
         lamps: Lamps::from_bytes(0x04, 0xFF),
     })?;
     let written = payload(alloc, Kind::Dm1, &memory)?;
-    assert_eq!(rt;
-        written.as_slice(),
-        [0x04, 0xFF, 0x07, 0x00, 0x01, 0x02, 0xFF, 0xFF].as_slice()
-    );
+    let bytes = [0x04, 0xFF, 0x07, 0x00, 0x01, 0x02, 0xFF, 0xFF];
+    assert_eq!(rt; written.as_slice(), bytes.as_slice());
+    assert_eq!(rt; short_payload(Kind::Dm1, &memory), Some(bytes));
     assert_eq!(rt; Kind::Dm1.pgn().number(), 65226);
     assert_eq!(rt; Kind::Dm2.pgn().number(), 65227);
     Ok(())

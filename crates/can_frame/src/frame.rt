@@ -47,8 +47,8 @@ impl From<IdTooLarge> for FrameError {
 #[derive(Clone, Copy, Debug, PartialEq, Eq)]
 pub struct Frame {
     id: Id,
-    len: u8,
     room: [u8; 8],
+    len: u8,
 }
 
 impl Model for Frame {

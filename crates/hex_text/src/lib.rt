@@ -32,9 +32,9 @@ pub fn read_hex(text: &str, digits: usize) -> Option<u64>
     Some(number)
 }
 
-/// What a hexadecimal digit of either case stands for; `None` for any other character.
-#[inline]
-fn digit_of(byte: u8) -> Option<u8>
+/// What a hexadecimal digit of either case stands for, 0 to 15; `None` for any other character.
+#[inline(always)]
+pub fn digit_of(byte: u8) -> Option<u8>
     ensures { SomeIff result (digit_value byte < 16) (digit_value byte) }
 {
     match byte {

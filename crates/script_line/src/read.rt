@@ -29,33 +29,35 @@ pub fn read_command(line: &str) -> Option<Command> {
     }
 }
 
-/// The commands of which scripts have most stand first.
+/// The commands of which scripts have most stand first, and are told by their bytes: to compare a `str` is a call.
 fn read_words(words: &mut Words<'_>) -> Option<Command> {
-    match words.next_word()? {
-        "hear" => Some(Command::Hear {
+    let keyword = words.next_word()?;
+    match keyword.as_bytes() {
+        [b'h', b'e', b'a', b'r'] => Some(Command::Hear {
             seat: next_number(words)?,
             most: next_count(words)?,
         }),
-        "dm1" => Some(Command::Dm1 {
+        [b'd', b'm', b'1'] => Some(Command::Dm1 {
             seat: next_number(words)?,
         }),
-        "round" => Some(Command::Round {
+        [b'r', b'o', b'u', b'n', b'd'] => Some(Command::Round {
             count: next_number(words)?,
         }),
-        "carry" => Some(Command::Carry {
+        [b'c', b'a', b'r', b'r', b'y'] => Some(Command::Carry {
             most: next_count(words)?,
         }),
-        "read" => Some(Command::Read {
+        [b'r', b'e', b'a', b'd'] => Some(Command::Read {
             most: next_count(words)?,
         }),
-        "inject" => Some(Command::Inject {
+        [b'i', b'n', b'j', b'e', b'c', b't'] => Some(Command::Inject {
             frame: read_frame(words)?,
         }),
-        keyword => read_of_garage(keyword, words),
+        _ => read_of_garage(keyword, words),
     }
 }
 
 /// The commands of the garage and its station.
+#[inline(never)]
 fn read_of_garage(keyword: &str, words: &mut Words<'_>) -> Option<Command> {
     match keyword {
         "garage" => read_garage(words),

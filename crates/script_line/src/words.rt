@@ -18,6 +18,16 @@ impl<'a> Words<'a> {
         self.rest.len()
     }
 
+    /// What is left, of which no word is left then.
+    pub fn take_rest(&mut self) -> &'a str
+        ensures all { result.now ≡ self.old.rest.now }
+        ensures none { self.new.rest.now ≡ [] }
+    {
+        let rest = self.rest;
+        self.rest = "";
+        rest
+    }
+
     /// The next word, or `None` where there is none left.
     #[inline]
     #[tactic(auto, using(crate::proofs::WordLemmas::after_space, crate::proofs::WordLemmas::run_none, crate::proofs::WordLemmas::one_more_space, crate::proofs::WordLemmas::one_more_character))]

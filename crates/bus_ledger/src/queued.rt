@@ -173,9 +173,25 @@ pub(crate) fn take_first(queue: &mut VecDeque<Queued>) -> Option<QueuedFrame>
     let is_last = first.left() == 1;
     let taken = first.take();
     if is_last {
-        let _ = queue.pop_front();
+        give_up_first(queue);
     }
     taken
+}
+
+/// Gives up the first place of a queue.
+///
+/// Where it is the only one it is taken from the back: then the queue's start stays where it is, and the next place filled is the
+/// same memory again, and not each time the next of a ring that is as large as the queue ever was.
+fn give_up_first(queue: &mut VecDeque<Queued>)
+    ensures rest { queue.new.items ≡ drop 1 queue.old.items }
+    ensures places { deque_len queue.new ≤ deque_len queue.old }
+    ensures capacity { deque_capacity queue.new ≡ deque_capacity queue.old }
+{
+    if queue.len() == 1 {
+        let _ = queue.pop_back();
+    } else {
+        let _ = queue.pop_front();
+    }
 }
 
 /// Keeps the frames of a queue that are not withdrawn.

@@ -145,7 +145,22 @@ impl Seat {
     }
 
     /// Makes the spare at least `count`.
+    #[inline(always)]
     pub(crate) fn reserve(&mut self, count: usize) -> Result<(), BusError>
+        ensures seat { self.new.seat ≡ self.old.seat }
+        ensures grows { self.old.spare ≤ self.new.spare }
+        ensures ok { OnOk result (count ≤ self.new.spare) }
+        ensures err { IfErr result (λ e. (e ≡ BusError.OutOfMemory) × (self.old.spare < count)) }
+    {
+        if count <= self.queue.capacity() - self.queue.len() {
+            return Ok(());
+        }
+        self.take_room(count)
+    }
+
+    /// Takes the memory that makes the spare at least `count`.
+    #[inline(never)]
+    fn take_room(&mut self, count: usize) -> Result<(), BusError>
         ensures seat { self.new.seat ≡ self.old.seat }
         ensures grows { self.old.spare ≤ self.new.spare }
         ensures ok { OnOk result (count ≤ self.new.spare) }

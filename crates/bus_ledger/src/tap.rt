@@ -88,7 +88,13 @@ impl Tap {
         if missed > 0 {
             return missed;
         }
-        match self.ring.pop_front() {
+        // (an only frame is taken from the back, so that the next one comes to the same place of memory)
+        let passed = if self.ring.len() == 1 {
+            self.ring.pop_back()
+        } else {
+            self.ring.pop_front()
+        };
+        match passed {
             Some(_) => 1,
             None => 0,
         }

@@ -13,6 +13,7 @@ impl Bus {
     /// Makes room for `count` more frames in the seat's queue.
     ///
     /// Refused where there is no memory for them.
+    #[inline(always)]
     pub fn reserve(&mut self, seat: u32, count: usize) -> Result<(), BusError>
         requires { IsLive self.old.traffic seat }
         ensures traffic { self.new.traffic ≡ self.old.traffic }

@@ -15,9 +15,9 @@ pub returns-then-is_last-clause-frames : goal.returns-then-is_last-clause-frames
 returns-then-is_last-clause-frames c =
     let q = c.args.queue.now in
     let some : 0 < length q.items = search rules in
-    ap frames_in c.pop_front.ensures.rest
+    ap frames_in c.give_up_first.ensures.rest
     ∙ without_place q.items c.index_mut-first.result.now c.take-taken.new.self c.requires some c.index_mut-first.ensures.value (sym c.left-is_last.ensures ∙ c.if-is_last.true)
 
 pub returns-then-is_last-clause-filled : goal.returns-then-is_last-clause-filled
 returns-then-is_last-clause-filled c =
-    subst (λ (l : List Queued). All IsFilled l) (sym c.pop_front.ensures.rest) (others_filled c.args.queue.now.items c.take-taken.new.self c.requires)
+    subst (λ (l : List Queued). All IsFilled l) (sym c.give_up_first.ensures.rest) (others_filled c.args.queue.now.items c.take-taken.new.self c.requires)

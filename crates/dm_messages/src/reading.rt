@@ -14,7 +14,7 @@ use trouble_code::{Codes, Dtc, DtcError, Lamps};
 ///
 /// Refused, in this order: `BadLength` where there are neither 8 bytes nor 2 + 4n for n from 2 to 445; `OldConversion` or
 /// `NoCodeInside`, whichever the first group at fault has; `OutOfMemory`. In 8 bytes, bytes 3 to 6 all 00 or all FF are no
-/// code, and bytes 7 and 8 are not looked at. Up to three codes take no memory.
+/// code, and bytes 7 and 8 are not looked at. No code takes no memory.
 pub fn read(alloc: Global, bytes: &[u8]) -> Result<Shown, ReadError>
     ensures ok { IfOk result (λ v. Encodes v bytes.now) }
     ensures decoded { IfOk result (λ v. decoding bytes.now ≡ Some v) }

@@ -9,4 +9,4 @@ pub struct Shown {
     pub codes: Codes,
 }
 
-const _: () = prove!(size_of::<Shown>() == 24);
+const _: () = prove!(size_of::<Shown>() == 32);

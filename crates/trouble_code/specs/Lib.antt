@@ -2,4 +2,3 @@ pub mod Code
 pub mod DtcRefusals
 pub mod LampBytes
 pub mod Numbers
-pub mod Places

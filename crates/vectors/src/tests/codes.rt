@@ -85,7 +85,7 @@ fn lists(rt: HostRuntime) -> Result<(), Fail> {
     let mut more = Codes::with_capacity(rt.alloc(), 2)?;
     more.push(second)?;
     assert_eq!(rt; more.as_slice(), [second].as_slice());
-    // Past three codes the list goes on in memory of its own.
+    // A copy grows, and its original does not.
     for _ in 0..2 {
         copy.push(second)?;
     }

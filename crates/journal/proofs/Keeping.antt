@@ -18,6 +18,10 @@ pub told_in : (j : Inside) (v : JournalValue) (k : ℕ) (m : MemoryValue) → jo
 told_in j v k m view told =
     sym (ap (memory_told k) (ap (λ (w : JournalValue). reverse w.items) (sym view) ∙ reverse-reverse (events_in j))) ∙ told
 
+pub untold_in : (j : Inside) (v : JournalValue) (k : ℕ) → journal_value_of j ≡ v → memory_told k (reverse v.items) ≡ None → memory_told k (events_in j) ≡ None
+untold_in j v k view none =
+    sym (ap (memory_told k) (ap (λ (w : JournalValue). reverse w.items) (sym view) ∙ reverse-reverse (events_in j))) ∙ none
+
 -- the newest event stands last as contracts see it
 pub items_gain : (j : Inside) (v : JournalValue) (es : List Event) (e : Event) → journal_value_of j ≡ v → es ≡ e ∷ events_in j → reverse es ≡ v.items ++ e ∷ []
 items_gain j v es e view is = newest_last (events_in j) es e is ∙ ap (λ (w : JournalValue). w.items ++ e ∷ []) view

@@ -3,13 +3,13 @@ use Rattle.std.proofs.Common.{ℕ, ◌≡◌, ◌+◌, ◌-◌, ◌<◌, ◌≤�
 use Rattle.std.specs.List.{All}
 use Rattle.std.specs.Prelude.{vec_len, vec_capacity}
 use Rattle.fault_memory.specs.Memory.{MemoryValue}
-use Rattle.journal.specs.Notes.{AreTold, Gains, IsNoted, JournalValue, event_of, events_of, newest_first, places_of, told_by, with_note}
+use Rattle.journal.specs.Notes.{AreTold, AreUntold, Gains, IsNoted, JournalValue, event_of, events_of, newest_first, places_of, told_by, with_note}
 use Rattle.journal.specs.Inside.{KeepsEvents, events_in, journal_value_of}
 use Rattle.journal.specs.declared.event.Event.{Event}
 use Rattle.journal.specs.declared.note.Note.{Note}
 use Rattle.journal.specs.declared.notes.Journal.TheInside.{Inside}
 use Rattle.journal.proofs.Keeping.{items_gain}
-use Rattle.journal.proofs.Told.{plain, told_plain}
+use Rattle.journal.proofs.Told.{plain, told_plain, untold_plain}
 
 -- the notes of k and its run are those of j, and then what this note tells
 pub record Stores (j k : Inside) (n : Note) : Type 0 where
@@ -36,6 +36,7 @@ kept_stored j k v n view keeps stores room untold single =
       notes = record {
         noted = stores.noted (length ms) keeps.notes.noted;
         told = subst (λ (es : List Event). AreTold ms j.told.items es) (sym now) (told_plain ms j.told.items (events_in j) n keeps.notes.told untold one);
+        untold = subst (AreUntold j.told.items) (sym now) (untold_plain ms j.told.items (events_in j) n keeps.notes.untold untold one);
       };
       counted = (let counted = keeps.counted in omega arith);
       grows = omega arith;

@@ -1,11 +1,11 @@
 -- What holds of the notes of a journal, after one note, one copy or one place more.
-use Rattle.std.proofs.Common.{ℕ, suc, ◌≡◌, ◌<◌, ◌≤◌, true, false, nat_eq, eq-eqb, ne_eqb, List, [], ◌∷◌, ◌++◌, length, get_or, set, Option, None, Some, IsSome, refl, sym, ap, ◌∙◌, subst, arith, inl, inr, if◌then◌else◌}
+use Rattle.std.proofs.Common.{ℕ, zero, suc, ◌≡◌, ◌<◌, ◌≤◌, ◌⊎◌, true, false, nat_eq, eq-eqb, ne_eqb, List, [], ◌∷◌, ◌++◌, length, get_or, set, Option, None, Some, IsSome, refl, sym, ap, ◌∙◌, subst, arith, inl, inr, if◌then◌else◌}
 use Rattle.std.proofs.lemmas.List.{get_or_append_left, get_or-set_same, get_or-set_other, length-set, length-append}
 use Rattle.bus_ledger.proofs.Numbers.{same_or_not}
 use Rattle.fault_memory.specs.Memory.{MemoryValue, new_memory}
 use Rattle.node_core.specs.declared.heard.Answer.TheVariants.{NotAsked}
 use Rattle.journal.specs.Journal.{memory_told}
-use Rattle.journal.specs.Notes.{AreTold, AreLawfulNotes, IsNoted, IsStored, event_of, latest, memory_at, told_by, with_note}
+use Rattle.journal.specs.Notes.{AreTold, AreUntold, AreLawfulNotes, IsNoted, IsStored, event_of, latest, memory_at, no_copy, told_by, with_note}
 use Rattle.journal.specs.declared.event.Event.{Event}
 use Rattle.journal.specs.declared.event.Event.TheVariants.{Hear}
 use Rattle.journal.specs.declared.note.Note.{Note}
@@ -95,10 +95,16 @@ telling ms (note.ReadAndCarried bytes a id) j i older h = absurd cc
 pub told_plain : (ms : List MemoryValue) (told : List ℕ) (older : List Event) (n : Note) → AreTold ms told older → told_by n ≡ None → IsSome (event_of ms n) → AreTold ms told (with_note ms n older)
 told_plain ms told older n old none single = λ k m h. old k m (sym ((plain ms n older none single).untold k) ∙ h)
 
+pub untold_plain : (ms : List MemoryValue) (told : List ℕ) (older : List Event) (n : Note) → AreUntold told older → told_by n ≡ None → IsSome (event_of ms n) → AreUntold told (with_note ms n older)
+untold_plain ms told older n old none single = λ k l h. old k l (sym ((plain ms n older none single).untold k) ∙ h)
+
 -- a unit more that passes over a frame
 pub told_passed : (ms : List MemoryValue) (told : List ℕ) (older : List Event) (seat : ℕ) (v : MemoryValue) → AreTold ms told older → memory_told seat older ≡ Some v
     → AreTold ms told (Hear seat (latest seat older) NotAsked ∷ older)
 told_passed ms told older seat v old is = λ k m h. old k m (sym (told_same seat k v older is) ∙ h)
+
+pub untold_passed : (told : List ℕ) (older : List Event) (seat : ℕ) (v : MemoryValue) → AreUntold told older → memory_told seat older ≡ Some v → AreUntold told (Hear seat (latest seat older) NotAsked ∷ older)
+untold_passed told older seat v old is = λ k l h. old k l (sym (told_same seat k v older is) ∙ h)
 
 -- a note more that tells one, whose number its seat's place takes
 told_now : (ms : List MemoryValue) (told : List ℕ) (older : List Event) (j i k : ℕ) (m : MemoryValue) → AreTold ms told older → j < length told → i < length ms
@@ -121,6 +127,24 @@ told_now ms told older j i k m old placed stored h =
 pub told_telling : (ms : List MemoryValue) (told : List ℕ) (older : List Event) (n : Note) (j i : ℕ) → AreTold ms told older → j < length told → i < length ms → told_by n ≡ Some (j, i)
     → AreTold ms (set told j i) (with_note ms n older)
 told_telling ms told older n j i old placed stored tells = λ k m h. told_now ms told older j i k m old placed stored (sym ((telling ms n j i older tells).told k) ∙ h)
+
+untold_now : (ms : List MemoryValue) (told : List ℕ) (older : List Event) (j i k : ℕ) → AreUntold told older → k < length (set told j i) → (if nat_eq j k then Some (memory_at ms i) else memory_told k older) ≡ None
+    → get_or (set told j i) k 0 ≡ no_copy
+untold_now ms told older j i k old l h =
+    elim (same_or_not k j) [
+      | inl same ↦
+          let t : nat_eq j k ≡ true = eq-eqb j k (sym same) in
+          let is : Some (memory_at ms i) ≡ None = (rw t refl) ∙ h in
+          absurd cc
+      | inr n ↦
+          let t : nat_eq j k ≡ false = ne_eqb j k (λ e. n (sym e)) in
+          let is : memory_told k older ≡ None = (rw t refl) ∙ h in
+          let low : k < length told = omega (arith, length-set told j i) in
+          get_or-set_other told j k i 0 n ∙ old k low is
+    ]
+
+pub untold_telling : (ms : List MemoryValue) (told : List ℕ) (older : List Event) (n : Note) (j i : ℕ) → AreUntold told older → told_by n ≡ Some (j, i) → AreUntold (set told j i) (with_note ms n older)
+untold_telling ms told older n j i old tells = λ k l h. untold_now ms told older j i k old l (sym ((telling ms n j i older tells).told k) ∙ h)
 
 -- one copy more
 stored_more : (ms : List MemoryValue) (m : MemoryValue) (n : ℕ) (v : MemoryValue) → IsStored ms n v → IsStored (ms ++ m ∷ []) n v
@@ -152,12 +176,23 @@ kept_copied ms m told run ns kept = record {
   told = λ k v h.
       (let o = kept.told k v (ap (memory_told k) (sym (told_more ms m run ns kept.noted)) ∙ h) in
       (o.0, stored_more ms m (get_or told k 0) v o.1));
+  untold = λ k l h. kept.untold k l (ap (memory_told k) (sym (told_more ms m run ns kept.noted)) ∙ h);
 }
+
+below : (k n : ℕ) → (k < n) ⊎ (n ≤ k)
+below k zero = inr (omega arith)
+below zero (suc n) = inl (omega arith)
+below (suc k) (suc n) = elim (below k n) [ inl low ↦ inl (omega arith) | inr high ↦ inr (omega arith) ]
 
 -- places for the numbers of more seats
 pub kept_placed : (ms : List MemoryValue) (told told' : List ℕ) (run : Passing) (ns : List Note) → AreLawfulNotes ms told run ns → length told ≤ length told'
-    → ((k : ℕ) → k < length told → get_or told' k 0 ≡ get_or told k 0) → AreLawfulNotes ms told' run ns
-kept_placed ms told told' run ns kept longer same = record {
+    → ((k : ℕ) → k < length told → get_or told' k 0 ≡ get_or told k 0) → ((k : ℕ) → length told ≤ k → k < length told' → get_or told' k 0 ≡ no_copy) → AreLawfulNotes ms told' run ns
+kept_placed ms told told' run ns kept longer same fresh = record {
   noted = kept.noted;
   told = λ k v h. (let o = kept.told k v h in let l = o.0 in (omega arith, subst (λ (x : ℕ). IsStored ms x v) (sym (same k l)) o.1));
+  untold = λ k l h.
+      elim (below k (length told)) [
+        | inl low ↦ same k low ∙ kept.untold k low h
+        | inr high ↦ fresh k high l
+      ];
 }

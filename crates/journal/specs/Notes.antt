@@ -1,6 +1,6 @@
 -- How the journal keeps events: a fault memory is told by the number of its stored copy, a run of units that pass over a frame
 -- by one note, one unit's frames by one, and a carry and a reading next to each other by one note.
-use Rattle.std.specs.Prelude.{◌≡◌, ℕ, zero, suc, ◌+◌, ◌-◌, ◌<◌, min, List, [], ◌∷◌, ◌++◌, Option, None, Some, length, reverse, slice_index_or, slice_set, option_to_list, unwrap_or}
+use Rattle.std.specs.Prelude.{◌≡◌, ℕ, zero, suc, ◌+◌, ◌-◌, ◌<◌, ◌^◌, min, List, [], ◌∷◌, ◌++◌, Option, None, Some, length, reverse, slice_index_or, slice_set, option_to_list, unwrap_or}
 use Rattle.std.specs.List.{All}
 use Rattle.can_frame.specs.FrameValue.{frame}
 use Rattle.can_frame.specs.declared.reading.Reading.TheVariants as reading
@@ -134,6 +134,14 @@ IsNoted many (note.Inject bytes id) = Unit {0}
 abbrev pub AreTold : List MemoryValue → List ℕ → List Event → Type 0
 AreTold memories told events = (k : ℕ) (m : MemoryValue) → memory_told k events ≡ Some m → (k < length told) × IsStored memories (slice_index_or told k 0) m
 
+-- the number of no copy
+abbrev pub no_copy : ℕ
+no_copy = 2 ^ 32 - 1
+
+-- of each seat that has a place and of which nothing is told, the place holds the number of no copy
+abbrev pub AreUntold : List ℕ → List Event → Type 0
+AreUntold told events = (k : ℕ) → k < length told → memory_told k events ≡ None → slice_index_or told k 0 ≡ no_copy
+
 -- the seat of which a note tells the fault memory, and the number of the copy; a run names none
 abbrev pub told_by : Note → Option (ℕ × ℕ)
 told_by (note.Hear answered k n) = Some (k, n)
@@ -155,10 +163,11 @@ told_by (note.Command address name) = None
 told_by (note.Leave k) = None
 told_by (note.Inject bytes id) = None
 
--- what holds of the notes of a journal: those that tell a memory tell a copy that is there
+-- what holds of the notes of a journal: those that tell a memory tell a copy that is there, and no seat has a number that none told
 pub record AreLawfulNotes (memories : List MemoryValue) (numbers : List ℕ) (run : Passing) (stored : List Note) : Type 0 where
   pub noted : All (IsNoted (length memories)) stored
   pub told : AreTold memories numbers (events_of memories (newest_first run stored))
+  pub untold : AreUntold numbers (events_of memories (newest_first run stored))
 
 -- a call that takes this event into room that there was
 pub record Gains (old : JournalValue) (e : Event) (new : JournalValue) : Type 0 where

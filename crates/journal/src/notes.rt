@@ -141,14 +141,24 @@ impl Journal {
         Ok(number)
     }
 
-    /// The number of the copy that the latest event of a seat tells.
+    /// The number of the copy that the latest hear or begin of a seat tells; 2^32 - 1, where it has none.
     pub fn told(&self, seat: u32) -> u32
-        ensures { (m : MemoryValue) → memory_told seat (reverse self.now.items) ≡ Some m → (seat < self.now.placed) × IsStored self.now.memories result m }
+        ensures some { (m : MemoryValue) → memory_told seat (reverse self.now.items) ≡ Some m → (seat < self.now.placed) × IsStored self.now.memories result m }
+        ensures none { memory_told seat (reverse self.now.items) ≡ None → result ≡ NO_COPY }
     {
         match self.told.get(seat as usize) {
             Some(number) => *number,
             None => NO_COPY,
         }
+    }
+
+    /// Whether the latest hear or begin of a seat tells just this memory. It may tell it and the answer be no: where it has the number
+    /// 2^32 - 1, which is that of no copy.
+    pub fn tells(&self, seat: u32, memory: &FaultMemory) -> bool
+        ensures { IsTrue result → memory_told seat (reverse self.now.items) ≡ Some memory.now }
+    {
+        let number = self.told(seat);
+        number != NO_COPY && is_copy(&self.memories, number, memory)
     }
 
     /// The number of a copy that is the same as this memory: of the one that the seat's latest event tells, or of the newest one.
@@ -334,6 +344,7 @@ impl Journal {
 fn make_place(told: &mut Vec<u32>, seat: u32) -> Result<(), AllocError>
     ensures longer { length told.old.items ≤ length told.new.items }
     ensures kept { (k : ℕ) → k < length told.old.items → slice_index_or told.new.items k 0 ≡ slice_index_or told.old.items k 0 }
+    ensures fresh { (k : ℕ) → length told.old.items ≤ k → k < length told.new.items → slice_index_or told.new.items k 0 ≡ NO_COPY }
     ensures placed { OnOk result (seat < length told.new.items) }
 {
     let place = seat as usize;

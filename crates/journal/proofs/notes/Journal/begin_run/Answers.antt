@@ -2,13 +2,13 @@ use Rattle.std.proofs.Common.{◌≡◌, ◌-◌, ◌<◌, ◌∷◌, List, leng
 use Rattle.fault_memory.specs.Memory.{MemoryValue}
 use Rattle.node_core.specs.declared.heard.Answer.TheVariants.{NotAsked}
 use Rattle.journal.specs.Inside.{events_in}
-use Rattle.journal.specs.Notes.{AreTold, JournalValue, latest}
+use Rattle.journal.specs.Notes.{AreTold, AreUntold, JournalValue, latest}
 use Rattle.journal.specs.declared.event.Event.{Event}
 use Rattle.journal.specs.declared.event.Event.TheVariants.{Hear}
 use Rattle.journal.proofs.Again.{again_one}
 use Rattle.journal.proofs.Keeping.{run_few, told_in, items_gain}
 use Rattle.journal.proofs.Runs.{latest_is}
-use Rattle.journal.proofs.Told.{told_passed}
+use Rattle.journal.proofs.Told.{told_passed, untold_passed}
 use Rattle.journal.proofs.notes.Journal.begin_run.Goals as goal
 
 pub pass_apart-requires-clause-few : goal.pass_apart-requires-clause-few
@@ -29,6 +29,7 @@ invariant_of-self c =
       notes = record {
         noted = c.pass_apart.ensures.noted (length ms) keeps.notes.noted;
         told = subst (λ (es : List Event). AreTold ms a.told.items es) (sym now) (told_passed ms a.told.items (events_in a) seat m keeps.notes.told told);
+        untold = subst (AreUntold a.told.items) (sym now) (untold_passed a.told.items (events_in a) seat m keeps.notes.untold told);
       };
       counted = (let k = keeps.counted in omega arith);
       grows = c.pass_apart.ensures.order;

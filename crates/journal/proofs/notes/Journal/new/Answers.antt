@@ -15,6 +15,7 @@ invariant_of-result c =
       notes = record {
         noted = subst (All (IsNoted _)) (sym c.new.ensures.items) (All-nil (IsNoted _));
         told = subst (λ (es : List Event). AreTold ms c.new-3.result.items es) (sym none) (λ k m h. absurd cc);
+        untold = λ k l h. absurd (omega arith);
       };
       counted = rw none refl;
       grows = omega arith;

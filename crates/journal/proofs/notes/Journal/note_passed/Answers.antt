@@ -3,12 +3,12 @@ use Rattle.fault_memory.specs.Memory.{MemoryValue}
 use Rattle.node_core.specs.declared.heard.Answer.TheVariants.{NotAsked}
 use Rattle.journal.specs.Inside.{events_in}
 use Rattle.journal.specs.Journal.{memory_told}
-use Rattle.journal.specs.Notes.{AreTold, JournalValue, events_of, latest, newest_first}
+use Rattle.journal.specs.Notes.{AreTold, AreUntold, JournalValue, events_of, latest, newest_first}
 use Rattle.journal.specs.declared.event.Event.{Event}
 use Rattle.journal.specs.declared.event.Event.TheVariants.{Hear}
 use Rattle.journal.proofs.Keeping.{told_in, items_gain}
 use Rattle.journal.proofs.Runs.{events_passed, latest_is}
-use Rattle.journal.proofs.Told.{told_passed}
+use Rattle.journal.proofs.Told.{told_passed, untold_passed}
 use Rattle.journal.proofs.notes.Journal.note_passed.Goals as goal
 
 pub invariant_of-self : goal.invariant_of-self
@@ -28,6 +28,7 @@ invariant_of-self c =
       notes = record {
         noted = keeps.notes.noted;
         told = subst (λ (es : List Event). AreTold ms a.told.items es) (sym now) (told_passed ms a.told.items (events_in a) seat m keeps.notes.told told);
+        untold = subst (AreUntold a.told.items) (sym now) (untold_passed a.told.items (events_in a) seat m keeps.notes.untold told);
       };
       counted = (let k = keeps.counted in omega arith);
       grows = (let k = keeps.grows in omega arith);

@@ -20,7 +20,7 @@ invariant_of-self-3 c =
     let copy = c.in_ok-copy.copy in
     let told = c.make_place.new.told.items in
     let now : c.push_reserved.new.self.items ≡ a.memories.items ++ copy ∷ [] = c.push_reserved.ensures.items ∙ ap (λ (ms : List MemoryValue). ms ++ copy ∷ []) c.reserve.ensures.items in
-    let placed = kept_placed a.memories.items a.told.items told a.passing a.notes.items keeps.notes c.make_place.ensures.longer c.make_place.ensures.kept in
+    let placed = kept_placed a.memories.items a.told.items told a.passing a.notes.items keeps.notes c.make_place.ensures.longer c.make_place.ensures.kept c.make_place.ensures.fresh in
     let same = ap (λ (ms : List MemoryValue). events_of ms (newest_first a.passing a.notes.items)) now ∙ told_more a.memories.items copy a.passing a.notes.items keeps.notes.noted in
     record {
       notes = subst (λ (ms : List MemoryValue). AreLawfulNotes ms told a.passing a.notes.items) (sym now) (kept_copied a.memories.items copy told a.passing a.notes.items placed);

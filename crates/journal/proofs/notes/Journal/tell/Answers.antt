@@ -1,9 +1,9 @@
 use Rattle.std.proofs.Common.{◌-◌, ◌<◌, List, length, set, ap, ◌∙◌, sym, subst, arith}
 use Rattle.journal.specs.Inside.{events_in}
-use Rattle.journal.specs.Notes.{AreTold, JournalValue, event_of}
+use Rattle.journal.specs.Notes.{AreTold, AreUntold, JournalValue, event_of}
 use Rattle.journal.specs.declared.event.Event.{Event}
 use Rattle.journal.proofs.Keeping.{run_few, items_gain, gains_some}
-use Rattle.journal.proofs.Told.{telling, told_telling}
+use Rattle.journal.proofs.Told.{telling, told_telling, untold_telling}
 use Rattle.journal.proofs.notes.Journal.tell.Goals as goal
 
 pub store-requires-clause-few : goal.store-requires-clause-few
@@ -27,6 +27,8 @@ invariant_of-self c =
         noted = c.store.ensures.noted (length ms) keeps.notes.noted (t.noted (length ms) stored);
         told = subst (λ (es : List Event). AreTold ms (set a.told.items seat c.args.memory) es) (sym now)
             (told_telling ms a.told.items (events_in a) n seat c.args.memory keeps.notes.told placed stored c.requires.telling);
+        untold = subst (AreUntold (set a.told.items seat c.args.memory)) (sym now)
+            (untold_telling ms a.told.items (events_in a) n seat c.args.memory keeps.notes.untold c.requires.telling);
       };
       counted = (let k = keeps.counted in omega arith);
       grows = omega arith;

@@ -216,6 +216,17 @@ packet_told node node' destination source bytes all none kept =
     let lone : command_heard node source destination bytes ≡ None = rw all none in
     record { unasked = ap put_by_command lone; idle = λ memory answer. ap (on_command node answer) lone; noted = rw all (sym kept) }
 
+-- a packet of a source from which nothing is half joined changes nothing
+pub nothing_joined : (node : NodeValue) (source : ℕ) (frame : FrameValue) → half_from node.half_commands source ≡ half.Nothing → Settles (Packet source frame) node node
+nothing_joined node source frame none = (
+  ap (λ (h : HalfCommand). for_name node.claimer.name (completed h frame.bytes)) none,
+  ap (λ (hs : List HalfCommand). record node { half_commands = hs })
+      (sym (ap (λ (h : HalfCommand). slice_set node.half_commands source (continued h frame.bytes)) none ∙ same)),
+)
+  where
+    same : slice_set node.half_commands source half.Nothing ≡ node.half_commands
+    same = ap (λ (h : HalfCommand). slice_set node.half_commands source h) (sym none) ∙ set-get_or node.half_commands source half.Nothing
+
 pub sifted_packet : (f : FrameValue) (destination : ℕ) → pgn_of f.id ≡ 60160 → destination_of f.id ≡ Some destination → is_to_all destination (source_of f.id) ≡ true → IsSifted (Packet (source_of f.id) f) f
 sifted_packet f destination group to e =
     let same = same_destination f.id destination (omega arith) to in

@@ -1,4 +1,4 @@
-ghost use Rattle.std.specs.Prelude.{◌≡◌, ◌≤◌, [], ◌∷◌, ◌++◌, length, IfSome};
+ghost use Rattle.std.specs.Prelude.{◌≡◌, ◌≤◌, [], ◌∷◌, ◌++◌, length, IfSome, IsFalse, IsTrue, None};
 ghost use Rattle.node_core.specs.Commanding as commanding;
 
 use can_frame::{GLOBAL_ADDRESS, GREATEST_ADDRESS, Pgn};
@@ -41,6 +41,20 @@ impl HalfCommand {
             HalfCommand::Started => first(bytes),
             HalfCommand::First(_) | HalfCommand::Nothing => HalfCommand::Nothing,
         }
+    }
+
+    /// A packet goes on with it, unless it makes a command for this NAME whole: then nothing changes. Answers whether it went on.
+    #[inline(always)]
+    pub fn go_on(&mut self, name: Name, bytes: &[u8]) -> bool
+        ensures unless { IsTrue result → commanding.for_name name (commanding.completed self.old bytes.now) ≡ None }
+        ensures joined { IsTrue result → self.new ≡ commanding.continued self.old bytes.now }
+        ensures whole { IsFalse result → self.new ≡ self.old }
+    {
+        if for_name(name, self.completed(bytes)).is_some() {
+            return false;
+        }
+        *self = self.continued(bytes);
+        true
     }
 
     /// Whether there is something half joined.

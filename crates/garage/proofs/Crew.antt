@@ -119,6 +119,21 @@ no_marks zero i e = absurd cc
 no_marks (suc n) zero e = absurd cc
 no_marks (suc n) (suc i) e = no_marks n i e
 
+-- one more is marked, whose memory is told
+pub crew_marked : {P : Type 0} (sitting : P → Sitting) (g : GarageValue) (us : List P) (marks marks' : List Bool) (i : ℕ) (p : P) → IsCrew sitting g us marks → slice_get us i ≡ Some p → IsTold g (sitting p)
+    → ((j : ℕ) → j ≢ i → slice_get marks' j ≡ Some true → slice_get marks j ≡ Some true) → IsCrew sitting g us marks'
+crew_marked {P} sitting g us marks marks' i p crew at_i told others = record {
+  seated = crew.seated;
+  told = λ j q at m.
+      elim (same_or_not j i) [
+        | inl same ↦
+            let e : Some q ≡ Some p = sym at ∙ (ap (λ (x : ℕ). slice_get us x) same ∙ at_i) in
+            let is : q ≡ p = cc in
+            subst (λ (x : P). IsTold g (sitting x)) (sym is) told
+        | inr n ↦ crew.told j q at (others j n m)
+      ];
+}
+
 -- a step that is no unit's leaves all in their seats
 pub crew_still : {P : Type 0} (sitting : P → Sitting) (g g' : GarageValue) (us : List P) (marks : List Bool) → AreUntouched g g' → IsCrew sitting g us marks → IsCrew sitting g' us marks
 crew_still sitting g g' us marks all crew = record {

@@ -41,7 +41,8 @@ impl Garage {
         if !self.knows(parked) {
             return Err(GarageError::Stranger);
         }
-        let (heard, _) = self.hear_some(alloc, parked, false, most)?;
+        let told = self.is_told(&*parked);
+        let (heard, _) = self.hear_some(alloc, parked, told, most)?;
         Ok(heard)
     }
 

@@ -24,6 +24,7 @@ pub(crate) struct Numbering {
 }
 
 /// Queues what a unit puts, in order. The room is there.
+#[inline(always)]
 pub(crate) fn queue_outs(bus: &mut Bus, seat: u32, mut put: Outs, numbering: Numbering)
     requires live { IsLive bus.old.traffic seat }
     requires spare { length put ≤ spare_at bus.old seat }
@@ -36,6 +37,7 @@ pub(crate) fn queue_outs(bus: &mut Bus, seat: u32, mut put: Outs, numbering: Num
 }
 
 /// Queues one frame that a unit puts, or the parts of a run. The room for it is there.
+#[inline(always)]
 #[tactic(auto, using(crate::proofs::Pieces::put_begun, crate::proofs::Pieces::put_session))]
 fn queue_piece(bus: &mut Bus, seat: u32, piece: Piece, numbering: Numbering)
     requires live { IsLive bus.old.traffic seat }

@@ -61,10 +61,10 @@ impl Garage {
         let mut next = first;
         for _ in first..units.len() {
             next = self.sweep(&mut *units, &*marks, next, sifted);
-            if !self.settle_in_turn(&mut *units, &mut *marks, next, sifted) {
-                return next;
+            match self.settle_in_turn(&mut *units, &mut *marks, next, sifted) {
+                Some(after) => next = after,
+                None => return next,
             }
-            next = next.saturating_add(1);
         }
         next
     }
@@ -73,8 +73,63 @@ impl Garage {
     /// goes; the number of the first for which that is not so is answered, and it and all after it are as they were.
     ///
     /// The journal's room is looked at once for all: where it has none ready for so many events, nothing is done.
-    #[inline(never)]
     fn sweep(
+        &mut self,
+        units: &mut [Parked],
+        marks: &[bool],
+        first: usize,
+        sifted: &Sifted,
+    ) -> usize
+        requires crew { IsCrew (λ p. record { seat = p.seat; name = name_of p.unit; events = p.events; memory = memory_of p.unit }) self.old units.old marks.now }
+        requires last { IsLastSifted sifted.now self.old }
+        ensures crew { IsCrew (λ p. record { seat = p.seat; name = name_of p.unit; events = p.events; memory = memory_of p.unit }) self.new units.new marks.now }
+        ensures last { IsLastSifted sifted.now self.new }
+        ensures comes { Comes self.old self.new }
+    {
+        match sifted {
+            Sifted::Passed => self.sweep_passed(units, marks, first),
+            _ => self.sweep_sifted(units, marks, first, sifted),
+        }
+    }
+
+    /// As `sweep`, where the frame tells nobody anything, as most do: so no unit's node is looked at.
+    #[inline(never)]
+    fn sweep_passed(&mut self, units: &mut [Parked], marks: &[bool], first: usize) -> usize
+        requires crew { IsCrew (λ p. record { seat = p.seat; name = name_of p.unit; events = p.events; memory = memory_of p.unit }) self.old units.old marks.now }
+        requires last { IsLastSifted Sifted.Passed self.old }
+        ensures crew { IsCrew (λ p. record { seat = p.seat; name = name_of p.unit; events = p.events; memory = memory_of p.unit }) self.new units.new marks.now }
+        ensures last { IsLastSifted Sifted.Passed self.new }
+        ensures comes { Comes self.old self.new }
+    {
+        let count = units.len();
+        if !has_room(&self.journal, with_live(count, self.live), self.limit) {
+            return first;
+        }
+        for i in first..units.len() {
+            let number = units[i].seat;
+            let behind = self.bus.unheard(number);
+            if behind == 0 {
+                continue;
+            }
+            if behind != 1 {
+                return i;
+            }
+            let is_told = is_marked(marks, i);
+            if !is_told {
+                return i;
+            }
+            let own = &mut self.places[number as usize - 1];
+            own.tally.events += 1;
+            units[i].events = own.tally.events;
+            self.bus.mark_heard(number);
+            self.journal.note_passed(number);
+        }
+        units.len()
+    }
+
+    /// As `sweep`, for any frame.
+    #[inline(never)]
+    fn sweep_sifted(
         &mut self,
         units: &mut [Parked],
         marks: &[bool],
@@ -114,8 +169,8 @@ impl Garage {
         units.len()
     }
 
-    /// The i-th unit, where it is not marked, settles the last frame of the wire and is marked, or it has heard all; answers whether that
-    /// is so. Else nothing changes, and the unit is to hear as others do.
+    /// The i-th unit, where it is not marked, is marked, or settles the last frame of the wire and is marked, or it has heard all; answers
+    /// the number of the unit to go on with. Else nothing changes, and the unit is to hear as others do.
     #[inline(always)]
     fn settle_in_turn(
         &mut self,
@@ -123,7 +178,7 @@ impl Garage {
         marks: &mut [bool],
         i: usize,
         sifted: &Sifted,
-    ) -> bool
+    ) -> Option<usize>
         requires crew { IsCrew (λ p. record { seat = p.seat; name = name_of p.unit; events = p.events; memory = memory_of p.unit }) self.old units.old marks.old }
         requires last { IsLastSifted sifted.now self.old }
         ensures crew { IsCrew (λ p. record { seat = p.seat; name = name_of p.unit; events = p.events; memory = memory_of p.unit }) self.new units.new marks.new }
@@ -131,19 +186,45 @@ impl Garage {
         ensures comes { Comes self.old self.new }
     {
         if i >= units.len() {
-            return false;
+            return None;
         }
         if self.has_heard_all(units[i].seat) {
-            return true;
+            return i.checked_add(1);
         }
         if is_marked(&*marks, i) {
-            return false;
+            return None;
+        }
+        if self.mark_told(&*units, &mut *marks, i) {
+            return Some(i);
         }
         if !self.settle_untold(&mut units[i], sifted) {
-            return false;
+            return None;
         }
         mark(marks, i, true);
-        true
+        i.checked_add(1)
+    }
+
+    /// Marks the units from the `first` one on, as far as each is not marked and its memory is the one that its latest event tells;
+    /// answers whether it marked one.
+    fn mark_told(&self, units: &[Parked], marks: &mut [bool], first: usize) -> bool
+        requires { IsCrew (λ p. record { seat = p.seat; name = name_of p.unit; events = p.events; memory = memory_of p.unit }) self.now units.now marks.old }
+        ensures { IsCrew (λ p. record { seat = p.seat; name = name_of p.unit; events = p.events; memory = memory_of p.unit }) self.now units.now marks.new }
+    {
+        let last = units.len().min(marks.len());
+        for i in first..last {
+            if is_marked(&*marks, i) || !self.is_told(&units[i]) {
+                return first < i;
+            }
+            mark(&mut *marks, i, true);
+        }
+        first < last
+    }
+
+    /// Whether a unit's memory is known to be the one that the latest event of its seat tells.
+    pub(crate) fn is_told(&self, parked: &Parked) -> bool
+        ensures { IsTrue result → memory_told parked.now.seat self.now.journal ≡ Some (memory_of parked.now.unit) }
+    {
+        self.journal.tells(parked.seat, parked.memory())
     }
 
     /// A unit in its seat settles the last frame of the wire, where that is the only one that it has not heard, and the journal has

@@ -1,6 +1,6 @@
 use Rattle.std.proofs.Common.{◌-◌, length}
 use Rattle.garage.proofs.Sweeping.{Sweeps}
-use Rattle.garage.proofs.garage.Garage.sweep.Given as goal
+use Rattle.garage.proofs.garage.Garage.sweep_sifted.Given as goal
 
 abbrev pub invariant-loop-i : goal.invariant-loop-i
 invariant-loop-i g l =

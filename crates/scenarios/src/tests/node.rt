@@ -290,7 +290,7 @@ const ANNOUNCED: &str = "1CECFFF9 20 09 00 02 FF D8 FE 00";
 const CLAIMED: &str = "18EEFFF9 C0 00 00 00 00 00 00 00";
 
 /// Whether the unit settles each of these frames by what was sifted of it, one after another, after that announcement and that claim.
-const SETTLED: [(&str, bool); 17] = [
+const SETTLED: [(&str, bool); 20] = [
     ("18FECAF9 00 FF 64 00 01 01 FF FF", true),
     ("18FECBF9 00 FF 64 00 01 01 FF FF", true),
     ("18E8FFF9 00 FF FF FF 00 D3 FE 00", true),
@@ -308,6 +308,9 @@ const SETTLED: [(&str, bool); 17] = [
     ("1CEBFFF9 01 A0 00 00 00 00 00 00", true),
     ("1CEBFFF9 02 00 05 FF FF FF FF FF", false),
     ("1CEBFFF8 01 A1 00 00 00 00 00 00", true),
+    ("1CECFFF9 20 16 00 04 FF CA FE 00", true),
+    ("1CECFFF8 20 09 00 02 FF D8 FE 00", true),
+    ("1CECFFF9 20 09 00 02 FF D8 FE 00", false),
 ];
 
 #[test]

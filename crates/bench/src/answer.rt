@@ -1,4 +1,4 @@
-ghost use Rattle.std.specs.Prelude.{◌≡◌, ◌+◌, ◌<◌, ◌≤◌, length};
+ghost use Rattle.std.specs.Prelude.{◌≡◌, ◌+◌, ◌<◌, ◌≤◌, length, OnOk};
 
 use crate::refusal::Refusal;
 use bus_ledger::Counts;
@@ -7,6 +7,9 @@ use station_table::Row;
 use std::io;
 use std::io::Write;
 use text_buffer::TextBuffer;
+
+/// No answer line has more bytes, but for a frame's and a refusal's, which are not put together.
+const LONGEST: usize = 96;
 
 /// Why carrying ended before its number of frames.
 #[derive(Clone, Copy, Debug, PartialEq, Eq)]
@@ -46,31 +49,95 @@ pub enum Answer {
     Frame(Option<Frame>),
 }
 
-/// Writes the answer line of a command.
-pub fn write_answer<W: Write>(writer: &mut W, answer: Result<Answer, Refusal>) -> io::Result<()> {
-    match answer {
-        Ok(answer) => write_done(writer, answer),
-        Err(refusal) => writeln!(writer, "{refusal}"),
+/// A line that could not be written.
+#[derive(Clone, Copy, Debug, PartialEq, Eq)]
+pub struct Unwritten;
+
+impl From<io::Error> for Unwritten {
+    fn from(_: io::Error) -> Unwritten {
+        Unwritten
     }
 }
 
-fn write_done<W: Write>(writer: &mut W, answer: Answer) -> io::Result<()> {
+/// Puts the answer line of a command behind the lines that are held. Those are written first where there is no room for it.
+pub fn put_answer<W: Write>(
+    held: &mut TextBuffer,
+    writer: &mut W,
+    answer: Result<Answer, Refusal>,
+) -> Result<(), Unwritten> {
+    make_room(held, writer)?;
     match answer {
-        Answer::Done => writer.write_all(b"ok\n"),
-        Answer::Seat(seat) => write_count(writer, "seat ", seat, "\n"),
-        Answer::Heard(count) => write_count(writer, "heard ", count, "\n"),
-        Answer::Begun => writer.write_all(b"begun\n"),
-        Answer::Held => writer.write_all(b"held\n"),
-        Answer::Carried { count, end } => write_count(writer, "carried ", count, line_end(end)),
-        Answer::Read(count) => write_count(writer, "read ", count, "\n"),
-        Answer::Row(Some(row)) => write_row(writer, row),
-        Answer::Row(None) => writer.write_all(b"row unknown\n"),
-        Answer::Counts(counts) => write_counts(writer, counts),
-        Answer::Stats { missed, unread } => write_stats(writer, missed, unread),
-        Answer::Injected(count) => write_count(writer, "injected ", count, "\n"),
-        Answer::Frame(Some(frame)) => writeln!(writer, "{frame}"),
-        Answer::Frame(None) => writer.write_all(b"no frame\n"),
+        Ok(Answer::Done) => held.push_text("ok\n"),
+        Ok(Answer::Heard(count)) => put_count(held, "heard ", count, "\n"),
+        Ok(Answer::Begun) => held.push_text("begun\n"),
+        Ok(Answer::Held) => held.push_text("held\n"),
+        Ok(Answer::Carried { count, end }) => put_count(held, "carried ", count, line_end(end)),
+        Ok(Answer::Read(count)) => put_count(held, "read ", count, "\n"),
+        Ok(Answer::Seat(seat)) => put_count(held, "seat ", seat, "\n"),
+        Ok(Answer::Injected(count)) => put_count(held, "injected ", count, "\n"),
+        Ok(Answer::Row(Some(row))) => put_row(held, row),
+        Ok(Answer::Row(None)) => held.push_text("row unknown\n"),
+        Ok(Answer::Counts(counts)) => put_counts(held, counts),
+        Ok(Answer::Stats { missed, unread }) => put_stats(held, missed, unread),
+        Ok(Answer::Frame(Some(frame))) => write_frame(held, writer, frame)?,
+        Ok(Answer::Frame(None)) => held.push_text("no frame\n"),
+        Err(refusal) => write_refusal(held, writer, refusal)?,
     }
+    Ok(())
+}
+
+/// Writes the answer line of a command.
+pub fn write_answer<W: Write>(
+    writer: &mut W,
+    answer: Result<Answer, Refusal>,
+) -> Result<(), Unwritten> {
+    let mut held = TextBuffer::new();
+    put_answer(&mut held, writer, answer)?;
+    write_held(&mut held, writer)
+}
+
+/// Sees that there is room for a line.
+#[inline(always)]
+fn make_room<W: Write>(held: &mut TextBuffer, writer: &mut W) -> Result<(), Unwritten>
+    ensures { OnOk result (length held.new + 96 ≤ 256) }
+{
+    if held.has_room(LONGEST) {
+        return Ok(());
+    }
+    write_held(held, writer)
+}
+
+/// Writes the lines that are held.
+#[inline(never)]
+pub fn write_held<W: Write>(held: &mut TextBuffer, writer: &mut W) -> Result<(), Unwritten>
+    ensures { OnOk result (length held.new ≡ 0) }
+{
+    held.write_to(writer)?;
+    Ok(())
+}
+
+/// Writes a frame's line behind the lines that are held.
+#[inline(never)]
+fn write_frame<W: Write>(
+    held: &mut TextBuffer,
+    writer: &mut W,
+    frame: Frame,
+) -> Result<(), Unwritten> {
+    held.write_to(writer)?;
+    writeln!(writer, "{frame}")?;
+    Ok(())
+}
+
+/// Writes a refusal's line behind the lines that are held.
+#[inline(never)]
+fn write_refusal<W: Write>(
+    held: &mut TextBuffer,
+    writer: &mut W,
+    refusal: Refusal,
+) -> Result<(), Unwritten> {
+    held.write_to(writer)?;
+    writeln!(writer, "{refusal}")?;
+    Ok(())
 }
 
 /// Why carrying ended, behind the number of frames.
@@ -84,20 +151,21 @@ fn line_end(end: Option<End>) -> &'static str
     }
 }
 
-/// Writes a number between two texts.
-fn write_count<W: Write>(writer: &mut W, before: &str, count: u32, behind: &str) -> io::Result<()>
-    requires { length before.now + length behind.now ≤ 100 }
+/// Puts a number between two texts.
+#[inline(always)]
+fn put_count(line: &mut TextBuffer, before: &str, count: u32, behind: &str)
+    requires { length line.old + length before.now + length behind.now + 20 ≤ 256 }
 {
-    let mut line = TextBuffer::new();
     line.push_text(before);
     line.push_decimal(u64::from(count));
     line.push_text(behind);
-    line.write_to(writer)
 }
 
-fn write_row<W: Write>(writer: &mut W, row: Row) -> io::Result<()> {
-    let mut line = TextBuffer::new();
-    push_address(&mut line, row.address);
+#[inline(never)]
+fn put_row(line: &mut TextBuffer, row: Row)
+    requires { length line.old + 96 ≤ 256 }
+{
+    put_address(line, row.address);
     match row.ack {
         Some(ack) => {
             line.push_text(" ack ");
@@ -107,14 +175,12 @@ fn write_row<W: Write>(writer: &mut W, row: Row) -> io::Result<()> {
         }
         None => line.push_text(" ack none"),
     }
-    line.make_room(1, writer)?;
     line.push(b'\n');
-    line.write_to(writer)
 }
 
-fn push_address(line: &mut TextBuffer, address: Option<u8>)
-    requires { length line.old ≡ 0 }
-    ensures { length line.new ≤ 24 }
+fn put_address(line: &mut TextBuffer, address: Option<u8>)
+    requires { length line.old + 96 ≤ 256 }
+    ensures { length line.new ≤ length line.old + 24 }
 {
     line.push_text("row ");
     match address {
@@ -123,8 +189,10 @@ fn push_address(line: &mut TextBuffer, address: Option<u8>)
     }
 }
 
-fn write_counts<W: Write>(writer: &mut W, counts: Counts) -> io::Result<()> {
-    let mut line = TextBuffer::new();
+#[inline(never)]
+fn put_counts(line: &mut TextBuffer, counts: Counts)
+    requires { length line.old + 96 ≤ 256 }
+{
     line.push_text("counts ");
     line.push_decimal(u64::from(counts.queued));
     line.push(b' ');
@@ -134,15 +202,15 @@ fn write_counts<W: Write>(writer: &mut W, counts: Counts) -> io::Result<()> {
     line.push(b' ');
     line.push_decimal(u64::from(counts.waiting));
     line.push(b'\n');
-    line.write_to(writer)
 }
 
-fn write_stats<W: Write>(writer: &mut W, missed: u64, unread: u64) -> io::Result<()> {
-    let mut line = TextBuffer::new();
+#[inline(never)]
+fn put_stats(line: &mut TextBuffer, missed: u64, unread: u64)
+    requires { length line.old + 96 ≤ 256 }
+{
     line.push_text("missed ");
     line.push_decimal(missed);
     line.push_text(" unread ");
     line.push_decimal(unread);
     line.push(b'\n');
-    line.write_to(writer)
 }

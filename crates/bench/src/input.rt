@@ -8,6 +8,9 @@ use std::io::Read;
 /// The most bytes of an input.
 pub const LIMIT: usize = 1_048_576;
 
+/// The bytes that one read is offered: several times what later calls take of the stack.
+const OFFERED: usize = 131_072;
+
 /// Reads a whole input.
 ///
 /// The bytes that a read is offered lie on the stack, and are more than all later calls take of it. This stays a call of its
@@ -25,7 +28,7 @@ pub fn read_input<R: Read>(alloc: Global, reader: &mut R) -> Result<Vec<u8>, Fau
     ensures too_long { result ≡ Err Fault.InputTooLong → IfSome (R.remaining reader.old) (λ bytes. input_limit < length bytes) }
 {
     let mut bytes = Vec::new(alloc);
-    let mut buffer = [0u8; LIMIT];
+    let mut buffer = [0u8; OFFERED];
     for _turn in 0..LIMIT + 2 {
         let n = match reader.read(&mut buffer) {
             Ok(n) => n,

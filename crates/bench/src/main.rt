@@ -6,6 +6,7 @@ mod desk;
 mod fault;
 mod input;
 mod kinds;
+mod listener;
 mod refusal;
 mod script;
 mod task;

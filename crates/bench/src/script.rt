@@ -1,18 +1,17 @@
 ghost use Rattle.std.specs.Prelude.{◌≡◌, ◌<◌, length, IfErr, IfSome};
-ghost use Rattle.bench.specs.declared.fault.Fault.{Fault as AnyFault};
 ghost use Rattle.bench.specs.Fault.{IsOfInput};
 ghost use Rattle.bench.specs.Input.{input_limit};
 
-use crate::answer::{Answer, write_answer};
+use crate::answer::{Answer, Unwritten};
 use crate::fault::Fault;
 use crate::input::{read_input, text_of};
 use crate::kinds::Simulated;
+use crate::listener::{Answers, Listener};
 use crate::refusal::Refusal;
 use crate::workshop::Workshop;
 use garage::{Garage, GarageError};
-use script_line::{Command, is_silent, read_command};
+use script_line::{Command, read_command};
 use std::alloc::Global;
-use std::io;
 use std::io::{BufWriter, Read, Write};
 use std::str::Lines;
 
@@ -32,53 +31,12 @@ pub fn script<R: Read, W: Write>(alloc: Global, reader: &mut R, writer: &mut W) 
 {
     let input = read_input(alloc, reader)?;
     let text = text_of(input.as_slice())?;
-    let Ok(mut writer) = BufWriter::new(alloc, writer) else {
+    let Ok(writer) = BufWriter::new(alloc, writer) else {
         return Err(Fault::Memory);
     };
-    answer_lines(alloc, text, &mut writer)?;
-    writer.flush().map_err(|_| Fault::Write)
-}
-
-/// Whom the lines of a script are answered to. The answers are written into it.
-pub trait Listener: Write {
-    /// The faults by which it ends a script.
-    ghost ends_by: { AnyFault → Type 0 };
-
-    /// Takes note of a line before it is answered. Tells whether it has no answer.
-    fn passes(&mut self, line: &str) -> bool;
-
-    /// Takes note that a line was answered: whether there was a garage before, and whether its answer could be written.
-    fn hear(&mut self, line: &str, has_garage: bool, answered: io::Result<()>) -> Result<(), Fault>
-        ensures { IfErr result ends_by };
-
-    /// Looks at the garage, where there is one, after the last line and before its units leave.
-    fn end(&mut self, workshop: &Workshop) -> Result<(), Fault>
-        ensures { IfErr result ends_by };
-}
-
-/// It is given each answer, and nothing else.
-impl<W: Write + Drop> Listener for BufWriter<W> {
-    ghost use Rattle.std.specs.Prelude.{◌≡◌};
-    ghost use Rattle.bench.specs.declared.fault.Fault.TheVariants as fault;
-
-    ghost ends_by = { λ f. f ≡ fault.Write };
-
-    fn passes(&mut self, line: &str) -> bool {
-        is_silent(line)
-    }
-
-    fn hear(
-        &mut self,
-        _line: &str,
-        _has_garage: bool,
-        answered: io::Result<()>,
-    ) -> Result<(), Fault> {
-        answered.map_err(|_| Fault::Write)
-    }
-
-    fn end(&mut self, _workshop: &Workshop) -> Result<(), Fault> {
-        Ok(())
-    }
+    let mut answers = Answers::new(writer);
+    answer_lines(alloc, text, &mut answers)?;
+    answers.flush().map_err(|_| Fault::Write)
 }
 
 /// Answers the lines of a script. At the end each unit that is left on the bus is taken off.
@@ -94,7 +52,8 @@ pub fn answer_lines<L: Listener>(alloc: Global, text: &str, listener: &mut L) ->
         if listener.passes(line) {
             continue;
         }
-        let answered = match read_command(line) {
+        let command = read_command(line);
+        let answered = match &command {
             Some(
                 Command::Join {
                     name: Ok(name),
@@ -102,14 +61,15 @@ pub fn answer_lines<L: Listener>(alloc: Global, text: &str, listener: &mut L) ->
                     kind,
                 },
             ) => {
-                let joined = match Box::new(alloc, Simulated::new(alloc, name, kind)) {
-                    Ok(unit) => workshop.join(unit, address),
+                // Only here, where the workshop is owned, may a unit of a kind become one of any kind.
+                let joined = match Box::new(alloc, Simulated::new(alloc, *name, *kind)) {
+                    Ok(unit) => workshop.join(unit, *address),
                     Err(_) => Err(Refusal::Garage(GarageError::OutOfMemory)),
                 };
-                write_answer(listener, joined)
+                listener.put(joined)
             }
             Some(command) => workshop.answer(command, listener),
-            None => write_answer(listener, Err(Refusal::BadLine)),
+            None => listener.put(Err(Refusal::BadLine)),
         };
         heard = listener.hear(line, true, answered);
         if heard.is_err() {
@@ -146,11 +106,11 @@ fn opened<L: Listener>(
 }
 
 /// Answers a line of a script that has no garage yet; it may make one.
-fn answer_before<W: Write>(
+fn answer_before<L: Listener>(
     alloc: Global,
     line: &str,
-    writer: &mut W,
-) -> io::Result<Option<Workshop>> {
+    listener: &mut L,
+) -> Result<Option<Workshop>, Unwritten> {
     let made = match read_command(line) {
         Some(command) => garage_of(alloc, command),
         None => Err(Refusal::BadLine),
@@ -158,7 +118,7 @@ fn answer_before<W: Write>(
     match made {
         Ok(garage) => {
             let workshop = Workshop::new(alloc, garage);
-            match write_answer(writer, Ok(Answer::Done)) {
+            match listener.put(Ok(Answer::Done)) {
                 Ok(()) => Ok(Some(workshop)),
                 Err(error) => {
                     workshop.close();
@@ -167,7 +127,7 @@ fn answer_before<W: Write>(
             }
         }
         Err(refusal) => {
-            write_answer(writer, Err(refusal))?;
+            listener.put(Err(refusal))?;
             Ok(None)
         }
     }

@@ -2,8 +2,10 @@
 
 ghost use Rattle.std.specs.Prelude.{◌≡◌, IfErr};
 
+use crate::answer::{Answer, Unwritten, write_answer};
 use crate::fault::Fault;
-use crate::script::Listener;
+use crate::listener::Listener;
+use crate::refusal::Refusal;
 use crate::workshop::Workshop;
 use candump_line::{Time, write_line};
 use command_line::LogWords;
@@ -113,11 +115,15 @@ impl<E: Write, W: Write> Listener for Teller<'_, E, W> {
         is_silent(line)
     }
 
+    fn put(&mut self, answer: Result<Answer, Refusal>) -> Result<(), Unwritten> {
+        write_answer(&mut self.answer, answer)
+    }
+
     fn hear(
         &mut self,
         line: &str,
         has_garage: bool,
-        answered: io::Result<()>,
+        answered: Result<(), Unwritten>,
     ) -> Result<(), Fault> {
         if answered.is_err() {
             return Err(Fault::Memory);

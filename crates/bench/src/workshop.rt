@@ -1,5 +1,6 @@
-use crate::answer::{Answer, End, write_answer};
+use crate::answer::{Answer, End, Unwritten};
 use crate::desk::Desk;
+use crate::listener::Listener;
 use crate::refusal::Refusal;
 use crate::task::Task;
 use bus_ledger::Carried;
@@ -8,8 +9,6 @@ use garage::{Garage, GarageError};
 use script_line::{Asked, Command, Receiver};
 use station_table::Ask;
 use std::alloc::Global;
-use std::io;
-use std::io::Write;
 use unit_trait::Unit;
 
 /// A garage with the units on its desk.
@@ -63,33 +62,50 @@ impl Workshop {
         self.garage.wire_frame(index)
     }
 
-    /// Carries a command out, and writes its answer.
-    pub fn answer<W: Write>(&mut self, command: Command, writer: &mut W) -> io::Result<()> {
+    /// Carries a command out, and answers it.
+    pub fn answer<L: Listener>(
+        &mut self,
+        command: &Command,
+        listener: &mut L,
+    ) -> Result<(), Unwritten> {
         match command {
-            Command::Shown {
-                name: Ok(name),
-                kind,
-            } => report::write_shown(self.garage.shown(name, kind), writer),
-            Command::Report => match self.garage.snapshot(self.alloc) {
-                Ok(snapshot) => report::write(&snapshot, writer),
-                Err(error) => write_answer(writer, Err(Refusal::Garage(error))),
-            },
-            command => write_answer(writer, self.carry_out(command)),
+            Command::Shown { name: Ok(_), .. } | Command::Report => self.tell(command, listener),
+            command => listener.put(self.carry_out(command)),
         }
     }
 
-    fn carry_out(&mut self, command: Command) -> Result<Answer, Refusal> {
+    /// Writes what the station shows of a NAME, or its report.
+    #[inline(never)]
+    fn tell<L: Listener>(&self, command: &Command, listener: &mut L) -> Result<(), Unwritten> {
+        if let Command::Shown {
+            name: Ok(name),
+            kind,
+        } = command
+        {
+            report::write_shown(self.garage.shown(*name, *kind), listener)?;
+            return Ok(());
+        }
+        match self.garage.snapshot(self.alloc) {
+            Ok(snapshot) => {
+                report::write(&snapshot, listener)?;
+                Ok(())
+            }
+            Err(error) => listener.put(Err(Refusal::Garage(error))),
+        }
+    }
+
+    fn carry_out(&mut self, command: &Command) -> Result<Answer, Refusal> {
         match command {
-            Command::Carry { most } => self.carry(most),
-            Command::Read { most } => Ok(Answer::Read(self.read(most)?)),
-            Command::Round { count } => Ok(self.round(count)?),
-            Command::Ask { receiver, asked } => self.ask(receiver, asked),
+            Command::Carry { most } => self.carry(*most),
+            Command::Read { most } => Ok(Answer::Read(self.read(*most)?)),
+            Command::Round { count } => Ok(self.round(*count)?),
+            Command::Ask { receiver, asked } => self.ask(*receiver, *asked),
             Command::Command { name, address } => {
-                self.garage.command(self.alloc, name?, address)?;
+                self.garage.command(self.alloc, (*name)?, *address)?;
                 Ok(Answer::Done)
             }
-            Command::Row { name } => Ok(Answer::Row(self.garage.row(name?))),
-            Command::Counts { seat } => match self.garage.counts(seat) {
+            Command::Row { name } => Ok(Answer::Row(self.garage.row((*name)?))),
+            Command::Counts { seat } => match self.garage.counts(*seat) {
                 Some(counts) => Ok(Answer::Counts(counts)),
                 None => Err(Refusal::NoSeat),
             },
@@ -98,13 +114,13 @@ impl Workshop {
                 unread: self.garage.unread(),
             }),
             Command::Inject { frame } => {
-                self.garage.inject(frame?)?;
+                self.garage.inject((*frame)?)?;
                 Ok(Answer::Done)
             }
             Command::Injected => Ok(Answer::Injected(self.garage.injected())),
-            Command::Frame { index } => Ok(Answer::Frame(self.garage.wire_frame(index))),
+            Command::Frame { index } => Ok(Answer::Frame(self.garage.wire_frame(*index))),
             Command::Leave { seat } => {
-                self.desk.dismiss(&mut self.garage, seat)?;
+                self.desk.dismiss(&mut self.garage, *seat)?;
                 Ok(Answer::Done)
             }
             _ => {
@@ -177,27 +193,41 @@ fn end_of(carried: Option<Carried>) -> Option<End> {
 }
 
 /// Which task a command asks for, and of which seat's unit. Any other command that comes here is refused.
-fn task_of(command: Command) -> Result<(u32, Task), Refusal> {
+fn task_of(command: &Command) -> Result<(u32, Task), Refusal> {
     match command {
         Command::Set {
             seat,
             spn,
             fmi,
             count,
-        } => Ok((seat, Task::Set { spn, fmi, count })),
+        } => {
+            let task = Task::Set {
+                spn: *spn,
+                fmi: *fmi,
+                count: *count,
+            };
+            Ok((*seat, task))
+        }
         Command::Heal {
             seat,
             spn,
             fmi,
             count,
-        } => Ok((seat, Task::Heal { spn, fmi, count })),
-        Command::Lamps { seat, lamps } => Ok((seat, Task::Lamps { lamps })),
-        Command::Think { seat } => Ok((seat, Task::Think)),
-        Command::Turn { seat } => Ok((seat, Task::Turn)),
-        Command::Hear { seat, most } => Ok((seat, Task::Hear { most })),
-        Command::Dm1 { seat } => Ok((seat, Task::Dm1)),
+        } => {
+            let task = Task::Heal {
+                spn: *spn,
+                fmi: *fmi,
+                count: *count,
+            };
+            Ok((*seat, task))
+        }
+        Command::Lamps { seat, lamps } => Ok((*seat, Task::Lamps { lamps: *lamps })),
+        Command::Think { seat } => Ok((*seat, Task::Think)),
+        Command::Turn { seat } => Ok((*seat, Task::Turn)),
+        Command::Hear { seat, most } => Ok((*seat, Task::Hear { most: *most })),
+        Command::Dm1 { seat } => Ok((*seat, Task::Dm1)),
         Command::Shown { name, .. } | Command::Join { name, .. } => {
-            name?;
+            (*name)?;
             Err(Refusal::BadLine)
         }
         _ => Err(Refusal::BadLine),

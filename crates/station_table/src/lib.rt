@@ -12,6 +12,7 @@ mod rows;
 mod station;
 
 pub use error::StationError;
+pub use origin::kind_of;
 pub use reaction::{Ask, Reaction};
 pub use row::{AckSeen, Row};
 pub use station::Station;

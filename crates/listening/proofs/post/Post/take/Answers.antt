@@ -1,0 +1,11 @@
+use Rattle.std.proofs.Common.{Some, None, rules}
+use Rattle.listening.proofs.Taken.{stands_with, stands_with_ok}
+use Rattle.listening.proofs.post.Post.take.Goals as goal
+
+pub returns-in-None-clause-stands : goal.returns-in-None-clause-stands
+returns-in-None-clause-stands c =
+    stands_with_ok c.take.result c.args.self.now (record { station = c.take.new.self; given_up = None }) c.args.reading (search rules)
+
+pub returns-in_ok-listen-in-Some-clause-stands : goal.returns-in_ok-listen-in-Some-clause-stands
+returns-in_ok-listen-in-Some-clause-stands c =
+    stands_with c.args.self.now (record { station = c.listen.new.station; given_up = Some c.listen.new.given_up }) c.args.reading (search rules)

@@ -1,0 +1,107 @@
+ghost use Rattle.std.specs.Prelude.{◌≡◌, ◌≤◌, ◌≢◌, ℕ, ◌∷◌, List, Some, None, length, IfOk, OnOk, OnErr, IsOkUnless};
+ghost use Rattle.bus_model.specs.Heard.{StationSettings};
+ghost use Rattle.can_frame.specs.declared.reading.Reading.{Reading as AnyReading};
+ghost use Rattle.listening.specs.GivenUp.{none_given_up};
+ghost use Rattle.listening.specs.Posts.{after_taking};
+ghost use Rattle.station_table.specs.StandsFor.{StandsFor};
+
+use crate::given_up::GivenUp;
+use can_frame::Reading;
+use parameter_group::ParameterGroup;
+use station_table::{Reaction, Station, StationError};
+use std::alloc::Global;
+use std::marker::Model;
+
+/// A station before a bus: one that answers, or one that only listens.
+///
+/// For one that only listens somebody else answers, or nobody. It joins the sessions to its address all the same, but for packets of
+/// a session that was given up.
+#[derive(Drop)]
+pub struct Post {
+    station: Station,
+    given_up: Option<GivenUp>,
+}
+
+impl Model for Post {
+    ghost use Rattle.listening.specs.Posts.{PostValue};
+
+    ghost Value = { PostValue };
+
+    ghost view = { λ p. record { station = p.station; given_up = p.given_up } };
+}
+
+impl Post {
+    ghost use Rattle.listening.specs.Posts.{after_taking, answer_at, reading_at};
+
+    /// A station that answers.
+    pub fn answering(station: Station) -> Post
+        ensures { result ≡ record { station = station; given_up = None } }
+    {
+        Post {
+            station,
+            given_up: None,
+        }
+    }
+
+    /// A station that only listens, from now on.
+    pub fn listening(station: Station) -> Post
+        ensures { result ≡ record { station = station; given_up = Some none_given_up } }
+    {
+        Post {
+            station,
+            given_up: Some(GivenUp::new()),
+        }
+    }
+
+    /// The station.
+    pub fn station(&self) -> &Station
+        ensures { result.now ≡ self.now.station }
+    {
+        &self.station
+    }
+
+    /// Takes one reading, and says what to withdraw and to queue: nothing, where it only listens.
+    ///
+    /// `OutOfMemory` leaves all as it was.
+    pub fn take(&mut self, alloc: Global, reading: Reading) -> Result<Reaction, StationError>
+        ensures step { OnOk result (self.new ≡ after_taking self.old reading) }
+        ensures stands { OnOk result ((r : StationSettings) (grant : ℕ) (h : List AnyReading) → StandsFor r grant self.old.station h
+            → StandsFor r grant self.new.station (reading_at self.old reading ∷ h)) }
+        ensures answer { IfOk result (λ x. x ≡ answer_at self.old reading) }
+        ensures few { IfOk result (λ x. length x.put ≤ 2) }
+        ensures err { OnErr result (self.new ≡ self.old) }
+        ensures only_memory { IsOkUnless result StationError.OutOfMemory }
+    {
+        match &mut self.given_up {
+            None => self.station.take(alloc, reading),
+            Some(given_up) => {
+                listen(alloc, &mut self.station, given_up, reading)?;
+                Ok(Reaction::silent(alloc))
+            }
+        }
+    }
+}
+
+/// A station takes a reading, but for a packet of a session that was given up.
+fn listen(
+    alloc: Global,
+    station: &mut Station,
+    given_up: &mut GivenUp,
+    reading: Reading,
+) -> Result<(), StationError>
+    ensures step { OnOk result (record { station = station.new; given_up = Some given_up.new } ≡ after_taking (record { station = station.old; given_up = Some given_up.old }) reading) }
+    ensures err { OnErr result ((station.new ≡ station.old) × (given_up.new ≡ given_up.old)) }
+    ensures only_memory { IsOkUnless result StationError.OutOfMemory }
+{
+    let Reading::Frame(frame) = reading else {
+        station.take(alloc, reading)?;
+        return Ok(());
+    };
+    let group = ParameterGroup::read(&frame);
+    let held = station.held();
+    if !given_up.passes_over(held, &group) {
+        station.take(alloc, reading)?;
+    }
+    given_up.hear(held, &group);
+    Ok(())
+}

@@ -8,6 +8,7 @@ use Rattle.can_frame.specs.declared.reading.Reading.TheVariants as reading
 use Rattle.can_frame.specs.declared.address.TheConstants.{GLOBAL_ADDRESS}
 use Rattle.candump_line.specs.declared.line.Line.{Line}
 use Rattle.candump_line.specs.declared.line.Line.TheVariants as line
+use Rattle.listening.specs.GivenUp.{given_up_after, is_given_up}
 use Rattle.parameter_group.specs.Group.{Group, ConnectionManagement, DataTransfer, group_of}
 use Rattle.reassembly.specs.Tables.{at}
 use Rattle.transport.specs.declared.control.Control.TheVariants.{Rts, Bam}
@@ -16,13 +17,14 @@ use Rattle.bus_watch.specs.declared.packets.Transfer.{Transfer}
 
 -- what is known of the bus that is followed: whether bad lines are passed over; how many microseconds a packet may come after
 -- the frame before it, if that is looked at; the bus, once a line named it; by source address how the message to all and the
--- message to the station stand
+-- message to the station stand, and whether the session with the station was given up
 pub record Followed : Type 0 where
   pub skips_bad : Bool
   pub silence : Option ℕ
   pub bus : Option (List ℕ)
   pub broadcasts : List (Option Transfer)
   pub sessions : List (Option Transfer)
+  pub given_up : List Bool
 
 -- whether a line that names this bus is of the one that is followed, which is the first that is named; one without is of none
 abbrev pub is_watched : Option (List ℕ) → Option (Bor (List ℕ)) → Bool
@@ -73,11 +75,19 @@ abbrev pub after_frame : Option ℕ → Option ℕ → Option ℕ → Group → 
 after_frame None held time g f = f
 after_frame (Some most) held time g f = followed_by_group most held time g f
 
--- the reading that a line is to a station that holds this address: the frame of a line of the bus, but a packet that is withheld;
--- as many missed frames as a line tells of; one where a line is bad and bad lines count; else the empty one
+-- nobody answers for the station, so a session may be given up in mid-message
+abbrev pub with_given_up : Option ℕ → Group → Followed → Followed
+with_given_up held g f = record f { given_up = given_up_after held g f.given_up }
+
+-- what is handed to the station: all but a packet that is withheld, and one of a session that was given up
+abbrev pub is_read : Option ℕ → Option ℕ → Group → Followed → Bool
+is_read held time g f = not (is_withheld f.silence held time g f) && not (is_given_up held g f.given_up)
+
+-- the reading that a line is to a station that holds this address: the frame of a line of the bus, but for such a packet; as many
+-- missed frames as a line tells of; one where a line is bad and bad lines count; else the empty one
 abbrev pub reading_by : Option ℕ → Followed → Line → Reading
 reading_by held f (line.Frame time bus frame) =
-    if is_watched f.bus bus && not (is_withheld f.silence held time (group_of frame) f) then reading.Frame frame else reading.Empty
+    if is_watched f.bus bus && is_read held time (group_of frame) f then reading.Frame frame else reading.Empty
 reading_by held f (line.Dropped bus count) = if may_be_watched f.bus bus then reading.Gap count else reading.Empty
 reading_by held f (line.Overflow time bus) = if is_watched f.bus bus then reading.Gap 1 else reading.Empty
 reading_by held f (line.Bad reason) = if f.skips_bad then reading.Empty else reading.Gap 1
@@ -86,7 +96,7 @@ reading_by held f _ = reading.Empty
 -- what is known after a line
 abbrev pub followed_after : Option ℕ → Followed → Line → Followed
 followed_after held f (line.Frame time bus frame) =
-    if is_watched f.bus bus then after_frame f.silence held time (group_of frame) (with_bus bus f) else f
+    if is_watched f.bus bus then with_given_up held (group_of frame) (after_frame f.silence held time (group_of frame) (with_bus bus f)) else f
 followed_after held f (line.Overflow time bus) = with_bus bus f
 followed_after held f (line.Foreign bus what) = with_bus bus f
 followed_after held f _ = f

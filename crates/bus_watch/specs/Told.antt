@@ -5,6 +5,7 @@ use Rattle.bus_model.specs.Heard.{StationSettings, address_heard}
 use Rattle.can_frame.specs.declared.reading.Reading.{Reading}
 use Rattle.can_frame.specs.declared.reading.Reading.TheVariants.{Frame}
 use Rattle.candump_line.specs.declared.line.Line.{Line}
+use Rattle.listening.specs.GivenUp.{none_given_up}
 use Rattle.reassembly.specs.Tables.{empty_table}
 use Rattle.bus_watch.specs.Followed.{Followed, reading_by, followed_after}
 use Rattle.bus_watch.specs.WatchValue.{WatchValue, StandsInRuns}
@@ -29,7 +30,14 @@ pub record Said : Type 0 where
 abbrev pub nothing_said : Beginning → Said
 nothing_said b = record {
   readings = [];
-  followed = record { skips_bad = b.skips_bad; silence = b.silence; bus = b.bus; broadcasts = empty_table; sessions = empty_table };
+  followed = record {
+    skips_bad = b.skips_bad;
+    silence = b.silence;
+    bus = b.bus;
+    broadcasts = empty_table;
+    sessions = empty_table;
+    given_up = none_given_up;
+  };
 }
 
 -- a line is its reading; what is assumed is read as a claim

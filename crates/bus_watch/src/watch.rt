@@ -12,6 +12,7 @@ use crate::packets::Packets;
 use crate::run::Run;
 use candump_line::Time;
 use dm_messages::Kind;
+use listening::GivenUp;
 use name_field::Name;
 use station_table::{Row, Station};
 use std::alloc::{AllocError, Global};
@@ -43,6 +44,7 @@ pub struct Watch {
     owners: Owners,
     broadcasts: Packets,
     sessions: Packets,
+    given_up: GivenUp,
     lists: Lists,
     counts: Counts,
     now: Option<Time>,
@@ -64,6 +66,7 @@ impl Model for Watch {
         bus = option_map string_bytes w.bus;
         broadcasts = w.broadcasts;
         sessions = w.sessions;
+        given_up = w.given_up;
       };
     } };
 }
@@ -93,6 +96,7 @@ impl Watch {
             owners: Owners::new(),
             broadcasts: Packets::new(),
             sessions: Packets::new(),
+            given_up: GivenUp::new(),
             lists: Lists::new(alloc),
             counts: Counts::default(),
             now: None,

@@ -7,7 +7,9 @@ ghost use Rattle.bus_watch.specs.WatchValue.{Takes};
 ghost use Rattle.can_frame.specs.declared.address.TheConstants.{GREATEST_ADDRESS};
 ghost use Rattle.can_frame.specs.declared.reading.Reading.TheVariants.{Frame as FrameRead};
 ghost use Rattle.candump_line.specs.declared.line.Line.TheVariants as said;
-ghost use Rattle.parameter_group.specs.Group.{group_of, ConnectionManagement, DataTransfer};
+ghost use Rattle.listening.specs.GivenUp as given_up;
+ghost use Rattle.parameter_group.specs.Group.{ConnectionManagement, DataTransfer};
+ghost use Rattle.parameter_group.specs.Said.{said as group_said};
 
 use crate::change::Change;
 use crate::watch::Watch;
@@ -74,7 +76,7 @@ impl Watch {
         }
     }
 
-    /// A frame of the watched bus is read, but for a packet that is withheld.
+    /// A frame of the watched bus is read, but for a packet that is withheld, and one of a session that was given up.
     fn reading_of_frame(
         &mut self,
         alloc: Global,
@@ -90,8 +92,13 @@ impl Watch {
         }
         self.counts.frames = self.counts.frames.saturating_add(1);
         self.pass(time);
-        if self.is_withheld(frame, time) {
+        let group = ParameterGroup::read(frame);
+        let is_withheld = self.is_withheld(&group, time);
+        let is_given_up = self.is_given_up(&group);
+        if is_withheld {
             self.counts.withheld = self.counts.withheld.saturating_add(1);
+        }
+        if is_withheld || is_given_up {
             return Ok(Reading::Empty);
         }
         Ok(Reading::Frame(*frame))
@@ -194,15 +201,15 @@ impl Watch {
         }
     }
 
-    /// Whether a frame is a packet that came too late for its message, or one of a message that has such a packet.
-    fn is_withheld(&mut self, frame: &Frame, time: Option<Time>) -> bool
-        ensures withheld { result ≡ followed.is_withheld self.old.followed.silence self.old.station.claimer.held time (group_of frame.now) self.old.followed }
-        ensures followed { self.new ≡ record self.old { followed = followed.after_frame self.old.followed.silence self.old.station.claimer.held time (group_of frame.now) self.old.followed } }
+    /// Whether a frame that says this is a packet that came too late for its message, or one of a message that has such a packet.
+    fn is_withheld(&mut self, group: &ParameterGroup<'_>, time: Option<Time>) -> bool
+        ensures withheld { result ≡ followed.is_withheld self.old.followed.silence self.old.station.claimer.held time (group_said group.now) self.old.followed }
+        ensures followed { self.new ≡ record self.old { followed = followed.after_frame self.old.followed.silence self.old.station.claimer.held time (group_said group.now) self.old.followed } }
     {
         let Some(most) = self.settings.silence else {
             return false;
         };
-        match ParameterGroup::read(frame) {
+        match *group {
             ParameterGroup::ConnectionManagement {
                 source,
                 dest,
@@ -221,6 +228,18 @@ impl Watch {
             | ParameterGroup::Diagnostic { .. }
             | ParameterGroup::Other => false,
         }
+    }
+
+    /// Whether a frame that says this is a packet of a session with the station that was given up; what the frame gives up is taken
+    /// note of.
+    fn is_given_up(&mut self, group: &ParameterGroup<'_>) -> bool
+        ensures given_up { result ≡ given_up.is_given_up self.old.station.claimer.held (group_said group.now) self.old.followed.given_up }
+        ensures followed { self.new ≡ record self.old { followed = followed.with_given_up self.old.station.claimer.held (group_said group.now) self.old.followed } }
+    {
+        let held = self.station.held();
+        let passes_over = self.given_up.passes_over(held, group);
+        self.given_up.hear(held, group);
+        passes_over
     }
 
     /// Takes note of a message that is announced to all or to the station.

@@ -4,7 +4,8 @@
  * by NAME. What each call does is proved of the library (crate station_c), as long as the C side does its part:
  *
  *  - A station is held in a `hidzgula_station`, which begins as HIDZGULA_EMPTY (all its bytes 0). Its members are the library's:
- *    nobody else reads or writes them, and it is never copied or moved, from `hidzgula_open` to `hidzgula_close`.
+ *    nobody else reads or writes them, and it is never copied or moved, from `hidzgula_open` or `hidzgula_open_listening` to
+ *    `hidzgula_close`.
  *  - A station is given to one call at a time, and stays on the thread that opened it. Several stations are independent.
  *  - Each pointer points to what its type says: aligned, large enough, not NULL, and no two of one call overlap. Only `bytes` may
  *    be anything that is not NULL where `length` is 0. What is written to need not have been set.
@@ -141,6 +142,13 @@ HIDZGULA_LAYOUT(offsetof(hidzgula_code_out, count) == 5);
  * It has read nothing. A gateway that sends begins with the frame of `hidzgula_claim`.
  * BAD_SETTING, HAS_STATION, OUT_OF_MEMORY. */
 uint32_t hidzgula_open(hidzgula_station *station, uint64_t name, uint8_t address, uint8_t grant);
+
+/* Opens a station of this NAME that only listens, for a program that sends nothing: who holds `address`, 0 to 253, is somebody else, or
+ * nobody, and each reply says that nothing is to be withdrawn or sent. It joins the sessions that are sent to that address. What it
+ * half joined of a source ends with the next request to send from there, whatever group that announces, and with an abort by either
+ * side; packets that then come without a request to send for a diagnostic message are passed over. It has read nothing.
+ * BAD_SETTING, HAS_STATION, OUT_OF_MEMORY. */
+uint32_t hidzgula_open_listening(hidzgula_station *station, uint64_t name, uint8_t address);
 
 /* Closes a station and frees all its memory; does nothing where there is none. */
 void hidzgula_close(hidzgula_station *station);

@@ -56,7 +56,7 @@ int main(void)
     uint32_t id;
     size_t length, rows = 0;
     uint64_t missed = 0, unread = 0;
-    if (hidzgula_open(&station, 1, 248, 255) != HIDZGULA_DONE) return 1;
+    if (hidzgula_open_listening(&station, 1, 248) != HIDZGULA_DONE) return 1;
     while (fgets(line, sizeof line, stdin))
         if (frame_of(line, &id, bytes, &length) && hidzgula_take_frame(&station, id, bytes, length, &reply) != HIDZGULA_DONE) return 1;
     hidzgula_rows(&station, &rows);

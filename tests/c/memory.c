@@ -1,4 +1,4 @@
-/* Refuses each request for memory in turn. The calls are: open, the frames of the candump log on standard input with a gap and the
+/* Refuses each request for memory in turn, of a station that answers and of one that only listens. The calls are: open, the frames of the candump log on standard input with a gap and the
  * three orders after every 200, close. In run N the Nth request is refused: the call that made it must answer OUT_OF_MEMORY and write
  * nothing, and what the station tells after it must be what a station tells that did the calls before it alone. The call is then made
  * again, and the rest of the calls; at the end the station must tell the same as one that was refused nothing, and all memory must
@@ -142,6 +142,13 @@ static uint64_t all_told(hidzgula_station *station)
     return sum;
 }
 
+static bool listens;
+
+static uint32_t opened_of(hidzgula_station *station)
+{
+    return listens ? hidzgula_open_listening(station, 1, 248) : hidzgula_open(station, 1, 248, 255);
+}
+
 /* what a station tells that did the first calls, and was refused nothing */
 static uint64_t told_after(size_t calls)
 {
@@ -149,7 +156,7 @@ static uint64_t told_after(size_t calls)
     hidzgula_reply reply;
     size_t one = refused_one;
     refused_one = 0;
-    if (hidzgula_open(&station, 1, 248, 255) != HIDZGULA_DONE) abort();
+    if (opened_of(&station) != HIDZGULA_DONE) abort();
     for (size_t i = 0; i < calls; i++) done(&station, &steps[i], &reply);
     uint64_t result = all_told(&station);
     hidzgula_close(&station);
@@ -160,7 +167,7 @@ static uint64_t told_after(size_t calls)
 static uint32_t opened(hidzgula_station *station)
 {
     counts = true;
-    uint32_t answer = hidzgula_open(station, 1, 248, 255);
+    uint32_t answer = opened_of(station);
     counts = false;
     return answer;
 }
@@ -217,11 +224,13 @@ static void read_log(void)
     }
 }
 
-int main(void)
+static size_t passed, failed;
+
+/* each request in turn */
+static void refuse_each(void)
 {
     uint64_t whole = 0, all = 0;
-    size_t at = 0, passed = 0, failed = 0;
-    read_log();
+    size_t at = 0;
     const char *wrong = run(0, &whole, &at);
     size_t total = requests;
     if (wrong) printf("without refusal: %s\n", wrong);
@@ -235,6 +244,14 @@ int main(void)
         if (wrong) failed++;
         else passed++;
     }
+}
+
+int main(void)
+{
+    read_log();
+    refuse_each();
+    listens = true;
+    refuse_each();
     printf("%zu passed, %zu failed\n", passed, failed);
     return failed != 0;
 }

@@ -18,7 +18,7 @@ use denote.Struct.Struct.{within}
 use denote.Struct.Owning.{shape}
 use Rattle.std.proofs.GlobalToken.{dealloc_token-Testable}
 use Rattle.std.specs.contracts.impls.GlobalAllocator.TheImpl.{ghosts}
-use Rattle.station_table.specs.contracts.station.Station as station
+use Rattle.listening.specs.contracts.post.Post as post
 use Rattle.station_c.specs.Held.{heap, boxed, held}
 use Rattle.station_c.specs.contracts.handle.StationHandle as handle
 use Rattle.station_c.proofs.MachineValues.{both}
@@ -27,7 +27,7 @@ abbrev pub Handle : RattleType
 Handle = handle.the_row
 
 abbrev pub Row : RattleType
-Row = station.the_row
+Row = post.the_row
 
 module _ {M : Type 1} {𝓤 : Ura M} (𝓛 : Logic 𝓤) where
   tested : (p : Ptr) (x : Row.Denot) → ent 𝓤 (sem 𝓛 (boxed p x)) (guard 𝓤 (Testable p) (sem 𝓛 (boxed p x)))

@@ -2,4 +2,5 @@ pub mod Answered
 pub mod HandleValues
 pub mod MachineValues
 pub mod Named
+pub mod Taken
 pub mod ThreeFrames

@@ -16,4 +16,4 @@ HoldsSame before after = (has_station after ≡ has_station before) × (has_stat
 
 -- it holds a station that stands for these readings
 abbrev pub HoldsReadings : StationSettings → ℕ → StationHandle → List Reading → Type 0
-HoldsReadings r grant handle h = (has_station handle ≡ true) × StandsFor r grant handle.value h
+HoldsReadings r grant handle h = (has_station handle ≡ true) × StandsFor r grant handle.value.station h

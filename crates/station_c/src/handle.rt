@@ -1,10 +1,10 @@
 //! What a C program holds of its station.
 ghost use Rattle.std.specs.Prelude.{◌≡◌, ◌↔◌, true, false, not, IfSome, IsNone};
-ghost use Rattle.station_table.specs.StationValue.{StationValue};
+ghost use Rattle.listening.specs.Posts.{PostValue};
 ghost use Rattle.station_c.specs.Held.{held, is_there};
 
 use crate::raw_box::RawBox;
-use station_table::Station;
+use listening::Post;
 use std::alloc::Global;
 use std::marker::Model;
 
@@ -18,7 +18,7 @@ pub struct StationHandle {
     /// Whether the library put a station in. It is never looked at.
     full: bool,
     /// The station, where there is one.
-    pub ghost value: { StationValue },
+    pub ghost value: { PostValue },
 }
 
 const _: () = prove!(size_of::<StationHandle>() == 16);
@@ -31,7 +31,7 @@ impl Model for StationHandle {
 
 impl StationHandle {
     /// The handle of this station.
-    fn of(station: RawBox<Station, Global>) -> StationHandle
+    fn of(station: RawBox<Post, Global>) -> StationHandle
         ensures open { is_there result.at ≡ true }
         ensures value { result.value ≡ station.value }
     {
@@ -53,13 +53,13 @@ impl StationHandle {
     }
 
     /// The station of a handle that has one.
-    fn into_raw_box(self, alloc: Global) -> RawBox<Station, Global>
+    fn into_raw_box(self, alloc: Global) -> RawBox<Post, Global>
         requires { is_there self.at ≡ true }
         ensures { result.value ≡ self.value }
     {
         let StationHandle { at, full: _ } = self;
         RawBox {
-            at: at as *mut Station,
+            at: at as *mut Post,
             alloc,
         }
     }
@@ -75,7 +75,7 @@ impl StationHandle {
     }
 
     /// Takes the station out, where there is one; the handle is empty until `put`.
-    pub fn lift(&mut self, alloc: Global) -> Option<Box<Station>>
+    pub fn lift(&mut self, alloc: Global) -> Option<Box<Post>>
         ensures value { IfSome result (λ b. b.value ≡ self.old.value) }
         ensures open { IfSome result (λ _. is_there self.old.at ≡ true) }
         ensures none { IsNone result ↔ (is_there self.old.at ≡ false) }
@@ -89,7 +89,7 @@ impl StationHandle {
     }
 
     /// Puts a station in.
-    pub fn put(&mut self, station: Box<Station>)
+    pub fn put(&mut self, station: Box<Post>)
         ensures open { is_there self.new.at ≡ true }
         ensures value { self.new.value ≡ station.value }
     {

@@ -37,11 +37,11 @@ pub extern "C" fn hidzgula_entries(
     let Some(kind) = kind_of(kind) else {
         return Status::NoKind.number();
     };
-    let Some(station) = handle.lift(alloc) else {
+    let Some(post) = handle.lift(alloc) else {
         return Status::NoStation.number();
     };
-    *count = station.shown(Name::from_number(name), kind).len();
-    handle.put(station);
+    *count = post.station().shown(Name::from_number(name), kind).len();
+    handle.put(post);
     Status::Done.number()
 }
 
@@ -73,11 +73,11 @@ pub extern "C" fn hidzgula_entry(
     let Some(kind) = kind_of(kind) else {
         return Status::NoKind.number();
     };
-    let Some(station) = handle.lift(alloc) else {
+    let Some(post) = handle.lift(alloc) else {
         return Status::NoStation.number();
     };
-    let found = entry_at(station.shown(Name::from_number(name), kind), place);
-    handle.put(station);
+    let found = entry_at(post.station().shown(Name::from_number(name), kind), place);
+    handle.put(post);
     match found {
         Some(it) => {
             *entry = it;
@@ -116,11 +116,15 @@ pub extern "C" fn hidzgula_code(
     let Some(kind) = kind_of(kind) else {
         return Status::NoKind.number();
     };
-    let Some(station) = handle.lift(alloc) else {
+    let Some(post) = handle.lift(alloc) else {
         return Status::NoStation.number();
     };
-    let found = code_at(station.shown(Name::from_number(name), kind), entry, place);
-    handle.put(station);
+    let found = code_at(
+        post.station().shown(Name::from_number(name), kind),
+        entry,
+        place,
+    );
+    handle.put(post);
     match found {
         Some(it) => {
             *code = it;

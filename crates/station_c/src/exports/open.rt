@@ -1,14 +1,19 @@
 //! A station is opened in a handle, and closed.
-ghost use Rattle.std.specs.Prelude.{◌≡◌, ◌⊎◌, ◌↔◌, ◌<◌, ◌≤◌, true, false, []};
+ghost use Rattle.std.specs.Prelude.{◌≡◌, ◌⊎◌, ◌↔◌, ◌<◌, ◌≤◌, true, false, [], Some, None};
+ghost use Rattle.listening.specs.GivenUp.{none_given_up};
 ghost use Rattle.station_c.specs.Handles.{HoldsSame, HoldsReadings, has_station};
 ghost use Rattle.station_c.specs.Statuses.{Answers, DoneUnlessMemory};
 
 use crate::handle::StationHandle;
 use crate::status::Status;
 use can_frame::GREATEST_ADDRESS;
+use listening::Post;
 use name_field::Name;
 use station_table::Station;
 use std::alloc::Global;
+
+/// The most packets that a station lets a sender send at once, where it only listens: any number.
+const GRANT: u8 = 255;
 
 /// Opens a station of this NAME, which holds this address, 0 to 253, and grants at most this many packets at once, at least one.
 /// It has read nothing.
@@ -24,6 +29,7 @@ pub extern "C" fn hidzgula_open(
     grant: u8,
 ) -> u32
     ensures opened { Answers result Status.Done → HoldsReadings (record { name = name; address = address }) grant handle.new [] }
+    ensures answers { Answers result Status.Done → handle.new.value.given_up ≡ None }
     ensures kept { ¬ Answers result Status.Done → HoldsSame handle.old handle.new }
     ensures bad_setting { Answers result Status.BadSetting ↔ ((GREATEST_ADDRESS < address) ⊎ (grant ≡ 0)) }
     ensures already_open { Answers result Status.HasStation ↔ ((address ≤ GREATEST_ADDRESS) × (0 < grant) × (has_station handle.old ≡ true)) }
@@ -32,15 +38,50 @@ pub extern "C" fn hidzgula_open(
     if address > GREATEST_ADDRESS || grant == 0 {
         return Status::BadSetting.number();
     }
-    if let Some(station) = handle.lift(alloc) {
-        handle.put(station);
+    let station = Station::new(alloc, Name::from_number(name), address, grant);
+    open(alloc, handle, Post::answering(station))
+}
+
+/// Opens a station of this NAME that only listens: it joins the sessions of whoever holds this address, 0 to 253, passes over
+/// packets of one that was given up, and replies nothing. It has read nothing.
+///
+/// Refused, in this order: `BadSetting` for an address above 253, `HasStation`, `OutOfMemory`; the handle is then as it was.
+#[unsafe(no_mangle)]
+pub extern "C" fn hidzgula_open_listening(
+    alloc: Global,
+    handle: &mut StationHandle,
+    name: u64,
+    address: u8,
+) -> u32
+    ensures opened { Answers result Status.Done → HoldsReadings (record { name = name; address = address }) GRANT handle.new [] }
+    ensures listens { Answers result Status.Done → handle.new.value.given_up ≡ Some none_given_up }
+    ensures kept { ¬ Answers result Status.Done → HoldsSame handle.old handle.new }
+    ensures bad_setting { Answers result Status.BadSetting ↔ (GREATEST_ADDRESS < address) }
+    ensures already_open { Answers result Status.HasStation ↔ ((address ≤ GREATEST_ADDRESS) × (has_station handle.old ≡ true)) }
+    ensures done { (address ≤ GREATEST_ADDRESS) → (has_station handle.old ≡ false) → DoneUnlessMemory result }
+{
+    if address > GREATEST_ADDRESS {
+        return Status::BadSetting.number();
+    }
+    let station = Station::new(alloc, Name::from_number(name), address, GRANT);
+    open(alloc, handle, Post::listening(station))
+}
+
+/// Puts a station into a handle that has none.
+fn open(alloc: Global, handle: &mut StationHandle, post: Post) -> u32
+    ensures opened { Answers result Status.Done → (has_station handle.new ≡ true) × (handle.new.value ≡ post) }
+    ensures kept { ¬ Answers result Status.Done → HoldsSame handle.old handle.new }
+    ensures already_open { Answers result Status.HasStation ↔ (has_station handle.old ≡ true) }
+    ensures only { (Answers result Status.Done) ⊎ (Answers result Status.HasStation) ⊎ (Answers result Status.OutOfMemory) }
+{
+    if let Some(post) = handle.lift(alloc) {
+        handle.put(post);
         return Status::HasStation.number();
     }
-    let station = Station::new(alloc, Name::from_number(name), address, grant);
-    let Ok(station) = Box::new(alloc, station) else {
+    let Ok(post) = Box::new(alloc, post) else {
         return Status::OutOfMemory.number();
     };
-    handle.put(station);
+    handle.put(post);
     Status::Done.number()
 }
 
@@ -49,5 +90,5 @@ pub extern "C" fn hidzgula_open(
 pub extern "C" fn hidzgula_close(alloc: Global, handle: &mut StationHandle)
     ensures { has_station handle.new ≡ false }
 {
-    let _station = handle.lift(alloc);
+    let _post = handle.lift(alloc);
 }

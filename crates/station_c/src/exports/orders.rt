@@ -31,7 +31,7 @@ pub extern "C" fn hidzgula_ask(
     pgn: u32,
     reply: &mut ReplyRecord,
 ) -> u32
-    ensures replied { Answers result Status.Done → (x : AnyReaction) × (ask_answer handle.old.value name (Other pgn) ≡ Ok x) × TellsReaction reply.new x }
+    ensures replied { Answers result Status.Done → (x : AnyReaction) × (ask_answer handle.old.value.station name (Other pgn) ≡ Ok x) × TellsReaction reply.new x }
     ensures unanswered { ¬ Answers result Status.Done → reply.new ≡ reply.old }
     ensures kept { HoldsSame handle.old handle.new }
     ensures pgn_too_large { Answers result Status.PgnTooLarge ↔ (2 ^ 24 ≤ pgn) }
@@ -42,11 +42,13 @@ pub extern "C" fn hidzgula_ask(
     let Ok(pgn) = Pgn::new(pgn) else {
         return Status::PgnTooLarge.number();
     };
-    let Some(station) = handle.lift(alloc) else {
+    let Some(post) = handle.lift(alloc) else {
         return Status::NoStation.number();
     };
-    let answer = station.ask(alloc, Name::from_number(name), Ask::Other(pgn));
-    handle.put(station);
+    let answer = post
+        .station()
+        .ask(alloc, Name::from_number(name), Ask::Other(pgn));
+    handle.put(post);
     reply_with(answer, reply).number()
 }
 
@@ -61,7 +63,7 @@ pub extern "C" fn hidzgula_ask_all(
     pgn: u32,
     reply: &mut ReplyRecord,
 ) -> u32
-    ensures replied { Answers result Status.Done → (x : AnyReaction) × (ask_all_answer handle.old.value (Other pgn) ≡ Ok x) × TellsReaction reply.new x }
+    ensures replied { Answers result Status.Done → (x : AnyReaction) × (ask_all_answer handle.old.value.station (Other pgn) ≡ Ok x) × TellsReaction reply.new x }
     ensures unanswered { ¬ Answers result Status.Done → reply.new ≡ reply.old }
     ensures kept { HoldsSame handle.old handle.new }
     ensures pgn_too_large { Answers result Status.PgnTooLarge ↔ (2 ^ 24 ≤ pgn) }
@@ -72,11 +74,11 @@ pub extern "C" fn hidzgula_ask_all(
     let Ok(pgn) = Pgn::new(pgn) else {
         return Status::PgnTooLarge.number();
     };
-    let Some(station) = handle.lift(alloc) else {
+    let Some(post) = handle.lift(alloc) else {
         return Status::NoStation.number();
     };
-    let answer = station.ask_all(alloc, Ask::Other(pgn));
-    handle.put(station);
+    let answer = post.station().ask_all(alloc, Ask::Other(pgn));
+    handle.put(post);
     reply_with(answer, reply).number()
 }
 
@@ -93,17 +95,19 @@ pub extern "C" fn hidzgula_command(
     address: u8,
     reply: &mut ReplyRecord,
 ) -> u32
-    ensures replied { Answers result Status.Done → (x : AnyReaction) × (command_answer handle.old.value name address ≡ Ok x) × TellsReaction reply.new x }
+    ensures replied { Answers result Status.Done → (x : AnyReaction) × (command_answer handle.old.value.station name address ≡ Ok x) × TellsReaction reply.new x }
     ensures unanswered { ¬ Answers result Status.Done → reply.new ≡ reply.old }
     ensures kept { HoldsSame handle.old handle.new }
     ensures no_station { Answers result Status.NoStation ↔ (has_station handle.old ≡ false) }
     ensures heard { (r : StationSettings) (grant : ℕ) (h : List AnyReading) → HoldsReadings r grant handle.old h
         → OrderCommands (address_heard r h) address result }
 {
-    let Some(station) = handle.lift(alloc) else {
+    let Some(post) = handle.lift(alloc) else {
         return Status::NoStation.number();
     };
-    let answer = station.command(alloc, Name::from_number(name), address);
-    handle.put(station);
+    let answer = post
+        .station()
+        .command(alloc, Name::from_number(name), address);
+    handle.put(post);
     reply_with(answer, reply).number()
 }

@@ -3,7 +3,7 @@ ghost use Rattle.std.specs.Prelude.{◌≡◌, ◌⊎◌, ◌↔◌, ◌<◌, �
 ghost use Rattle.bus_model.specs.Heard.{StationSettings};
 ghost use Rattle.can_frame.specs.FrameValue.{frame};
 ghost use Rattle.can_frame.specs.declared.reading.Reading.{Reading as AnyReading};
-ghost use Rattle.station_table.specs.Reactions.{station_reaction};
+ghost use Rattle.listening.specs.Posts.{reading_at, given_up_at, answer_at};
 ghost use Rattle.station_c.specs.Handles.{HoldsSame, HoldsReadings, has_station};
 ghost use Rattle.station_c.specs.Records.{TellsReaction};
 ghost use Rattle.station_c.specs.Statuses.{Answers, DoneUnlessMemory};
@@ -15,7 +15,8 @@ use crate::status::Status;
 use can_frame::{Frame, Reading};
 use std::alloc::Global;
 
-/// The station takes a frame that was read of the bus, and `reply` is what it answers.
+/// The station takes a frame that was read of the bus, and `reply` is what it answers: nothing, where it only listens. Such a
+/// station passes over a packet of a session that was given up.
 ///
 /// Refused, in this order: `IdTooLarge` for an identifier of 2^29 or more, `TooLong` for more than eight bytes, `NoStation`,
 /// `OutOfMemory`; handle and reply are then as they were.
@@ -28,8 +29,9 @@ pub extern "C" fn hidzgula_take_frame(
     reply: &mut ReplyRecord,
 ) -> u32
     ensures taken { Answers result Status.Done → (r : StationSettings) (grant : ℕ) (h : List AnyReading) → HoldsReadings r grant handle.old h
-        → HoldsReadings r grant handle.new (Reading.Frame (frame id bytes.now) ∷ h) }
-    ensures replied { Answers result Status.Done → TellsReaction reply.new (station_reaction handle.old.value (Reading.Frame (frame id bytes.now))) }
+        → HoldsReadings r grant handle.new (reading_at handle.old.value (Reading.Frame (frame id bytes.now)) ∷ h) }
+    ensures noted { Answers result Status.Done → handle.new.value.given_up ≡ given_up_at handle.old.value (Reading.Frame (frame id bytes.now)) }
+    ensures replied { Answers result Status.Done → TellsReaction reply.new (answer_at handle.old.value (Reading.Frame (frame id bytes.now))) }
     ensures kept { ¬ Answers result Status.Done → HoldsSame handle.old handle.new }
     ensures unanswered { ¬ Answers result Status.Done → reply.new ≡ reply.old }
     ensures id_too_large { Answers result Status.IdTooLarge ↔ (2 ^ 29 ≤ id) }
@@ -44,7 +46,7 @@ pub extern "C" fn hidzgula_take_frame(
 }
 
 /// The station is told that this many frames were missed, and `reply` is what it answers: its claim, and a request for the
-/// claims of all.
+/// claims of all; nothing, where it only listens.
 ///
 /// Refused, in this order: `NoStation`, `OutOfMemory`; handle and reply are then as they were.
 #[unsafe(no_mangle)]
@@ -56,7 +58,8 @@ pub extern "C" fn hidzgula_take_gap(
 ) -> u32
     ensures taken { Answers result Status.Done → (r : StationSettings) (grant : ℕ) (h : List AnyReading) → HoldsReadings r grant handle.old h
         → HoldsReadings r grant handle.new (Reading.Gap count ∷ h) }
-    ensures replied { Answers result Status.Done → TellsReaction reply.new (station_reaction handle.old.value (Reading.Gap count)) }
+    ensures noted { Answers result Status.Done → handle.new.value.given_up ≡ handle.old.value.given_up }
+    ensures replied { Answers result Status.Done → TellsReaction reply.new (answer_at handle.old.value (Reading.Gap count)) }
     ensures kept { ¬ Answers result Status.Done → HoldsSame handle.old handle.new }
     ensures unanswered { ¬ Answers result Status.Done → reply.new ≡ reply.old }
     ensures no_station { Answers result Status.NoStation ↔ (has_station handle.old ≡ false) }
@@ -73,17 +76,18 @@ fn take(
     reply: &mut ReplyRecord,
 ) -> Status
     ensures taken { result ≡ Status.Done → (r : StationSettings) (grant : ℕ) (h : List AnyReading) → HoldsReadings r grant handle.old h
-        → HoldsReadings r grant handle.new (reading ∷ h) }
-    ensures replied { result ≡ Status.Done → TellsReaction reply.new (station_reaction handle.old.value reading) }
+        → HoldsReadings r grant handle.new (reading_at handle.old.value reading ∷ h) }
+    ensures noted { result ≡ Status.Done → handle.new.value.given_up ≡ given_up_at handle.old.value reading }
+    ensures replied { result ≡ Status.Done → TellsReaction reply.new (answer_at handle.old.value reading) }
     ensures kept { ¬ (result ≡ Status.Done) → HoldsSame handle.old handle.new }
     ensures unanswered { ¬ (result ≡ Status.Done) → reply.new ≡ reply.old }
     ensures no_station { (result ≡ Status.NoStation) ↔ (has_station handle.old ≡ false) }
     ensures only { (result ≡ Status.Done) ⊎ (result ≡ Status.OutOfMemory) ⊎ (result ≡ Status.NoStation) }
 {
-    let Some(mut station) = handle.lift(alloc) else {
+    let Some(mut post) = handle.lift(alloc) else {
         return Status::NoStation;
     };
-    let answer = station.take(alloc, reading);
-    handle.put(station);
+    let answer = post.take(alloc, reading);
+    handle.put(post);
     reply_with(answer, reply)
 }

@@ -30,11 +30,11 @@ pub extern "C" fn hidzgula_claim(
     ensures no_station { Answers result Status.NoStation ↔ (has_station handle.old ≡ false) }
     ensures done { Answers result Status.Done ↔ (has_station handle.old ≡ true) }
 {
-    let Some(station) = handle.lift(alloc) else {
+    let Some(post) = handle.lift(alloc) else {
         return Status::NoStation.number();
     };
-    *frame = FrameRecord::of(&station.start());
-    handle.put(station);
+    *frame = FrameRecord::of(&post.station().start());
+    handle.put(post);
     Status::Done.number()
 }
 
@@ -55,11 +55,11 @@ pub extern "C" fn hidzgula_held(
     ensures no_station { Answers result Status.NoStation ↔ (has_station handle.old ≡ false) }
     ensures done { Answers result Status.Done ↔ (has_station handle.old ≡ true) }
 {
-    let Some(station) = handle.lift(alloc) else {
+    let Some(post) = handle.lift(alloc) else {
         return Status::NoStation.number();
     };
-    (*has, *address) = flagged(station.held());
-    handle.put(station);
+    (*has, *address) = flagged(post.station().held());
+    handle.put(post);
     Status::Done.number()
 }
 
@@ -80,12 +80,12 @@ pub extern "C" fn hidzgula_counts(
     ensures no_station { Answers result Status.NoStation ↔ (has_station handle.old ≡ false) }
     ensures done { Answers result Status.Done ↔ (has_station handle.old ≡ true) }
 {
-    let Some(station) = handle.lift(alloc) else {
+    let Some(post) = handle.lift(alloc) else {
         return Status::NoStation.number();
     };
-    *missed = station.missed();
-    *unread = station.unread();
-    handle.put(station);
+    *missed = post.station().missed();
+    *unread = post.station().unread();
+    handle.put(post);
     Status::Done.number()
 }
 
@@ -101,11 +101,11 @@ pub extern "C" fn hidzgula_rows(alloc: Global, handle: &mut StationHandle, count
     ensures no_station { Answers result Status.NoStation ↔ (has_station handle.old ≡ false) }
     ensures done { Answers result Status.Done ↔ (has_station handle.old ≡ true) }
 {
-    let Some(station) = handle.lift(alloc) else {
+    let Some(post) = handle.lift(alloc) else {
         return Status::NoStation.number();
     };
-    *count = station.names();
-    handle.put(station);
+    *count = post.station().names();
+    handle.put(post);
     Status::Done.number()
 }
 
@@ -128,11 +128,11 @@ pub extern "C" fn hidzgula_row(
     ensures no_station { Answers result Status.NoStation ↔ (has_station handle.old ≡ false) }
     ensures done { has_station handle.old ≡ true → (Answers result Status.Done) ⊎ (Answers result Status.NoPlace) }
 {
-    let Some(station) = handle.lift(alloc) else {
+    let Some(post) = handle.lift(alloc) else {
         return Status::NoStation.number();
     };
-    let found = row_at(&station, place);
-    handle.put(station);
+    let found = row_at(post.station(), place);
+    handle.put(post);
     match found {
         Some(it) => {
             *row = it;

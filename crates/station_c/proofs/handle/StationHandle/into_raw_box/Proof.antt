@@ -23,7 +23,7 @@ use Rattle.std.proofs.alloc.Calls.{Al, handle_tells}
 use Rattle.std.specs.contracts.alloc.Global as heap
 use Rattle.std.proofs.alloc.Global.TheLaws as heap_laws
 use Rattle.std.specs.contracts.impls.GlobalAllocator.TheImpl.{ghosts}
-use Rattle.station_table.specs.contracts.station.Station as station
+use Rattle.listening.specs.contracts.post.Post as post
 use Rattle.station_c.specs.Held.{is_there}
 use Rattle.station_c.proofs.MachineValues.{both, raw_good, raw_in}
 use Rattle.station_c.proofs.HandleValues.{Handle, handle_out}
@@ -38,7 +38,7 @@ no_null h = cc
 pub into_raw_box_spec : {M : Type 1} → statement M
 into_raw_box_spec 𝓤 𝓛 𝓜 𝓡 wired =
     let H = 𝓛.H in let 𝓣 = tables 𝓤 H 𝓜 𝓡 𝓡.env in let c = clauses 𝓛 𝓜.mem 𝓡.returns in
-    let R : RattleType = station.the_row in let Z : RattleType = heap.the_row in let LZ = heap_laws.the_row_laws in
+    let R : RattleType = post.the_row in let Z : RattleType = heap.the_row in let LZ = heap_laws.the_row_laws in
     let al : Al = record { row = Z; laws = LZ; g = ghosts; d = impl [] tnil dnil; drops = impl [] tnil dnil } in
     let hs : Stays ended.signature.params ended.kept = (stay_dropped (plain (λ _. Handle)) yes, (stay_dropped (plain (λ _. Z)) yes, tt)) in
     proved_at 𝓛 ended hs c 𝓜 𝓡 (Goes-dropped 𝓛 0 (plain (λ _. Handle)) yes (λ κs x f. refl), (Goes-dropped 𝓛 0 (plain (λ _. Z)) yes (λ κs x f. refl), tt)) #self code.function (code.unfolded 𝓤 H 𝓜 𝓡 wired) (λ z are.

@@ -21,7 +21,7 @@ use Rattle.std.proofs.raw_atomic.Walks.{proved_at, leaves}
 use Rattle.std.specs.contracts.alloc.Global as heap
 use Rattle.std.proofs.alloc.Global.TheLaws as heap_laws
 use Rattle.std.specs.contracts.impls.GlobalAllocator.TheImpl.{ghosts}
-use Rattle.station_table.specs.contracts.station.Station as station
+use Rattle.listening.specs.contracts.post.Post as post
 use Rattle.station_c.proofs.MachineValues.{both, RawBox, raw_good, raw_out}
 use Rattle.station_c.proofs.HandleValues.{handle_in}
 use Rattle.station_c.specs.contracts.handle.StationHandle.of.{ended, clauses}
@@ -32,7 +32,7 @@ use Rattle.station_c.proofs.handle.StationHandle.of.Code as code
 pub of_spec : {M : Type 1} → statement M
 of_spec 𝓤 𝓛 𝓜 𝓡 wired =
     let H = 𝓛.H in let 𝓣 = tables 𝓤 H 𝓜 𝓡 𝓡.env in let c = clauses 𝓛 𝓜.mem 𝓡.returns in
-    let R : RattleType = station.the_row in let Z : RattleType = heap.the_row in let LZ = heap_laws.the_row_laws in let Raw : RattleType = RawBox R Z LZ ghosts in
+    let R : RattleType = post.the_row in let Z : RattleType = heap.the_row in let LZ = heap_laws.the_row_laws in let Raw : RattleType = RawBox R Z LZ ghosts in
     let hs : Stays ended.signature.params ended.kept = (stay_dropped (plain (λ _. Raw)) yes, tt) in
     proved_at 𝓛 ended hs c 𝓜 𝓡 (Goes-dropped 𝓛 0 (plain (λ _. Raw)) yes (λ κs x f. refl), tt) #self code.function (code.unfolded 𝓤 H 𝓜 𝓡 wired) (λ z are.
     let κs = z.0.0 in let v = z.0.3.0 in let Post : Val → SProp 𝓤 = (walk_of 𝓛 ended hs c).post z in let Run : List Val → SProp 𝓤 = λ ws. WpFn 𝓤 H 𝓣.C 𝓣.Λ code.function ws Post in

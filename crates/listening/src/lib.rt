@@ -5,7 +5,9 @@
 #![tactic(auto)]
 
 mod given_up;
+mod laws;
 mod post;
 
 pub use given_up::GivenUp;
+pub use laws::sessions_listed_were_not_given_up;
 pub use post::Post;

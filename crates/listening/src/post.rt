@@ -1,7 +1,8 @@
-ghost use Rattle.std.specs.Prelude.{◌≡◌, ◌≤◌, ◌≢◌, ℕ, ◌∷◌, List, Some, None, length, IfOk, OnOk, OnErr, IsOkUnless};
+ghost use Rattle.std.specs.Prelude.{◌≡◌, ◌≤◌, ◌≢◌, ℕ, [], ◌∷◌, List, Some, None, length, IfOk, OnOk, OnErr, IsOkUnless};
 ghost use Rattle.bus_model.specs.Heard.{StationSettings};
 ghost use Rattle.can_frame.specs.declared.reading.Reading.{Reading as AnyReading};
 ghost use Rattle.listening.specs.GivenUp.{none_given_up};
+ghost use Rattle.listening.specs.Listened.{HasListened};
 ghost use Rattle.listening.specs.Posts.{after_taking};
 ghost use Rattle.station_table.specs.StandsFor.{StandsFor};
 
@@ -45,7 +46,8 @@ impl Post {
 
     /// A station that only listens, from now on.
     pub fn listening(station: Station) -> Post
-        ensures { result ≡ record { station = station; given_up = Some none_given_up } }
+        ensures value { result ≡ record { station = station; given_up = Some none_given_up } }
+        ensures listens { (r : StationSettings) (grant : ℕ) → StandsFor r grant station [] → HasListened r grant result [] }
     {
         Post {
             station,
@@ -67,6 +69,8 @@ impl Post {
         ensures step { OnOk result (self.new ≡ after_taking self.old reading) }
         ensures stands { OnOk result ((r : StationSettings) (grant : ℕ) (h : List AnyReading) → StandsFor r grant self.old.station h
             → StandsFor r grant self.new.station (reading_at self.old reading ∷ h)) }
+        ensures listens { OnOk result ((r : StationSettings) (grant : ℕ) (handed : List AnyReading) → HasListened r grant self.old handed
+            → HasListened r grant self.new (reading ∷ handed)) }
         ensures answer { IfOk result (λ x. x ≡ answer_at self.old reading) }
         ensures few { IfOk result (λ x. length x.put ≤ 2) }
         ensures err { OnErr result (self.new ≡ self.old) }

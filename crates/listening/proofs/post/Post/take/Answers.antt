@@ -1,5 +1,5 @@
 use Rattle.std.proofs.Common.{Some, None, rules}
-use Rattle.listening.proofs.Taken.{stands_with, stands_with_ok}
+use Rattle.listening.proofs.Taken.{listens_with, listens_with_ok, stands_with, stands_with_ok}
 use Rattle.listening.proofs.post.Post.take.Goals as goal
 
 pub returns-in-None-clause-stands : goal.returns-in-None-clause-stands
@@ -9,3 +9,11 @@ returns-in-None-clause-stands c =
 pub returns-in_ok-listen-in-Some-clause-stands : goal.returns-in_ok-listen-in-Some-clause-stands
 returns-in_ok-listen-in-Some-clause-stands c =
     stands_with c.args.self.now (record { station = c.listen.new.station; given_up = Some c.listen.new.given_up }) c.args.reading (search rules)
+
+pub returns-in-None-clause-listens : goal.returns-in-None-clause-listens
+returns-in-None-clause-listens c =
+    listens_with_ok c.take.result c.args.self.now (record { station = c.take.new.self; given_up = c.self.inside.given_up }) c.args.reading (search rules)
+
+pub returns-in_ok-listen-in-Some-clause-listens : goal.returns-in_ok-listen-in-Some-clause-listens
+returns-in_ok-listen-in-Some-clause-listens c =
+    listens_with c.args.self.now (record { station = c.listen.new.station; given_up = Some c.listen.new.given_up }) c.args.reading (search rules)

@@ -5,6 +5,7 @@ use crate::answer::Answer;
 use crate::refusal::Refusal;
 use fault_memory::{FaultChange, FaultError};
 use garage::{Begin, Garage, GarageError, Parked};
+use script_line::CodeChange;
 use std::alloc::Global;
 use trouble_code::Lamps;
 use unit_trait::Unit;
@@ -12,18 +13,25 @@ use unit_trait::Unit;
 /// What is done with the unit of a seat, which stays there.
 #[derive(Clone, Copy, Debug, PartialEq, Eq)]
 pub enum Task {
-    /// Sets the `count` codes from `spn` on.
-    Set { spn: u32, fmi: u8, count: u32 },
-    /// Heals the `count` codes from `spn` on.
-    Heal { spn: u32, fmi: u8, count: u32 },
+    /// Makes a change for each of the `count` codes from `spn` on.
+    Change {
+        change: CodeChange,
+        spn: u32,
+        fmi: u8,
+        count: u32,
+    },
     /// Replaces the lamps and flash codes.
-    Lamps { lamps: Lamps },
+    Lamps {
+        lamps: Lamps,
+    },
     /// Lets it do its own work.
     Think,
     /// Tells the garage that a turn of it has ended.
     Turn,
     /// Lets it hear frames, at most so many.
-    Hear { most: u32 },
+    Hear {
+        most: u32,
+    },
     /// Has it begin a DM1.
     Dm1,
 }
@@ -59,20 +67,28 @@ pub fn carry_out(
 /// Lets a unit work, or changes its fault memory, without its seat.
 fn change(parked: &mut Parked, task: Task) -> Result<(), FaultError> {
     match task {
-        Task::Set { spn, fmi, count } => {
+        Task::Change {
+            change,
+            spn,
+            fmi,
+            count,
+        } => {
             for number in 0..count {
-                let spn = spn.saturating_add(number);
-                parked.apply(FaultChange::Set { spn, fmi })?;
-            }
-        }
-        Task::Heal { spn, fmi, count } => {
-            for number in 0..count {
-                let spn = spn.saturating_add(number);
-                parked.apply(FaultChange::Heal { spn, fmi })?;
+                parked.apply(change_of(change, spn.saturating_add(number), fmi))?;
             }
         }
         Task::Lamps { lamps } => parked.apply(FaultChange::Lamp { lamps })?,
         _ => parked.think(),
     }
     Ok(())
+}
+
+/// What a fault memory is told of the code with this SPN and FMI.
+fn change_of(change: CodeChange, spn: u32, fmi: u8) -> FaultChange {
+    match change {
+        CodeChange::Set => FaultChange::Set { spn, fmi },
+        CodeChange::Heal => FaultChange::Heal { spn, fmi },
+        CodeChange::Pend => FaultChange::Pend { spn, fmi },
+        CodeChange::Unpend => FaultChange::Unpend { spn, fmi },
+    }
 }

@@ -195,26 +195,15 @@ fn end_of(carried: Option<Carried>) -> Option<End> {
 /// Which task a command asks for, and of which seat's unit. Any other command that comes here is refused.
 fn task_of(command: &Command) -> Result<(u32, Task), Refusal> {
     match command {
-        Command::Set {
+        Command::Change {
             seat,
+            change,
             spn,
             fmi,
             count,
         } => {
-            let task = Task::Set {
-                spn: *spn,
-                fmi: *fmi,
-                count: *count,
-            };
-            Ok((*seat, task))
-        }
-        Command::Heal {
-            seat,
-            spn,
-            fmi,
-            count,
-        } => {
-            let task = Task::Heal {
+            let task = Task::Change {
+                change: *change,
                 spn: *spn,
                 fmi: *fmi,
                 count: *count,
@@ -239,6 +228,7 @@ fn ask_of(asked: Asked) -> Result<Ask, PgnTooLarge> {
         Asked::Dm1 => Ok(Ask::Dm1),
         Asked::Dm2 => Ok(Ask::Dm2),
         Asked::Dm3 => Ok(Ask::Dm3),
+        Asked::Dm6 => Ok(Ask::Dm6),
         Asked::Dm11 => Ok(Ask::Dm11),
         Asked::Claim => Ok(Ask::Claim),
         Asked::Other { pgn } => Ok(Ask::Other(pgn?)),

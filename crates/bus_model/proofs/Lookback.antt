@@ -2,7 +2,7 @@
 use Rattle.std.proofs.Common.{◌≡◌, ◌≢◌, ◌⊎◌, ℕ, suc, zero, ◌<◌, ◌≤◌, Bool, true, false, ◌&&◌, ◌||◌, ◌==◌, List, [], ◌∷◌, ◌++◌, Option, Some, None, if◌then◌else◌, sym, refl, ap, ◌∙◌, subst, inl, inr, arith, ne_eqb}
 use Rattle.address_claim.specs.Claiming.{is_held}
 use Rattle.dm_messages.specs.declared.kind.Kind.{Kind}
-use Rattle.dm_messages.specs.declared.kind.Kind.TheVariants.{Dm1, Dm2}
+use Rattle.dm_messages.specs.declared.kind.Kind.TheVariants.{Dm1, Dm2, Dm6}
 use Rattle.parameter_group.specs.Group.{AddressClaimed, ConnectionManagement, Group, Request}
 use Rattle.transport.specs.declared.control.Control.TheVariants.{Abort}
 use Rattle.bus_model.specs.Expected.{is_claim}
@@ -23,12 +23,18 @@ true_test m n h = grind arith
 pub same_kind_self : (k : Kind) → same_kind k k ≡ true
 same_kind_self Dm1 = refl
 same_kind_self Dm2 = refl
+same_kind_self Dm6 = refl
 
 pub kind_same : (k l : Kind) → same_kind k l ≡ true → k ≡ l
 kind_same Dm1 Dm1 h = refl
 kind_same Dm2 Dm2 h = refl
+kind_same Dm6 Dm6 h = refl
 kind_same Dm1 Dm2 h = cc
+kind_same Dm1 Dm6 h = cc
 kind_same Dm2 Dm1 h = cc
+kind_same Dm2 Dm6 h = cc
+kind_same Dm6 Dm1 h = cc
+kind_same Dm6 Dm2 h = cc
 
 pub and_parts : (a b : Bool) → a && b ≡ true → (a ≡ true) × (b ≡ true)
 and_parts true b h = (refl, h)

@@ -38,6 +38,7 @@ new_lawful = record {
   lamps = (omega arith, omega arith);
   active = All-from_recursion IsKeptCode [] tt;
   previous = All-from_recursion IsKeptCode [] tt;
+  pending = All-from_recursion IsKeptCode [] tt;
   distinct = tt;
   room = omega arith;
 }
@@ -48,6 +49,7 @@ faulty_lawful = record {
   lamps = (omega arith, omega arith);
   active = All-from_recursion IsKeptCode (code 100 1 1 ∷ code 200 2 1 ∷ []) (kept_code 100 1 (omega arith) (omega arith), (kept_code 200 2 (omega arith) (omega arith), tt));
   previous = All-from_recursion IsKeptCode (code 300 3 1 ∷ code 400 4 1 ∷ []) (kept_code 300 3 (omega arith) (omega arith), (kept_code 400 4 (omega arith) (omega arith), tt));
+  pending = All-from_recursion IsKeptCode [] tt;
   distinct = ((refl, (refl, (refl, tt))), ((refl, (refl, tt)), ((refl, tt), (tt, tt))));
   room = omega arith;
 }

@@ -1,9 +1,9 @@
 -- A seat's own frames behind what it has heard.
 use Rattle.std.proofs.Common.{◌≡◌, ◌≢◌, ℕ, suc, zero, ◌<◌, ◌≤◌, Bool, true, false, not, ◌&&◌, ◌==◌, List, [], ◌∷◌, ◌++◌, Option, Some, None, if◌then◌else◌, sym, refl, ap, ◌∙◌, subst, inl, inr, arith}
+use Rattle.std.proofs.lemmas.Bool.{false_from_ne_true}
 use Rattle.address_claim.specs.Claiming.{is_held}
 use Rattle.can_frame.specs.FrameValue.{FrameValue}
 use Rattle.dm_messages.specs.declared.kind.Kind.{Kind}
-use Rattle.dm_messages.specs.declared.kind.Kind.TheVariants.{Dm1, Dm2}
 use Rattle.parameter_group.specs.Group.{Acknowledgment, AddressClaimed, CannotClaim, ConnectionManagement, DataTransfer, Diagnostic, Group, Other, Request, group_of}
 use Rattle.transport.specs.declared.control.Control.TheVariants.{Abort, Bam, Cts, EndAck, Rts}
 use Rattle.bus_model.specs.Expected.{is_claim}
@@ -73,10 +73,7 @@ last_of_parts x m zero track = rw (is_of_self m 0) refl
 last_of_parts x m (suc j) track = rw (is_of_self m (suc j)) refl
 
 pub kinds_apart : (k l : Kind) → k ≢ l → same_kind k l ≡ false
-kinds_apart Dm1 Dm1 h = absurd (h refl)
-kinds_apart Dm2 Dm2 h = absurd (h refl)
-kinds_apart Dm1 Dm2 h = refl
-kinds_apart Dm2 Dm1 h = refl
+kinds_apart k l h = false_from_ne_true (same_kind k l) (λ e. h (kind_same k l e))
 
 pub and_false : (b : Bool) → b && false ≡ false
 and_false true = refl

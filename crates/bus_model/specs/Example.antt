@@ -1,7 +1,6 @@
 -- What two runs of the machine show: an entry in each way, none for a message with a gap inside, and one after a takeover.
 use Rattle.std.specs.Prelude.{◌≡◌, [], ◌∷◌, length}
 use Rattle.trouble_code.specs.Code.{code}
-use Rattle.trouble_code.specs.LampBytes.{lamps_off}
 use Rattle.fault_memory.specs.Memory.{MemoryValue, new_memory}
 use Rattle.dm_messages.specs.declared.kind.Kind.TheVariants.{Dm1, Dm2}
 use Rattle.dm_messages.specs.View.{view}
@@ -15,7 +14,7 @@ example_settings = record { name = 1; address = 249 }
 
 -- two active codes and two previous ones, so each of its views takes two packets
 abbrev pub faulty_memory : MemoryValue
-faulty_memory = record { lamps = lamps_off; active = code 100 1 1 ∷ code 200 2 1 ∷ []; previous = code 300 3 1 ∷ code 400 4 1 ∷ [] }
+faulty_memory = record new_memory { active = code 100 1 1 ∷ code 200 2 1 ∷ []; previous = code 300 3 1 ∷ code 400 4 1 ∷ [] }
 
 -- of NAME 5 a DM1 in one frame, then one by broadcast, and a DM2 by session
 pub record ShowsEachWay (w : World) : Type 0 where

@@ -1,5 +1,5 @@
 -- Whose a frame on the wire is.
-use Rattle.std.specs.Prelude.{◌≡◌, ◌⊎◌, ℕ, suc, slice_get, Some}
+use Rattle.std.specs.Prelude.{◌≡◌, ◌⊎◌, ℕ, slice_get, Some}
 use Rattle.bus_model.specs.Traffic.{Item}
 use Rattle.bus_model.specs.Machine.{Seat, World, station_seat}
 

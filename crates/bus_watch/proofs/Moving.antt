@@ -5,7 +5,7 @@ use Rattle.bus_model.specs.Heard.{StationSettings}
 use Rattle.bus_model.proofs.Lookback.{kind_same, same_kind_self}
 use Rattle.can_frame.specs.declared.reading.Reading.{Reading}
 use Rattle.dm_messages.specs.declared.kind.Kind.{Kind}
-use Rattle.dm_messages.specs.declared.kind.Kind.TheVariants.{Dm1, Dm2}
+use Rattle.dm_messages.specs.declared.kind.Kind.TheVariants.{Dm1, Dm2, Dm6}
 use Rattle.dm_messages.specs.declared.shown.Shown.{Shown}
 use Rattle.dm_messages.specs.View.{same_kind}
 use Rattle.station_table.specs.KeptValue.{entries_under}
@@ -17,7 +17,7 @@ use Rattle.station_table.proofs.Lines.{other_lists}
 use Rattle.station_table.proofs.Lists.{one_added}
 use Rattle.station_table.proofs.Stands.{beside_after}
 use Rattle.bus_watch.specs.declared.watch.TheConstants.{GRANT}
-use Rattle.bus_watch.specs.Runs.{ListsValue, entries_in, runs_of, unrolled}
+use Rattle.bus_watch.specs.Runs.{ListsValue, entries_in, no_runs, runs_of, unrolled}
 use Rattle.bus_watch.specs.WatchValue.{Moves, StandsInRuns, Takes, WatchValue}
 
 -- the same lists taken out
@@ -27,9 +27,10 @@ same_lists one other same r s h st =
     other_lists one other r GRANT s s.rows h st (λ n. refl) refl (λ n k. ap (λ (l : List Shown). l ++ entries_under s.rows n k) (same n k))
 
 -- without runs there is no entry
-pub nothing_listed : (lists : ListsValue) (n : ℕ) (k : Kind) → lists ≡ record { dm1 = []; dm2 = [] } → entries_in lists n k ≡ []
+pub nothing_listed : (lists : ListsValue) (n : ℕ) (k : Kind) → lists ≡ no_runs → entries_in lists n k ≡ []
 nothing_listed lists n Dm1 e = ap (λ (l : ListsValue). unrolled (runs_of l.dm1 n)) e
 nothing_listed lists n Dm2 e = ap (λ (l : ListsValue). unrolled (runs_of l.dm2 n)) e
+nothing_listed lists n Dm6 e = ap (λ (l : ListsValue). unrolled (runs_of l.dm6 n)) e
 
 -- a reading that can add to no list
 pub takes_none : (old new : WatchValue) (x : Reading) → list_of old.station x ≡ None → new ≡ record old { station = after_reading old.station x } → Takes old new x

@@ -10,7 +10,7 @@ use Rattle.parameter_group.specs.Group.{Group}
 use Rattle.bus_watch.specs.declared.watch.TheConstants.{GRANT}
 use Rattle.bus_watch.specs.Followed.{Followed, after_frame, followed_by_group, followed_after, is_late, is_withheld, reading_by}
 use Rattle.bus_watch.specs.Told.{Assumed, Beginning, Read, StandsForAll, Told, all_said, nothing_said}
-use Rattle.bus_watch.specs.Runs.{entries_in}
+use Rattle.bus_watch.specs.Runs.{entries_in, no_runs}
 use Rattle.bus_watch.specs.WatchValue.{StandsInRuns, Takes, WatchValue}
 use Rattle.bus_watch.proofs.Moving.{same_lists, nothing_listed}
 
@@ -24,7 +24,7 @@ in_runs_still : (r : StationSettings) (w : WatchValue) (h : List Reading) (f : F
 in_runs_still r w h f s = record { beside = s.beside; alone = s.alone }
 
 -- a watch that was told nothing
-pub opened : (b : Beginning) (w : WatchValue) → StandsFor b.station GRANT w.station [] → w.lists ≡ record { dm1 = []; dm2 = [] } → w.followed ≡ (nothing_said b).followed
+pub opened : (b : Beginning) (w : WatchValue) → StandsFor b.station GRANT w.station [] → w.lists ≡ no_runs → w.followed ≡ (nothing_said b).followed
     → StandsForAll b [] w
 opened b w st none f = record {
   heard = record { beside = same_lists none_taken (entries_in w.lists) (λ n k. nothing_listed w.lists n k none) b.station w.station [] st; alone = st.entries };

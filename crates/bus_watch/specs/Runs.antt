@@ -4,7 +4,7 @@ use Rattle.std.specs.Option.{unwrap_or}
 use Rattle.std.specs.Map.{lookup}
 use Rattle.bus_watch.specs.declared.run.Run.{Run}
 use Rattle.dm_messages.specs.declared.kind.Kind.{Kind}
-use Rattle.dm_messages.specs.declared.kind.Kind.TheVariants.{Dm1, Dm2}
+use Rattle.dm_messages.specs.declared.kind.Kind.TheVariants.{Dm1, Dm2, Dm6}
 use Rattle.dm_messages.specs.declared.shown.Shown.{Shown}
 
 -- the entries of some runs, one run after another
@@ -20,11 +20,17 @@ runs_of table name = unwrap_or (lookup (nat_eq name) table) []
 pub record ListsValue : Type 0 where
   pub dm1 : List (ℕ × List Run)
   pub dm2 : List (ℕ × List Run)
+  pub dm6 : List (ℕ × List Run)
+
+-- no runs under any NAME
+abbrev pub no_runs : ListsValue
+no_runs = record { dm1 = []; dm2 = []; dm6 = [] }
 
 -- the runs of a kind under a NAME
 abbrev pub runs_under : ListsValue → ℕ → Kind → List Run
 runs_under lists name Dm1 = runs_of lists.dm1 name
 runs_under lists name Dm2 = runs_of lists.dm2 name
+runs_under lists name Dm6 = runs_of lists.dm6 name
 
 -- and their entries
 abbrev pub entries_in : ListsValue → ℕ → Kind → List Shown

@@ -1,6 +1,6 @@
-ghost use Rattle.std.specs.Prelude.{◌≡◌, ℕ, [], Some, length, OnOk};
+ghost use Rattle.std.specs.Prelude.{◌≡◌, ℕ, Some, length, OnOk};
 ghost use Rattle.bus_model.specs.Heard.{counted};
-ghost use Rattle.bus_watch.specs.Runs.{entries_in, runs_under};
+ghost use Rattle.bus_watch.specs.Runs.{entries_in, no_runs, runs_under};
 ghost use Rattle.dm_messages.specs.declared.kind.Kind.{Kind as AnyKind};
 ghost use Rattle.station_table.specs.Lists.{with_taken};
 
@@ -17,6 +17,7 @@ use std::marker::Model;
 pub(crate) struct Lists {
     dm1: RunTable,
     dm2: RunTable,
+    dm6: RunTable,
 }
 
 impl Model for Lists {
@@ -24,17 +25,18 @@ impl Model for Lists {
 
     ghost Value = { ListsValue };
 
-    ghost view = { λ l. record { dm1 = l.dm1; dm2 = l.dm2 } };
+    ghost view = { λ l. record { dm1 = l.dm1; dm2 = l.dm2; dm6 = l.dm6 } };
 }
 
 impl Lists {
     /// No entries under any NAME.
     pub(crate) fn new(alloc: Global) -> Lists
-        ensures { result ≡ record { dm1 = []; dm2 = [] } }
+        ensures { result ≡ no_runs }
     {
         Lists {
             dm1: RunTable::new(alloc),
             dm2: RunTable::new(alloc),
+            dm6: RunTable::new(alloc),
         }
     }
 
@@ -45,6 +47,7 @@ impl Lists {
         match kind {
             Kind::Dm1 => self.dm1.runs(name),
             Kind::Dm2 => self.dm2.runs(name),
+            Kind::Dm6 => self.dm6.runs(name),
         }
     }
 
@@ -55,6 +58,7 @@ impl Lists {
         match kind {
             Kind::Dm1 => self.dm1.entries(name),
             Kind::Dm2 => self.dm2.entries(name),
+            Kind::Dm6 => self.dm6.entries(name),
         }
     }
 
@@ -73,6 +77,7 @@ impl Lists {
         match kind {
             Kind::Dm1 => self.dm1.add(alloc, name, shown, time, contested),
             Kind::Dm2 => self.dm2.add(alloc, name, shown, time, contested),
+            Kind::Dm6 => self.dm6.add(alloc, name, shown, time, contested),
         }
     }
 }

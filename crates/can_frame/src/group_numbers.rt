@@ -24,6 +24,9 @@ pub const DM2: u32 = 65227;
 /// Clear the previously active trouble codes (DM3).
 pub const DM3: u32 = 65228;
 
+/// Pending trouble codes (DM6).
+pub const DM6: u32 = 65231;
+
 /// Clear the active trouble codes (DM11).
 pub const DM11: u32 = 65235;
 

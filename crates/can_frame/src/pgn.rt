@@ -72,6 +72,10 @@ impl Pgn {
     pub const DM3: Pgn = Pgn {
         number: group_numbers::DM3,
     };
+    /// Pending trouble codes (DM6).
+    pub const DM6: Pgn = Pgn {
+        number: group_numbers::DM6,
+    };
     /// Clear the active trouble codes (DM11).
     pub const DM11: Pgn = Pgn {
         number: group_numbers::DM11,

@@ -15,14 +15,16 @@ Commands, one a line; an empty line, and one that begins with #, has no answer:
   leave SEAT                               the unit is taken off the bus
   set SEAT SPN FMI [N]                     N codes become active
   heal SEAT SPN FMI [N]                    N codes become previously active
+  pend SEAT SPN FMI [N]                    N codes become pending
+  unpend SEAT SPN FMI [N]                  N codes are pending no more
   lamps SEAT HHHH                          lamps and flash codes
   think SEAT, turn SEAT                    the unit does its own work; ends a turn
   dm1 SEAT                                 the unit begins a DM1
   hear SEAT [N], read [N]                  the unit hears, the station reads
   carry [N], round N                       frames are carried; all hear, read and carry
-  ask NAME|all WHAT                        WHAT is dm1, dm2, dm3, dm11, claim or a PGN
+  ask NAME|all WHAT                        WHAT is dm1, dm2, dm3, dm6, dm11, claim or a PGN
   command NAME ADDRESS                     the unit is commanded to another address
-  shown NAME dm1|dm2, row NAME, stats      what the station shows and knows
+  shown NAME dm1|dm2|dm6, row NAME, stats  what the station shows and knows
   counts SEAT, frame I                     a seat's frames; a frame of the wire
   inject IIIIIIII [BB ..], injected        a frame from outside; how many there were
   report                                   a line for each NAME";

@@ -68,10 +68,10 @@ const LONGEST_SILENCE: u64 = 3_600_000;
 const CHANGES: &str = "\
 Input: what candump -L writes, plain candump, log2long, a file of candump -l. Live: candump -L -d can0 | j1939bench watch
 
-A line for each change: a unit that claims or loses an address, a DM1 or DM2 that differs from the one before it (lamps; then
-SPN/FMI/COUNT), missed frames, an acknowledgment. At the end, also of an input that breaks off, a line for each NAME: its address,
-how many DM1 and DM2 stand under it, the lamps and the number of codes of the newest DM1. As csv: a row for each code of each run
-of equal entries, with the times of the first and the last, and whether they are contested.
+A line for each change: a unit that claims or loses an address, a DM1, DM2 or DM6 that differs from the one before it (lamps;
+then SPN/FMI/COUNT), missed frames, an acknowledgment. At the end, also of an input that breaks off, a line for each NAME: its
+address, how many DM1, DM2 and DM6 stand under it, the lamps and the number of codes of the newest DM1. As csv: a row for each
+code of each run of equal entries, with the times of the first and the last, and whether they are contested.
 
 Limits: on a real bus the last claim is not always the holder (an entry within 250 ms of a claim that displaced another NAME is
 marked contested); frames lost without notice can mix two messages (a packet after --silence is withheld); a log without claims

@@ -6,7 +6,7 @@ use Rattle.trouble_code.specs.Code.{Code, IsCode, EncodesCode, code_bytes}
 use Rattle.trouble_code.specs.LampBytes.{LampsValue, lamps_value, lamps_bytes}
 use Rattle.fault_memory.specs.Memory.{MemoryValue, IsLawfulMemory, IsKeptCode}
 use Rattle.dm_messages.specs.declared.kind.Kind.{Kind}
-use Rattle.dm_messages.specs.declared.kind.Kind.TheVariants.{Dm1, Dm2}
+use Rattle.dm_messages.specs.declared.kind.Kind.TheVariants.{Dm1, Dm2, Dm6}
 use Rattle.dm_messages.specs.declared.shown.Shown.{Shown}
 use Rattle.dm_messages.specs.View.{view, IsShowable, EncodesEach, EncodesCodes, Encodes, codes_bytes, written_codes, encoding, code_of_bytes, code_before, codes_of_bytes, no_code_or_one, codes_read, shown_with, decoding}
 
@@ -259,6 +259,11 @@ IsShowable-view Dm1 m h = record {
 IsShowable-view Dm2 m h = record {
   lamps = h.lamps;
   codes = All-weaker IsKeptCode IsCode (λ c k. k.0) m.previous h.previous;
+  room = omega (arith, h.room);
+}
+IsShowable-view Dm6 m h = record {
+  lamps = h.lamps;
+  codes = All-weaker IsKeptCode IsCode (λ c k. k.0) m.pending h.pending;
   room = omega (arith, h.room);
 }
 

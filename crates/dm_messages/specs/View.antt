@@ -1,29 +1,32 @@
 use Rattle.std.specs.Prelude.{◌≡◌, ℕ, Bool, true, false, ◌+◌, ◌*◌, ◌/◌, ◌%◌, ◌≤◌, ◌⊎◌, ◌&&◌, ◌||◌, ◌==◌, nat_le, nat_lt, List, [], ◌∷◌, ◌++◌, length, take, drop, if◌then◌else◌, Option, Some, None}
 use Rattle.std.specs.List.{All, list_all}
 use Rattle.can_frame.specs.declared.frame.TheConstants.{FILLER}
-use Rattle.can_frame.specs.declared.group_numbers.TheConstants.{DM1, DM2}
+use Rattle.can_frame.specs.declared.group_numbers.TheConstants.{DM1, DM2, DM6}
 use Rattle.trouble_code.specs.Code.{Code, code, IsCode, EncodesCode, code_bytes}
 use Rattle.trouble_code.specs.LampBytes.{LampsValue, lamps_value, lamps_bytes, IsLamps}
 use Rattle.fault_memory.specs.Memory.{MemoryValue}
 use Rattle.dm_messages.specs.declared.kind.Kind.{Kind}
-use Rattle.dm_messages.specs.declared.kind.Kind.TheVariants.{Dm1, Dm2}
+use Rattle.dm_messages.specs.declared.kind.Kind.TheVariants.{Dm1, Dm2, Dm6}
 use Rattle.dm_messages.specs.declared.shown.Shown.{Shown}
 
 -- the parameter group number of each kind of message
 abbrev pub pgn_of_kind : Kind → ℕ
 pgn_of_kind Dm1 = DM1
 pgn_of_kind Dm2 = DM2
+pgn_of_kind Dm6 = DM6
 
 -- whether two kinds are one
 abbrev pub same_kind : Kind → Kind → Bool
 same_kind Dm1 Dm1 = true
 same_kind Dm2 Dm2 = true
+same_kind Dm6 Dm6 = true
 same_kind _ _ = false
 
 -- the list of codes that a kind of message shows
 abbrev pub codes_of_kind : Kind → MemoryValue → List Code
 codes_of_kind Dm1 m = m.active
 codes_of_kind Dm2 m = m.previous
+codes_of_kind Dm6 m = m.pending
 
 -- what a message of a kind shows of a fault memory
 abbrev pub view : Kind → MemoryValue → Shown

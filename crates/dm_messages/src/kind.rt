@@ -11,10 +11,12 @@ pub enum Kind {
     Dm1,
     /// The lamps with the previously active codes.
     Dm2,
+    /// The lamps with the pending codes.
+    Dm6,
 }
 
 impl Kind {
-    /// The parameter group, 65226 for DM1 and 65227 for DM2: one that goes to all.
+    /// The parameter group, 65226 for DM1, 65227 for DM2 and 65231 for DM6: one that goes to all.
     pub fn pgn(self) -> Pgn
         ensures value { result ≡ pgn_of_kind self }
         ensures fits { result < 2 ^ 18 }
@@ -23,6 +25,7 @@ impl Kind {
         match self {
             Kind::Dm1 => Pgn::DM1,
             Kind::Dm2 => Pgn::DM2,
+            Kind::Dm6 => Pgn::DM6,
         }
     }
 }

@@ -1,5 +1,5 @@
-//! Diagnostic messages: active codes with lamps (DM1) and previously active codes with lamps (DM2), as SAE J1939-73
-//! writes them in bytes.
+//! Diagnostic messages: the lamps with the active codes (DM1), the previously active codes (DM2) or the pending codes (DM6),
+//! as SAE J1939-73 writes them in bytes.
 #![tactic(auto)]
 
 mod error;

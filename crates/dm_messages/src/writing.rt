@@ -38,6 +38,7 @@ fn codes_of(kind: Kind, memory: &FaultMemory) -> &[Dtc]
     match kind {
         Kind::Dm1 => memory.active(),
         Kind::Dm2 => memory.previous(),
+        Kind::Dm6 => memory.pending(),
     }
 }
 

@@ -1,8 +1,8 @@
-use Rattle.std.proofs.Common.{◌≡◌, ℕ, zero, suc, ◌<◌, ◌≤◌, inl, inr, Bool, true, false, not, ◌||◌, cond, ltb, List, [], ◌∷◌, length, get_or, Option, Some, None, arith, refl, sym, ◌∙◌, ap}
+use Rattle.std.proofs.Common.{◌≡◌, ℕ, zero, suc, ◌<◌, ◌≤◌, inl, inr, Bool, true, false, not, ◌||◌, cond, ltb, List, [], ◌∷◌, ◌++◌, length, get_or, Some, None, arith, refl, sym, ◌∙◌, ap}
 use Rattle.std.specs.List.{filter, find, list_any, position, position_or_len, remove, slice_get, IsDistinct}
 use Rattle.std.specs.Option.{is_some}
-use Rattle.std.proofs.lemmas.Bool.{cases_order, ltb-true, ltb-false}
-use Rattle.std.proofs.lemmas.List.Folds.{find_at}
+use Rattle.std.proofs.lemmas.Bool.{cases_order, lt-ltb, le-ltb, ltb-true, ltb-false}
+use Rattle.std.proofs.lemmas.List.Folds.{find_at, list_any-append}
 use Rattle.std.proofs.lemmas.List.Quantifiers.{position-Some}
 use Rattle.std.proofs.lemmas.Map.Keys.{apart_from_distinct}
 use Rattle.std.proofs.lemmas.Option.{slice_get-get_or, slice_get_past, slice_get_cases}
@@ -46,25 +46,33 @@ any_from_find p (x ∷ xs) = any_at (p x) (any_from_find p xs)
     any_at true h = refl
     any_at false h = h
 
-is_some_if : (b : Bool) (n : ℕ) → is_some (cond b (Some n) None) ≡ true → b ≡ true
-is_some_if true n h = refl
-is_some_if false n h = cc
+is_some_if : (b : Bool) (n : ℕ) → is_some (cond b (Some n) None) ≡ b
+is_some_if true n = refl
+is_some_if false n = refl
 
-pub any_from_place : (p : Code → Bool) (xs : List Code) → is_some (position p xs) ≡ true → list_any p xs ≡ true
-any_from_place p xs h =
+-- as `position` tells it
+pub any_from_position : (p : Code → Bool) (xs : List Code) → list_any p xs ≡ is_some (position p xs)
+any_from_position p xs =
     let n : ℕ = position_or_len p xs in
-    let lt : n < length xs = ltb-true n (length xs) (is_some_if (ltb n (length xs)) n h) in
     elim (slice_get_cases xs n).1 [
-      | inl w ↦ rw (any_from_find p xs, find_at p xs, w.2) refl
-      | inr w ↦ absurd (let past : length xs ≤ n = w.0 in omega arith)
+      | inl w ↦
+          let within : n < length xs = w.1 in
+          rw (any_from_find p xs, find_at p xs, w.2, is_some_if (ltb n (length xs)) n, lt-ltb n (length xs) within) refl
+      | inr w ↦
+          let past : length xs ≤ n = w.0 in
+          rw (any_from_find p xs, find_at p xs, w.1, is_some_if (ltb n (length xs)) n, le-ltb n (length xs) past) refl
     ]
 
-pub none_from_is_some : (o : Option ℕ) → is_some o ≡ false → o ≡ None
-none_from_is_some None h = refl
-none_from_is_some (Some n) h = cc
+pub any_from_place : (p : Code → Bool) (xs : List Code) (i : ℕ) → position p xs ≡ Some i → list_any p xs ≡ true
+any_from_place p xs i h = rw (any_from_position p xs, h) refl
 
 pub none_from_no_place : (p : Code → Bool) (xs : List Code) → position p xs ≡ None → list_any p xs ≡ false
-none_from_no_place p xs h = rw (any_from_find p xs, find_from_no_place p xs h) refl
+none_from_no_place p xs h = rw (any_from_position p xs, h) refl
+
+-- the three lists of a memory
+pub none_of_three : (p : Code → Bool) (a b c : List Code) → list_any p a ≡ false → position p b ≡ None → position p c ≡ None → list_any p (a ++ (b ++ c)) ≡ false
+none_of_three p a b c ha hb hc =
+    rw (list_any-append p a (b ++ c), list_any-append p b c, ha, none_from_no_place p b hb, none_from_no_place p c hc) refl
 
 -- ---- the list without the code that was found
 

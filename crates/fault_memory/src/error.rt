@@ -16,12 +16,15 @@ pub enum FaultError {
     /// The FMI is above 31 (5 bits).
     #[error("FmiTooLarge")]
     FmiTooLarge,
-    /// A new code, where both lists hold 445 together.
+    /// A new code, where the three lists hold 445 together.
     #[error("Full")]
     Full,
     /// The code that was to be healed is not active.
     #[error("NotActive")]
     NotActive,
+    /// The code that was to go away from the pending ones is not pending.
+    #[error("NotPending")]
+    NotPending,
 }
 
 impl FaultError {
@@ -35,6 +38,7 @@ impl FaultError {
             FaultError::FmiTooLarge => 10,
             FaultError::Full => 13,
             FaultError::NotActive => 14,
+            FaultError::NotPending => 29,
         }
     }
 }

@@ -1,4 +1,4 @@
-//! The fault memory of a control unit: its lamps, its active trouble codes and its previously active ones (SAE J1939-73).
+//! The fault memory of a control unit: its lamps, and its active, previously active and pending trouble codes (SAE J1939-73).
 #![tactic(auto)]
 
 mod change;

@@ -1,8 +1,8 @@
-ghost use Rattle.std.specs.Prelude.{◌≡◌, ◌⊎◌, ◌↔◌, Result, Ok, Err, OnOk, OnErr, IfOk, IfErr, IsTrue};
-ghost use Rattle.std.specs.List.{position};
+ghost use Rattle.std.specs.Prelude.{◌≡◌, ◌≤◌, ◌⊎◌, ◌↔◌, Result, Ok, Err, OnOk, OnErr, IfOk, IfErr, IsTrue};
+ghost use Rattle.std.specs.List.{list_any, position};
 ghost use Rattle.trouble_code.specs.Code.{code};
-ghost use Rattle.fault_memory.specs.Memory.{MemoryValue, new_memory, IsKeptCode, IsLawfulMemory};
-ghost use Rattle.fault_memory.specs.Changes.{is_fault, if_in_range, changed, Grows, Follows, fault_set, fault_healed, cleared_active, cleared_previous};
+ghost use Rattle.fault_memory.specs.Memory.{MemoryValue, new_memory, all_codes, codes_held, IsKeptCode, IsLawfulMemory};
+ghost use Rattle.fault_memory.specs.Changes.{is_fault, if_in_range, changed, Grows, Follows, fault_set, fault_healed, fault_pended, fault_unpended, cleared_active, cleared_previous};
 ghost use Rattle.fault_memory.specs.declared.error.FaultError.{FaultError};
 
 use crate::change::FaultChange;
@@ -11,18 +11,19 @@ use std::alloc::{AllocError, Global};
 use std::marker::Model;
 use trouble_code::{Dtc, DtcError, Lamps};
 
-/// The most codes that both lists of one memory hold together.
+/// The most codes that the three lists of one memory hold together.
 const MOST_CODES: usize = 445;
 
-/// The lamps, the active trouble codes and the previously active ones of one control unit (SAE J1939-73).
+/// The lamps, the active trouble codes, the previously active ones and the pending ones of one control unit (SAE J1939-73).
 ///
-/// No pair of SPN and FMI stands twice over both lists, each count is 1 to 126, and both lists hold at most 445 codes
-/// together.
+/// No pair of SPN and FMI stands twice over the three lists, each count is 1 to 126, and the three lists hold at most 445
+/// codes together.
 #[derive(Debug, Drop)]
 pub struct FaultMemory {
     lamps: Lamps,
     active: Vec<Dtc>,
     previous: Vec<Dtc>,
+    pending: Vec<Dtc>,
 }
 
 impl Model for FaultMemory {
@@ -30,9 +31,9 @@ impl Model for FaultMemory {
 
     ghost Value = { MemoryValue };
 
-    ghost view = { λ m. record { lamps = m.lamps; active = m.active.items; previous = m.previous.items } };
+    ghost view = { λ m. record { lamps = m.lamps; active = m.active.items; previous = m.previous.items; pending = m.pending.items } };
 
-    ghost invariant = { λ m. IsLawfulMemory (record { lamps = m.lamps; active = m.active.items; previous = m.previous.items }) };
+    ghost invariant = { λ m. IsLawfulMemory (record { lamps = m.lamps; active = m.active.items; previous = m.previous.items; pending = m.pending.items }) };
 }
 
 impl FaultMemory {
@@ -45,6 +46,7 @@ impl FaultMemory {
             lamps: Lamps::off(),
             active: Vec::new(alloc),
             previous: Vec::new(alloc),
+            pending: Vec::new(alloc),
         }
     }
 
@@ -72,16 +74,28 @@ impl FaultMemory {
         self.previous.as_slice()
     }
 
+    /// The pending codes, the one that became pending last at the end.
+    pub fn pending(&self) -> &[Dtc]
+        ensures value { result.now ≡ self.now.pending }
+        ensures lawful { IsLawfulMemory self.now }
+    {
+        self.pending.as_slice()
+    }
+
     /// Makes one change.
     ///
     /// - `Set`: an active code stays as it is. A previously active one moves to the end of the active codes, its count one
-    ///   more, at most 126. A new one is put there with count 1.
+    ///   more, at most 126. A pending one moves there with its count. A new one is put there with count 1.
     /// - `Heal`: an active code moves to the end of the previously active ones, with its count.
+    /// - `Pend`: a code in any of the three lists stays as it is. A new one is put at the end of the pending codes with
+    ///   count 1.
+    /// - `Unpend`: a pending code goes away.
     /// - `Lamp`: all lamps and flash codes are replaced.
     ///
-    /// Refused, in this order: `SpnTooLarge` above 524,287, `FmiTooLarge` above 31, `Full` for a new code where both lists
-    /// hold 445 together, `NotActive` where the code to be healed is not active, `OutOfMemory` where the memory for a longer
-    /// list is refused. After a refusal the memory is as it was.
+    /// Refused, in this order: `SpnTooLarge` above 524,287, `FmiTooLarge` above 31, `Full` for a new code where the three
+    /// lists hold 445 together, `NotActive` where the code to be healed is not active, `NotPending` where the code that is
+    /// to go away is not pending, `OutOfMemory` where the memory for a longer list is refused. After a refusal the memory
+    /// is as it was. `Unpend` and `Lamp` take no memory.
     pub fn apply(&mut self, change: FaultChange) -> Result<(), FaultError>
         ensures ok { OnOk result (changed self.old change ≡ Ok self.new) }
         ensures refused { (e : FaultError) → changed self.old change ≡ Err e → result ≡ Err e }
@@ -97,6 +111,14 @@ impl FaultMemory {
                 let first = first_occurrence(spn, fmi)?;
                 self.heal(first)
             }
+            FaultChange::Pend { spn, fmi } => {
+                let first = first_occurrence(spn, fmi)?;
+                self.pend(first)
+            }
+            FaultChange::Unpend { spn, fmi } => {
+                let first = first_occurrence(spn, fmi)?;
+                self.unpend(first)
+            }
             FaultChange::Lamp { lamps } => {
                 self.lamps = lamps;
                 Ok(())
@@ -109,7 +131,7 @@ impl FaultMemory {
         requires first { (first ≡ code first.spn first.fmi 1) × IsKeptCode first }
         ensures { Follows (fault_set first.spn first.fmi self.old) self.old self.new result }
     {
-        if place_of(&self.active, first).is_some() {
+        if has_fault(&self.active, first) {
             return Ok(());
         }
         if let Some(place) = place_of(&self.previous, first) {
@@ -118,7 +140,13 @@ impl FaultMemory {
             self.previous.remove(place);
             return Ok(());
         }
-        if self.active.len() + self.previous.len() >= MOST_CODES {
+        if let Some(place) = place_of(&self.pending, first) {
+            let code = self.pending[place];
+            self.active.push(code)?;
+            self.pending.remove(place);
+            return Ok(());
+        }
+        if self.is_full() {
             return Err(FaultError::Full);
         }
         self.active.push(first)?;
@@ -138,16 +166,60 @@ impl FaultMemory {
         Ok(())
     }
 
-    /// Clears the active codes and puts the lamps off (DM11). The previously active codes stay. It takes no memory.
+    /// A fault was seen and is not confirmed yet; `first` is the code of its first occurrence.
+    fn pend(&mut self, first: Dtc) -> Result<(), FaultError>
+        requires first { (first ≡ code first.spn first.fmi 1) × IsKeptCode first }
+        ensures { Follows (fault_pended first.spn first.fmi self.old) self.old self.new result }
+    {
+        if self.is_known(first) {
+            return Ok(());
+        }
+        if self.is_full() {
+            return Err(FaultError::Full);
+        }
+        self.pending.push(first)?;
+        Ok(())
+    }
+
+    /// A pending fault was not seen again; `first` is the code of its first occurrence.
+    fn unpend(&mut self, first: Dtc) -> Result<(), FaultError>
+        ensures { Follows (fault_unpended first.spn first.fmi self.old) self.old self.new result }
+    {
+        let Some(place) = place_of(&self.pending, first) else {
+            return Err(FaultError::NotPending);
+        };
+        self.pending.remove(place);
+        Ok(())
+    }
+
+    /// Whether a code with the SPN and FMI of this one stands in any of the three lists.
+    fn is_known(&self, fault: Dtc) -> bool
+        ensures { result ≡ list_any (is_fault fault.spn fault.fmi) (all_codes self.now) }
+    {
+        has_fault(&self.active, fault)
+            || has_fault(&self.previous, fault)
+            || has_fault(&self.pending, fault)
+    }
+
+    /// Whether the three lists hold 445 codes together.
+    fn is_full(&self) -> bool
+        ensures { IsTrue result ↔ (445 ≤ codes_held self.now) }
+    {
+        self.active.len() + self.previous.len() + self.pending.len() >= MOST_CODES
+    }
+
+    /// Clears the active and the pending codes and puts the lamps off (DM11). The previously active codes stay. It takes no
+    /// memory.
     #[tactic(auto, using(crate::proofs::Lawful::cleared_active_is_lawful))]
     pub fn clear_active(&mut self)
         ensures { self.new ≡ cleared_active self.old }
     {
         self.lamps = Lamps::off();
         self.active.clear();
+        self.pending.clear();
     }
 
-    /// Clears the previously active codes (DM3). The lamps and the active codes stay. It takes no memory.
+    /// Clears the previously active codes (DM3). The lamps, the active and the pending codes stay. It takes no memory.
     pub fn clear_previous(&mut self)
         ensures { self.new ≡ cleared_previous self.old }
     {
@@ -162,7 +234,7 @@ impl FaultMemory {
         if self.lamps != other.lamps || !same_codes(&self.active, &other.active) {
             return false;
         }
-        same_codes(&self.previous, &other.previous)
+        same_codes(&self.previous, &other.previous) && same_codes(&self.pending, &other.pending)
     }
 
     /// The same lamps and codes, in memory of their own.
@@ -173,10 +245,12 @@ impl FaultMemory {
     {
         let active = self.active.clone()?;
         let previous = self.previous.clone()?;
+        let pending = self.pending.clone()?;
         Ok(FaultMemory {
             lamps: self.lamps,
             active,
             previous,
+            pending,
         })
     }
 }
@@ -200,6 +274,14 @@ fn same_codes(one: &[Dtc], other: &[Dtc]) -> bool
     ensures { IsTrue result ↔ (one.now ≡ other.now) }
 {
     one == other
+}
+
+/// Whether a code of the list has the SPN and FMI of this one.
+#[tactic(auto, using(crate::proofs::Places::any_from_position))]
+fn has_fault(codes: &[Dtc], fault: Dtc) -> bool
+    ensures { result ≡ list_any (is_fault fault.spn fault.fmi) codes.now }
+{
+    place_of(codes, fault).is_some()
 }
 
 /// The place of the code with the SPN and FMI of this one.

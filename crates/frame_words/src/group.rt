@@ -12,6 +12,7 @@ pub(crate) fn group_name(pgn: Pgn) -> &'static str {
         Pgn::DM1 => "DM1",
         Pgn::DM2 => "DM2",
         Pgn::DM3 => "DM3",
+        Pgn::DM6 => "DM6",
         Pgn::DM11 => "DM11",
         Pgn::COMMANDED_ADDRESS => "commanded address",
         _ => "-",

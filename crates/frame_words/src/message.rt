@@ -80,6 +80,7 @@ fn write_diagnostic<W: Write>(
     let word = match kind {
         Kind::Dm1 => "DM1",
         Kind::Dm2 => "DM2",
+        Kind::Dm6 => "DM6",
     };
     match read(alloc, bytes) {
         Ok(shown) => {

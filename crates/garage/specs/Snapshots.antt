@@ -1,7 +1,7 @@
 -- What a snapshot tells of a NAME.
 use Rattle.std.specs.Prelude.{ℕ, ◌-◌, List, Option, length, slice_get}
 use Rattle.std.specs.Option.{option_map}
-use Rattle.dm_messages.specs.declared.kind.Kind.TheVariants.{Dm1, Dm2}
+use Rattle.dm_messages.specs.declared.kind.Kind.TheVariants.{Dm1, Dm2, Dm6}
 use Rattle.dm_messages.specs.declared.shown.Shown.{Shown}
 use Rattle.bus_model.specs.Heard.{row_heard, address_in_row}
 use Rattle.journal.specs.Journal.{GarageValue, readings_of, listed_of}
@@ -24,5 +24,6 @@ line_of g name = record {
   address = address_in_row (row_heard (station_of g.settings) name (readings_of g.journal));
   dm1 = length (listed_of g name Dm1);
   dm2 = length (listed_of g name Dm2);
+  dm6 = length (listed_of g name Dm6);
   newest = newest_of (listed_of g name Dm1);
 }

@@ -13,7 +13,7 @@ use dm_messages::{Kind, Shown};
 use name_field::Name;
 
 impl Garage {
-    /// The entries of a kind under a NAME, the oldest first; none where the NAME was never seen.
+    /// The entries of a kind, DM1, DM2 or DM6, under a NAME, the oldest first; none where the NAME was never seen.
     ///
     /// Where no frame came from outside (`injected` answers 0) they are exactly the views of the fault memories with which units
     /// of that NAME began messages of that kind whose frames were all read on a clear path, in the order begun (`expected`).

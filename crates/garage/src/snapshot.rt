@@ -28,6 +28,8 @@ pub struct RowLine {
     pub dm1: usize,
     /// How many DM2 entries it has.
     pub dm2: usize,
+    /// How many DM6 entries it has.
+    pub dm6: usize,
     /// The newest of its DM1 entries; none where there is none.
     pub newest: Option<Newest>,
 }
@@ -70,6 +72,7 @@ impl Garage {
                     address: self.address_of(name),
                     dm1: entries.len(),
                     dm2: self.shown(name, Kind::Dm2).len(),
+                    dm6: self.shown(name, Kind::Dm6).len(),
                     newest: newest_among(entries),
                 })?;
             }

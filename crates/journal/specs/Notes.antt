@@ -40,6 +40,7 @@ abbrev pub ask_of : ShortAsk → Asked
 ask_of short.Dm1 = asked.Dm1
 ask_of short.Dm2 = asked.Dm2
 ask_of short.Dm3 = asked.Dm3
+ask_of short.Dm6 = asked.Dm6
 ask_of short.Dm11 = asked.Dm11
 ask_of short.Claim = asked.Claim
 

@@ -107,6 +107,8 @@ pub(crate) enum ShortAsk {
     Dm2,
     /// To clear the previously active codes.
     Dm3,
+    /// The pending codes.
+    Dm6,
     /// To clear the active codes.
     Dm11,
     /// The address that is claimed.
@@ -216,6 +218,7 @@ impl Note {
             Ask::Dm1 => ShortAsk::Dm1,
             Ask::Dm2 => ShortAsk::Dm2,
             Ask::Dm3 => ShortAsk::Dm3,
+            Ask::Dm6 => ShortAsk::Dm6,
             Ask::Dm11 => ShortAsk::Dm11,
             Ask::Claim => ShortAsk::Claim,
             Ask::Other(group) => return Note::AskOther { group, name },

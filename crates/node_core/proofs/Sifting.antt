@@ -1,5 +1,5 @@
 -- What is sifted of a frame.
-use Rattle.std.proofs.Common.{◌≡◌, ◌≢◌, ℕ, ◌≤◌, ◌<◌, ◌⊎◌, inl, inr, Bool, true, false, not, ◌&&◌, ◌||◌, ◌==◌, nat_le, List, length, slice_index, slice_set, Option, Some, None, if◌then◌else◌, arith, refl, sym, ap, ◌∙◌, subst, ne_eqb}
+use Rattle.std.proofs.Common.{◌≡◌, ◌≢◌, ℕ, ◌≤◌, ◌<◌, Bool, true, false, not, ◌&&◌, ◌||◌, ◌==◌, nat_le, List, length, slice_index, slice_set, Option, Some, None, if◌then◌else◌, arith, refl, sym, ap, ◌∙◌, subst, ne_eqb}
 use Rattle.std.proofs.lemmas.List.{set-get_or}
 use Rattle.can_frame.specs.Fields.{pgn_of, pdu_format_of, pdu_specific_of, source_of, destination_of}
 use Rattle.can_frame.specs.FrameValue.{FrameValue}
@@ -7,19 +7,18 @@ use Rattle.transport.specs.ControlMessage.{control_of}
 use Rattle.transport.specs.declared.control.Control.{Control}
 use Rattle.transport.specs.declared.control.Control.TheVariants.{Rts, Cts, EndAck, Bam, Abort}
 use Rattle.address_claim.specs.Claiming.{is_held}
-use Rattle.requests.specs.declared.commanded.Commanded.{Commanded}
-use Rattle.dm_messages.specs.declared.kind.Kind.TheVariants.{Dm1, Dm2}
+use Rattle.dm_messages.specs.declared.kind.Kind.{Kind}
+use Rattle.dm_messages.specs.declared.kind.Kind.TheVariants.{Dm1, Dm2, Dm6}
 use Rattle.parameter_group.specs.Group.{Group, AddressClaimed, CannotClaim, Request, Acknowledgment, Diagnostic, ConnectionManagement, DataTransfer, Other, group_number, request_group, acknowledgment_group, control_group, group_by, group_of}
 use Rattle.parameter_group.proofs.Cases.{of_control, of_packet, of_request, to_one}
 use Rattle.node_core.specs.NodeValue.{NodeValue}
 use Rattle.node_core.specs.Commanding.{command_started, completed, continued, half_from, is_half, is_to_all, for_name}
 use Rattle.node_core.specs.Requested.{is_concerned}
-use Rattle.node_core.specs.Reaction.{announced, command_heard, noted_from, on_claim, on_command, packet_heard, put_by_command, put_to, reaction_to}
+use Rattle.node_core.specs.Reaction.{command_heard, noted_from, on_command, put_by_command, put_to, reaction_to}
 use Rattle.node_core.specs.Deed.{Deed, Nothing, after_deed}
 use Rattle.node_core.specs.declared.heard.Answer.{Answer}
 use Rattle.fault_memory.specs.Memory.{MemoryValue}
 use Rattle.node_core.specs.Passing.{IsHeardQuietly, IsSifted, Settles, begun_half, with_half}
-use Rattle.node_core.specs.declared.sifted.Sifted.{Sifted}
 use Rattle.node_core.specs.declared.sifted.Sifted.TheVariants.{Passed, Elsewhere, Claimed, Announced, Packet}
 use Rattle.node_core.specs.declared.commanding.HalfCommand.{HalfCommand}
 use Rattle.node_core.specs.declared.commanding.HalfCommand.TheVariants as half
@@ -49,22 +48,25 @@ either node false g h p q = q
 other : (node : NodeValue) → IsPassed node Other
 other node = record { unasked = refl; idle = λ memory answer. refl; unnoted = refl }
 
+diagnostic : (node : NodeValue) (kind : Kind) (source : ℕ) (bytes : List ℕ) → IsPassed node (Diagnostic kind source bytes)
+diagnostic node kind source bytes = record { unasked = refl; idle = λ memory answer. refl; unnoted = refl }
+
 -- ---- what goes to one address, and is none of those groups that ask something
 
 rest_passed : (node : NodeValue) (pgn destination source : ℕ) (bytes : List ℕ) → pgn ≢ 60928 → pgn ≢ 59904 → pgn ≢ 60416 → pgn ≢ 60160 → IsPassed node (group_by pgn destination source bytes)
 rest_passed node pgn destination source bytes a b c d =
-    let two : Group = if pgn == 65227 then Diagnostic Dm2 source bytes else Other in
+    let three : Group = if pgn == 65231 then Diagnostic Dm6 source bytes else Other in
+    let two : Group = if pgn == 65227 then Diagnostic Dm2 source bytes else three in
     let one : Group = if pgn == 65226 then Diagnostic Dm1 source bytes else two in
     let rest : Group = if pgn == 59392 then acknowledgment_group destination source bytes else one in
     let is : group_by pgn destination source bytes ≡ rest = rw (ne_eqb pgn 60928 a, ne_eqb pgn 59904 b, ne_eqb pgn 60416 c, ne_eqb pgn 60160 d) refl in
     let acknowledged : IsPassed node (acknowledgment_group destination source bytes) =
     either node (length bytes == 8) (Acknowledgment (slice_index bytes 0) (slice_index bytes 4) (group_number bytes 5) destination source) Other
     (record { unasked = refl; idle = λ memory answer. refl; unnoted = refl }) (other node) in
-    let diagnostic : IsPassed node one =
-    either node (pgn == 65226) (Diagnostic Dm1 source bytes) two
-    (record { unasked = refl; idle = λ memory answer. refl; unnoted = refl })
-    (either node (pgn == 65227) (Diagnostic Dm2 source bytes) Other (record { unasked = refl; idle = λ memory answer. refl; unnoted = refl }) (other node)) in
-    subst (IsPassed node) (sym is) (either node (pgn == 59392) (acknowledgment_group destination source bytes) one acknowledged diagnostic)
+    let third : IsPassed node three = either node (pgn == 65231) (Diagnostic Dm6 source bytes) Other (diagnostic node Dm6 source bytes) (other node) in
+    let second : IsPassed node two = either node (pgn == 65227) (Diagnostic Dm2 source bytes) three (diagnostic node Dm2 source bytes) third in
+    let first : IsPassed node one = either node (pgn == 65226) (Diagnostic Dm1 source bytes) two (diagnostic node Dm1 source bytes) second in
+    subst (IsPassed node) (sym is) (either node (pgn == 59392) (acknowledgment_group destination source bytes) one acknowledged first)
 
 rest_of_groups : (node : NodeValue) (f : FrameValue) → pgn_of f.id ≢ 60928 → pgn_of f.id ≢ 59904 → pgn_of f.id ≢ 60416 → pgn_of f.id ≢ 60160 → IsPassed node (group_of f)
 unfolding group_of

@@ -1,5 +1,5 @@
 -- Which frames a unit hears quietly, and how it may find that by what was found once for all units.
-use Rattle.std.specs.Prelude.{◌≡◌, ℕ, Bool, true, false, List, slice_set, None}
+use Rattle.std.specs.Prelude.{◌≡◌, ℕ, Bool, true, false, slice_set, None}
 use Rattle.can_frame.specs.FrameValue.{FrameValue}
 use Rattle.fault_memory.specs.Memory.{MemoryValue}
 use Rattle.node_core.specs.NodeValue.{NodeValue}

@@ -51,7 +51,7 @@ on_claim node source name = on_step node source (claim_step source name node.cla
 
 -- ---- requests
 
--- DM1 or DM2 asked for at the unit's address: not while a session of that kind is open; one frame to all if eight bytes
+-- a diagnostic message asked for at the unit's address: not while a session of that kind is open; one frame to all if eight bytes
 -- suffice; else a session, one at a time
 abbrev pub asked_for_message : Option OpenSession → Kind → MemoryValue → ℕ → ℕ → ℕ → Deed
 asked_for_message session kind memory pgn address source =

@@ -6,18 +6,19 @@ use Rattle.can_frame.specs.declared.group_numbers.TheConstants.{DM3, DM11}
 use Rattle.dm_messages.specs.View.{pgn_of_kind}
 use Rattle.address_claim.specs.Claiming.{is_held}
 use Rattle.requests.specs.Layouts.{ack_frame_value}
-use Rattle.dm_messages.specs.declared.kind.Kind.TheVariants.{Dm1, Dm2}
+use Rattle.dm_messages.specs.declared.kind.Kind.TheVariants.{Dm1, Dm2, Dm6}
 use Rattle.unit_trait.specs.declared.question.Clear.TheVariants.{Active, Previous}
 use Rattle.unit_trait.specs.declared.question.Question.{Question}
 use Rattle.unit_trait.specs.declared.question.Question.TheVariants.{Clear}
 use Rattle.node_core.specs.declared.requested.Wanted.{Wanted}
 use Rattle.node_core.specs.declared.requested.Wanted.TheVariants as wanted
 
--- what a request for that group asks for: DM1, DM2, to clear the active codes (DM11) or the previous ones (DM3)
+-- what a request for that group asks for: DM1, DM2, DM6, to clear the active codes (DM11) or the previous ones (DM3)
 abbrev pub wanted_by : ℕ → Wanted
 wanted_by pgn =
     if pgn == pgn_of_kind Dm1 then wanted.Message Dm1
     else if pgn == pgn_of_kind Dm2 then wanted.Message Dm2
+    else if pgn == pgn_of_kind Dm6 then wanted.Message Dm6
     else if pgn == DM11 then wanted.Clear Active
     else if pgn == DM3 then wanted.Clear Previous
     else wanted.Unsupported

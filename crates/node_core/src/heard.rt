@@ -18,7 +18,7 @@ pub enum Withdraw {
 /// A message that a unit begins: its payload encodes the view of the unit's fault memory in that very call.
 #[derive(Clone, Copy, Debug, PartialEq, Eq)]
 pub struct Begun {
-    /// DM1 or DM2.
+    /// DM1, DM2 or DM6.
     pub kind: Kind,
     /// The address that the unit holds, 0 to 253.
     pub source: u8,

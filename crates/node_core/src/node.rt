@@ -86,7 +86,7 @@ impl Node {
         }
     }
 
-    /// Begins a DM1 or a DM2 to all, in one frame or as a broadcast (SAE J1939-21, -73).
+    /// Begins a message of this kind to all, in one frame or as a broadcast (SAE J1939-21, -73).
     ///
     /// Its payload encodes the view of the unit's fault memory in this very call. Refused with `Unclaimed` exactly where the
     /// unit holds no address. Answers `Held` exactly where it holds one and a session of that kind is open.

@@ -11,7 +11,7 @@ use unit_trait::{Clear, Question, Unit};
 /// What a request asks a unit for, besides its claim.
 #[derive(Clone, Copy, Debug, PartialEq, Eq)]
 pub enum Wanted {
-    /// A DM1 or a DM2.
+    /// A diagnostic message: DM1, DM2 or DM6.
     Message(Kind),
     /// To clear codes.
     Clear(Clear),
@@ -27,6 +27,7 @@ impl Wanted {
         match pgn {
             Pgn::DM1 => Wanted::Message(Kind::Dm1),
             Pgn::DM2 => Wanted::Message(Kind::Dm2),
+            Pgn::DM6 => Wanted::Message(Kind::Dm6),
             Pgn::DM11 => Wanted::Clear(Clear::Active),
             Pgn::DM3 => Wanted::Clear(Clear::Previous),
             _ => Wanted::Unsupported,

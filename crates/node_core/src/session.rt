@@ -8,7 +8,7 @@ use transport::Sending;
 /// An open session: the kind of its message, and what is still to be sent of it.
 #[derive(Debug, Drop)]
 pub struct OpenSession {
-    /// DM1 or DM2.
+    /// DM1, DM2 or DM6.
     pub kind: Kind,
     /// The payload with which it began, its destination, and how many of its packets were queued.
     pub sending: Sending,

@@ -4,19 +4,19 @@ use Rattle.std.specs.Int.{from_le_bytes, w64}
 use Rattle.can_frame.specs.Fields.{pgn_of, pdu_specific_of, source_of}
 use Rattle.can_frame.specs.FrameValue.{FrameValue}
 use Rattle.can_frame.specs.declared.address.TheConstants.{NULL_ADDRESS, GLOBAL_ADDRESS}
-use Rattle.can_frame.specs.declared.group_numbers.TheConstants.{ADDRESS_CLAIMED, REQUEST, ACKNOWLEDGMENT, DATA_TRANSFER, CONNECTION_MANAGEMENT, DM1, DM2}
+use Rattle.can_frame.specs.declared.group_numbers.TheConstants.{ADDRESS_CLAIMED, REQUEST, ACKNOWLEDGMENT, DATA_TRANSFER, CONNECTION_MANAGEMENT}
 use Rattle.dm_messages.specs.View.{pgn_of_kind}
 use Rattle.transport.specs.ControlMessage.{control_of}
 use Rattle.transport.specs.declared.control.Control.{Control}
 use Rattle.dm_messages.specs.declared.kind.Kind.{Kind}
-use Rattle.dm_messages.specs.declared.kind.Kind.TheVariants.{Dm1, Dm2}
+use Rattle.dm_messages.specs.declared.kind.Kind.TheVariants.{Dm1, Dm2, Dm6}
 
 pub data Group : Type 0 where
   AddressClaimed : (source name : ℕ) → Group  -- from 0 to 253
   CannotClaim : (name : ℕ) → Group  -- the same from 254
   Request : (pgn destination source : ℕ) → Group
   Acknowledgment : (control requester pgn destination source : ℕ) → Group
-  Diagnostic : (kind : Kind) (source : ℕ) (bytes : List ℕ) → Group  -- DM1 or DM2 in one frame
+  Diagnostic : (kind : Kind) (source : ℕ) (bytes : List ℕ) → Group  -- DM1, DM2 or DM6 in one frame
   ConnectionManagement : (source destination : ℕ) (control : Control) → Group  -- TP.CM that can be read
   DataTransfer : (source destination : ℕ) (bytes : List ℕ) → Group  -- TP.DT
   Other : Group
@@ -55,6 +55,7 @@ group_by pgn destination source bytes =
     else if pgn == ACKNOWLEDGMENT then acknowledgment_group destination source bytes
     else if pgn == pgn_of_kind Dm1 then Diagnostic Dm1 source bytes
     else if pgn == pgn_of_kind Dm2 then Diagnostic Dm2 source bytes
+    else if pgn == pgn_of_kind Dm6 then Diagnostic Dm6 source bytes
     else if pgn == CONNECTION_MANAGEMENT then control_group destination source (control_of bytes)
     else if pgn == DATA_TRANSFER then DataTransfer source destination bytes
     else Other

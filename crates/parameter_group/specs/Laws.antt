@@ -10,7 +10,7 @@ use Rattle.requests.specs.declared.request.Request.{Request as RequestValue}
 use Rattle.requests.specs.declared.acknowledgment.Ack.{Ack}
 use Rattle.dm_messages.specs.View.{pgn_of_kind}
 use Rattle.dm_messages.specs.declared.kind.Kind.{Kind}
-use Rattle.dm_messages.specs.declared.kind.Kind.TheVariants.{Dm1, Dm2}
+use Rattle.dm_messages.specs.declared.kind.Kind.TheVariants.{Dm1, Dm2, Dm6}
 use Rattle.transport.specs.ControlMessage.{control_bytes, control_of}
 use Rattle.transport.specs.Messages.{control_frame, packet_frame}
 use Rattle.transport.specs.declared.control.Control.{Control}
@@ -25,6 +25,10 @@ by_fields id bytes pgn destination source e f g = rw (e, f, g) refl
 -- the group of an identifier whose data pages are 0 and whose group goes to one address
 pgn_from : (id format : ℕ) → id / 2 ^ 25 % 2 ≡ 0 → id / 2 ^ 24 % 2 ≡ 0 → id / 2 ^ 16 % 256 ≡ format → format < 240 → pgn_of id ≡ format * 256
 pgn_from id format a b c l = rw (a, b, c, lt-ltb format 240 l) (omega arith)
+
+-- the group of an identifier whose data pages are 0 and whose PDU format is 254
+pgn_to_all : (id specific : ℕ) → id / 2 ^ 25 % 2 ≡ 0 → id / 2 ^ 24 % 2 ≡ 0 → id / 2 ^ 16 % 256 ≡ 254 → id / 2 ^ 8 % 256 ≡ specific → pgn_of id ≡ 65024 + specific
+pgn_to_all id specific a b c d = rw (a, b, c, d) (omega arith)
 
 claim_fields : (source : ℕ) → source < 256 → (pgn_of (pdu1_number 6 60928 255 source) ≡ 60928) × (pdu_specific_of (pdu1_number 6 60928 255 source) ≡ 255) × (source_of (pdu1_number 6 60928 255 source) ≡ source)
 claim_fields source s = (pgn_from (pdu1_number 6 60928 255 source) 238 (omega arith) (omega arith) (omega arith) (omega arith), omega arith, omega arith)
@@ -66,21 +70,11 @@ group_of-acknowledgment a h =
 -- a diagnostic message in one frame
 pub group_of-diagnostic : (kind : Kind) (source : ℕ) (bytes : List ℕ) → source < 256 → group_of (frame (pdu2_number 6 (pgn_of_kind kind) source) bytes) ≡ Diagnostic kind source bytes
 group_of-diagnostic Dm1 source bytes s =
-    by_fields _ _ 65226 202 source
-    (pgn_to_all (pdu2_number 6 65226 source) 202 (omega arith) (omega arith) (omega arith) (omega arith))
-    (omega arith)
-    (omega arith)
-  where
-    pgn_to_all : (id specific : ℕ) → id / 2 ^ 25 % 2 ≡ 0 → id / 2 ^ 24 % 2 ≡ 0 → id / 2 ^ 16 % 256 ≡ 254 → id / 2 ^ 8 % 256 ≡ specific → pgn_of id ≡ 65024 + specific
-    pgn_to_all id specific a b c d = rw (a, b, c, d) (omega arith)
+    by_fields _ _ 65226 202 source (pgn_to_all (pdu2_number 6 65226 source) 202 (omega arith) (omega arith) (omega arith) (omega arith)) (omega arith) (omega arith)
 group_of-diagnostic Dm2 source bytes s =
-    by_fields _ _ 65227 203 source
-    (pgn_to_all (pdu2_number 6 65227 source) 203 (omega arith) (omega arith) (omega arith) (omega arith))
-    (omega arith)
-    (omega arith)
-  where
-    pgn_to_all : (id specific : ℕ) → id / 2 ^ 25 % 2 ≡ 0 → id / 2 ^ 24 % 2 ≡ 0 → id / 2 ^ 16 % 256 ≡ 254 → id / 2 ^ 8 % 256 ≡ specific → pgn_of id ≡ 65024 + specific
-    pgn_to_all id specific a b c d = rw (a, b, c, d) (omega arith)
+    by_fields _ _ 65227 203 source (pgn_to_all (pdu2_number 6 65227 source) 203 (omega arith) (omega arith) (omega arith) (omega arith)) (omega arith) (omega arith)
+group_of-diagnostic Dm6 source bytes s =
+    by_fields _ _ 65231 207 source (pgn_to_all (pdu2_number 6 65231 source) 207 (omega arith) (omega arith) (omega arith) (omega arith)) (omega arith) (omega arith)
 
 -- a connection management message that is read back
 pub group_of-control : (c : Control) (source destination : ℕ) → source < 256 → destination < 256 → control_of (control_bytes c) ≡ Some c → group_of (control_frame c source destination) ≡ ConnectionManagement source destination c

@@ -57,7 +57,7 @@ impl<'a> ParameterGroup<'a> {
     /// What the frame says. The priority is not looked at; each parameter group number is compared in all
     /// its bits, the data pages included.
     #[inline(always)]
-    #[tactic(auto, using(crate::proofs::Cases::of_active_codes, crate::proofs::Cases::of_previous_codes, crate::proofs::Cases::of_control, crate::proofs::Cases::of_packet, crate::proofs::Cases::of_other, crate::specs::Laws::reads_back, crate::proofs::Cases::to_one))]
+    #[tactic(auto, using(crate::proofs::Cases::of_active_codes, crate::proofs::Cases::of_previous_codes, crate::proofs::Cases::of_pending_codes, crate::proofs::Cases::of_control, crate::proofs::Cases::of_packet, crate::proofs::Cases::of_other, crate::specs::Laws::reads_back, crate::proofs::Cases::to_one))]
     pub fn read(frame: &'a Frame) -> ParameterGroup<'a>
         ensures value { said result ≡ group_of frame.entry.now }
         ensures lawful { IsLawfulGroup result }
@@ -78,6 +78,11 @@ impl<'a> ParameterGroup<'a> {
             },
             Pgn::DM2 => ParameterGroup::Diagnostic {
                 kind: Kind::Dm2,
+                source,
+                bytes,
+            },
+            Pgn::DM6 => ParameterGroup::Diagnostic {
+                kind: Kind::Dm6,
                 source,
                 bytes,
             },

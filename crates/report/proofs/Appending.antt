@@ -18,15 +18,17 @@ pub nothing_yet : (a : Option (List ℕ)) → Appends a a []
 nothing_yet None = search rules
 nothing_yet (Some a) = sym (append-nil a)
 
--- five writes in a row
-pub appends_five : (a b c d e f : Option (List ℕ)) (t u v w x whole : List ℕ) → Appends a b t → Appends b c u → Appends c d v → Appends d e w → Appends e f x
-    → t ++ (u ++ (v ++ (w ++ x))) ≡ whole → Appends a f whole
-appends_five a b c d e f t u v w x whole h i j k l is =
-    rw (← is) (appends_more a b f t _ h (appends_more b c f u _ i (appends_more c d f v _ j (appends_more d e f w x k l))))
+-- six writes in a row
+pub appends_six : (a b c d e f g : Option (List ℕ)) (t u v w x y whole : List ℕ)
+    → Appends a b t → Appends b c u → Appends c d v → Appends d e w → Appends e f x → Appends f g y
+    → t ++ (u ++ (v ++ (w ++ (x ++ y)))) ≡ whole → Appends a g whole
+appends_six a b c d e f g t u v w x y whole h i j k l m is =
+    rw (← is) (appends_more a b g t _ h (appends_more b c g u _ i (appends_more c d g v _ j (appends_more d e g w _ k (appends_more e f g x y l m)))))
 
 -- the columns of a line, in the order in which they are written
-pub columns : (n a d e w s z : List ℕ) → (n ++ s) ++ ((a ++ s) ++ ((d ++ s) ++ ((e ++ s) ++ (w ++ z)))) ≡ n ++ s ++ a ++ s ++ d ++ s ++ e ++ s ++ w ++ z
-columns n a d e w s z = simp append_assoc
+pub columns : (n a d e f w s z : List ℕ)
+    → (n ++ s) ++ ((a ++ s) ++ ((d ++ s) ++ ((e ++ s) ++ ((f ++ s) ++ (w ++ z))))) ≡ n ++ s ++ a ++ s ++ d ++ s ++ e ++ s ++ f ++ s ++ w ++ z
+columns n a d e f w s z = simp append_assoc
 
 -- the lamps, then the number of codes and the line's end
 pub lamps_then_codes : (a b c : Option (List ℕ)) (xs ys zs : List ℕ) → Appends a b xs → Appends b c (ys ++ zs) → Appends a c ((xs ++ ys) ++ zs)

@@ -33,7 +33,7 @@ newest_text (Some n) = (lamps_text n.lamps ++ codes " ") ++ right 4 (decimal n.c
 -- the line of a NAME
 abbrev pub row_text : RowLine → List ℕ
 row_text r = name_text r.name ++ codes " " ++ address_text r.address ++ codes " " ++ right 6 (decimal r.dm1)
-    ++ codes " " ++ right 6 (decimal r.dm2) ++ codes " " ++ newest_text r.newest ++ line_end
+    ++ codes " " ++ right 6 (decimal r.dm2) ++ codes " " ++ right 6 (decimal r.dm6) ++ codes " " ++ newest_text r.newest ++ line_end
 
 -- the last line
 abbrev pub total_text : ℕ → ℕ → List ℕ

@@ -1,14 +1,14 @@
 //! The text of a snapshot: a line for each NAME, and one of what the station missed.
 //!
 //! ```text
-//! 00000000000000C0 none      0      0 ----    -
-//! 00000000000000B0   10      1      0 00FF    0
+//! 00000000000000C0 none      0      0      0 ----    -
+//! 00000000000000B0   10      1      0      0 00FF    0
 //! missed 0 unread 0
 //! ```
 //!
-//! A line has the NAME, the address in 4 places or `none`, how many DM1 and how many DM2 entries the NAME has in 6 places
-//! each, and of the newest DM1 entry the lamps in 4 hexadecimal digits, or `----`, and the number of codes in 4 places, or
-//! `-`. A number that is wider than its places is written whole.
+//! A line has the NAME, the address in 4 places or `none`, how many DM1, how many DM2 and how many DM6 entries the NAME has in
+//! 6 places each, and of the newest DM1 entry the lamps in 4 hexadecimal digits, or `----`, and the number of codes in 4
+//! places, or `-`. A number that is wider than its places is written whole.
 #![tactic(auto)]
 
 ghost use Rattle.std.specs.Prelude.{OnOk};

@@ -18,6 +18,7 @@ pub(crate) fn write_row<W: Write>(writer: &mut W, row: &RowLine) -> io::Result<(
     write_address(writer, row.address)?;
     write_count(writer, row.dm1)?;
     write_count(writer, row.dm2)?;
+    write_count(writer, row.dm6)?;
     write_newest(writer, row.newest)?;
     Ok(())
 }

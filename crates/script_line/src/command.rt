@@ -20,6 +20,19 @@ pub enum UnitKind {
     Flicker { spn: u32, fmi: u8 },
 }
 
+/// What a unit's fault memory is told of a trouble code.
+#[derive(Clone, Copy, Debug, PartialEq, Eq)]
+pub enum CodeChange {
+    /// `set`: it becomes active.
+    Set,
+    /// `heal`: it becomes previously active.
+    Heal,
+    /// `pend`: it becomes pending.
+    Pend,
+    /// `unpend`: it is no longer pending.
+    Unpend,
+}
+
 /// Who is asked.
 #[derive(Clone, Copy, Debug, PartialEq, Eq)]
 pub enum Receiver {
@@ -38,7 +51,9 @@ pub enum Asked {
     Dm2,
     /// `dm3`: that the previously active codes be cleared.
     Dm3,
-    /// `dm11`: that the active codes be cleared.
+    /// `dm6`: pending codes.
+    Dm6,
+    /// `dm11`: that the active and the pending codes be cleared.
     Dm11,
     /// `claim`: the address claim.
     Claim,
@@ -63,16 +78,10 @@ pub enum Command {
         address: u8,
         kind: UnitKind,
     },
-    /// `set SEAT SPN FMI [N]`: the N codes from SPN on.
-    Set {
+    /// `set SEAT SPN FMI [N]`, and `heal`, `pend` and `unpend` likewise: the N codes from SPN on.
+    Change {
         seat: u32,
-        spn: u32,
-        fmi: u8,
-        count: u32,
-    },
-    /// `heal SEAT SPN FMI [N]`: the N codes from SPN on.
-    Heal {
-        seat: u32,
+        change: CodeChange,
         spn: u32,
         fmi: u8,
         count: u32,
@@ -125,7 +134,7 @@ pub enum Command {
         name: NameWord,
         address: u8,
     },
-    /// `shown NAME dm1`, `shown NAME dm2`
+    /// `shown NAME dm1`, `shown NAME dm2`, `shown NAME dm6`
     Shown {
         name: NameWord,
         kind: Kind,

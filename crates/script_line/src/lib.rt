@@ -12,7 +12,7 @@ mod read;
 mod reasons;
 mod words;
 
-pub use command::{Asked, Command, FrameWords, NameWord, Receiver, UnitKind};
+pub use command::{Asked, CodeChange, Command, FrameWords, NameWord, Receiver, UnitKind};
 pub use numbers::{read_lamps, read_number, read_small_number};
 pub use read::{is_silent, read_command};
 pub use reasons::{LineReason, Wanted, reason};

@@ -1,7 +1,7 @@
 ghost use Rattle.std.specs.Prelude.{◌↔◌, IsTrue};
 ghost use Rattle.script_line.specs.Line.{IsSilent};
 
-use crate::command::{Asked, Command, NameWord, Receiver, UnitKind};
+use crate::command::{Asked, CodeChange, Command, NameWord, Receiver, UnitKind};
 use crate::frames::read_frame;
 use crate::numbers::{read_lamps, read_number, read_small_number};
 use crate::words::Words;
@@ -85,8 +85,10 @@ fn read_of_garage(keyword: &str, words: &mut Words<'_>) -> Option<Command> {
 fn read_of_seat(keyword: &str, words: &mut Words<'_>) -> Option<Command> {
     let seat = next_number(words)?;
     match keyword {
-        "set" => read_set(seat, words),
-        "heal" => read_heal(seat, words),
+        "set" => read_change(seat, CodeChange::Set, words),
+        "heal" => read_change(seat, CodeChange::Heal, words),
+        "pend" => read_change(seat, CodeChange::Pend, words),
+        "unpend" => read_change(seat, CodeChange::Unpend, words),
         "lamps" => Some(Command::Lamps {
             seat,
             lamps: read_lamps(words.next_word()?)?,
@@ -117,18 +119,10 @@ fn read_join(words: &mut Words<'_>) -> Option<Command> {
     })
 }
 
-fn read_set(seat: u32, words: &mut Words<'_>) -> Option<Command> {
-    Some(Command::Set {
+fn read_change(seat: u32, change: CodeChange, words: &mut Words<'_>) -> Option<Command> {
+    Some(Command::Change {
         seat,
-        spn: next_number(words)?,
-        fmi: next_small_number(words)?,
-        count: next_count(words)?,
-    })
-}
-
-fn read_heal(seat: u32, words: &mut Words<'_>) -> Option<Command> {
-    Some(Command::Heal {
-        seat,
+        change,
         spn: next_number(words)?,
         fmi: next_small_number(words)?,
         count: next_count(words)?,
@@ -146,6 +140,7 @@ fn read_ask(words: &mut Words<'_>) -> Option<Command> {
         "dm1" => Asked::Dm1,
         "dm2" => Asked::Dm2,
         "dm3" => Asked::Dm3,
+        "dm6" => Asked::Dm6,
         "dm11" => Asked::Dm11,
         "claim" => Asked::Claim,
         number => Asked::Other {
@@ -160,6 +155,7 @@ fn read_shown(words: &mut Words<'_>) -> Option<Command> {
     let kind = match words.next_word()? {
         "dm1" => Kind::Dm1,
         "dm2" => Kind::Dm2,
+        "dm6" => Kind::Dm6,
         _ => return None,
     };
     Some(Command::Shown { name, kind })

@@ -22,9 +22,9 @@ pub enum Wanted {
     Bytes,
     /// `plain`, `guarded`, or `flicker` and its SPN and FMI.
     Kind,
-    /// `dm1`, `dm2`, `dm3`, `dm11`, `claim`, or the number of a parameter group.
+    /// `dm1`, `dm2`, `dm3`, `dm6`, `dm11`, `claim`, or the number of a parameter group.
     What,
-    /// `dm1` or `dm2`.
+    /// `dm1`, `dm2` or `dm6`.
     Which,
 }
 
@@ -39,8 +39,8 @@ impl fmt::Display for Wanted {
             Wanted::Identifier => write!(f, "not eight hexadecimal digits"),
             Wanted::Bytes => write!(f, "not two hexadecimal digits"),
             Wanted::Kind => write!(f, "not plain, guarded or flicker"),
-            Wanted::What => write!(f, "not dm1, dm2, dm3, dm11, claim or a decimal number"),
-            Wanted::Which => write!(f, "not dm1 or dm2"),
+            Wanted::What => write!(f, "not dm1, dm2, dm3, dm6, dm11, claim or a decimal number"),
+            Wanted::Which => write!(f, "not dm1, dm2 or dm6"),
         }
     }
 }
@@ -112,7 +112,7 @@ fn places_of(word: &str) -> Option<&'static [Place]> {
             ("LIMIT", Wanted::Number),
         ]),
         "join" => Some(&[NAME, ADDRESS, ("KIND", Wanted::Kind)]),
-        "set" | "heal" => Some(&[SEAT, SPN, FMI, COUNT]),
+        "set" | "heal" | "pend" | "unpend" => Some(&[SEAT, SPN, FMI, COUNT]),
         "lamps" => Some(&[SEAT, ("HHHH", Wanted::Lamps)]),
         "think" | "turn" | "leave" | "dm1" | "counts" => Some(&[SEAT]),
         "hear" => Some(&[SEAT, COUNT]),
@@ -223,10 +223,11 @@ fn fits(word: &str, wanted: Wanted) -> bool {
             word == "dm1"
                 || word == "dm2"
                 || word == "dm3"
+                || word == "dm6"
                 || word == "dm11"
                 || word == "claim"
                 || read_number(word).is_some()
         }
-        Wanted::Which => word == "dm1" || word == "dm2",
+        Wanted::Which => word == "dm1" || word == "dm2" || word == "dm6",
     }
 }

@@ -5,7 +5,7 @@ use Rattle.can_frame.specs.FrameValue.{FrameValue, frame}
 use Rattle.bus_model.specs.Heard.{RowHeard, AckHeard}
 use Rattle.dm_messages.specs.declared.shown.Shown.{Shown}
 use Rattle.dm_messages.specs.declared.kind.Kind.{Kind}
-use Rattle.dm_messages.specs.declared.kind.Kind.TheVariants.{Dm1, Dm2}
+use Rattle.dm_messages.specs.declared.kind.Kind.TheVariants.{Dm1, Dm2, Dm6}
 use Rattle.trouble_code.specs.Code.{Code}
 use Rattle.station_table.specs.declared.reaction.Reaction.{Reaction}
 use Rattle.station_c.specs.declared.records.FrameRecord.{FrameRecord}
@@ -45,7 +45,7 @@ row_in row = record { address = address_under row.has_address row.address; ack =
 
 -- the kind of this number
 abbrev pub kind_numbered : ℕ → Option Kind
-kind_numbered n = if n == 1 then Some Dm1 else (if n == 2 then Some Dm2 else None)
+kind_numbered n = if n == 1 then Some Dm1 else (if n == 2 then Some Dm2 else (if n == 6 then Some Dm6 else None))
 
 -- what is told of an entry: its lamps, and how many codes
 abbrev pub entry_record : Shown → EntryRecord

@@ -28,7 +28,7 @@ pub enum Status {
     HasStation,
     /// There is no row, entry or code at that place.
     NoPlace,
-    /// The kind is neither 1 (DM1) nor 2 (DM2).
+    /// The kind is none of 1 (DM1), 2 (DM2) and 6 (DM6).
     NoKind,
     /// Memory was refused.
     OutOfMemory,

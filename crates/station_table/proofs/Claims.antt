@@ -9,7 +9,7 @@ use Rattle.address_claim.specs.declared.claimer.ClaimStep.{ClaimStep}
 use Rattle.address_claim.specs.declared.claimer.ClaimStep.TheVariants.{Nothing, Defend, Move, CannotClaim as NoAddress}
 use Rattle.can_frame.specs.declared.reading.Reading.{Reading}
 use Rattle.dm_messages.specs.declared.kind.Kind.{Kind}
-use Rattle.dm_messages.specs.declared.kind.Kind.TheVariants.{Dm1, Dm2}
+use Rattle.dm_messages.specs.declared.kind.Kind.TheVariants.{Dm1, Dm2, Dm6}
 use Rattle.dm_messages.specs.declared.shown.Shown.{Shown}
 use Rattle.parameter_group.specs.Group.{AddressClaimed, CannotClaim, Acknowledgment}
 use Rattle.parameter_group.specs.Calm.{is_contest}
@@ -41,10 +41,12 @@ entries_left f keeps rows m n k =
 pub ack_keeps : (ack : AckSeen) (x : KeptValue) (k : Kind) → entries_of (with_ack ack x) k ≡ entries_of x k
 ack_keeps ack x Dm1 = refl
 ack_keeps ack x Dm2 = refl
+ack_keeps ack x Dm6 = refl
 
 claimed_keeps : (a : Option ℕ) (x : KeptValue) (k : Kind) → entries_of (with_claimed a x) k ≡ entries_of x k
 claimed_keeps a x Dm1 = refl
 claimed_keeps a x Dm2 = refl
+claimed_keeps a x Dm6 = refl
 
 row_acknowledged : (owners : List (Option ℕ)) (n control pgn : ℕ) (o : Option KeptValue)
     → row_known owners n (option_map (with_ack (record { control = control; pgn = pgn })) o) ≡ with_ack_heard control pgn (row_known owners n o)
@@ -122,6 +124,7 @@ entries_once_claimed a rows m n k =
     go false o l = refl
     go true None Dm1 = refl
     go true None Dm2 = refl
+    go true None Dm6 = refl
     go true (Some x) l = claimed_keeps a x l
 
 ack_unclaimed : (owners : List (Option ℕ)) (n : ℕ) (o : Option KeptValue) → ack_known (unwrap_or o nothing_kept).ack ≡ ack_in_row (row_known owners n o)

@@ -8,7 +8,7 @@ use Rattle.std.proofs.lemmas.List.{append_assoc}
 use Rattle.address_claim.specs.Claiming.{ClaimerValue, is_held}
 use Rattle.can_frame.specs.declared.reading.Reading.{Reading}
 use Rattle.dm_messages.specs.declared.kind.Kind.{Kind}
-use Rattle.dm_messages.specs.declared.kind.Kind.TheVariants.{Dm1, Dm2}
+use Rattle.dm_messages.specs.declared.kind.Kind.TheVariants.{Dm1, Dm2, Dm6}
 use Rattle.dm_messages.specs.declared.shown.Shown.{Shown}
 use Rattle.dm_messages.specs.View.{decoding, same_kind}
 use Rattle.parameter_group.specs.Group.{Group}
@@ -189,6 +189,7 @@ row_with_entry : (owners : List (Option ℕ)) (n : ℕ) (k : Kind) (v : Shown) (
 row_with_entry owners n k v None = refl
 row_with_entry owners n Dm1 v (Some x) = refl
 row_with_entry owners n Dm2 v (Some x) = refl
+row_with_entry owners n Dm6 v (Some x) = refl
 
 row_if_entry : (owners : List (Option ℕ)) (n : ℕ) (k : Kind) (v : Shown) (o : Option KeptValue) (b : Bool)
     → row_known owners n (if b then option_map (with_entry k v) o else o) ≡ row_known owners n o
@@ -199,8 +200,13 @@ row_if_entry owners n k v o false = refl
 pub entries_with : (k l : Kind) (v : Shown) (x : KeptValue) → entries_of (with_entry k v x) l ≡ (if same_kind k l then entries_of x l ++ v ∷ [] else entries_of x l)
 entries_with Dm1 Dm1 v x = refl
 entries_with Dm1 Dm2 v x = refl
+entries_with Dm1 Dm6 v x = refl
 entries_with Dm2 Dm1 v x = refl
 entries_with Dm2 Dm2 v x = refl
+entries_with Dm2 Dm6 v x = refl
+entries_with Dm6 Dm1 v x = refl
+entries_with Dm6 Dm2 v x = refl
+entries_with Dm6 Dm6 v x = refl
 
 -- of what was heard newest first, one more stands last when turned round
 turned_push : (taken : List Shown) (v : Shown) (shown : List Shown) (heard : List Shown) (b : Bool) → taken ++ shown ≡ reverse heard

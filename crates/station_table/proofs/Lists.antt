@@ -8,7 +8,7 @@ use Rattle.address_claim.specs.Claiming.{is_held}
 use Rattle.can_frame.specs.declared.reading.Reading.{Reading}
 use Rattle.can_frame.specs.declared.reading.Reading.TheVariants.{Frame, Gap, Empty}
 use Rattle.dm_messages.specs.declared.kind.Kind.{Kind}
-use Rattle.dm_messages.specs.declared.kind.Kind.TheVariants.{Dm1, Dm2}
+use Rattle.dm_messages.specs.declared.kind.Kind.TheVariants.{Dm1, Dm2, Dm6}
 use Rattle.dm_messages.specs.declared.shown.Shown.{Shown}
 use Rattle.dm_messages.specs.View.{decoding, same_kind}
 use Rattle.transport.specs.Assembling.{is_next}
@@ -140,8 +140,13 @@ one_added s x o n k e =
 rest_of : (k l : Kind) (x : KeptValue) → entries_of (without_oldest k x) l ≡ (if same_kind k l then drop 1 (entries_of x l) else entries_of x l)
 rest_of Dm1 Dm1 x = refl
 rest_of Dm1 Dm2 x = refl
+rest_of Dm1 Dm6 x = refl
 rest_of Dm2 Dm1 x = refl
 rest_of Dm2 Dm2 x = refl
+rest_of Dm2 Dm6 x = refl
+rest_of Dm6 Dm1 x = refl
+rest_of Dm6 Dm2 x = refl
+rest_of Dm6 Dm6 x = refl
 
 entries_rest : (rows : List (ℕ × KeptValue)) (m n : ℕ) (k l : Kind)
     → entries_under (changed_under (without_oldest k) rows m) n l ≡ (if is_list (Some (m, k)) n l then drop 1 (entries_under rows n l) else entries_under rows n l)
@@ -183,6 +188,7 @@ row_rest owners n k o false = refl
 row_rest owners n k None true = refl
 row_rest owners n Dm1 (Some x) true = refl
 row_rest owners n Dm2 (Some x) true = refl
+row_rest owners n Dm6 (Some x) true = refl
 
 -- with the entries that were taken out, each list is as before
 list_whole : (taken : ℕ → Kind → List Shown) (rows : List (ℕ × KeptValue)) (m n : ℕ) (k l : Kind) (o : Option Shown) → o ≡ slice_get (entries_under rows m k) 0

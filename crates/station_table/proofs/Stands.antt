@@ -54,8 +54,8 @@ below_group pgn d src bytes lt =
     (below_if (nat_le 3 (length bytes)) _ _ lt zero_below)
     (below_if (pgn == 59392) _ _
     (below_if (length bytes == 8) _ _ lt zero_below)
-    (below_if (pgn == 65226) _ _ lt (below_if (pgn == 65227) _ _ lt (below_if (pgn == 60416) _ _ (below_control d src (control_of bytes) lt)
-    (below_if (pgn == 60160) _ _ lt zero_below))))))
+    (below_if (pgn == 65226) _ _ lt (below_if (pgn == 65227) _ _ lt (below_if (pgn == 65231) _ _ lt
+    (below_if (pgn == 60416) _ _ (below_control d src (control_of bytes) lt) (below_if (pgn == 60160) _ _ lt zero_below)))))))
 
 pub sender_below : (f : FrameValue) → sender (group_of f) < 256
 unfolding group_of

@@ -4,7 +4,7 @@ use Rattle.can_frame.specs.FrameValue.{FrameValue}
 use Rattle.can_frame.specs.declared.reading.Reading.{Reading}
 use Rattle.can_frame.specs.declared.reading.Reading.TheVariants.{Frame, Gap, Empty}
 use Rattle.can_frame.specs.declared.address.TheConstants.{NULL_ADDRESS, GLOBAL_ADDRESS}
-use Rattle.can_frame.specs.declared.group_numbers.TheConstants.{ADDRESS_CLAIMED, DM1, DM2, DM3, DM11, COMMANDED_ADDRESS}
+use Rattle.can_frame.specs.declared.group_numbers.TheConstants.{ADDRESS_CLAIMED, DM1, DM2, DM3, DM6, DM11, COMMANDED_ADDRESS}
 use Rattle.requests.specs.declared.acknowledgment.TheConstants.Ack.{NEGATIVE}
 use Rattle.transport.specs.declared.control.TheConstants.Control.{RESOURCES_NEEDED}
 use Rattle.address_claim.specs.Claiming.{ClaimerValue, is_held, claim_step}
@@ -22,7 +22,7 @@ use Rattle.reassembly.specs.Partials.{is_whole, with_packet}
 use Rattle.reassembly.specs.Tables.{at}
 use Rattle.bus_model.specs.Heard.{Joining, kind_of, started}
 use Rattle.station_table.specs.declared.reaction.Ask.{Ask}
-use Rattle.station_table.specs.declared.reaction.Ask.TheVariants.{Dm1, Dm2, Dm3, Dm11, Claim, Other}
+use Rattle.station_table.specs.declared.reaction.Ask.TheVariants.{Dm1, Dm2, Dm3, Dm6, Dm11, Claim, Other}
 use Rattle.station_table.specs.declared.reaction.Reaction.{Reaction}
 use Rattle.station_table.specs.StationValue.{StationValue}
 use Rattle.station_table.specs.Steps.{packets_at_once}
@@ -119,6 +119,7 @@ abbrev pub group_asked : Ask → ℕ
 group_asked Dm1 = DM1
 group_asked Dm2 = DM2
 group_asked Dm3 = DM3
+group_asked Dm6 = DM6
 group_asked Dm11 = DM11
 group_asked Claim = ADDRESS_CLAIMED
 group_asked (Other pgn) = pgn

@@ -12,6 +12,7 @@ pub struct Kept {
     ack: Option<AckSeen>,
     dm1: Vec<Shown>,
     dm2: Vec<Shown>,
+    dm6: Vec<Shown>,
 }
 
 impl Model for Kept {
@@ -19,7 +20,7 @@ impl Model for Kept {
 
     ghost Value = { KeptValue };
 
-    ghost view = { λ k. record { claimed = k.claimed; ack = k.ack; dm1 = k.dm1.items; dm2 = k.dm2.items } };
+    ghost view = { λ k. record { claimed = k.claimed; ack = k.ack; dm1 = k.dm1.items; dm2 = k.dm2.items; dm6 = k.dm6.items } };
 }
 
 impl Kept {
@@ -34,6 +35,7 @@ impl Kept {
             ack: None,
             dm1: Vec::new(alloc),
             dm2: Vec::new(alloc),
+            dm6: Vec::new(alloc),
         }
     }
 
@@ -73,6 +75,7 @@ impl Kept {
         match kind {
             Kind::Dm1 => self.dm1.push(shown)?,
             Kind::Dm2 => self.dm2.push(shown)?,
+            Kind::Dm6 => self.dm6.push(shown)?,
         }
         Ok(())
     }
@@ -84,6 +87,7 @@ impl Kept {
         match kind {
             Kind::Dm1 => self.dm1.as_slice(),
             Kind::Dm2 => self.dm2.as_slice(),
+            Kind::Dm6 => self.dm6.as_slice(),
         }
     }
 
@@ -95,6 +99,7 @@ impl Kept {
         match kind {
             Kind::Dm1 => take_first(&mut self.dm1),
             Kind::Dm2 => take_first(&mut self.dm2),
+            Kind::Dm6 => take_first(&mut self.dm6),
         }
     }
 }

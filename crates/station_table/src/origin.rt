@@ -56,6 +56,7 @@ pub fn kind_of(pgn: Pgn) -> Option<Kind>
     match pgn {
         Pgn::DM1 => Some(Kind::Dm1),
         Pgn::DM2 => Some(Kind::Dm2),
+        Pgn::DM6 => Some(Kind::Dm6),
         _ => None,
     }
 }

@@ -21,6 +21,8 @@ pub enum Ask {
     Dm2,
     /// To clear the previously active codes (group 65228).
     Dm3,
+    /// The pending codes (group 65231).
+    Dm6,
     /// To clear the active codes (group 65235).
     Dm11,
     /// The address that is claimed (group 60928).
@@ -40,6 +42,7 @@ impl Ask {
             Ask::Dm1 => Pgn::DM1,
             Ask::Dm2 => Pgn::DM2,
             Ask::Dm3 => Pgn::DM3,
+            Ask::Dm6 => Pgn::DM6,
             Ask::Dm11 => Pgn::DM11,
             Ask::Claim => Pgn::ADDRESS_CLAIMED,
             Ask::Other(pgn) => pgn,

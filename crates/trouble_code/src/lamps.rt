@@ -16,7 +16,7 @@ pub enum LampName {
     Protect,
 }
 
-/// The states of the four lamps and how each flashes: the first two bytes of DM1 and DM2 (SAE J1939-73).
+/// The states of the four lamps and how each flashes: the first two bytes of DM1, DM2 and DM6 (SAE J1939-73).
 ///
 /// Every pair of bytes is lawful. Each of the eight states is a number from 0 to 3.
 #[derive(Clone, Copy, Debug, PartialEq, Eq)]

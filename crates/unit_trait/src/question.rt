@@ -1,7 +1,7 @@
 /// Which trouble codes are to be cleared.
 #[derive(Clone, Copy, Debug, PartialEq, Eq)]
 pub enum Clear {
-    /// The active ones (SAE J1939-73, DM11).
+    /// The active ones, and with them the pending ones (SAE J1939-73, DM11).
     Active,
     /// The previously active ones (DM3).
     Previous,

@@ -55,7 +55,8 @@ pub trait Unit: Send + Drop {
         ensures err { OnErr result (memory_of self.new ≡ memory_of self.old) }
         ensures takes { Takes self.old change self.new };
 
-    /// Clears the active codes (DM11), or refuses (18) with the memory as it was. Takes no memory.
+    /// Clears the active and the pending codes and puts the lamps off (DM11), or refuses (18) with the memory as it was. Takes no
+    /// memory.
     fn clear_active(&mut self) -> Result<(), Refused>
         ensures name { name_of self.new ≡ name_of self.old }
         ensures ok { OnOk result (memory_of self.new ≡ cleared_active (memory_of self.old)) }

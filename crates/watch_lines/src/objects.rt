@@ -1,3 +1,4 @@
+use crate::kinds::{KINDS, kind_word};
 use crate::run::{Assumed, is_assumed};
 use bus_watch::{Change, Counts, Run, Watch};
 use candump_line::Time;
@@ -62,13 +63,6 @@ fn put_event(
             json.string("unread")?;
             put_number(json, "count", watch.unread())
         }
-    }
-}
-
-fn kind_word(kind: Kind) -> &'static str {
-    match kind {
-        Kind::Dm1 => "dm1",
-        Kind::Dm2 => "dm2",
     }
 }
 
@@ -141,8 +135,9 @@ fn put_row(
         json.key("assumed")?;
         json.boolean(true)?;
     }
-    put_runs(json, alloc, watch, name, Kind::Dm1)?;
-    put_runs(json, alloc, watch, name, Kind::Dm2)?;
+    for kind in KINDS {
+        put_runs(json, alloc, watch, name, kind)?;
+    }
     json.end_object()
 }
 

@@ -1,3 +1,4 @@
+use crate::kinds::{KINDS, kind_word};
 use bus_watch::{Run, Watch};
 use candump_line::Time;
 use csv::Writer;
@@ -60,9 +61,7 @@ fn put_name(rows: &mut Rows, alloc: Global, watch: &Watch, name: Name) -> Result
     };
     let name_text = format!(in alloc; "{name}")?;
     let before = [name_text.as_bytes(), address.as_bytes()];
-    let dm1 = watch.runs(name, Kind::Dm1);
-    let dm2 = watch.runs(name, Kind::Dm2);
-    if dm1.is_empty() && dm2.is_empty() {
+    if !has_entries(watch, name) {
         let none: &[u8] = b"";
         return put_row(
             rows,
@@ -71,11 +70,32 @@ fn put_name(rows: &mut Rows, alloc: Global, watch: &Watch, name: Name) -> Result
             ],
         );
     }
-    for run in dm1 {
-        put_run(rows, alloc, before, b"dm1", run)?;
+    for kind in KINDS {
+        put_runs(rows, alloc, before, watch.runs(name, kind), kind)?;
     }
-    for run in dm2 {
-        put_run(rows, alloc, before, b"dm2", run)?;
+    Ok(())
+}
+
+/// Whether a NAME has an entry of some kind.
+fn has_entries(watch: &Watch, name: Name) -> bool {
+    for kind in KINDS {
+        if !watch.runs(name, kind).is_empty() {
+            return true;
+        }
+    }
+    false
+}
+
+/// The rows of a kind.
+fn put_runs(
+    rows: &mut Rows,
+    alloc: Global,
+    before: [&[u8]; 2],
+    runs: &[Run],
+    kind: Kind,
+) -> Result<(), AllocError> {
+    for run in runs {
+        put_run(rows, alloc, before, kind_word(kind).as_bytes(), run)?;
     }
     Ok(())
 }

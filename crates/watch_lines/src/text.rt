@@ -1,3 +1,4 @@
+use crate::kinds::{KINDS, kind_word};
 use crate::run::{Assumed, is_assumed};
 use bus_watch::{Change, Counts, Watch};
 use candump_line::Time;
@@ -42,10 +43,7 @@ fn write_time<W: Write>(writer: &mut W, time: Option<Time>) -> io::Result<()> {
 
 /// The newest entry of a NAME.
 fn write_entry<W: Write>(writer: &mut W, watch: &Watch, name: Name, kind: Kind) -> io::Result<()> {
-    let word = match kind {
-        Kind::Dm1 => "dm1",
-        Kind::Dm2 => "dm2",
-    };
+    let word = kind_word(kind);
     write!(writer, " {word} {name}")?;
     if let Some(run) = watch.runs(name, kind).last() {
         let lamps = LampWords(run.shown.lamps);
@@ -79,7 +77,7 @@ pub fn write_report<W: Write>(
     write_counts(writer, watch.counts())
 }
 
-/// The NAME, its address, how many DM1 and DM2 messages stand under it, and the lamps and the number of codes of the
+/// The NAME, its address, how many messages of each kind stand under it, and the lamps and the number of codes of the
 /// newest DM1, without a line end.
 fn write_row<W: Write>(writer: &mut W, watch: &Watch, name: Name) -> io::Result<()> {
     write!(writer, "{name} ")?;
@@ -90,9 +88,10 @@ fn write_row<W: Write>(writer: &mut W, watch: &Watch, name: Name) -> io::Result<
         },
         None => write!(writer, "none ")?,
     }
-    let dm1 = watch.entries(name, Kind::Dm1);
-    let dm2 = watch.entries(name, Kind::Dm2);
-    write!(writer, "{dm1:>6} {dm2:>6} ")?;
+    for kind in KINDS {
+        let entries = watch.entries(name, kind);
+        write!(writer, "{entries:>6} ")?;
+    }
     match watch.runs(name, Kind::Dm1).last() {
         Some(newest) => {
             let [lamps, flashes] = newest.shown.lamps.to_bytes();

@@ -1,4 +1,4 @@
-use Rattle.std.proofs.Common.{◌≡◌, ℕ, suc, ◌+◌, ◌∙◌, arith}
+use Rattle.std.proofs.Common.{◌≡◌, suc, ◌+◌, ◌∙◌, arith}
 use Rattle.bus_model.specs.Machine.{start}
 use Rattle.bus_model.proofs.Whose.{numbers_run, numbers_start}
 use Rattle.bus_model.proofs.Worlds.{law_start}

@@ -5,11 +5,11 @@ ghost use Rattle.station_table.specs.Steps.{after_reading};
 
 use crate::change::Change;
 use crate::watch::Watch;
-use can_frame::{Frame, Pgn, Reading};
+use can_frame::{Frame, Reading};
 use dm_messages::Kind;
 use name_field::Name;
 use parameter_group::ParameterGroup;
-use station_table::AckSeen;
+use station_table::{AckSeen, kind_of};
 use std::alloc::{AllocError, Global};
 use transport::Control;
 
@@ -276,7 +276,7 @@ impl Watch {
 /// Whether a diagnostic message is announced to all.
 fn is_announced(control: Control) -> bool {
     match control {
-        Control::Bam { pgn, .. } => pgn == Pgn::DM1 || pgn == Pgn::DM2,
+        Control::Bam { pgn, .. } => kind_of(pgn).is_some(),
         _ => false,
     }
 }

@@ -134,13 +134,14 @@ pub extern "C" fn hidzgula_code(
     }
 }
 
-/// The kind of this number: 1 is DM1, 2 is DM2.
+/// The kind of this number, which is that of its message: 1 is DM1, 2 is DM2, 6 is DM6.
 fn kind_of(number: u8) -> Option<Kind>
     ensures { result ≡ kind_numbered number }
 {
     match number {
         1 => Some(Kind::Dm1),
         2 => Some(Kind::Dm2),
+        6 => Some(Kind::Dm6),
         _ => None,
     }
 }

@@ -3,7 +3,9 @@
 use can_frame::{Frame, FrameError, Pgn, PgnTooLarge};
 use dm_messages::Kind;
 use name_field::{Name, NameError};
-use script_line::{Asked, Command, NameWord, Receiver, UnitKind, is_silent, read_command};
+use script_line::{
+    Asked, CodeChange, Command, NameWord, Receiver, UnitKind, is_silent, read_command,
+};
 use std::process::Abort;
 use trouble_code::Lamps;
 
@@ -96,26 +98,21 @@ fn commands_of_the_bus(rt: HostRuntime) {
 
 #[test]
 fn commands_of_a_seat(rt: HostRuntime) {
-    reads(
-        &rt,
-        "set 1 100 1",
-        Command::Set {
+    for (line, change, count) in [
+        ("set 1 100 1", CodeChange::Set, 1),
+        ("heal 1 100 1 445", CodeChange::Heal, 445),
+        ("pend 1 100 1 2", CodeChange::Pend, 2),
+        ("unpend 1 100 1", CodeChange::Unpend, 1),
+    ] {
+        let command = Command::Change {
             seat: 1,
+            change,
             spn: 100,
             fmi: 1,
-            count: 1,
-        },
-    );
-    reads(
-        &rt,
-        "heal 1 100 1 445",
-        Command::Heal {
-            seat: 1,
-            spn: 100,
-            fmi: 1,
-            count: 445,
-        },
-    );
+            count,
+        };
+        reads(&rt, line, command);
+    }
     reads(
         &rt,
         "lamps 1 04fF",
@@ -132,10 +129,10 @@ fn commands_of_a_seat(rt: HostRuntime) {
 fn queries(rt: HostRuntime) {
     reads(
         &rt,
-        "shown 00000000000000A0 dm2",
+        "shown 00000000000000A0 dm6",
         Command::Shown {
             name: name(),
-            kind: Kind::Dm2,
+            kind: Kind::Dm6,
         },
     );
     reads(&rt, "stats", Command::Stats);

@@ -6,11 +6,12 @@ use std::alloc::Global;
 use std::test::Fail;
 use watch_lines::{Form, Options, watch};
 
-/// A unit at 0, its DM1 twice, and one at 1.
+/// A unit at 0, its DM1 twice and a DM6, and one at 1.
 const TWO_UNITS: &str = "\
 (1.000000) can0 18EEFF00#A000000000000000
 (1.100000) can0 18FECA00#04FFB8040301FFFF
 (1.200000) can0 18FECA00#04FFB8040301FFFF
+(1.250000) can0 18FECF00#00FF64000101FFFF
 (1.300000) can0 18EEFF01#A100000000000000
 ";
 
@@ -54,11 +55,12 @@ const WATCHED: [(&str, Form, &str, &str); 7] = [
         "\
 1.000000 unit 00000000000000A0 at 0
 1.100000 dm1 00000000000000A0 amber; 1208/3/1
+1.250000 dm6 00000000000000A0 no lamp; 100/1/1
 1.300000 unit 00000000000000A1 at 1
-00000000000000A0    0      2      0 04FF    1
-00000000000000A1    1      0      0 ----    -
+00000000000000A0    0      2      0      1 04FF    1
+00000000000000A1    1      0      0      0 ----    -
 missed 0 unread 0
-lines 4 frames 4 bad 0; not J1939: 11-bit 0, remote 0, CAN FD 0, error 0; other bus 0; not attributed 0
+lines 5 frames 5 bad 0; not J1939: 11-bit 0, remote 0, CAN FD 0, error 0; other bus 0; not attributed 0
 ",
         "",
     ),
@@ -68,6 +70,7 @@ lines 4 frames 4 bad 0; not J1939: 11-bit 0, remote 0, CAN FD 0, error 0; other 
         "\
 name,address,kind,first_time,last_time,entries,lamps,spn,fmi,count,contested
 00000000000000A0,0,dm1,1.100000,1.200000,2,04FF,1208,3,1,false
+00000000000000A0,0,dm6,1.250000,1.250000,1,00FF,100,1,1,false
 00000000000000A1,1,,,,,,,,,
 ",
         "",
@@ -78,8 +81,9 @@ name,address,kind,first_time,last_time,entries,lamps,spn,fmi,count,contested
         "\
 {\"line\":1,\"time\":\"1.000000\",\"event\":\"unit\",\"name\":\"00000000000000A0\",\"address\":0}
 {\"line\":2,\"time\":\"1.100000\",\"event\":\"dm1\",\"name\":\"00000000000000A0\",\"address\":0,\"lamps\":\"04FF\",\"codes\":[{\"spn\":1208,\"fmi\":3,\"count\":1}],\"contested\":false,\"entry\":1}
-{\"line\":4,\"time\":\"1.300000\",\"event\":\"unit\",\"name\":\"00000000000000A1\",\"address\":1}
-{\"event\":\"report\",\"rows\":[{\"name\":\"00000000000000A0\",\"address\":0,\"dm1\":[{\"times\":2,\"first\":\"1.100000\",\"last\":\"1.200000\",\"lamps\":\"04FF\",\"codes\":[{\"spn\":1208,\"fmi\":3,\"count\":1}],\"contested\":false}],\"dm2\":[]},{\"name\":\"00000000000000A1\",\"address\":1,\"dm1\":[],\"dm2\":[]}],\"missed\":0,\"unread\":0,\"lines\":{\"all\":4,\"frame\":4,\"bad\":0,\"short\":0,\"remote\":0,\"fd\":0,\"error\":0,\"other_bus\":0,\"drop\":0,\"note\":0,\"withheld\":0},\"not_attributed\":0,\"not_sent\":0}
+{\"line\":4,\"time\":\"1.250000\",\"event\":\"dm6\",\"name\":\"00000000000000A0\",\"address\":0,\"lamps\":\"00FF\",\"codes\":[{\"spn\":100,\"fmi\":1,\"count\":1}],\"contested\":false,\"entry\":1}
+{\"line\":5,\"time\":\"1.300000\",\"event\":\"unit\",\"name\":\"00000000000000A1\",\"address\":1}
+{\"event\":\"report\",\"rows\":[{\"name\":\"00000000000000A0\",\"address\":0,\"dm1\":[{\"times\":2,\"first\":\"1.100000\",\"last\":\"1.200000\",\"lamps\":\"04FF\",\"codes\":[{\"spn\":1208,\"fmi\":3,\"count\":1}],\"contested\":false}],\"dm2\":[],\"dm6\":[{\"times\":1,\"first\":\"1.250000\",\"last\":\"1.250000\",\"lamps\":\"00FF\",\"codes\":[{\"spn\":100,\"fmi\":1,\"count\":1}],\"contested\":false}]},{\"name\":\"00000000000000A1\",\"address\":1,\"dm1\":[],\"dm2\":[],\"dm6\":[]}],\"missed\":0,\"unread\":0,\"lines\":{\"all\":5,\"frame\":5,\"bad\":0,\"short\":0,\"remote\":0,\"fd\":0,\"error\":0,\"other_bus\":0,\"drop\":0,\"note\":0,\"withheld\":0},\"not_attributed\":0,\"not_sent\":0}
 ",
         "",
     ),
@@ -93,8 +97,8 @@ name,address,kind,first_time,last_time,entries,lamps,spn,fmi,count,contested
 2.000000 unit 0000000000000090 at 0
 2.100000 dm1 0000000000000090 amber; 1208/3/1 contested
 2.300000 dm1 0000000000000090 amber; 1208/3/1
-00000000000000A0 none      1      0 04FF    1
-0000000000000090    0      2      0 04FF    1
+00000000000000A0 none      1      0      0 04FF    1
+0000000000000090    0      2      0      0 04FF    1
 missed 0 unread 0
 lines 5 frames 5 bad 0; not J1939: 11-bit 0, remote 0, CAN FD 0, error 0; other bus 0; not attributed 0
 ",
@@ -117,7 +121,7 @@ name,address,kind,first_time,last_time,entries,lamps,spn,fmi,count,contested
         "\
 1.000000 unit 00000000000000A0 at 0
 3.200000 dm1 00000000000000A0 amber; 1208/3/1 100/5/1
-00000000000000A0    0      1      0 04FF    2
+00000000000000A0    0      1      0      0 04FF    2
 missed 0 unread 0
 lines 7 frames 7 bad 0; not J1939: 11-bit 0, remote 0, CAN FD 0, error 0; other bus 0; not attributed 0; withheld 1
 ",
@@ -131,7 +135,7 @@ lines 7 frames 7 bad 0; not J1939: 11-bit 0, remote 0, CAN FD 0, error 0; other 
 1.000000 missed 7: no owner is known until units claim again (cansend can0 18EAFFFE#00EE00)
 1.100000 unowned DM from 0, which nobody has claimed in what was read: not shown
 1.200000 missed 1: no owner is known until units claim again (cansend can0 18EAFFFE#00EE00)
-00000000000000A0 none      0      0 ----    -
+00000000000000A0 none      0      0      0 ----    -
 missed 8 unread 0
 lines 8 frames 3 bad 1; not J1939: 11-bit 1, remote 0, CAN FD 0, error 0; other bus 1; not attributed 2
 ",

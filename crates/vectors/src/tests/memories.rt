@@ -10,6 +10,8 @@ use trouble_code::{Dtc, LampName, Lamps};
 enum Step {
     Set(u32, u8),
     Heal(u32, u8),
+    Pend(u32, u8),
+    Unpend(u32, u8),
     Lamps(u8, u8),
     ClearActive,
     ClearPrevious,
@@ -18,44 +20,109 @@ enum Step {
 /// Codes by SPN, FMI and count.
 type Rows = &'static [(u32, u8, u8)];
 
-/// What is done with a memory that was new, and then its lamp bytes, its active and its previously active codes.
-const STEPS: [(Step, [u8; 2], Rows, Rows); 12] = [
-    (Step::Set(7, 1), [0x00, 0xFF], &[(7, 1, 1)], &[]),
-    (Step::Set(7, 1), [0x00, 0xFF], &[(7, 1, 1)], &[]),
-    (Step::Heal(7, 1), [0x00, 0xFF], &[], &[(7, 1, 1)]),
-    (Step::Set(7, 1), [0x00, 0xFF], &[(7, 1, 2)], &[]),
-    (Step::ClearActive, [0x00, 0xFF], &[], &[]),
-    (Step::Set(100, 1), [0x00, 0xFF], &[(100, 1, 1)], &[]),
+/// What is done with a memory that was new, and then its lamp bytes, and its active, previously active and pending codes.
+const STEPS: [(Step, [u8; 2], [Rows; 3]); 24] = [
+    (Step::Set(7, 1), [0x00, 0xFF], [&[(7, 1, 1)], &[], &[]]),
+    (Step::Set(7, 1), [0x00, 0xFF], [&[(7, 1, 1)], &[], &[]]),
+    (Step::Heal(7, 1), [0x00, 0xFF], [&[], &[(7, 1, 1)], &[]]),
+    (Step::Set(7, 1), [0x00, 0xFF], [&[(7, 1, 2)], &[], &[]]),
+    (Step::ClearActive, [0x00, 0xFF], [&[], &[], &[]]),
+    (Step::Set(100, 1), [0x00, 0xFF], [&[(100, 1, 1)], &[], &[]]),
     (
         Step::Set(200, 2),
         [0x00, 0xFF],
-        &[(100, 1, 1), (200, 2, 1)],
-        &[],
+        [&[(100, 1, 1), (200, 2, 1)], &[], &[]],
     ),
     (
         Step::Lamps(0x04, 0xFF),
         [0x04, 0xFF],
-        &[(100, 1, 1), (200, 2, 1)],
-        &[],
+        [&[(100, 1, 1), (200, 2, 1)], &[], &[]],
     ),
     (
         Step::Heal(100, 1),
         [0x04, 0xFF],
-        &[(200, 2, 1)],
-        &[(100, 1, 1)],
+        [&[(200, 2, 1)], &[(100, 1, 1)], &[]],
     ),
-    (Step::ClearActive, [0x00, 0xFF], &[], &[(100, 1, 1)]),
-    (Step::Lamps(0x04, 0xFF), [0x04, 0xFF], &[], &[(100, 1, 1)]),
-    (Step::ClearPrevious, [0x04, 0xFF], &[], &[]),
+    (
+        Step::Pend(300, 3),
+        [0x04, 0xFF],
+        [&[(200, 2, 1)], &[(100, 1, 1)], &[(300, 3, 1)]],
+    ),
+    (
+        Step::Pend(300, 3),
+        [0x04, 0xFF],
+        [&[(200, 2, 1)], &[(100, 1, 1)], &[(300, 3, 1)]],
+    ),
+    (
+        Step::Pend(200, 2),
+        [0x04, 0xFF],
+        [&[(200, 2, 1)], &[(100, 1, 1)], &[(300, 3, 1)]],
+    ),
+    (
+        Step::Pend(100, 1),
+        [0x04, 0xFF],
+        [&[(200, 2, 1)], &[(100, 1, 1)], &[(300, 3, 1)]],
+    ),
+    (
+        Step::Pend(300, 4),
+        [0x04, 0xFF],
+        [&[(200, 2, 1)], &[(100, 1, 1)], &[(300, 3, 1), (300, 4, 1)]],
+    ),
+    (
+        Step::Set(300, 3),
+        [0x04, 0xFF],
+        [&[(200, 2, 1), (300, 3, 1)], &[(100, 1, 1)], &[(300, 4, 1)]],
+    ),
+    (
+        Step::Unpend(300, 4),
+        [0x04, 0xFF],
+        [&[(200, 2, 1), (300, 3, 1)], &[(100, 1, 1)], &[]],
+    ),
+    (
+        Step::Pend(300, 4),
+        [0x04, 0xFF],
+        [&[(200, 2, 1), (300, 3, 1)], &[(100, 1, 1)], &[(300, 4, 1)]],
+    ),
+    (Step::ClearActive, [0x00, 0xFF], [&[], &[(100, 1, 1)], &[]]),
+    (
+        Step::Pend(400, 5),
+        [0x00, 0xFF],
+        [&[], &[(100, 1, 1)], &[(400, 5, 1)]],
+    ),
+    (
+        Step::Lamps(0x04, 0xFF),
+        [0x04, 0xFF],
+        [&[], &[(100, 1, 1)], &[(400, 5, 1)]],
+    ),
+    (
+        Step::ClearPrevious,
+        [0x04, 0xFF],
+        [&[], &[], &[(400, 5, 1)]],
+    ),
+    (
+        Step::Set(100, 1),
+        [0x04, 0xFF],
+        [&[(100, 1, 1)], &[], &[(400, 5, 1)]],
+    ),
+    (
+        Step::Set(400, 5),
+        [0x04, 0xFF],
+        [&[(100, 1, 1), (400, 5, 1)], &[], &[]],
+    ),
+    (
+        Step::Heal(400, 5),
+        [0x04, 0xFF],
+        [&[(100, 1, 1)], &[(400, 5, 1)], &[]],
+    ),
 ];
 
 #[test]
 fn each_step(rt: HostRuntime) -> Result<(), Fail> {
     let mut memory = FaultMemory::new(rt.alloc());
-    assert_holds(&rt, &memory, [0x00, 0xFF], &[], &[]);
-    for (step, lamps, active, previous) in &STEPS {
+    assert_holds(&rt, &memory, [0x00, 0xFF], &[&[], &[], &[]]);
+    for (step, lamps, lists) in &STEPS {
         take(&mut memory, step)?;
-        assert_holds(&rt, &memory, *lamps, active, previous);
+        assert_holds(&rt, &memory, *lamps, lists);
     }
     assert_eq!(rt; memory.lamps().lamp(LampName::Amber), 1);
     Ok(())
@@ -65,6 +132,8 @@ fn take(memory: &mut FaultMemory, step: &Step) -> Result<(), FaultError> {
     match *step {
         Step::Set(spn, fmi) => memory.apply(FaultChange::Set { spn, fmi }),
         Step::Heal(spn, fmi) => memory.apply(FaultChange::Heal { spn, fmi }),
+        Step::Pend(spn, fmi) => memory.apply(FaultChange::Pend { spn, fmi }),
+        Step::Unpend(spn, fmi) => memory.apply(FaultChange::Unpend { spn, fmi }),
         Step::Lamps(first, second) => memory.apply(FaultChange::Lamp {
             lamps: Lamps::from_bytes(first, second),
         }),
@@ -79,16 +148,12 @@ fn take(memory: &mut FaultMemory, step: &Step) -> Result<(), FaultError> {
     }
 }
 
-fn assert_holds(
-    rt: &impl Abort,
-    memory: &FaultMemory,
-    lamps: [u8; 2],
-    active: Rows,
-    previous: Rows,
-) {
+fn assert_holds(rt: &impl Abort, memory: &FaultMemory, lamps: [u8; 2], lists: &[Rows; 3]) {
+    let [active, previous, pending] = *lists;
     assert_eq!(rt; memory.lamps().to_bytes(), lamps);
     assert_codes(rt, memory.active(), active);
     assert_codes(rt, memory.previous(), previous);
+    assert_codes(rt, memory.pending(), pending);
 }
 
 fn assert_codes(rt: &impl Abort, codes: &[Dtc], rows: Rows) {
@@ -107,7 +172,12 @@ fn count_stops(rt: HostRuntime) -> Result<(), Fail> {
         take(&mut memory, &Step::Heal(7, 1))?;
         take(&mut memory, &Step::Set(7, 1))?;
     }
-    assert_holds(&rt, &memory, [0x00, 0xFF], &[(9, 2, 1), (7, 1, 126)], &[]);
+    assert_holds(
+        &rt,
+        &memory,
+        [0x00, 0xFF],
+        &[&[(9, 2, 1), (7, 1, 126)], &[], &[]],
+    );
     Ok(())
 }
 
@@ -118,8 +188,8 @@ fn a_copy_stays(rt: HostRuntime) -> Result<(), Fail> {
     let copy = memory.copy()?;
     take(&mut memory, &Step::Lamps(0x04, 0xFF))?;
     take(&mut memory, &Step::Heal(100, 1))?;
-    assert_holds(&rt, &memory, [0x04, 0xFF], &[], &[(100, 1, 1)]);
-    assert_holds(&rt, &copy, [0x00, 0xFF], &[(100, 1, 1)], &[]);
+    assert_holds(&rt, &memory, [0x04, 0xFF], &[&[], &[(100, 1, 1)], &[]]);
+    assert_holds(&rt, &copy, [0x00, 0xFF], &[&[(100, 1, 1)], &[], &[]]);
     Ok(())
 }
 
@@ -133,13 +203,17 @@ fn make_full(alloc: Global) -> Result<FaultMemory, FaultError> {
 }
 
 /// What a full memory refuses.
-const REFUSED: [(Step, &str); 6] = [
+const REFUSED: [(Step, &str); 10] = [
     (Step::Set(524288, 32), "9 SpnTooLarge"),
     (Step::Set(5, 32), "10 FmiTooLarge"),
     (Step::Set(5000, 1), "13 Full"),
     (Step::Heal(524288, 1), "9 SpnTooLarge"),
     (Step::Heal(5, 32), "10 FmiTooLarge"),
     (Step::Heal(1000, 2), "14 NotActive"),
+    (Step::Pend(524288, 32), "9 SpnTooLarge"),
+    (Step::Pend(5000, 1), "13 Full"),
+    (Step::Unpend(5, 32), "10 FmiTooLarge"),
+    (Step::Unpend(1000, 1), "29 NotPending"),
 ];
 
 #[test]
@@ -151,6 +225,7 @@ fn refused_changes(rt: HostRuntime) -> Result<(), Fail> {
     }
     take(&mut memory, &Step::Heal(1000, 1))?;
     take(&mut memory, &Step::Set(1000, 1))?;
+    take(&mut memory, &Step::Pend(1000, 1))?;
     assert_eq!(rt; memory.active().len(), 445);
     Ok(())
 }
@@ -174,5 +249,6 @@ fn refuses(
     assert_eq!(rt; memory.lamps(), before.lamps());
     assert_eq!(rt; memory.active(), before.active());
     assert_eq!(rt; memory.previous(), before.previous());
+    assert_eq!(rt; memory.pending(), before.pending());
     Ok(())
 }

@@ -1,4 +1,4 @@
-use Rattle.std.proofs.Common.{rules, ◌≡◌, false, true, subst, ap, ◌∙◌, sym, ℕ}
+use Rattle.std.proofs.Common.{rules, ◌≡◌, false, true, subst, sym, ℕ}
 use Rattle.can_frame.specs.Fields.{source_of}
 use Rattle.node_core.specs.Commanding.{is_to_all}
 use Rattle.node_core.specs.Passing.{IsSifted}

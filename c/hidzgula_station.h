@@ -32,7 +32,8 @@ extern "C" {
 #define HIDZGULA_LAYOUT(holds) _Static_assert(holds, #holds)
 #endif
 
-/* What a call answers. */
+/* What a call answers. 29 is NO_STATION and nothing else: the refusal of that number of a unit's fault memory, of a code that is not
+ * pending, is none of a station. */
 enum {
     HIDZGULA_DONE = 0,
     HIDZGULA_ID_TOO_LARGE = 1,   /* an identifier of 2^29 or more */
@@ -45,14 +46,15 @@ enum {
     HIDZGULA_NO_STATION = 29,    /* the handle is empty: not opened, or closed */
     HIDZGULA_HAS_STATION = 30,   /* the handle has an open station */
     HIDZGULA_NO_PLACE = 31,      /* no row, entry or code at that place */
-    HIDZGULA_NO_KIND = 32,       /* a kind that is neither HIDZGULA_DM1 nor HIDZGULA_DM2 */
+    HIDZGULA_NO_KIND = 32,       /* a kind that is none of HIDZGULA_DM1, HIDZGULA_DM2, HIDZGULA_DM6 */
     HIDZGULA_OUT_OF_MEMORY = 33  /* memory was refused */
 };
 
-/* The kinds of diagnostic messages. */
+/* The kinds of diagnostic messages, numbered as the messages are; any other number is refused, NO_KIND. */
 enum {
     HIDZGULA_DM1 = 1, /* lamps and active trouble codes */
-    HIDZGULA_DM2 = 2  /* lamps and previously active trouble codes */
+    HIDZGULA_DM2 = 2, /* lamps and previously active trouble codes */
+    HIDZGULA_DM6 = 6  /* lamps and pending trouble codes */
 };
 
 /* Parameter groups to ask for. */
@@ -61,7 +63,8 @@ enum {
     HIDZGULA_PGN_DM1 = 65226,             /* the active codes */
     HIDZGULA_PGN_DM2 = 65227,             /* the previously active codes */
     HIDZGULA_PGN_DM3 = 65228,             /* to clear the previously active codes */
-    HIDZGULA_PGN_DM11 = 65235             /* to clear the active codes */
+    HIDZGULA_PGN_DM6 = 65231,             /* the pending codes */
+    HIDZGULA_PGN_DM11 = 65235             /* to clear the active and the pending codes */
 };
 
 /* Room for a station. */
@@ -99,7 +102,7 @@ typedef struct {
     uint32_t ack_pgn;
 } hidzgula_row_out;
 
-/* A message of a NAME: the first two bytes of DM1 and DM2, which are the states of the lamps (from the highest bits: malfunction
+/* A message of a NAME: the first two bytes of a DM1, DM2 or DM6, which are the states of the lamps (from the highest bits: malfunction
  * indicator, red stop, amber warning, protect) and how they flash; and how many trouble codes it has. */
 typedef struct {
     uint8_t lamps;

@@ -67,6 +67,7 @@ int main(void)
         else printf("%016" PRIX64 " -\n", row.name);
         write_list(&station, row.name, HIDZGULA_DM1);
         write_list(&station, row.name, HIDZGULA_DM2);
+        write_list(&station, row.name, HIDZGULA_DM6);
     }
     hidzgula_counts(&station, &missed, &unread);
     printf("missed %" PRIu64 " unread %" PRIu64 "\n", missed, unread);

@@ -129,6 +129,7 @@ static uint64_t all_told(hidzgula_station *station)
         add(row.ack_pgn);
         add_list(station, row.name, HIDZGULA_DM1);
         add_list(station, row.name, HIDZGULA_DM2);
+        add_list(station, row.name, HIDZGULA_DM6);
     }
     add(hidzgula_counts(station, &missed, &unread));
     add(missed);

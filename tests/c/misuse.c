@@ -88,6 +88,8 @@ static void refused_by_arguments(void)
     is("row 2^64 - 1", hidzgula_row(&station, many, &out.row), HIDZGULA_NO_PLACE);
     is("kind 0", hidzgula_entries(&station, 0xA0, 0, &out.count), HIDZGULA_NO_KIND);
     is("kind 3", hidzgula_entry(&station, 0xA0, 3, 0, &out.entry), HIDZGULA_NO_KIND);
+    is("kind 5", hidzgula_entry(&station, 0xA0, 5, 0, &out.entry), HIDZGULA_NO_KIND);
+    is("kind 7", hidzgula_entries(&station, 0xA0, 7, &out.count), HIDZGULA_NO_KIND);
     is("kind 255", hidzgula_code(&station, 0xA0, 255, 0, 0, &out.code), HIDZGULA_NO_KIND);
     is("entry 1", hidzgula_entry(&station, 0xA0, HIDZGULA_DM1, 1, &out.entry), HIDZGULA_NO_PLACE);
     is("entry 2^64 - 1", hidzgula_entry(&station, 0xA0, HIDZGULA_DM1, many, &out.entry), HIDZGULA_NO_PLACE);
@@ -101,6 +103,7 @@ static void refused_by_arguments(void)
 static void fields(void)
 {
     static const uint8_t dm1[8] = { 0x04, 0xFF, 0xB8, 0x04, 0x03, 0x01, 0xFF, 0xFF };
+    static const uint8_t dm6[8] = { 0x00, 0xFF, 0x64, 0x00, 0x01, 0x02, 0xFF, 0xFF };
     static const uint8_t ack[8] = { 1, 0xFF, 0xFF, 0xFF, 248, 0xCC, 0xFE, 0x00 };
     static const uint8_t request[3] = { 0x00, 0xEE, 0x00 };
     is("a claim", hidzgula_take_frame(&station, 0x18EEFF07, bytes, 8, &out.reply), HIDZGULA_DONE);
@@ -109,6 +112,7 @@ static void fields(void)
     /* no pointer for no bytes: nothing is proved of it, and nothing is read */
     is("no bytes at NULL", hidzgula_take_frame(&station, 0x18FEF107, NULL, 0, &out.reply), HIDZGULA_DONE);
     is("a DM1", hidzgula_take_frame(&station, 0x18FECA07, dm1, 8, &out.reply), HIDZGULA_DONE);
+    is("a DM6", hidzgula_take_frame(&station, 0x18FECF07, dm6, 8, &out.reply), HIDZGULA_DONE);
     is("an acknowledgment", hidzgula_take_frame(&station, 0x18E8FF07, ack, 8, &out.reply), HIDZGULA_DONE);
     is("rows", hidzgula_rows(&station, &out.count), HIDZGULA_DONE);
     is("rows", out.count, 1);
@@ -121,12 +125,19 @@ static void fields(void)
     is("entries", out.count, 1);
     is("of DM2", hidzgula_entries(&station, 0xA0, HIDZGULA_DM2, &out.count), HIDZGULA_DONE);
     is("of DM2", out.count, 0);
+    is("of DM6", hidzgula_entries(&station, 0xA0, HIDZGULA_DM6, &out.count), HIDZGULA_DONE);
+    is("of DM6", out.count, 1);
     is("the entry", hidzgula_entry(&station, 0xA0, HIDZGULA_DM1, 0, &out.entry), HIDZGULA_DONE);
     is("its lamps", out.entry.lamps * 256u + out.entry.flashes, 0x04FF);
     is("its codes", out.entry.codes, 1);
     is("the code", hidzgula_code(&station, 0xA0, HIDZGULA_DM1, 0, 0, &out.code), HIDZGULA_DONE);
     is("its SPN", out.code.spn, 1208);
     is("its FMI and count", out.code.fmi * 256u + out.code.count, 3 * 256 + 1);
+    is("the entry of DM6", hidzgula_entry(&station, 0xA0, HIDZGULA_DM6, 0, &out.entry), HIDZGULA_DONE);
+    is("its lamps", out.entry.lamps * 256u + out.entry.flashes, 0x00FF);
+    is("the code of DM6", hidzgula_code(&station, 0xA0, HIDZGULA_DM6, 0, 0, &out.code), HIDZGULA_DONE);
+    is("its SPN", out.code.spn, 100);
+    is("its FMI and count", out.code.fmi * 256u + out.code.count, 256 + 2);
     is("counts", hidzgula_counts(&station, &out.missed, &out.unread), HIDZGULA_DONE);
     is("counts", out.missed * 256 + out.unread, 1); /* the DM1 without bytes cannot be read */
     is("its own address", hidzgula_held(&station, &out.has, &out.address), HIDZGULA_DONE);
@@ -145,6 +156,8 @@ static void orders(void)
     is("by one frame", out.reply.count * 256u + out.reply.withdraw, 256);
     is("to its address", out.reply.frames[0].id, 0x18EA07F8);
     is("of three bytes", out.reply.frames[0].length, 3);
+    is("asks for DM6", hidzgula_ask(&station, 0xA0, HIDZGULA_PGN_DM6, &out.reply), HIDZGULA_DONE);
+    is("of DM6", out.reply.frames[0].bytes[0] * 65536u + out.reply.frames[0].bytes[1] * 256u + out.reply.frames[0].bytes[2], 0xCFFE00);
     is("asks all", hidzgula_ask_all(&station, HIDZGULA_PGN_DM1, &out.reply), HIDZGULA_DONE);
     is("to all", out.reply.frames[0].id, 0x18EAFFF8);
     is("commands", hidzgula_command(&station, 0xA0, 9, &out.reply), HIDZGULA_DONE);

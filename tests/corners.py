@@ -2,6 +2,7 @@
 
 import random
 
+from model.frames import KINDS
 from model.script import COMMANDS, Script
 from strangers import Strangers
 
@@ -11,12 +12,13 @@ STATIONS = ["0000000000000001", "00000000000000A8", "00000000000000FF", "8000000
 UNITS = ["0000000000000000", "0000000000000005", "00000000000000A0", "00000000000000A1", "00000000000000B0",
          "00000000000000C0", "8000000000000002", "80000000000000B0", "90000300258004D2", "FFFFFFFFFFFFFFFF"]
 ADDRESSES = [0, 1, 10, 128, 129, 247, 248, 252, 253]
-CODES = [(100, 1), (104, 1), (7, 1), (0, 0), (524287, 31), (1208, 3), (65535, 0), (65536, 5)]
+CODES = [(100, 1), (104, 1), (300, 1), (7, 1), (0, 0), (524287, 31), (1208, 3), (65535, 0), (65536, 5)]
 ONE = "0000000000000001"
 NO_GARAGES = ["XY 249 4 16 100", "00000000000000010 249 4 16 100"] + [ONE + " " + settings for settings in (
     "254 4 16 100", "255 4 16 100", "249 0 16 100", "249 4097 16 100", "249 4 0 100", "249 4 16 0", "249 4 16 16777217",
     "256 4 16 100", "249 4 256 100", "249 4294967296 16 100", "249 4 16", "249 4 16 100 1", "249 +4 16 100")]
-ASKED = ["dm1", "dm2", "dm1", "dm2", "dm3", "dm11", "claim", "65259", "65226", "65227", "60928", "0", "130762", "16777215"]
+MESSAGES = list(KINDS)
+ASKED = MESSAGES * 2 + ["dm3", "dm11", "claim", "65259", "65226", "65227", "65231", "60928", "0", "130762", "130767", "16777215"]
 
 
 class Writer(Strangers):
@@ -86,7 +88,7 @@ class Writer(Strangers):
 
     def kind(self):
         spn, fmi = self.random.choice(CODES)
-        if self.chance(12):
+        if self.chance(18):
             spn, fmi = self.one_of((524288, 1), (5, 32), (5, 129), (100, 255), (4294967295, 255))
         return self.random.choice(["plain"] * 5 + ["guarded"] * 3 + [f"flicker {spn} {fmi}"] * 2)
 
@@ -116,15 +118,29 @@ class Writer(Strangers):
         self.say("set", seat, self.random.choice([100, 200, 104, 1000]), self.one_of(1, 1, 2), count)
         if self.chance(60):
             self.say("heal", seat, self.random.choice([100, 200, 104]), 1, self.random.choice([1, 2, 3, 5]))
+        if self.chance(60):
+            self.say("pend", seat, self.random.choice([300, 300, 300, 102, 204]), 1, self.random.choice([1, 2, 3, 5, 9]))
         if self.chance(30):
             self.say("lamps", seat, self.one_of("04FF", "40bf", "0000", "FFFF", "00FF", "1234"))
 
     def change(self):
         spn, fmi = self.random.choice(CODES)
-        if self.chance(10):
+        if self.chance(20):
             spn, fmi = self.one_of((524288, 1), (5, 32), (7, 129), (7, 255), (524286, 4), (4294967295, 255), (600000, 40))
         count = self.random.choice(["", "", "0", "1", "2", "3", "5"])
-        self.say(self.one_of("set", "set", "heal"), self.seat(), spn, fmi, count)
+        self.say(self.one_of("set", "set", "heal", "pend", "pend", "unpend"), self.seat(), spn, fmi, count)
+
+    def known_pair(self):
+        """A code of a unit's memory, in whatever list, is set, healed, pended or taken out of the pending ones."""
+        unit = self.unit()
+        if unit is None:
+            return
+        codes = self.random.choice([unit.memory.active, unit.memory.previous, unit.memory.pending])
+        if not codes:
+            self.fill(unit.seat)
+            return
+        code = self.random.choice(codes)
+        self.say(self.one_of("set", "heal", "pend", "unpend"), unit.seat, code.spn, code.fmi, self.random.choice(["", "1", "2", "5"]))
 
     def lamps(self):
         self.say("lamps", self.seat(), self.one_of("04FF", "00ff", "FFFF", "0000", "5555"))
@@ -152,7 +168,12 @@ class Writer(Strangers):
         self.say("command", self.name(), self.one_of(254, 255) if self.chance(5) else self.address())
 
     def think(self):
-        self.say("think", self.seat())
+        """A unit thinks; a flicker's code may be pending then."""
+        seat = self.seat()
+        unit = self.garage.unit(seat)
+        if unit and unit.kind[0] == "flicker" and self.chance(25):
+            self.say("pend", seat, *unit.kind[1:])
+        self.say("think", seat)
 
     def turn(self):
         self.say("turn", self.seat())
@@ -162,7 +183,7 @@ class Writer(Strangers):
 
     def query(self):
         self.say(*self.random.choice([
-            ("shown", self.name(), self.one_of("dm1", "dm2")), ("row", self.name()), ("stats",), ("report",),
+            ("shown", self.name(), self.one_of(*MESSAGES)), ("row", self.name()), ("stats",), ("report",),
             ("counts", self.one_of(0, self.seat(), self.random.randrange(len(self.garage.seats)))),
             ("frame", self.random.randrange(len(self.garage.wire) + 2)), ("injected",)]))
 
@@ -170,9 +191,9 @@ class Writer(Strangers):
         """A line with one thing wrong in it: a word that is missing, too many, another or misspelt, or odd spaces."""
         line = self.random.choice([
             "join {name} 3 plain", "join {name} 3 flicker 100 1", "set {seat} 100 1 2", "heal {seat} 100 1 2",
-            "lamps {seat} 04FF",
+            "pend {seat} 300 1 2", "unpend {seat} 300 1 2", "lamps {seat} 04FF",
             "think {seat}", "turn {seat}", "leave {seat}", "hear {seat} 1", "dm1 {seat}", "carry 1", "read 1", "round 1",
-            "ask {name} dm1", "ask all dm3", "command {name} 7", "shown {name} dm1", "row {name}", "counts {seat}", "stats",
+            "ask {name} dm1", "ask {name} dm6", "ask all dm3", "command {name} 7", "shown {name} dm1", "shown {name} dm6", "row {name}", "counts {seat}", "stats",
             "frame 0", "inject 18FECA00 04 FF", "injected", "report", "garage {name} 249 4 16 100"]).format(seat=self.seat(), name=self.name())
         words = line.split(" ")
         at = self.random.randrange(len(words))
@@ -197,7 +218,7 @@ class Writer(Strangers):
             words = self.one_of([""], [" "], ["#"], [" #"], ["# fly"], ["fly"], ["  "], ["\t"], ["\r"], [" stats "],
                                 ["stats\r"])
         else:
-            words[at] = self.one_of("all", "ALL", "none", "dm1", "DM1", "dm3", "plain", "Plain", "flicker", "guarded")
+            words[at] = self.one_of("all", "ALL", "none", "dm1", "DM1", "dm3", "dm6", "DM6", "dm5", "plain", "Plain", "flicker", "guarded")
         if words and words[0] in COMMANDS | {"fly": 0} or way in (0, 4, 7) or self.chance(50):
             self.say(*words)
 
@@ -248,7 +269,7 @@ class Writer(Strangers):
             self.stranger()
             return
         self.random.choice([self.gap, self.contend, self.contend, self.order, self.order, self.replace, self.ask, self.ask,
-                            self.dm1, self.leave, self.change, self.think, self.hear, self.carry, self.misspelt])()
+                            self.dm1, self.leave, self.change, self.known_pair, self.think, self.hear, self.carry, self.misspelt])()
 
     def go_on(self):
         """Lets some frames be carried, heard and read, all of them or here and there."""
@@ -271,17 +292,17 @@ class Writer(Strangers):
         if self.chance(60):
             self.fill(unit.seat)
         self.say("round", self.one_of(9, 9, 3, 0))
-        kind = self.one_of("dm1", "dm2", "dm1", "dm2", "dm11", "dm3")
+        kind = self.one_of(*MESSAGES, *MESSAGES, "dm11", "dm3")
         self.say("ask", self.name_text(unit.name), kind)
         for _ in range(self.random.randrange(1, 6)):
             self.go_on()
             if self.chance(25):
-                self.say("ask", self.one_of(self.name_text(unit.name), "all"), self.one_of(kind, "dm1", "dm2"))
+                self.say("ask", self.one_of(self.name_text(unit.name), "all"), self.one_of(kind, *MESSAGES))
             if self.chance(30):
                 self.say("dm1", unit.seat)
             if self.chance(50):
                 self.disturb()
-        self.say("shown", self.name_text(unit.name), kind if kind in ("dm1", "dm2") else "dm1")
+        self.say("shown", self.name_text(unit.name), kind if kind in KINDS else "dm1")
 
     def broadcast(self):
         """A long message to all, disturbed before each packet of it."""
@@ -294,12 +315,12 @@ class Writer(Strangers):
         if self.chance(60):
             self.say("dm1", unit.seat)
         else:
-            self.say("ask", "all", self.one_of("dm1", "dm2"))
+            self.say("ask", "all", self.one_of(*MESSAGES))
         for _ in range(self.random.randrange(1, 6)):
             self.go_on()
             if self.chance(50):
                 self.disturb()
-        self.say("shown", self.name_text(unit.name), self.one_of("dm1", "dm2"))
+        self.say("shown", self.name_text(unit.name), self.one_of(*MESSAGES))
 
     def stale_end(self):
         """A session ends by a command while its end of message acknowledgment is under way, and the next one is open."""
@@ -315,7 +336,7 @@ class Writer(Strangers):
                 break
             self.say("round", 1)
         self.say("command", name, unit.held if unit.held is not None else 3)
-        self.say("ask", name, self.one_of("dm1", "dm1", "dm2", "all"))
+        self.say("ask", name, self.one_of("dm1", "dm1", "dm2", "dm6", "all"))
         for _ in range(self.random.randrange(6, 14)):
             self.say("round", 1)
             if self.chance(10):
@@ -327,15 +348,17 @@ class Writer(Strangers):
         unit = self.unit()
         if unit is None or unit.held is None:
             return
-        name, kind = self.name_text(unit.name), self.one_of("dm1", "dm2")
+        name, kind = self.name_text(unit.name), self.one_of(*MESSAGES)
         self.say("set", unit.seat, 100, 1, 3)
         if kind == "dm2":
             self.say("heal", unit.seat, 100, 1, self.one_of(2, 3))
+        if kind == "dm6" or self.chance(50):
+            self.say("pend", unit.seat, 300, 1, self.one_of(2, 3))
         self.say("round", MANY)
         self.say("ask", name, kind)
         self.say("round", self.one_of(1, 2, 3))
-        self.say("ask", self.one_of(name, "all"), "dm11" if kind == "dm1" else "dm3")
-        self.say("ask", name, self.one_of("dm1", "dm2"))
+        self.say("ask", self.one_of(name, "all"), "dm3" if kind == "dm2" else "dm11")
+        self.say("ask", name, self.one_of(*MESSAGES))
         self.say("ask", self.one_of(name, "all"), kind)
         for _ in range(self.random.randrange(1, 4)):
             self.say("round", self.one_of(1, 2, 3))
@@ -345,18 +368,24 @@ class Writer(Strangers):
         self.say("shown", name, kind)
 
     def clear(self):
-        """A unit with codes of both kinds is asked to clear them, alone or among all."""
+        """A unit with codes of one kind or of several is asked to clear them, alone or among all."""
         unit = self.unit()
         if unit is None:
             return
-        self.say("set", unit.seat, self.one_of(100, 200), 1, self.one_of(2, 3, 5))
-        self.say("heal", unit.seat, self.one_of(100, 200), 1, self.one_of(1, 2))
+        if self.chance(70):
+            self.say("set", unit.seat, self.one_of(100, 200), 1, self.one_of(2, 3, 5))
+            self.say("heal", unit.seat, self.one_of(100, 200), 1, self.one_of(1, 2))
+        elif len(unit.memory.active) < 9:
+            for code in list(unit.memory.active):
+                self.say("heal", unit.seat, code.spn, code.fmi)
+        if self.chance(70):
+            self.say("pend", unit.seat, self.one_of(300, 101), 1, self.one_of(1, 2, 5))
         self.say("round", self.one_of(0, MANY))
         for _ in range(2):
             self.say("ask", self.one_of(self.name_text(unit.name), self.name_text(unit.name), "all"), self.one_of("dm3", "dm11"))
         self.say("round", self.one_of(2, MANY))
         self.say("dm1", unit.seat)
-        self.say("ask", self.one_of(self.name_text(unit.name), "all"), "dm2")
+        self.say("ask", self.one_of(self.name_text(unit.name), "all"), self.one_of("dm2", "dm6"))
         self.go_on()
 
     def begun_again(self):
@@ -486,15 +515,16 @@ class Writer(Strangers):
         if self.strangers and self.chance(30):
             self.stranger()
             return
-        self.random.choice([self.join, self.change, self.lamps, self.dm1, self.dm1, self.carry, self.carry, self.read, self.read,
+        self.random.choice([self.join, self.change, self.known_pair, self.lamps, self.dm1, self.dm1, self.carry, self.carry, self.read, self.read,
                             self.hear, self.hear, self.round, self.ask, self.ask, self.command, self.think, self.turn, self.leave,
                             self.query, self.query, self.query, self.misspelt])()
 
     def ask_all_about_it(self):
         """All that can be asked at the end."""
         for name in self.random.sample(self.station.names(), min(4, len(self.station.names()))):
-            for words in (("shown", "%016X" % name, "dm1"), ("shown", "%016X" % name, "dm2"), ("row", "%016X" % name)):
-                self.say(*words)
+            for kind in MESSAGES:
+                self.say("shown", "%016X" % name, kind)
+            self.say("row", "%016X" % name)
         for seat in range(min(6, len(self.garage.seats))):
             self.say("counts", seat)
         self.say("stats")
@@ -581,8 +611,9 @@ def session_at_the_limit(writer):
     writer.join("00000000000000A0", writer.one_of(0, 0, 0, 249), "plain")
     writer.join()
     writer.say("set", 1, 100, 1, writer.one_of(2, 3, 9))
+    writer.say("pend", 1, 300, 1, writer.one_of(0, 2, 3))
     writer.say("round", MANY)
-    writer.say("ask", "00000000000000A0", writer.one_of("dm1", "dm1", "dm2"))
+    writer.say("ask", "00000000000000A0", writer.one_of("dm1", "dm1", "dm2", "dm6"))
     writer.say("round", writer.random.choice([0, 1, 2, 2, 2, 3, 4, 5]))
     if writer.chance(40):
         writer.contend()
@@ -658,15 +689,18 @@ def full_memory(writer):
     address = writer.random.choice([0, 10, 128])
     writer.join("00000000000000A0", address, writer.one_of("plain", "plain", "flicker 7 7", "flicker 1000 1"))
     seat = len(writer.garage.seats) - 1
-    writer.say("set", seat, 1000, 1, writer.one_of(445, 445, 444, 446, MANY))
+    writer.say(writer.one_of("pend", "set"), seat, 2000, 1, writer.random.choice([0, 0, 1, 5, 440, 445]))
+    writer.say(writer.one_of("set", "set", "pend"), seat, 1000, 1, writer.one_of(445, 445, 444, 446, MANY))
     if writer.chance(50):
         writer.say("heal", seat, 1000, 1, writer.random.choice([445, 440, 5, 446]))
     writer.change()
     writer.say("think", seat)
-    writer.say("set", seat, 5000, 1)
+    for _ in range(4):
+        writer.random.choice([writer.known_pair, lambda: writer.say(writer.one_of("set", "pend"), seat, 5000, 1)])()
+    writer.say("pend", seat, writer.one_of(1000, 1004, 2000), 1)
     writer.say("round", 9)
-    unit = writer.garage.unit(seat)
-    asked = "dm2" if len(unit.memory.previous) > len(unit.memory.active) else "dm1"
+    memory = writer.garage.unit(seat).memory
+    asked = max(KINDS, key=lambda word: len(memory.payload(KINDS[word])))
     writer.say(*writer.random.choice([("dm1", seat), ("ask", "all", asked)] + [("ask", "00000000000000A0", asked)] * 4))
     writer.say("round", writer.random.choice([MANY, MANY, MANY, 255, 256, 257, 258, 40, 300]))
     for _ in range(4):
@@ -679,6 +713,7 @@ def counted_out(writer):
     """Codes that come back again and again, up to the greatest count."""
     writer.make_garage()
     writer.join("00000000000000A0", 0, writer.one_of("plain", "flicker 100 1"))
+    writer.say("pend", 1, 100, 1, writer.one_of(0, 1))
     for _ in range(writer.random.randrange(118, 132)):
         writer.say("set", 1, 100, 1)
         writer.say("heal", 1, 100, 1)
@@ -742,8 +777,8 @@ def wide_window(writer):
     writer.say("carry", 1)
 
 
-PLANS = {mixed: 68, among_strangers: 24, lines_alone: 10, at_the_limit: 8, session_at_the_limit: 8, cut_short: 8, full_house: 2, full_memory: 10,
-         counted_out: 2, no_free_address: 5, late_listening: 3, wide_window: 3}
+PLANS = {mixed: 68, among_strangers: 24, lines_alone: 10, at_the_limit: 8, session_at_the_limit: 8, cut_short: 12, full_house: 2,
+         full_memory: 13, counted_out: 2, no_free_address: 5, late_listening: 3, wide_window: 3}
 
 
 def script(seed):

@@ -1,10 +1,10 @@
 """Frames from outside for random scripts: of every kind, aimed at what is under way."""
 
-from model.frames import (ABORT, ACKNOWLEDGMENT, BAM, CLAIM, COMMANDED_ADDRESS, CONTROL, CTS, DM1, DM2, DM3, DM11, END_OF_MESSAGE,
-                          GLOBAL, NULL, PACKET, REQUEST, RTS, Frame, acknowledgment, broadcast, claim, packet, packets_of,
-                          request, rts, to_all, to_one)
+from model.frames import (ABORT, ACKNOWLEDGMENT, BAM, CLAIM, COMMANDED_ADDRESS, CONTROL, CTS, DM1, DM3, DM11, END_OF_MESSAGE, GLOBAL,
+                          NULL, PACKET, REQUEST, RTS, TITLES, Frame, acknowledgment, broadcast, claim, packet, packets_of, request,
+                          rts, to_all, to_one)
 
-GROUPS = [CLAIM, REQUEST, ACKNOWLEDGMENT, CONTROL, PACKET, DM1, DM2, DM3, DM11, COMMANDED_ADDRESS, 65259, 0]
+GROUPS = [CLAIM, REQUEST, ACKNOWLEDGMENT, CONTROL, PACKET, *TITLES, DM3, DM11, COMMANDED_ADDRESS, 65259, 0]
 MANY = "4294967295"
 NOBODYS = [NULL, GLOBAL]
 UNREADABLE = ["20 08 00 02 FF CA FE 00", "20 0A 00 03 FF CA FE 00", "12 00 00 00 00 CA FE 00", "20 16 00 04 FF CA FE",
@@ -80,18 +80,18 @@ class Strangers:
             self.join("80000000000000B0")
 
     def strange_request(self):
-        pgn = self.random.choice([DM1, DM2, DM3, DM11, CLAIM, 65259, 16777215])
+        pgn = self.random.choice([*TITLES, DM3, DM11, CLAIM, 65259, 16777215])
         dest = self.random.choice([self.owned(), self.own_address(), self.own_address(), GLOBAL])
         frame = request(pgn, dest, self.anybody())
         self.inject(Frame(frame.number, frame.data[:2]) if self.chance(8) else frame)
 
     def strange_acknowledgment(self):
         self.inject(acknowledgment(self.random.randrange(5), self.one_of(self.own_address(), self.anybody()),
-                                   self.random.choice([DM1, DM2, 65259]), self.anybody()))
+                                   self.random.choice([*TITLES, 65259]), self.anybody()))
 
     def strange_memory(self):
-        """A DM1 or DM2 in one frame: one that can be read, or not."""
-        self.inject(to_all(6, self.one_of(DM1, DM2), self.anybody(), bytes.fromhex(self.random.choice(MEMORIES))))
+        """A DM1, DM2 or DM6 in one frame: one that can be read, or not."""
+        self.inject(to_all(6, self.one_of(*TITLES), self.anybody(), bytes.fromhex(self.random.choice(MEMORIES))))
 
     def strange_control(self):
         """A control message that can't be read, or one to another than it is for."""
@@ -101,7 +101,7 @@ class Strangers:
             first = self.random.choice([RTS, CTS, END_OF_MESSAGE, BAM, ABORT])
             size = self.random.choice([8, 9, 22, 1785, 1786])
             data = (bytes([first]) + size.to_bytes(2, "little") + bytes([packets_of(size) & 255, self.random.choice([0, 1, 2, 255])])
-                    + self.random.choice([DM1, DM2, COMMANDED_ADDRESS, 130762]).to_bytes(3, "little"))
+                    + self.random.choice([*TITLES, COMMANDED_ADDRESS, 130762]).to_bytes(3, "little"))
         self.inject(to_one(7, CONTROL, self.one_of(GLOBAL, self.owned(), self.own_address()), self.anybody(), data))
 
     def to_one_alone(self):
@@ -140,12 +140,12 @@ class Strangers:
 
     def strange_broadcast(self):
         """A whole message to all from an address, at times with a packet too few, too many or out of order."""
-        frames = broadcast(codes_of(self.random.randrange(2, 6)), self.one_of(DM1, DM2), self.anybody())
+        frames = broadcast(codes_of(self.random.randrange(2, 6)), self.one_of(*TITLES), self.anybody())
         self.some_of(frames)
 
     def strange_session(self):
         """A request to send to the station and its packets, as granted or not."""
-        payload, pgn = codes_of(self.random.randrange(2, 6)), self.one_of(DM1, DM2, DM1, 65259)
+        payload, pgn = codes_of(self.random.randrange(2, 6)), self.one_of(*TITLES, DM1, 65259)
         source, own = self.anybody(), self.own_address()
         start = rts(len(payload), pgn, own, source)
         if self.chance(40):

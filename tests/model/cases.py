@@ -4,6 +4,8 @@ Each rule of the unit, of the station, of the bus and of the script has its case
 counts them. A word that is not here is an error. A case that a long run does not reach is one that the scripts do not test.
 """
 
+from .frames import TITLES
+
 UNIT = """
 a unit hears a cannot-claim
 a unit hears a claim of an address that it does not hold
@@ -24,32 +26,16 @@ a unit without an address is asked for something else
 a unit is asked from its own address for something else
 a unit is asked at its address for a short message
 a unit is asked at its address for a short message with a session of that kind open
-a unit is asked at its address for a short message with a session of the other kind open
+a unit is asked at its address for a short message with a session of another kind open
 a unit is asked at its address for a long message
 a unit is asked at its address for a long message with a session of that kind open
-a unit is asked at its address for a long message with a session of the other kind open
+a unit is asked at its address for a long message with a session of another kind open
 a unit is asked among all for a short message
 a unit is asked among all for a short message with a session of that kind open
-a unit is asked among all for a short message with a session of the other kind open
+a unit is asked among all for a short message with a session of another kind open
 a unit is asked among all for a long message
 a unit is asked among all for a long message with a session of that kind open
-a unit is asked among all for a long message with a session of the other kind open
-a unit is asked at its address for DM3
-a unit is asked at its address for DM3 with no code to clear
-a unit is asked at its address for DM3 and refuses
-a unit is asked at its address for DM3 and refuses with no code to clear
-a unit is asked at its address for DM11
-a unit is asked at its address for DM11 with no code to clear
-a unit is asked at its address for DM11 and refuses
-a unit is asked at its address for DM11 and refuses with no code to clear
-a unit is asked among all for DM3
-a unit is asked among all for DM3 with no code to clear
-a unit is asked among all for DM3 and refuses
-a unit is asked among all for DM3 and refuses with no code to clear
-a unit is asked among all for DM11
-a unit is asked among all for DM11 with no code to clear
-a unit is asked among all for DM11 and refuses
-a unit is asked among all for DM11 and refuses with no code to clear
+a unit is asked among all for a long message with a session of another kind open
 a unit is asked at its address for what it does not know
 a unit is asked among all for what it does not know
 a unit is sent a request to send
@@ -74,15 +60,25 @@ a unit hears a request to another
 a unit hears a control message to another
 a unit hears a packet to one alone
 a unit hears an acknowledgment
-a unit hears a DM1 or DM2
-a DM1 begins with a session of the other kind open
+a unit hears a DM1, DM2 or DM6
 a unit that is no flicker thinks
 a flicker heals
 a flicker sets
+a flicker sets a pending code
 a flicker's change is refused SpnTooLarge
 a flicker's change is refused FmiTooLarge
 a flicker's change is refused Full
 """
+CLEARS = [
+    f"a unit is asked {where} for {what}{answer}{codes}" for where in ("at its address", "among all") for what in ("DM3", "DM11")
+    for answer in ("", " and refuses") for codes in ("", " with no code to clear", " with pending codes too", " with pending codes alone")
+]
+MESSAGES = [
+    f"a unit is asked for {kind} and {answer}" for kind in TITLES.values()
+    for answer in ("sends a single frame", "begins a broadcast", "begins a session")
+] + [
+    f"a unit with a session of {kind} open is asked for {other}" for kind in TITLES.values() for other in TITLES.values()
+] + [f"a DM1 begins with a session of {kind} open" for kind in TITLES.values() if kind != "DM1"]
 
 STATION = """
 the station meets a gap
@@ -107,12 +103,6 @@ the station withdraws frames since it has to claim anew
 the station keeps an acknowledgment
 the station reads an acknowledgment for another
 the station reads an acknowledgment from an address without owner
-the station shows a DM1 by a single frame
-the station shows a DM1 by a broadcast
-the station shows a DM1 by a session
-the station shows a DM2 by a single frame
-the station shows a DM2 by a broadcast
-the station shows a DM2 by a session
 the station passes over a message from an address without owner
 the station joins a broadcast
 the station does not join a broadcast
@@ -127,6 +117,7 @@ the station reads a further packet of a session
 the station reads a packet of a session that it does not join
 the station reads a control message or packet that is not for it
 """
+SHOWN = [f"the station shows a {kind} by {way}" for kind in TITLES.values() for way in ("a single frame", "a broadcast", "a session")]
 
 BUS = """
 several seats want to send
@@ -155,10 +146,23 @@ set: new
 set: active already
 set: back
 set: back at the greatest count
+set: pending before
+set: pending before, with no room for another
 set: ok
 set: ok, none
 heal: ok
 heal: ok, none
+pend: new
+pend: active already
+pend: active already, with no room for another
+pend: previous already
+pend: previous already, with no room for another
+pend: pending already
+pend: pending already, with no room for another
+pend: ok
+pend: ok, none
+unpend: ok
+unpend: ok, none
 lamps: ok
 think: ok
 turn: ok
@@ -183,6 +187,7 @@ ask: all
 ask: dm1
 ask: dm2
 ask: dm3
+ask: dm6
 ask: dm11
 ask: claim
 ask: a number
@@ -216,16 +221,19 @@ report: no DM1
 
 REFUSALS = {
     "garage": "BadName BadSetting", "join": "BadName NotAnAddress NameInUse TooManySeats BookFull",
-    "set": "SpnTooLarge FmiTooLarge Full", "heal": "SpnTooLarge FmiTooLarge NotActive", "turn": "BookFull", "hear": "BookFull",
+    "set": "SpnTooLarge FmiTooLarge Full", "heal": "SpnTooLarge FmiTooLarge", "pend": "SpnTooLarge FmiTooLarge Full",
+    "unpend": "SpnTooLarge FmiTooLarge", "turn": "BookFull", "hear": "BookFull",
     "dm1": "Unclaimed BookFull", "carry": "BookFull", "read": "BookFull", "round": "BookFull",
     "ask": "BadName PgnTooLarge NotHeld NoAddress BookFull", "command": "BadName NotAnAddress NotHeld BookFull",
     "shown": "BadName", "row": "BadName", "inject": "IdTooLarge TooLong BookFull",
 }
-SEVERAL = ["set", "heal", "hear", "carry", "read", "round"]  # a refusal leaves what was done before it
+LISTS = {"heal: refused NotActive": "previous pending unknown", "unpend: refused NotPending": "active previous unknown"}
+SEVERAL = ["set", "heal", "pend", "unpend", "hear", "carry", "read", "round"]  # a refusal leaves what was done before it
 EARLIER = ["join", "dm1", "ask", "command", "inject"]  # these have refusals that come before the limit's
-BAD_LINES = ["garage", "join", "set", "heal", "lamps", "think", "turn", "leave", "hear", "dm1", "carry", "read", "round", "ask",
-             "command", "shown", "row", "counts", "stats", "frame", "inject", "injected", "report", "fly"]  # `fly`: no command at all
-NO_SEAT = ["set", "heal", "lamps", "think", "turn", "leave", "hear", "dm1", "counts"]
+BAD_LINES = ["garage", "join", "set", "heal", "pend", "unpend", "lamps", "think", "turn", "leave", "hear", "dm1", "carry", "read",
+             "round", "ask", "command", "shown", "row", "counts", "stats", "frame", "inject", "injected", "report",
+             "fly"]  # `fly`: no command at all
+NO_SEAT = ["set", "heal", "pend", "unpend", "lamps", "think", "turn", "leave", "hear", "dm1", "counts"]
 
 # Cases that need a frame from outside, since neither a unit nor the station of this bus ever sends such a one at that moment:
 # a unit never hears its own NAME's claims; the station grants at least one packet, begins no session and answers its own
@@ -245,22 +253,22 @@ the station moves to an address that it claimed before
 the station is asked for its claim
 the station is asked for what it does not know
 the station reads a request that it does not answer
-the station can't read a message
 the station reads a request to send from nobody's address
 the station reads a packet out of order
 the station aborts a session for a packet out of order
 the station reads an abort
 the station reads a frame of another kind
 """
+UNREAD = [f"the station can't read a {kind}" for kind in TITLES.values()]
 
 
 def lines(text):
     return text.strip().splitlines()
 
 
-WANTED = lines(UNIT) + lines(STATION) + lines(FROM_OUTSIDE) + lines(BUS) + lines(ANSWERS) + [
+WANTED = lines(UNIT) + CLEARS + MESSAGES + lines(STATION) + SHOWN + lines(FROM_OUTSIDE) + UNREAD + lines(BUS) + lines(ANSWERS) + [
     f"{command}: refused {refusal}" for command, refusals in REFUSALS.items() for refusal in refusals.split()
-] + [f"{command}: refused after some" for command in SEVERAL] + [
+] + [f"{refused}, {which}" for refused, lists in LISTS.items() for which in lists.split()] + [f"{command}: refused after some" for command in SEVERAL] + [
     f"{command}: another refusal at the limit" for command in EARLIER
 ] + [f"{command}: bad line" for command in BAD_LINES] + [f"{command}: no seat" for command in NO_SEAT]
 

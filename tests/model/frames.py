@@ -8,9 +8,10 @@ LAST_ADDRESS = 253  # the greatest address that can be held
 
 CLAIM, REQUEST, ACKNOWLEDGMENT = 60928, 59904, 59392
 CONTROL, PACKET = 60416, 60160  # TP.CM and TP.DT (J1939-21, 5.10)
-DM1, DM2, DM3, DM11 = 65226, 65227, 65228, 65235  # J1939-73, 5.7
+DM1, DM2, DM3, DM6, DM11 = 65226, 65227, 65228, 65231, 65235  # J1939-73, 5.7
 COMMANDED_ADDRESS = 65240
-KINDS = {"dm1": DM1, "dm2": DM2}
+KINDS = {"dm1": DM1, "dm2": DM2, "dm6": DM6}  # the messages that tell lamps and a list of codes
+TITLES = {kind: word.upper() for word, kind in KINDS.items()}
 
 RTS, CTS, END_OF_MESSAGE, BAM, ABORT = 16, 17, 19, 32, 255  # the first byte of a TP.CM
 SMALLEST, LARGEST = 9, 1785  # bytes of a message of several packets

@@ -1,6 +1,6 @@
-"""Fault memories, and what a DM1 or DM2 says of them (J1939-73, 5.7.1, 5.7.2, 5.7.3, 5.7.11)."""
+"""Fault memories, and what a DM1, DM2 or DM6 says of them (J1939-73, 5.7.1, 5.7.2, 5.7.3, 5.7.6, 5.7.11)."""
 
-from .frames import DM1
+from .frames import DM1, DM2, DM6
 
 MOST_CODES = 445  # what a message of 1,785 bytes has room for
 LAST_SPN, LAST_FMI = 524287, 31  # 19 bits and 5 bits
@@ -9,11 +9,11 @@ OFF = b"\x00\xff"  # no lamp on; flash codes all "not available"
 
 
 class Refused(Exception):
-    """A call that was refused: it changed nothing."""
+    """A call that was refused: it changed nothing. `of` says what it was tried on, where that is a case of its own."""
 
-    def __init__(self, refusal):
+    def __init__(self, refusal, of=None):
         super().__init__(refusal)
-        self.refusal = refusal
+        self.refusal, self.of = refusal, of
 
 
 class Code:
@@ -33,10 +33,11 @@ class Code:
 
 
 class Memory:
-    """Two lamp bytes, the active codes, the codes that were active before. No pair of SPN and FMI stands twice."""
+    """Two lamp bytes, the active codes, the codes that were active before, and the pending ones: seen, and not yet found to be
+    active. No pair of SPN and FMI stands twice over the three lists."""
 
     def __init__(self):
-        self.lamps, self.active, self.previous = OFF, [], []
+        self.lamps, self.active, self.previous, self.pending = OFF, [], [], []
 
     @staticmethod
     def find(codes, spn, fmi):
@@ -49,8 +50,23 @@ class Memory:
         if fmi > LAST_FMI:
             raise Refused("FmiTooLarge")
 
+    def list_of(self, spn, fmi):
+        """The name of the list in which a code stands; None where it stands in none."""
+        lists = {"active": self.active, "previous": self.previous, "pending": self.pending}
+        return next((name for name, codes in lists.items() if self.find(codes, spn, fmi)), None)
+
+    def is_full(self):
+        return len(self.active) + len(self.previous) + len(self.pending) == MOST_CODES
+
+    def new(self, spn, fmi):
+        """A code that stands in no list yet: it has occurred once."""
+        if self.is_full():
+            raise Refused("Full")
+        return Code(spn, fmi, 1)
+
     def set(self, spn, fmi):
-        """A fault is there: a code that was active before comes back, counted once more; a new one has count 1."""
+        """A fault is there: a code that was active before comes back, counted once more; a pending one has its count already;
+        a new one has count 1."""
         self.check(spn, fmi)
         if self.find(self.active, spn, fmi):
             return "active already"
@@ -59,9 +75,13 @@ class Memory:
             self.previous.remove(code)
             self.active.append(Code(spn, fmi, min(code.count + 1, LAST_COUNT)))
             return "back at the greatest count" if code.count == LAST_COUNT else "back"
-        if len(self.active) + len(self.previous) == MOST_CODES:
-            raise Refused("Full")
-        self.active.append(Code(spn, fmi, 1))
+        code = self.find(self.pending, spn, fmi)
+        if code:
+            full = self.is_full()
+            self.pending.remove(code)
+            self.active.append(code)
+            return "pending before, with no room for another" if full else "pending before"
+        self.active.append(self.new(spn, fmi))
         return "new"
 
     def heal(self, spn, fmi):
@@ -69,24 +89,41 @@ class Memory:
         self.check(spn, fmi)
         code = self.find(self.active, spn, fmi)
         if not code:
-            raise Refused("NotActive")
+            raise Refused("NotActive", self.list_of(spn, fmi) or "unknown")
         self.active.remove(code)
         self.previous.append(code)
 
+    def pend(self, spn, fmi):
+        """A fault may be there: a code that stands in no list becomes pending, with count 1. Any other stays where it is."""
+        self.check(spn, fmi)
+        known = self.list_of(spn, fmi)
+        if known:
+            return f"{known} already" + (", with no room for another" if self.is_full() else "")
+        self.pending.append(self.new(spn, fmi))
+        return "new"
+
+    def unpend(self, spn, fmi):
+        """A fault is not there after all: its pending code goes away. Codes of the other lists are no pending ones."""
+        self.check(spn, fmi)
+        code = self.find(self.pending, spn, fmi)
+        if not code:
+            raise Refused("NotPending", self.list_of(spn, fmi) or "unknown")
+        self.pending.remove(code)
+
     def clear_active(self):
-        """What DM11 asks for: no active codes, all lamps off. Nothing becomes a previous code."""
-        self.lamps, self.active = OFF, []
+        """What DM11 asks for: no active and no pending codes, all lamps off. Nothing becomes a previous code."""
+        self.lamps, self.active, self.pending = OFF, [], []
 
     def clear_previous(self):
-        """What DM3 asks for. The lamps stay."""
+        """What DM3 asks for. The lamps and all other codes stay."""
         self.previous = []
 
     def payload(self, kind):
-        """The bytes of a message of that kind: lamps, then active codes (DM1) or previous ones (DM2).
+        """The bytes of a message of that kind: lamps, then active codes (DM1), previous ones (DM2) or pending ones (DM6).
 
         Up to one code there are always 8 bytes: no code is four zeros, the rest is filled with FF.
         """
-        codes = self.active if kind == DM1 else self.previous
+        codes = {DM1: self.active, DM2: self.previous, DM6: self.pending}[kind]
         data = self.lamps + b"".join(code.data() for code in codes)
         if not codes:
             data += bytes(4)

@@ -8,16 +8,16 @@ import contextlib
 import re
 
 from .cases import EARLIER, reach
-from .frames import CLAIM, DM1, DM2, DM3, DM11, KINDS, Frame
+from .frames import CLAIM, DM1, DM3, DM11, KINDS, Frame
 from .garage import Garage
 from .memory import Refused, entry_text
 
 NUMBERS = {
     "IdTooLarge": 1, "TooLong": 2, "BadName": 4, "NotAnAddress": 7, "SpnTooLarge": 9, "FmiTooLarge": 10, "Full": 13,
     "NotActive": 14, "NameInUse": 19, "TooManySeats": 20, "BookFull": 21, "NoAddress": 22, "NotHeld": 23, "BadSetting": 24,
-    "Unclaimed": 26, "PgnTooLarge": 28,
+    "Unclaimed": 26, "PgnTooLarge": 28, "NotPending": 29,
 }
-ASKED = {"dm1": DM1, "dm2": DM2, "dm3": DM3, "dm11": DM11, "claim": CLAIM}
+ASKED = {**KINDS, "dm3": DM3, "dm11": DM11, "claim": CLAIM}
 BYTE, WORD = 8, 32  # the bits of a number
 MOST_INPUT = 1048576  # bytes
 
@@ -80,7 +80,7 @@ class Script:
             reach(form + ": no seat")
             return "no seat"
         except Refused as refused:
-            reach(f"{form}: refused {refused.refusal}")
+            reach(f"{form}: refused {refused.refusal}" + (f", {refused.of}" if refused.of else ""))
             if form in EARLIER and self.garage.is_full() and refused.refusal not in ("BookFull", "BadName", "PgnTooLarge"):
                 reach(form + ": another refusal at the limit")
             return f"refused {NUMBERS[refused.refusal]} {refused.refusal}"
@@ -122,10 +122,9 @@ class Script:
         memory = self.garage.unit(self.seat_of(seat)).memory
         with self.several(command) as done:
             for at in range(spn, spn + count):
-                if command == "set":
-                    reach("set: " + memory.set(at, fmi))
-                else:
-                    memory.heal(at, fmi)
+                case = {"set": memory.set, "heal": memory.heal, "pend": memory.pend, "unpend": memory.unpend}[command](at, fmi)
+                if case:
+                    reach(f"{command}: {case}")
                 done.append(at)
         reach(command + (": ok" if count else ": ok, none"))
         return "ok"
@@ -135,6 +134,12 @@ class Script:
 
     def heal(self, given):
         return self.change(given, "heal")
+
+    def pend(self, given):
+        return self.change(given, "pend")
+
+    def unpend(self, given):
+        return self.change(given, "unpend")
 
     def lamps(self, given):
         seat, lamps = self.words(given, 2)
@@ -285,7 +290,7 @@ class Script:
         return f"missed {station.missed} unread {station.unread}"
 
     def report(self, given):
-        """A line for each NAME, in order of the first claim read: its address right in 4 places, its numbers of DM1 and DM2
+        """A line for each NAME, in order of the first claim read: its address right in 4 places, its numbers of DM1, DM2 and DM6
         entries right in 6, of the newest DM1 the lamps and the number of codes right in 4. At the end what `stats` tells."""
         self.words(given, 0)
         station, lines = self.garage.station, []
@@ -293,7 +298,8 @@ class Script:
             address, dm1 = station.address_of(name), station.shown(name, DM1)
             newest = "%s %4d" % (dm1[-1][0].hex().upper(), len(dm1[-1][1])) if dm1 else "----    -"
             held = "none" if address is None else "%4d" % address
-            lines.append("%016X %s %6d %6d %s" % (name, held, len(dm1), len(station.shown(name, DM2)), newest))
+            numbers = " ".join("%6d" % len(station.shown(name, kind)) for kind in KINDS.values())
+            lines.append("%016X %s %s %s" % (name, held, numbers, newest))
             reach("report: a NAME without an address" if address is None else "report: a NAME with an address")
             reach("report: a newest DM1" if dm1 else "report: no DM1")
         reach("report: no NAME" if not lines else "report: one NAME" if len(lines) == 1 else "report: several NAMEs")
@@ -327,12 +333,11 @@ class Script:
 
 
 COMMANDS = {
-    "garage": Script.make_garage, "join": Script.join, "set": Script.set, "heal": Script.heal, "lamps": Script.lamps,
-    "think": Script.think, "turn": Script.turn, "leave": Script.leave, "hear": Script.hear, "dm1": Script.dm1,
-    "carry": Script.carry, "read": Script.read, "round": Script.round, "ask": Script.ask, "command": Script.command,
-    "shown": Script.shown, "row": Script.row, "counts": Script.counts, "stats": Script.stats, "frame": Script.frame,
-    "inject": Script.inject, "injected": Script.injected,
-    "report": Script.report,
+    "garage": Script.make_garage, "join": Script.join, "set": Script.set, "heal": Script.heal, "pend": Script.pend,
+    "unpend": Script.unpend, "lamps": Script.lamps, "think": Script.think, "turn": Script.turn, "leave": Script.leave,
+    "hear": Script.hear, "dm1": Script.dm1, "carry": Script.carry, "read": Script.read, "round": Script.round,
+    "ask": Script.ask, "command": Script.command, "shown": Script.shown, "row": Script.row, "counts": Script.counts,
+    "stats": Script.stats, "frame": Script.frame, "inject": Script.inject, "injected": Script.injected, "report": Script.report,
 }
 
 

@@ -5,8 +5,8 @@ an address, which message a packet completes and where a NAME stands are all sai
 """
 
 from .cases import reach
-from .frames import (ABORT, ACKNOWLEDGMENT, BAM, CLAIM, COMMANDED_ADDRESS, CONTROL, DM1, DM2, GLOBAL, LAST_ADDRESS, NEGATIVE,
-                     NULL, PACKET, RTS, abort, acknowledgment, broadcast, claim, claimed_name, control_of, control_pgn,
+from .frames import (ABORT, ACKNOWLEDGMENT, BAM, CLAIM, COMMANDED_ADDRESS, CONTROL, GLOBAL, LAST_ADDRESS, NEGATIVE, NULL,
+                     PACKET, RTS, TITLES, abort, acknowledgment, broadcast, claim, claimed_name, control_of, control_pgn,
                      control_size, cts, end_of_message, in_order, joined, number, request, requested)
 from .memory import Refused, read_message
 from .unit import contend
@@ -61,10 +61,10 @@ class Station:
         return None
 
     def starts(self, place):
-        """Whether the reading at a place starts a message: a DM1 or DM2 from an owned address that is announced or asked to
+        """Whether the reading at a place starts a message: a DM1, DM2 or DM6 from an owned address that is announced or asked to
         be let send."""
         frame = self.readings[place].frame
-        return control_pgn(frame) in (DM1, DM2) and self.owner(frame.source, place) is not None
+        return control_pgn(frame) in TITLES and self.owner(frame.source, place) is not None
 
     def message_under_way(self, source, dest, place):
         """The place of the start of the message from a source that is half joined before a place, and its packets' bytes
@@ -159,7 +159,7 @@ class Station:
             self.take_request(frame)
         elif frame.pgn == ACKNOWLEDGMENT and len(frame.data) == 8:
             self.take_acknowledgment(frame, place)
-        elif frame.pgn in (DM1, DM2):
+        elif frame.pgn in TITLES:
             self.take_message(self.owner(frame.source, place), frame.pgn, frame.data, "a single frame")
         elif control_of(frame) == BAM and frame.dest == GLOBAL:
             self.take_announcement(frame, place)
@@ -233,10 +233,10 @@ class Station:
         if owner is None:
             reach("the station passes over a message from an address without owner")
         elif shown is None:
-            reach("the station can't read a message")
+            reach(f"the station can't read a {TITLES[kind]}")
             self.unread += 1
         else:
-            reach(f"the station shows a {'DM1' if kind == DM1 else 'DM2'} by {how}")
+            reach(f"the station shows a {TITLES[kind]} by {how}")
             self.entries.append((owner, kind, shown))
 
     def take_announcement(self, frame, place):

@@ -4,8 +4,8 @@ A unit remembers nothing that it can look up: it has heard the frames of the wir
 """
 
 from .cases import reach
-from .frames import (ABORT, ACKNOWLEDGMENT, BAM, CLAIM, COMMANDED_ADDRESS, CONTROL, CTS, DM1, DM2, DM3, DM11, END_OF_MESSAGE,
-                     GLOBAL, LAST_ADDRESS, NEGATIVE, NOT_NOW, PACKET, POSITIVE, REQUEST, RTS, abort, acknowledgment, broadcast,
+from .frames import (ABORT, ACKNOWLEDGMENT, BAM, CLAIM, COMMANDED_ADDRESS, CONTROL, CTS, DM1, DM3, DM11, END_OF_MESSAGE, GLOBAL,
+                     LAST_ADDRESS, NEGATIVE, NOT_NOW, PACKET, POSITIVE, REQUEST, RTS, TITLES, abort, acknowledgment, broadcast,
                      claim, claimed_name, control_of, control_pgn, control_size, in_order, joined, number, packet, packets_of,
                      requested, rts, to_all)
 from .memory import Memory, Refused
@@ -92,8 +92,9 @@ class Unit:
                 self.memory.heal(spn, fmi)
                 reach("a flicker heals")
             else:
+                before = self.memory.list_of(spn, fmi)
                 self.memory.set(spn, fmi)
-                reach("a flicker sets")
+                reach("a flicker sets a pending code" if before == "pending" else "a flicker sets")
         except Refused as refused:
             reach("a flicker's change is refused " + refused.refusal)
 
@@ -161,8 +162,8 @@ class Unit:
             reach("a unit hears a packet to one alone")
         elif frame.pgn == ACKNOWLEDGMENT:
             reach("a unit hears an acknowledgment")
-        elif frame.pgn in (DM1, DM2):
-            reach("a unit hears a DM1 or DM2")
+        elif frame.pgn in TITLES:
+            reach("a unit hears a DM1, DM2 or DM6")
         else:
             reach("a unit hears a frame of another kind")
 
@@ -170,7 +171,7 @@ class Unit:
         """Whoever defends, moves or gives up, or obeys a command, withdraws all and says what it holds."""
         if self.session:
             reach("a unit that claims anew ends its session")
-        if any(frame.pgn in (CONTROL, PACKET, DM1, DM2) for frame, _ in self.queue):
+        if any(frame.pgn in (CONTROL, PACKET, *TITLES) for frame, _ in self.queue):
             reach("a unit that claims anew withdraws parts of messages")
         self.withdraw(ALL)
         self.session = None
@@ -211,7 +212,7 @@ class Unit:
             reach("a unit is asked from its own address for something else")
         elif frame.source > LAST_ADDRESS:
             reach("a unit is asked by one without an address for something else")
-        elif pgn in (DM1, DM2):
+        elif pgn in TITLES:
             self.asked_for_message(pgn, frame.source, own, where)
         elif pgn in (DM3, DM11):
             self.asked_to_clear(pgn, frame.source, own, where)
@@ -228,36 +229,41 @@ class Unit:
         """
         payload = self.memory.payload(kind)
         short = len(payload) == 8
+        if self.session:
+            reach(f"a unit with a session of {TITLES[self.session.kind]} open is asked for {TITLES[kind]}")
         if self.session and self.session.kind == kind:
             reach(where + ("a short message" if short else "a long message") + " with a session of that kind open")
             if own:
                 self.put(acknowledgment(NOT_NOW, asked_by, kind, self.held))
         elif short:
-            reach(where + "a short message" + (" with a session of the other kind open" if self.session else ""))
+            reach(where + "a short message" + (" with a session of another kind open" if self.session else ""))
+            reach(f"a unit is asked for {TITLES[kind]} and sends a single frame")
             self.put(to_all(6, kind, self.held, payload))
         elif not own:
-            reach(where + "a long message" + (" with a session of the other kind open" if self.session else ""))
+            reach(where + "a long message" + (" with a session of another kind open" if self.session else ""))
+            reach(f"a unit is asked for {TITLES[kind]} and begins a broadcast")
             self.put(*broadcast(payload, kind, self.held))
         elif self.session:
-            reach(where + "a long message with a session of the other kind open")
+            reach(where + "a long message with a session of another kind open")
             self.put(acknowledgment(NOT_NOW, asked_by, kind, self.held))
         else:
             reach(where + "a long message")
+            reach(f"a unit is asked for {TITLES[kind]} and begins a session")
             self.session = Session(kind, payload, asked_by)
             self.put(rts(len(payload), kind, asked_by, self.held), session=True)
 
     def asked_to_clear(self, pgn, asked_by, own, where):
-        """DM3 clears the previous codes, DM11 the active ones. Only one who asks alone is answered (J1939-73)."""
-        what = "DM3" if pgn == DM3 else "DM11"
-        codes = self.memory.previous if pgn == DM3 else self.memory.active
-        if self.obeys():
-            reach(where + what + ("" if codes else " with no code to clear"))
-            if pgn == DM3:
-                self.memory.clear_previous()
-            else:
-                self.memory.clear_active()
+        """DM3 clears the previous codes, DM11 the active and the pending ones. Only one who asks alone is answered (J1939-73)."""
+        what = where + ("DM3" if pgn == DM3 else "DM11") + ("" if self.obeys() else " and refuses")
+        codes, pending = self.memory.previous if pgn == DM3 else self.memory.active, self.memory.pending
+        if pending:
+            reach(what + (" with pending codes too" if codes else " with pending codes alone"))
         else:
-            reach(where + what + " and refuses" + ("" if codes else " with no code to clear"))
+            reach(what + ("" if codes else " with no code to clear"))
+        if self.obeys() and pgn == DM3:
+            self.memory.clear_previous()
+        elif self.obeys():
+            self.memory.clear_active()
         if own:
             self.put(acknowledgment(POSITIVE if self.obeys() else NEGATIVE, asked_by, pgn, self.held))
 
@@ -342,7 +348,7 @@ class Unit:
 
     def begun_dm1(self):
         if self.session:
-            reach("a DM1 begins with a session of the other kind open")
+            reach(f"a DM1 begins with a session of {TITLES[self.session.kind]} open")
         payload = self.memory.payload(DM1)
         if len(payload) == 8:
             self.put(to_all(6, DM1, self.held, payload))

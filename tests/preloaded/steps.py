@@ -50,7 +50,7 @@ class Apart:
             self.heard.pop(words[1], None)
         if words[0] == "inject" and answer == "ok":
             self.carried += 1
-        if words[0] in ("set", "heal") and len(words) == 5:
+        if words[0] in ("set", "heal", "pend", "unpend") and len(words) == 5:
             self.steps += [f"{words[0]} {words[1]} {int(words[2]) + number} {words[3]}" for number in range(int(words[4]))]
         elif words[0] == "hear":
             self.hear(words[1], int(words[2]) if len(words) == 3 else 1)
@@ -102,5 +102,5 @@ def queries_for(commands, answers, more):
     carried += len(injected)
     queries = [f"counts {seat}" for seat in range(seats + 1)] + ["stats"] + ["injected"] * bool(injected)
     for name in names:
-        queries += [f"shown {name} dm1", f"shown {name} dm2", f"row {name}"]
+        queries += [f"shown {name} {kind}" for kind in ("dm1", "dm2", "dm6")] + [f"row {name}"]
     return queries + [f"frame {index}" for index in sorted({0, 1, carried // 2, carried - 1, carried})] + more

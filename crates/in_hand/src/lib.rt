@@ -1,6 +1,7 @@
-//! What one can conclude of a garage that was handed over: small uses of what its calls promise.
+//! That the public calls can be used: what one can conclude of a garage that was handed over, a unit of one's own and its seat, and calls
+//! that need something of what they are given.
 //!
-//! No function here knows how the garage came about. That no subtraction goes below 0 follows from the clauses of its calls.
+//! No function here knows how its garage came about. That no subtraction goes below 0 follows from the clauses of its calls.
 #![tactic(auto)]
 
 ghost use Rattle.std.specs.Prelude.{◌≡◌, ◌+◌, length, option_map, slice_get, OnErr, IfOk, IfSome};
@@ -11,8 +12,15 @@ use garage::{Garage, GarageError};
 use name_field::Name;
 use std::alloc::Global;
 
+mod packets;
+mod seated;
 #[cfg(test)]
 mod tests;
+mod told;
+
+pub use packets::whole_with;
+pub use seated::last_turn;
+pub use told::Told;
 
 /// How many frames of a seat were queued and came neither on the wire nor wait for it: those withdrawn. Nothing where the seat
 /// was never given.

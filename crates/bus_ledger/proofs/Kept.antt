@@ -1,9 +1,9 @@
 -- A carry, a join and a leave keep the fields of a bus in order.
-use Rattle.std.proofs.Common.{ℕ, ◌≡◌, ◌+◌, ◌<◌, ◌^◌, List, [], ◌∷◌, ◌++◌, map, length, get_or, set, not, ◌==◌, Some, slice_get, refl, sym, ap, ◌∙◌, subst, arith}
+use Rattle.std.proofs.Common.{ℕ, ◌≡◌, ◌+◌, ◌<◌, ◌≤◌, ◌^◌, List, [], ◌∷◌, ◌++◌, map, length, get_or, set, not, ◌==◌, Some, slice_get, refl, sym, ap, ◌∙◌, subst, arith}
 use Rattle.std.specs.List.{filter}
 use Rattle.std.proofs.lemmas.List.{map-set, map_push, length-set, length-map, length_push, get_or_read, get_or_append_left}
 use Rattle.can_frame.specs.FrameValue.{FrameValue}
-use Rattle.bus_ledger.specs.BusValue.{SeatValue, SeatBook, Traffic, BusValue, no_book, seat_at}
+use Rattle.bus_ledger.specs.BusValue.{IsStation, SeatValue, SeatBook, Traffic, BusValue, no_book, seat_at}
 use Rattle.bus_ledger.specs.Changes.{newcomer, with_newcomer, sending, leaving, left, carried_frame, carried_from, injected, stray_frame}
 use Rattle.bus_ledger.specs.Carrying.{IsCarriedNext}
 use Rattle.bus_ledger.specs.Ledger.{IsSound}
@@ -49,10 +49,10 @@ seat_count a v is = sym (length-map a.seats.items seat_of) ∙ ap (λ (b : BusVa
 
 -- the value after a carry
 pub carry_traffic : (a b : Inside) (v : BusValue) (k : ℕ) (q : QueuedFrame) (x y : SeatBook) → bus_value_of a ≡ v → k < length v.traffic.seats → x ≡ get_or a.seats.items k x
-    → y.seat ≡ sending x.seat → b.wire.items ≡ a.wire.items ++ carried_frame k q ∷ [] → b.seats.items ≡ set a.seats.items k y → b.tap ≡ taken_in k q.frame a.tap
+    → y.seat ≡ sending x.seat → b.wire.items ≡ a.wire.items ++ carried_frame k q ∷ [] → b.seats.items ≡ set a.seats.items k y → b.tap ≡ taken_in 0 k q.frame a.tap
     → traffic_of b ≡ carried_from k q v.traffic
 carry_traffic a b v k q x y is h read e wire seats tap =
-    let window : b.tap.size ≡ a.tap.size = ap (λ (w : WindowValue). w.size) tap ∙ taken_size k q.frame a.tap in
+    let window : b.tap.size ≡ a.tap.size = ap (λ (w : WindowValue). w.size) tap ∙ taken_size 0 k q.frame a.tap in
     let y' : y.seat ≡ sending (seat_at (traffic_of a) k) = e ∙ ap sending (seat_is a (bus_value_of a) k x refl (within a v k is h) read) in
     let s : map seat_of b.seats.items ≡ set (map seat_of a.seats.items) k (sending (seat_at (traffic_of a) k)) =
     ap (map seat_of) seats ∙ (map-set seat_of a.seats.items k y ∙ ap (λ (z : SeatValue). set (map seat_of a.seats.items) k z) y') in
@@ -60,7 +60,7 @@ carry_traffic a b v k q x y is h read e wire seats tap =
     t ∙ ap (λ (w : BusValue). carried_from k q w.traffic) is
 
 pub carry_kept : (a b : Inside) (v : BusValue) (k : ℕ) (q : QueuedFrame) (x y : SeatBook) → bus_value_of a ≡ v → IsKept a → IsCarriedNext v.traffic k q → x ≡ get_or a.seats.items k x
-    → y.seat ≡ sending x.seat → b.wire.items ≡ a.wire.items ++ carried_frame k q ∷ [] → b.seats.items ≡ set a.seats.items k y → b.live.items ≡ a.live.items → b.tap ≡ taken_in k q.frame a.tap
+    → y.seat ≡ sending x.seat → b.wire.items ≡ a.wire.items ++ carried_frame k q ∷ [] → b.seats.items ≡ set a.seats.items k y → b.live.items ≡ a.live.items → b.tap ≡ taken_in 0 k q.frame a.tap
     → length v.traffic.wire + 1 < 2 ^ 32 → IsKept b
 carry_kept a b v k q x y is kept next read e wire seats live tap few =
     let h = next_within v.traffic k q next in
@@ -72,8 +72,8 @@ carry_kept a b v k q x y is kept next read e wire seats live tap few =
     let wire_now : length b.wire.items ≡ length (a.wire.items ++ carried_frame k q ∷ []) = ap length wire in
     record {
       sound = subst IsSound (sym t) (sound_carried v.traffic k q sound h next.offers);
-      tap = tap ∙ (ap (taken_in k q.frame) (kept.tap ∙ ap (λ (w : BusValue). window_of w.traffic) is)
-          ∙ (window_carried v.traffic k q h (offer_says (length v.traffic.wire) (seat_at v.traffic k) q next.offers).heard (sound.seats 0 (omega arith)).heard ∙ ap window_of (sym t)));
+      tap = tap ∙ (ap (taken_in 0 k q.frame) (kept.tap ∙ ap (λ (w : BusValue). window_of w.traffic 0) is)
+          ∙ (window_carried v.traffic 0 k q h (offer_says (length v.traffic.wire) (seat_at v.traffic k) q next.offers).heard (sound.seats 0 (omega arith)).heard ∙ ap (λ (u : Traffic). window_of u 0) (sym t)));
       live = live ∙ (kept.live ∙ (sym (live_set 0 a.seats.items k y (ap (λ (z : SeatValue). z.live) e ∙ ap (λ (w : SeatBook). w.seat.live) (get_or_read a.seats.items k x in' read no_book)))
           ∙ ap (live_numbers 0) (sym seats)));
       few_seats = let n = ap length seats ∙ length-set a.seats.items k y in let f = kept.few_seats in omega arith;
@@ -89,12 +89,12 @@ join_traffic a b name y e wire seats window =
     let size : b.tap.size ≡ a.tap.size = ap (λ (w : WindowValue). w.size) window in
     cc
 
--- the newcomer comes after the station
-window_joined : (t : Traffic) (name : ℕ) → IsSound t → window_of (with_newcomer name t) ≡ window_of t
-window_joined t name s =
-    let h : 0 < length t.seats = station_given t s in
-    let same : (seat_at (with_newcomer name t) 0).heard ≡ (seat_at t 0).heard = rw get_or_append_left refl in
-    window_same t (with_newcomer name t) refl refl same
+-- the newcomer comes after the stations
+window_joined : (t : Traffic) (name y : ℕ) → IsSound t → IsStation t y → window_of (with_newcomer name t) y ≡ window_of t y
+window_joined t name y s given =
+    let h : y < length t.seats = station_given t y s given in
+    let same : (seat_at (with_newcomer name t) y).heard ≡ (seat_at t y).heard = rw get_or_append_left refl in
+    window_same y t (with_newcomer name t) refl refl same
 
 pub join_kept : (a b : Inside) (name number : ℕ) (y : SeatBook) → IsKept a → y.seat ≡ newcomer name (length a.wire.items) → b.wire.items ≡ a.wire.items → b.seats.items ≡ a.seats.items ++ y ∷ []
     → b.live.items ≡ a.live.items ++ number ∷ [] → b.tap ≡ a.tap → number ≡ length a.seats.items → length a.seats.items + 1 < 2 ^ 32 → IsKept b
@@ -102,7 +102,7 @@ join_kept a b name number y kept e wire seats live window n few =
     let t = join_traffic a b name y e wire seats window in
     record {
       sound = subst IsSound (sym t) (sound_joined (traffic_of a) name kept.sound);
-      tap = window ∙ (kept.tap ∙ (sym (window_joined (traffic_of a) name kept.sound) ∙ ap window_of (sym t)));
+      tap = window ∙ (kept.tap ∙ (sym (window_joined (traffic_of a) name 0 kept.sound kept.sound.some) ∙ ap (λ (u : Traffic). window_of u 0) (sym t)));
       live = live ∙ (ap (λ (l : List ℕ). l ++ number ∷ []) kept.live ∙ (sym (live_push 0 number a.seats.items y (omega arith) (ap (λ (z : SeatValue). z.live) e)) ∙ ap (live_numbers 0) (sym seats)));
       few_seats = let m = ap length seats ∙ length_push a.seats.items y in omega arith;
       few_frames = let m = ap length wire in let f = kept.few_frames in omega arith;
@@ -119,15 +119,16 @@ leave_traffic a b v k x y is h read e wire seats window =
     let t : traffic_of b ≡ left k (traffic_of a) = cc in
     t ∙ ap (λ (w : BusValue). left k w.traffic) is
 
-pub leave_kept : (a b : Inside) (v : BusValue) (k : ℕ) (x y : SeatBook) → bus_value_of a ≡ v → IsKept a → 0 < k → k < length v.traffic.seats → x ≡ get_or a.seats.items k x → y.seat ≡ leaving x.seat
+pub leave_kept : (a b : Inside) (v : BusValue) (k : ℕ) (x y : SeatBook) → bus_value_of a ≡ v → IsKept a → length v.traffic.windows ≤ k → k < length v.traffic.seats → x ≡ get_or a.seats.items k x → y.seat ≡ leaving x.seat
     → b.wire.items ≡ a.wire.items → b.seats.items ≡ set a.seats.items k y → b.live.items ≡ filter (λ n. not (n == k)) a.live.items → b.tap ≡ a.tap → IsKept b
 leave_kept a b v k x y is kept above h read e wire seats live window =
     let in' = within a v k is h in
     let t = leave_traffic a b v k x y is h read e wire seats window in
     let sound : IsSound v.traffic = subst (λ (w : BusValue). IsSound w.traffic) is kept.sound in
+    let one : 1 ≡ length v.traffic.windows = ap (λ (w : BusValue). length w.traffic.windows) is in
     record {
-      sound = subst IsSound (sym t) (sound_set v.traffic k (leaving (seat_at v.traffic k)) sound h (λ z. absurd (omega arith)) (balanced_leaving v.traffic.wire k (seat_at v.traffic k)));
-      tap = window ∙ (kept.tap ∙ (ap (λ (w : BusValue). window_of w.traffic) is ∙ (sym (window_set v.traffic k (leaving (seat_at v.traffic k)) h (λ z. absurd (omega arith))) ∙ ap window_of (sym t))));
+      sound = subst IsSound (sym t) (sound_set v.traffic k (leaving (seat_at v.traffic k)) sound h (λ z. absurd (omega (arith, z, above))) (balanced_leaving v.traffic.wire k (seat_at v.traffic k)));
+      tap = window ∙ (kept.tap ∙ (ap (λ (w : BusValue). window_of w.traffic 0) is ∙ (sym (window_set 0 v.traffic k (leaving (seat_at v.traffic k)) h (λ z. absurd (omega (arith, z, above, one)))) ∙ ap (λ (u : Traffic). window_of u 0) (sym t))));
       live = live ∙ (ap (filter (λ n. not (n == k))) kept.live ∙ (sym (live_left 0 a.seats.items k k y (omega arith) in' (ap (λ (z : SeatValue). z.live) e)) ∙ ap (live_numbers 0) (sym seats)));
       few_seats = let n = ap length seats ∙ length-set a.seats.items k y in let f = kept.few_seats in omega arith;
       few_frames = let m = ap length wire in let f = kept.few_frames in omega arith;
@@ -146,13 +147,13 @@ pub inject_kept : (a b : Inside) (v : BusValue) (f : FrameValue) → bus_value_o
 inject_kept a b v f is kept wire seats live tap few =
     let t = inject_traffic a b v f is wire seats tap in
     let sound : IsSound v.traffic = subst (λ (w : BusValue). IsSound w.traffic) is kept.sound in
-    let given = station_given v.traffic sound in
+    let given = station_given v.traffic 0 sound sound.some in
     let longer = length_push a.wire.items (stray_frame f) in
     let same_wire : length a.wire.items ≡ length v.traffic.wire = ap (λ (w : BusValue). length w.traffic.wire) is in
     let wire_now : length b.wire.items ≡ length (a.wire.items ++ stray_frame f ∷ []) = ap length wire in
     record {
       sound = subst IsSound (sym t) (sound_injected v.traffic f sound);
-      tap = tap ∙ (ap (pushed f) (kept.tap ∙ ap (λ (w : BusValue). window_of w.traffic) is) ∙ (window_injected v.traffic f (sound.seats 0 given).heard ∙ ap window_of (sym t)));
+      tap = tap ∙ (ap (pushed f) (kept.tap ∙ ap (λ (w : BusValue). window_of w.traffic 0) is) ∙ (window_injected v.traffic 0 f (sound.seats 0 given).heard ∙ ap (λ (u : Traffic). window_of u 0) (sym t)));
       live = live ∙ (kept.live ∙ ap (live_numbers 0) (sym seats));
       few_seats = let n = ap length seats in let m = kept.few_seats in omega arith;
       few_frames = omega arith;

@@ -4,7 +4,7 @@ use Rattle.std.proofs.lemmas.List.{map-set, length-set, length-drop, length-map,
 use Rattle.std.proofs.lemmas.List.Elements.{All-drop}
 use Rattle.std.specs.List.{All}
 use Rattle.std.specs.Vec.{with_item}
-use Rattle.bus_ledger.specs.BusValue.{SeatValue, SeatBook, Traffic, BusValue, KeepsSpares, nobody, no_book, book_at, seat_at, spare_at}
+use Rattle.bus_ledger.specs.BusValue.{IsStation, SeatValue, SeatBook, Traffic, BusValue, KeepsSpares, nobody, no_book, book_at, seat_at, spare_at}
 use Rattle.bus_ledger.specs.Changes.{with_seat, hearing, heard_more, queueing_all, kept, withdrawing, leaving}
 use Rattle.bus_ledger.specs.declared.traffic.QueuedFrame.{QueuedFrame}
 use Rattle.bus_ledger.specs.declared.error.BusError.{BusError}
@@ -12,7 +12,7 @@ use Rattle.bus_ledger.specs.declared.error.BusError.TheVariants.{OutOfMemory}
 use Rattle.bus_ledger.specs.declared.traffic.Which.{Which}
 use Rattle.bus_ledger.specs.declared.traffic.Which.TheVariants.{Session, All as Everything}
 use Rattle.bus_ledger.specs.Ledger.{IsBalanced, IsSound}
-use Rattle.bus_ledger.specs.Reception.{not_yet_read, first_reading, next_reading, passes}
+use Rattle.bus_ledger.specs.Reception.{not_yet_read, first_reading, next_reading, passes, window_at}
 use Rattle.can_frame.specs.declared.reading.Reading.{Reading}
 use Rattle.can_frame.specs.declared.reading.Reading.TheVariants.{Frame, Gap, Empty}
 use Rattle.bus_ledger.specs.Inside.{seat_of, spare_of, traffic_of, bus_value_of, live_numbers, IsKept}
@@ -37,13 +37,14 @@ spare_book (x ∷ xs) (suc k) = spare_book xs k
 
 -- a sound bus in which one seat changes and stays balanced is sound
 pub sound_set : (t : Traffic) (k : ℕ) (y : SeatValue) → IsSound t → k < length t.seats
-    → (k ≡ 0 → y.live ≡ true) → (IsBalanced t.wire k (seat_at t k) → IsBalanced t.wire k y) → IsSound (with_seat t k y)
+    → (IsStation t k → y.live ≡ true) → (IsBalanced t.wire k (seat_at t k) → IsBalanced t.wire k y) → IsSound (with_seat t k y)
 sound_set t k y s in' live balanced = record {
-  station = elim (same_or_not 0 k) [
-    | inl e ↦ let here : 0 < length t.seats = omega arith in rw (← e, get_or-set_same) (live (sym e))
-    | inr n ↦ rw get_or-set_other s.station
+  some = s.some;
+  stations = λ i h. elim (same_or_not i k) [
+    | inl e ↦ let here : i < length t.seats = omega arith in rw (← e, get_or-set_same) (live (subst (IsStation t) e h))
+    | inr n ↦ rw get_or-set_other (s.stations i h)
   ];
-  window = s.window;
+  windows = s.windows;
   senders = rw (length-set t.seats k y) s.senders;
   seats = λ j h.
       let h' : j < length t.seats = rw (sym (length-set t.seats k y)) h in
@@ -75,7 +76,7 @@ spare_is a v k x is in' read =
 
 pub placed_traffic : (a : Inside) (v : BusValue) (k : ℕ) (y : SeatBook) (s : SeatValue) → bus_value_of a ≡ v → y.seat ≡ s → traffic_of (placed a k y) ≡ with_seat v.traffic k s
 placed_traffic a v k y s is e =
-    ap (λ (l : List SeatValue). let t : Traffic = record { wire = a.wire.items; seats = l; window = a.tap.size } in t) (map-set seat_of a.seats.items k y)
+    ap (λ (l : List SeatValue). let t : Traffic = record { wire = a.wire.items; seats = l; windows = a.tap.size ∷ [] } in t) (map-set seat_of a.seats.items k y)
     ∙ (ap (λ (z : SeatValue). with_seat (traffic_of a) k z) e ∙ ap (λ (b : BusValue). with_seat b.traffic k s) is)
 
 -- a seat replaced by itself
@@ -109,9 +110,9 @@ placed_sound : (a : Inside) (k : ℕ) (x y : SeatBook) → IsKept a → k < leng
 placed_sound a k x y kept in' read live balanced =
     let s = seat_is a (bus_value_of a) k x refl in' read in
     let in'' : k < length (map seat_of a.seats.items) = rw length-map in' in
-    subst (λ (l : List SeatValue). IsSound (record { wire = a.wire.items; seats = l; window = a.tap.size })) (sym (map-set seat_of a.seats.items k y))
+    subst (λ (l : List SeatValue). IsSound (record { wire = a.wire.items; seats = l; windows = a.tap.size ∷ [] })) (sym (map-set seat_of a.seats.items k y))
     (sound_set (traffic_of a) k y.seat kept.sound in''
-    (λ zero_is. live ∙ (ap (λ (b : SeatValue). b.live) s ∙ (ap (λ (n : ℕ). (seat_at (traffic_of a) n).live) zero_is ∙ kept.sound.station)))
+    (λ station. live ∙ (ap (λ (b : SeatValue). b.live) s ∙ kept.sound.stations k station))
     (λ b. balanced (subst (λ (v : SeatValue). IsBalanced a.wire.items k v) (sym s) b)))
 
 placed_live : (a : Inside) (k : ℕ) (x y : SeatBook) → IsKept a → k < length a.seats.items → x ≡ get_or a.seats.items k x
@@ -129,7 +130,7 @@ placed_kept a k x y kept in' read live heard balanced =
     λ z. heard z ∙ (ap (λ (b : SeatValue). b.heard) s ∙ ap (λ (n : ℕ). (seat_at (traffic_of a) n).heard) z) in
     record {
       sound = placed_sound a k x y kept in' read live balanced;
-      tap = kept.tap ∙ sym (ap window_of (placed_traffic a (bus_value_of a) k y y.seat refl refl) ∙ window_set (traffic_of a) k y.seat in'' same);
+      tap = kept.tap ∙ sym (ap (λ (t : Traffic). window_of t 0) (placed_traffic a (bus_value_of a) k y y.seat refl refl) ∙ window_set 0 (traffic_of a) k y.seat in'' same);
       live = placed_live a k x y kept in' read live;
       few_seats = rw (length-set a.seats.items k y) kept.few_seats;
       few_frames = kept.few_frames;
@@ -159,11 +160,12 @@ pub changed_kept : (a : Inside) (v : BusValue) (k : ℕ) (x y : SeatBook) → bu
 changed_kept a v k x y is kept h read live heard balanced = placed_kept a k x y kept (within a v k is h) read live heard balanced
 
 pub hear_kept : (a : Inside) (v : BusValue) (k n : ℕ) (x y : SeatBook) → bus_value_of a ≡ v → IsKept a → k < length v.traffic.seats → x ≡ get_or a.seats.items k x
-    → y.seat ≡ hearing n x.seat → 0 < k → (seat_at v.traffic k).heard + n ≤ length v.traffic.wire → IsKept (placed a k y)
+    → y.seat ≡ hearing n x.seat → length v.traffic.windows ≤ k → (seat_at v.traffic k).heard + n ≤ length v.traffic.wire → IsKept (placed a k y)
 hear_kept a v k n x y is kept h read e unit bound =
     let s = seat_is a v k x is (within a v k is h) read in
     let wire : a.wire.items ≡ v.traffic.wire = ap (λ (b : BusValue). b.traffic.wire) is in
     let bound' : x.seat.heard + n ≤ length a.wire.items = rw (wire, s) bound in
+    let one : 1 ≡ length v.traffic.windows = ap (λ (b : BusValue). length b.traffic.windows) is in
     changed_kept a v k x y is kept h read (ap (λ (z : SeatValue). z.live) e) (λ z. absurd (omega arith))
     (λ b. subst (λ (z : SeatValue). IsBalanced a.wire.items k z) (sym e) (balanced_hearing a.wire.items k n x.seat bound' b))
 
@@ -254,19 +256,18 @@ gap_or : (n m not_yet_read : ℕ) (r : Reading) (b : Bool) → n ≤ not_yet_rea
 gap_or n m not_yet_read r true g h = g
 gap_or n m not_yet_read r false g h = h
 
-pub station_given : (t : Traffic) → IsSound t → 0 < length t.seats
-station_given t s = live_within t.seats 0 s.station
+pub station_given : (t : Traffic) (y : ℕ) → IsSound t → IsStation t y → y < length t.seats
+station_given t y s h = live_within t.seats y (s.stations y h)
 
 reading_within : (not_yet_read window : ℕ) (l : List CarriedFrame) → length l ≡ not_yet_read → passes (if nat_lt 0 (not_yet_read - window) then Gap (not_yet_read - window) else first_reading l) ≤ not_yet_read
 reading_within not_yet_read window [] e = gap_or (not_yet_read - window) 0 not_yet_read Empty (nat_lt 0 (not_yet_read - window)) (omega arith) (omega arith)
 reading_within not_yet_read window (c ∷ cs) e = gap_or (not_yet_read - window) 1 not_yet_read (Frame c.frame) (nat_lt 0 (not_yet_read - window)) (omega arith) (omega arith)
 
-pub passes_within : (t : Traffic) → IsSound t → (seat_at t 0).heard + passes (next_reading t) ≤ length t.wire
-passes_within t s =
-    let zero_in = station_given t s in
-    let h = (s.seats 0 zero_in).heard in
-    let n : length (not_yet_read t) ≡ length t.wire - (seat_at t 0).heard = length-drop (seat_at t 0).heard t.wire in
-    let r = reading_within (length (not_yet_read t)) t.window (not_yet_read t) refl in
+pub passes_within : (t : Traffic) (y : ℕ) → IsSound t → IsStation t y → (seat_at t y).heard + passes (next_reading t y) ≤ length t.wire
+passes_within t y s given =
+    let h = (s.seats y (station_given t y s given)).heard in
+    let n : length (not_yet_read t y) ≡ length t.wire - (seat_at t y).heard = length-drop (seat_at t y).heard t.wire in
+    let r = reading_within (length (not_yet_read t y)) (window_at t y) (not_yet_read t y) refl in
     omega arith
 
 -- a bus of which the station has taken a reading
@@ -278,15 +279,15 @@ pub tapped_traffic : (a : Inside) (v : BusValue) (n : ℕ) (x y : SeatBook) (w :
 tapped_traffic a v n x y w is kept read rest e =
     let sound : IsSound v.traffic = subst (λ (b : BusValue). IsSound b.traffic) is kept.sound in
     let size : w.size ≡ a.tap.size = ap (λ (z : WindowValue). z.size) rest ∙ rest_size a.tap in
-    ap (λ (m : ℕ). let t : Traffic = record { wire = a.wire.items; seats = map seat_of (set a.seats.items 0 y); window = m } in t) size
-    ∙ changed_traffic (hearing n) a v 0 x y is (station_given v.traffic sound) read e
+    ap (λ (m : ℕ). let t : Traffic = record { wire = a.wire.items; seats = map seat_of (set a.seats.items 0 y); windows = m ∷ [] } in t) size
+    ∙ changed_traffic (hearing n) a v 0 x y is (station_given v.traffic 0 sound sound.some) read e
 
-pub read_kept : (a : Inside) (v : BusValue) (n : ℕ) (x y : SeatBook) (w : WindowValue) → bus_value_of a ≡ v → IsKept a → x ≡ get_or a.seats.items 0 x → n ≡ passes (next_reading v.traffic) → w ≡ rest_of a.tap
+pub read_kept : (a : Inside) (v : BusValue) (n : ℕ) (x y : SeatBook) (w : WindowValue) → bus_value_of a ≡ v → IsKept a → x ≡ get_or a.seats.items 0 x → n ≡ passes (next_reading v.traffic 0) → w ≡ rest_of a.tap
     → y.seat ≡ hearing n x.seat → IsKept (tapped a y w)
 read_kept a v n x y w is kept read passed rest e =
     let sound : IsSound v.traffic = subst (λ (b : BusValue). IsSound b.traffic) is kept.sound in
-    let given = station_given v.traffic sound in
-    let within_wire = passes_within v.traffic sound in
+    let given = station_given v.traffic 0 sound sound.some in
+    let within_wire = passes_within v.traffic 0 sound sound.some in
     let s = seat_is a v 0 x is (within a v 0 is given) read in
     let wire : a.wire.items ≡ v.traffic.wire = ap (λ (b : BusValue). b.traffic.wire) is in
     let bound : x.seat.heard + n ≤ length a.wire.items = rw (wire, s) (omega arith) in
@@ -294,12 +295,12 @@ read_kept a v n x y w is kept read passed rest e =
     let in' = within a v 0 is given in
     let live : y.seat.live ≡ x.seat.live = ap (λ (z : SeatValue). z.live) e in
     let placed_is = placed_sound a 0 x y kept in' read live (λ b. subst (λ (z : SeatValue). IsBalanced a.wire.items 0 z) (sym e) (balanced_hearing a.wire.items 0 n x.seat bound b)) in
-    let before : a.tap ≡ window_of v.traffic = kept.tap ∙ ap (λ (b : BusValue). window_of b.traffic) is in
+    let before : a.tap ≡ window_of v.traffic 0 = kept.tap ∙ ap (λ (b : BusValue). window_of b.traffic 0) is in
     let now = tapped_traffic a v n x y w is kept read rest e in
-    let after : w ≡ window_of (traffic_of (tapped a y w)) =
-    rest ∙ (ap rest_of before ∙ (window_rest v.traffic given ∙ (ap (λ (m : ℕ). window_of (heard_more 0 m v.traffic)) (sym passed) ∙ ap window_of (sym now)))) in
+    let after : w ≡ window_of (traffic_of (tapped a y w)) 0 =
+    rest ∙ (ap rest_of before ∙ (window_rest v.traffic 0 given ∙ (ap (λ (m : ℕ). window_of (heard_more 0 m v.traffic) 0) (sym passed) ∙ ap (λ (t : Traffic). window_of t 0) (sym now)))) in
     record {
-      sound = subst (λ (m : ℕ). IsSound (record { wire = a.wire.items; seats = map seat_of (set a.seats.items 0 y); window = m })) (sym size) placed_is;
+      sound = subst (λ (m : ℕ). IsSound (record { wire = a.wire.items; seats = map seat_of (set a.seats.items 0 y); windows = m ∷ [] })) (sym size) placed_is;
       tap = after;
       live = placed_live a 0 x y kept in' read live;
       few_seats = rw (length-set a.seats.items 0 y) kept.few_seats;

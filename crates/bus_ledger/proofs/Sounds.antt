@@ -5,7 +5,7 @@ use Rattle.std.proofs.lemmas.Bool.{ne_eqb}
 use Rattle.std.proofs.lemmas.List.{length-set, length_push, get_or-set_same, get_or-set_other, get_or_append_left, get_or_push, drop_all, drop-append-le}
 use Rattle.std.proofs.lemmas.List.Elements.{All-push, All-nil, All-head, All-tail, All-weaker}
 use Rattle.std.proofs.lemmas.List.Sums.{sum_by_push, sum_by-cons}
-use Rattle.bus_ledger.specs.BusValue.{SeatValue, Traffic, nobody, seat_at}
+use Rattle.bus_ledger.specs.BusValue.{IsStation, SeatValue, Traffic, nobody, seat_at}
 use Rattle.can_frame.specs.FrameValue.{FrameValue}
 use Rattle.bus_ledger.specs.Changes.{newcomer, with_newcomer, sending, carried_frame, carried_from, stray_frame, injected}
 use Rattle.bus_ledger.specs.Carrying.{IsCarriedNext, offered, offer}
@@ -79,11 +79,12 @@ sound_carried t k q s in' o =
     let says = offer_says (length t.wire) (seat_at t k) q o in
     let y = sending (seat_at t k) in
     record {
-      station = elim (same_or_not 0 k) [
-        | inl e ↦ let here : 0 < length t.seats = omega arith in rw (← e, get_or-set_same) s.station
-        | inr n ↦ rw get_or-set_other s.station
+      some = s.some;
+      stations = λ y h. elim (same_or_not y k) [
+        | inl e ↦ let here : y < length t.seats = omega arith in rw (← e, get_or-set_same) (s.stations y h)
+        | inr n ↦ rw get_or-set_other (s.stations y h)
       ];
-      window = s.window;
+      windows = s.windows;
       senders = rw (length-set t.seats k y) (All-push (λ (c : CarriedFrame). IsGiven (length t.seats) c.seat) t.wire (carried_frame k q) s.senders in');
       seats = λ j h.
           let h' : j < length t.seats = rw (sym (length-set t.seats k y)) h in
@@ -125,16 +126,17 @@ live_within [] k e = absurd cc
 live_within (x ∷ xs) zero e = omega arith
 live_within (x ∷ xs) (suc k) e = let r = live_within xs k e in omega arith
 
-first_stays : (t : Traffic) (name : ℕ) → IsSound t → (seat_at (with_newcomer name t) 0).live ≡ true
-first_stays t name s = let h : 0 < length t.seats = live_within t.seats 0 s.station in rw get_or_append_left s.station
+station_stays : (t : Traffic) (name y : ℕ) → IsSound t → IsStation t y → (seat_at (with_newcomer name t) y).live ≡ true
+station_stays t name y s given = let h : y < length t.seats = live_within t.seats y (s.stations y given) in rw get_or_append_left (s.stations y given)
 
 pub sound_joined : (t : Traffic) (name : ℕ) → IsSound t → IsSound (with_newcomer name t)
 sound_joined t name s =
     let y = newcomer name (length t.wire) in
     let longer = length_push t.seats y in
     record {
-      station = first_stays t name s;
-      window = s.window;
+      some = s.some;
+      stations = λ y given. station_stays t name y s given;
+      windows = s.windows;
       senders = All-weaker (λ (c : CarriedFrame). IsGiven (length t.seats) c.seat) (λ (c : CarriedFrame). IsGiven (length (t.seats ++ y ∷ [])) c.seat) (λ c h. given_more (length t.seats) (length (t.seats ++ y ∷ [])) c.seat (omega arith) h) t.wire s.senders;
       seats = λ j h. elim (same_or_not j (length t.seats)) [
         | inl e ↦ let e' : length t.seats ≡ j = sym e in rw get_or_push (subst (λ (n : ℕ). IsBalanced t.wire n y) e' (balanced_newcomer t.wire (length t.seats) name s.senders))
@@ -160,8 +162,9 @@ balanced_stray wire k f s b =
 
 pub sound_injected : (t : Traffic) (f : FrameValue) → IsSound t → IsSound (injected f t)
 sound_injected t f s = record {
-  station = s.station;
-  window = s.window;
+  some = s.some;
+  stations = s.stations;
+  windows = s.windows;
   senders = All-push (λ (c : CarriedFrame). IsGiven (length t.seats) c.seat) t.wire (stray_frame f) s.senders tt;
   seats = λ k h. balanced_stray t.wire k f (seat_at t k) (s.seats k h);
 }

@@ -13,11 +13,12 @@ pub record SeatValue : Type 0 where
   pub carried : ℕ
   pub withdrawn : ℕ
 
--- the wire, the oldest frame first, the seats ever given in order of their numbers, and the station's window
+-- the wire, the oldest frame first, the seats ever given in order of their numbers, and the window of each station: stations have the
+-- first seats
 pub record Traffic : Type 0 where
   pub wire : List CarriedFrame
   pub seats : List SeatValue
-  pub window : ℕ
+  pub windows : List ℕ
 
 -- the traffic, and for each seat how many frames it can queue with no allocation
 pub record BusValue : Type 0 where
@@ -38,13 +39,17 @@ spare_at b k = slice_index_or b.spares k 0
 abbrev pub KeepsSpares : BusValue → BusValue → Type 0
 KeepsSpares old new = (k : ℕ) → spare_at old k ≤ spare_at new k
 
--- a seat that was given and is not gone, the station's seat 0 included
+-- the seat of a station
+abbrev pub IsStation : Traffic → ℕ → Type 0
+IsStation t y = y < length t.windows
+
+-- a seat that was given and is not gone, a station's included
 abbrev pub IsLive : Traffic → ℕ → Type 0
 IsLive t k = (k < length t.seats) × ((seat_at t k).live ≡ true)
 
--- a live seat of a unit
+-- a live seat of a unit: units sit behind the stations
 abbrev pub IsUnit : Traffic → ℕ → Type 0
-IsUnit t k = (0 < k) × (k < length t.seats) × ((seat_at t k).live ≡ true)
+IsUnit t k = (length t.windows ≤ k) × (k < length t.seats) × ((seat_at t k).live ≡ true)
 
 -- a seat, and how many frames it can queue with no allocation
 pub record SeatBook : Type 0 where

@@ -18,9 +18,20 @@ queued_frame frame tag = record { frame = frame; tag = tag }
 abbrev pub newcomer : ℕ → ℕ → SeatValue
 newcomer name heard = record { name = name; live = true; heard = heard; queue = []; queued = 0; carried = 0; withdrawn = 0 }
 
--- a bus with the station alone
-abbrev pub new_traffic : ℕ → ℕ → Traffic
-new_traffic station window = record { wire = []; seats = newcomer station 0 ∷ []; window = window }
+-- a station's NAME, and how many unread frames its window holds
+pub record StationSeat : Type 0 where
+  pub name : ℕ
+  pub window : ℕ
+
+abbrev pub seat_of_station : StationSeat → SeatValue
+seat_of_station s = newcomer s.name 0
+
+abbrev pub window_of_station : StationSeat → ℕ
+window_of_station s = s.window
+
+-- a bus with these stations alone
+abbrev pub new_traffic : List StationSeat → Traffic
+new_traffic stations = record { wire = []; seats = map seat_of_station stations; windows = map window_of_station stations }
 
 abbrev pub with_seat : Traffic → ℕ → SeatValue → Traffic
 with_seat t k seat = record t { seats = slice_set t.seats k seat }
@@ -98,7 +109,7 @@ abbrev pub carried_from : ℕ → QueuedFrame → Traffic → Traffic
 carried_from k q t = record {
   wire = t.wire ++ carried_frame k q ∷ [];
   seats = slice_set t.seats k (sending (seat_at t k));
-  window = t.window;
+  windows = t.windows;
 }
 
 -- a frame from outside: no seat's, and no part of a message

@@ -4,7 +4,8 @@ use Rattle.std.specs.List.{All, count_by}
 use Rattle.bus_ledger.specs.declared.bus.TheConstants.{MOST_UNREAD}
 use Rattle.bus_ledger.specs.declared.traffic.Counts.{Counts}
 use Rattle.bus_ledger.specs.declared.traffic.CarriedFrame.{CarriedFrame}
-use Rattle.bus_ledger.specs.BusValue.{SeatValue, Traffic, seat_at}
+use Rattle.bus_ledger.specs.BusValue.{IsStation, SeatValue, Traffic, seat_at}
+use Rattle.bus_ledger.specs.Reception.{window_at}
 
 abbrev pub counts_of : SeatValue → Counts
 counts_of s = record { queued = s.queued; carried = s.carried; withdrawn = s.withdrawn; waiting = length s.queue }
@@ -32,7 +33,8 @@ pub record IsBalanced (wire : List CarriedFrame) (k : ℕ) (s : SeatValue) : Typ
 
 -- what holds of every bus
 pub record IsSound (t : Traffic) : Type 0 where
-  pub station : (seat_at t 0).live ≡ true
-  pub window : (0 < t.window) × (t.window ≤ MOST_UNREAD)
+  pub some : 0 < length t.windows
+  pub stations : (y : ℕ) → IsStation t y → (seat_at t y).live ≡ true
+  pub windows : (y : ℕ) → IsStation t y → (0 < window_at t y) × (window_at t y ≤ MOST_UNREAD)
   pub senders : All (λ c. IsGiven (length t.seats) c.seat) t.wire
   pub seats : (k : ℕ) → k < length t.seats → IsBalanced t.wire k (seat_at t k)

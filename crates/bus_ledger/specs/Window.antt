@@ -1,4 +1,4 @@
--- The station's window: a ring of the latest unread frames.
+-- A station's window: a ring of the latest unread frames.
 use Rattle.std.specs.Prelude.{ℕ, ◌+◌, ◌-◌, ◌==◌, nat_lt, List, [], ◌∷◌, ◌++◌, drop, length, map, if◌then◌else◌}
 use Rattle.circular_buffer.specs.Buffer.{keep_last}
 use Rattle.can_frame.specs.FrameValue.{FrameValue}
@@ -6,7 +6,7 @@ use Rattle.can_frame.specs.declared.reading.Reading.{Reading}
 use Rattle.can_frame.specs.declared.reading.Reading.TheVariants.{Frame, Gap, Empty}
 use Rattle.bus_ledger.specs.declared.traffic.CarriedFrame.{CarriedFrame}
 use Rattle.bus_ledger.specs.BusValue.{Traffic}
-use Rattle.bus_ledger.specs.Reception.{not_yet_read}
+use Rattle.bus_ledger.specs.Reception.{not_yet_read, window_at}
 
 -- how many frames it holds at most, those that it holds, the oldest first, and how many went out of it unread
 pub record WindowValue : Type 0 where
@@ -21,9 +21,9 @@ window size not_yet_read missed = record { size = size; unread = not_yet_read; m
 abbrev pub pushed : FrameValue → WindowValue → WindowValue
 pushed f w = window w.size (keep_last w.size (w.unread ++ f ∷ [])) (w.missed + (length w.unread + 1 - w.size))
 
--- a frame was carried from seat k; the station's own are no readings
-abbrev pub taken_in : ℕ → FrameValue → WindowValue → WindowValue
-taken_in k f w = if k == 0 then w else pushed f w
+-- a frame was carried from seat k; the own frames of the station on seat y are no readings of it
+abbrev pub taken_in : ℕ → ℕ → FrameValue → WindowValue → WindowValue
+taken_in y k f w = if k == y then w else pushed f w
 
 abbrev pub first_of : List FrameValue → Reading
 first_of [] = Empty
@@ -37,13 +37,13 @@ reading_of w = if nat_lt 0 w.missed then Gap w.missed else first_of w.unread
 abbrev pub rest_of : WindowValue → WindowValue
 rest_of w = if nat_lt 0 w.missed then window w.size w.unread 0 else window w.size (drop 1 w.unread) w.missed
 
--- what a window of this size holds of the frames that the station has not read, and how many it has missed
+-- what a window of this size holds of the frames that its station has not read, and how many it has missed
 abbrev pub seen_through : ℕ → List FrameValue → WindowValue
 seen_through size fs = window size (keep_last size fs) (length fs - size)
 
 abbrev pub frame_of : CarriedFrame → FrameValue
 frame_of c = c.frame
 
--- the window as the traffic leaves it
-abbrev pub window_of : Traffic → WindowValue
-window_of t = seen_through t.window (map frame_of (not_yet_read t))
+-- a station's window as the traffic leaves it
+abbrev pub window_of : Traffic → ℕ → WindowValue
+window_of t y = seen_through (window_at t y) (map frame_of (not_yet_read t y))

@@ -46,7 +46,7 @@ impl Model for Bus {
 }
 
 impl Bus {
-    ghost use Rattle.std.specs.Prelude.{◌≡◌, ◌<◌, ◌≤◌, ◌≢◌, ◌+◌, ◌⊎◌, ◌↔◌, ◌^◌, ℕ, false, length, slice_get, Some, None, IfSome, IfOk, IfErr, OnErr, OnOk, Ok};
+    ghost use Rattle.std.specs.Prelude.{◌≡◌, ◌<◌, ◌≤◌, ◌≢◌, ◌+◌, ◌⊎◌, ◌↔◌, ◌^◌, ◌∷◌, [], ℕ, false, length, slice_get, Some, None, IfSome, IfOk, IfErr, OnErr, OnOk, Ok};
     ghost use Rattle.std.specs.List.{count_by};
     ghost use Rattle.std.specs.Option.{option_map, SomeIff};
     ghost use Rattle.std.specs.Result.{result_err};
@@ -61,7 +61,7 @@ impl Bus {
     /// Refused where there is no memory.
     pub fn new(alloc: Global, station: Name, window: u32) -> Result<Bus, BusError>
         requires { (0 < window) × (window ≤ MOST_UNREAD) }
-        ensures ok { IfOk result (λ b. b.traffic ≡ new_traffic station window) }
+        ensures ok { IfOk result (λ b. b.traffic ≡ new_traffic (record { name = station; window = window } ∷ [])) }
         ensures err { IfErr result (λ e. e ≡ BusError.OutOfMemory) }
         ensures room { IfOk result (λ b. 1 ≤ spare_at b 0) }
     {

@@ -9,7 +9,7 @@ use std::alloc::{AllocError, Global};
 use std::marker::Model;
 use std::mem;
 
-/// The station's window: a ring of the latest unread frames, and how many went out of it unread since the last reading.
+/// A station's window: a ring of the latest unread frames, and how many went out of it unread since the last reading.
 #[derive(Drop)]
 pub(crate) struct Tap {
     ring: HeapCircularBuffer<Frame>,
@@ -39,10 +39,10 @@ impl Tap {
         })
     }
 
-    /// A frame was carried from a seat. The station's own is no reading; any other comes in.
+    /// A frame was carried from a seat. The own frame of station 0 is no reading of it; any other comes in.
     pub(crate) fn take_in(&mut self, seat: u32, frame: Frame)
         requires { self.old.missed < 2 ^ 32 - 1 }
-        ensures { self.new ≡ taken_in seat frame self.old }
+        ensures { self.new ≡ taken_in 0 seat frame self.old }
     {
         if seat != 0 {
             self.push(frame);

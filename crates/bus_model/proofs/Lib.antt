@@ -21,6 +21,7 @@ pub mod Half
 pub mod HalfSession
 pub mod Ends
 pub mod Runs
+pub mod Two
 pub mod Whose
 pub mod Marks
 pub mod Rows

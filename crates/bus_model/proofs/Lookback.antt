@@ -3,8 +3,8 @@ use Rattle.std.proofs.Common.{◌≡◌, ◌≢◌, ◌⊎◌, ℕ, suc, zero, �
 use Rattle.address_claim.specs.Claiming.{is_held}
 use Rattle.dm_messages.specs.declared.kind.Kind.{Kind}
 use Rattle.dm_messages.specs.declared.kind.Kind.TheVariants.{Dm1, Dm2, Dm6}
-use Rattle.parameter_group.specs.Group.{AddressClaimed, ConnectionManagement, Group, Request}
-use Rattle.transport.specs.declared.control.Control.TheVariants.{Abort}
+use Rattle.parameter_group.specs.Group.{AddressClaimed, ConnectionManagement, DataTransfer, Group, Request}
+use Rattle.transport.specs.declared.control.Control.TheVariants.{Abort, Bam}
 use Rattle.bus_model.specs.Expected.{is_claim}
 use Rattle.dm_messages.specs.View.{same_kind}
 use Rattle.bus_model.specs.Messages.{Broadcast, Message, One, Session, Way, way_of}
@@ -104,14 +104,14 @@ pub record LooksSame (m : Message) (xs ys : List Item) : Type 0 where
   pub casts : cast m.name m.source ys ≡ cast m.name m.source xs
   pub sessions : (d : ℕ) → (way_of m) ≡ Session d → (sess m.name m.source d ys ≡ sess m.name m.source d xs) × (claimed_by d ys ≡ claimed_by d xs)
 
-pub continues_same : (st : ℕ) (w : Way) (m : Message) (j : ℕ) (xs ys : List Item) → (way_of m) ≡ w → LooksSame m xs ys → Continues st w xs m j → Continues st w ys m j
+pub continues_same : (st : List ℕ) (w : Way) (m : Message) (j : ℕ) (xs ys : List Item) → (way_of m) ≡ w → LooksSame m xs ys → Continues st w xs m j → Continues st w ys m j
 continues_same st One m j xs ys w same h = tt
 continues_same st Broadcast m zero xs ys w same h = tt
 continues_same st Broadcast m (suc j) xs ys w same h = same.casts ∙ h
-continues_same st (Session d) m zero xs ys w same h = ((same.sessions d w).1 ∙ h.0, h.1)
+continues_same st (Session d) m zero xs ys w same h = (record { name = h.0.name; station = h.0.station; claimed = (same.sessions d w).1 ∙ h.0.claimed }, h.1)
 continues_same st (Session d) m (suc j) xs ys w same h = (same.sessions d w).0 ∙ h
 
-pub part_same : (st : ℕ) (x : Item) (t : Tag) (xs ys : List Item) → LooksSame t.message xs ys → Follows (last_of t.message.name t.message.kind ys) t → PartLaw st x t xs → PartLaw st x t ys
+pub part_same : (st : List ℕ) (x : Item) (t : Tag) (xs ys : List Item) → LooksSame t.message xs ys → Follows (last_of t.message.name t.message.kind ys) t → PartLaw st x t xs → PartLaw st x t ys
 part_same st x t xs ys same order law = record {
   proper = law.proper;
   frame = law.frame;
@@ -134,6 +134,8 @@ abbrev pub IsFrom : Option ℕ → Group → Type 0
 IsFrom held (ConnectionManagement s d (Abort k p)) = held ≡ Some s
 IsFrom held (Request p d s) = s ≤ 253 → held ≡ Some s
 IsFrom held (AddressClaimed s m) = held ≡ Some s
+IsFrom held (ConnectionManagement s d (Bam size packets pgn)) = held ≡ Some s
+IsFrom held (DataTransfer s d p) = held ≡ Some s
 IsFrom held _ = Unit {0}
 
 -- a frame queued: what it is part of has the NAME, and it is from the address held
@@ -157,6 +159,8 @@ pub record IsApart (n : ℕ) (held : Option ℕ) (session : Option Tag) (e : Ite
 pub voiced_skip : (n : ℕ) (held : Option ℕ) (f : Group) (xs : List Item) (e : Item) (h : List Item) → IsFrom held f → ((a : ℕ) → held ≡ Some a → is_claim a (says e) ≡ false) → IsVoiced n f (xs ++ h) → IsVoiced n f (xs ++ e ∷ h)
 voiced_skip n held (ConnectionManagement s d (Abort k p)) xs e h from quiet v = claimed_skip s xs e h (quiet s from) ∙ v
 voiced_skip n held (Request p d s) xs e h from quiet v = λ le. claimed_skip s xs e h (quiet s (from le)) ∙ v le
+voiced_skip n held (ConnectionManagement s d (Bam x y p)) xs e h from quiet v = claimed_skip s xs e h (quiet s from) ∙ v
+voiced_skip n held (DataTransfer s d p) xs e h from quiet v = claimed_skip s xs e h (quiet s from) ∙ v
 voiced_skip n held _ xs e h from quiet v = tt
 
 pub session_uncut : (w : Way) (d : ℕ) (o : Option Tag) (m : Message) (e : Item) → w ≡ Session d → InSession w o m → (way_of m) ≡ w → ((t : Tag) (d : ℕ) → o ≡ Some t → (way_of t.message) ≡ Session d → is_claim d (says e) ≡ false) → is_claim d (says e) ≡ false
@@ -179,7 +183,7 @@ insert_same n held session m xs e h name from in' apart =
     }
 
 -- a foreign frame that is no claim of the address held or of the open session's destination may stand in the middle
-pub insert : (st n : ℕ) (held : Option ℕ) (session : Option Tag) (q : List Item) (e : Item) (h : List Item) → Lawful st (q ++ h) → Every (IsMine n held session) q → IsApart n held session e → Allowed st e h → Lawful st (q ++ e ∷ h)
+pub insert : (st : List ℕ) (n : ℕ) (held : Option ℕ) (session : Option Tag) (q : List Item) (e : Item) (h : List Item) → Lawful st (q ++ h) → Every (IsMine n held session) q → IsApart n held session e → Allowed st e h → Lawful st (q ++ e ∷ h)
 insert st n held session [] e h law mine apart allowed = (allowed, law)
 insert st n held session (x ∷ xs) e h law mine apart allowed = (
   record {
@@ -199,7 +203,7 @@ insert st n held session (x ∷ xs) e h law mine apart allowed = (
   insert st n held session xs e h law.1 mine.1 apart allowed,
 )
 
-pub lawful_rest : (st : ℕ) (xs ys : List Item) → Lawful st (xs ++ ys) → Lawful st ys
+pub lawful_rest : (st : List ℕ) (xs ys : List Item) → Lawful st (xs ++ ys) → Lawful st ys
 lawful_rest st [] ys h = h
 lawful_rest st (x ∷ xs) ys h = lawful_rest st xs ys h.1
 

@@ -1,4 +1,4 @@
--- A run that shows something in each way.
+-- Two runs with one station: one that shows something in each way, and one with a gap and a takeover.
 use Rattle.std.proofs.Common.{◌≡◌, ◌≢◌, ℕ, zero, suc, ◌+◌, ◌<◌, ◌≤◌, ◌^◌, List, [], ◌∷◌, Some, None, refl, sym, ◌∙◌, subst, inl, inr, arith, slice_get}
 use Rattle.std.proofs.lemmas.List.Elements.{All-from_recursion}
 use Rattle.can_frame.specs.Fields.{pdu1_number}
@@ -11,7 +11,7 @@ use Rattle.std.specs.List.{IsDistinct}
 use Rattle.transport.specs.Messages.{control_frame}
 use Rattle.transport.specs.declared.control.Control.TheVariants.{Cts}
 use Rattle.trouble_code.specs.Code.{code}
-use Rattle.bus_model.specs.Example.{ShowsAfterTakeover, ShowsEachWay, example_settings, faulty_memory}
+use Rattle.bus_model.specs.Example.{ShowsAfterTakeover, ShowsEachWay, one_station, faulty_memory}
 use Rattle.bus_model.specs.Heard.{address_heard}
 use Rattle.bus_model.specs.Machine.{Ask, Begin, Begins, Carry, Carry_station, Event, Sends, Hear, Join, Miss, Nothing, Read, Run, Seat, World, Claims, start}
 use Rattle.bus_model.specs.Messages.{IsProper, frame_of_part, last_part_of, payload_sent, way_of}
@@ -23,10 +23,10 @@ abbrev pub clear_to_send : FrameValue
 clear_to_send = control_frame (Cts 2 1 65227) 249 0
 
 abbrev pub each_way : List Event
-each_way = Join 5 0 ∷ Carry 0 ∷ Read [] ∷ Carry_station ∷ Hear 0 Nothing ∷ Begin 0 Dm1 new_memory 0 ∷ Carry 0 ∷ Read [] ∷ Begin 0 Dm1 faulty_memory 0 ∷ Carry 0 ∷ Read [] ∷ Carry 0 ∷ Read [] ∷ Carry 0 ∷ Read [] ∷ Ask (ask_dm2 ∷ []) ∷ Carry_station ∷ Hear 0 (Begins Dm2 faulty_memory 0 249) ∷ Carry 0 ∷ Read (clear_to_send ∷ []) ∷ Carry_station ∷ Hear 0 (Sends 2) ∷ Carry 0 ∷ Read [] ∷ Carry 0 ∷ Read [] ∷ []
+each_way = Join 5 0 ∷ Carry 0 ∷ Read 0 [] ∷ Carry_station 0 ∷ Hear 0 Nothing ∷ Begin 0 Dm1 new_memory 0 ∷ Carry 0 ∷ Read 0 [] ∷ Begin 0 Dm1 faulty_memory 0 ∷ Carry 0 ∷ Read 0 [] ∷ Carry 0 ∷ Read 0 [] ∷ Carry 0 ∷ Read 0 [] ∷ Ask 0 (ask_dm2 ∷ []) ∷ Carry_station 0 ∷ Hear 0 (Begins Dm2 faulty_memory 0 249) ∷ Carry 0 ∷ Read 0 (clear_to_send ∷ []) ∷ Carry_station 0 ∷ Hear 0 (Sends 2) ∷ Carry 0 ∷ Read 0 [] ∷ Carry 0 ∷ Read 0 [] ∷ []
 
 abbrev pub after_takeover : List Event
-after_takeover = Join 5 0 ∷ Carry 0 ∷ Read [] ∷ Carry_station ∷ Hear 0 Nothing ∷ Begin 0 Dm1 faulty_memory 0 ∷ Carry 0 ∷ Read [] ∷ Carry 0 ∷ Miss 1 [] ∷ Carry 0 ∷ Read [] ∷ Join 4 0 ∷ Carry 1 ∷ Read [] ∷ Hear 0 (Claims None) ∷ Begin 1 Dm1 new_memory 0 ∷ Carry 1 ∷ Read [] ∷ []
+after_takeover = Join 5 0 ∷ Carry 0 ∷ Read 0 [] ∷ Carry_station 0 ∷ Hear 0 Nothing ∷ Begin 0 Dm1 faulty_memory 0 ∷ Carry 0 ∷ Read 0 [] ∷ Carry 0 ∷ Miss 0 1 [] ∷ Carry 0 ∷ Read 0 [] ∷ Join 4 0 ∷ Carry 1 ∷ Read 0 [] ∷ Hear 0 (Claims None) ∷ Begin 1 Dm1 new_memory 0 ∷ Carry 1 ∷ Read 0 [] ∷ []
 
 -- the memories of the run are lawful
 pub kept_code : (spn fmi : ℕ) → spn < 1000 → fmi < 32 → IsKeptCode (code spn fmi 1)
@@ -77,12 +77,6 @@ two_of_two = omega arith
 pub zero_holds : 0 ≤ 253
 zero_holds = omega arith
 
-pub no_station_5 : ◌≢◌ {A = ℕ} 5 1
-no_station_5 e = absurd (omega (arith, e))
-
-pub no_station_4 : ◌≢◌ {A = ℕ} 4 1
-no_station_4 e = absurd (omega (arith, e))
-
 pub small_5 : 5 < 2 ^ 64
 small_5 = omega arith
 
@@ -94,22 +88,22 @@ pub other : (x : ℕ) (v s : Seat) → slice_get (v ∷ []) x ≡ Some s → v.n
 other zero v s h e f = let g : v ≡ s = cc in let k : s.name ≡ 5 = subst (λ (u : Seat). u.name ≡ 5) g e in absurd (let z : 5 ≡ 4 = sym k ∙ f in omega (arith, z))
 other (suc x) v s h e f = cc
 
-pub each_way_run : (w : World) × Run (start example_settings) each_way w × ShowsEachWay w
+pub each_way_run : (w : World) × Run (start one_station) each_way w × ShowsEachWay w
 unfolding group_of way_of payload_sent frame_of_part last_part_of address_heard
 each_way_run = (
   _,
   ((
     _,
-    ((no_station_5, λ x s h. cc h.0), small_5, zero_holds, refl),
+    ((refl, λ x s h. cc h.0), small_5, zero_holds, refl),
     (
       _,
       (_, _, [], (refl, refl), refl, refl, refl),
       (
         _,
-        (_, [], refl, tt, refl),
+        (_, _, [], refl, refl, tt, refl),
         (
           _,
-          (_, [], refl, refl, refl),
+          (_, _, [], refl, refl, refl, refl),
           (
             _,
             (_, _, [], (refl, refl), refl, (record { uncontested = refl; uncut = refl }), refl),
@@ -121,7 +115,7 @@ each_way_run = (
                 (_, _, [], (refl, refl), refl, refl, refl),
                 (
                   _,
-                  (_, [], refl, tt, refl),
+                  (_, _, [], refl, refl, tt, refl),
                   (
                     _,
                     (_, (refl, refl), refl, proper_faulty_memory _ _ _ Dm1, tt, refl),
@@ -130,25 +124,25 @@ each_way_run = (
                       (_, _, (_ ∷ _ ∷ []), (refl, refl), refl, refl, refl),
                       (
                         _,
-                        (_, [], refl, tt, refl),
+                        (_, _, [], refl, refl, tt, refl),
                         (
                           _,
                           (_, _, (_ ∷ []), (refl, refl), refl, refl, refl),
                           (
                             _,
-                            (_, [], refl, tt, refl),
+                            (_, _, [], refl, refl, tt, refl),
                             (
                               _,
                               (_, _, [], (refl, refl), refl, refl, refl),
                               (
                                 _,
-                                (_, [], refl, tt, refl),
+                                (_, _, [], refl, refl, tt, refl),
                                 (
                                   _,
-                                  ((λ l. refl, tt), refl),
+                                  (_, refl, (λ l. refl, tt), refl),
                                   (
                                     _,
-                                    (_, [], refl, refl, refl),
+                                    (_, _, [], refl, refl, refl, refl),
                                     (
                                       _,
                                       (_, _, [], (refl, refl), refl, ((record { uncontested = refl; uncut = refl }), refl, proper_session _ _ _, tt, (refl, another_address, refl)), refl),
@@ -157,10 +151,10 @@ each_way_run = (
                                         (_, _, [], (refl, refl), refl, refl, refl),
                                         (
                                           _,
-                                          (_, [], refl, (tt, tt), refl),
+                                          (_, _, [], refl, refl, (tt, tt), refl),
                                           (
                                             _,
-                                            (_, [], refl, refl, refl),
+                                            (_, _, [], refl, refl, refl, refl),
                                             (
                                               _,
                                               (_, _, [], (refl, refl), refl, ((record { uncontested = refl; uncut = refl }), (_, refl, two_of_two)), refl),
@@ -169,13 +163,13 @@ each_way_run = (
                                                 (_, _, (_ ∷ []), (refl, refl), refl, refl, refl),
                                                 (
                                                   _,
-                                                  (_, [], refl, tt, refl),
+                                                  (_, _, [], refl, refl, tt, refl),
                                                   (
                                                     _,
                                                     (_, _, [], (refl, refl), refl, refl, refl),
                                                     (
                                                       _,
-                                                      (_, [], refl, tt, refl),
+                                                      (_, _, [], refl, refl, tt, refl),
                                                       refl,
                                                     ),
                                                   ),
@@ -203,25 +197,25 @@ each_way_run = (
       ),
     ),
   )),
-  record { begun = refl; single_and_broadcast = refl; session = refl },
+  record { station = _; only = refl; begun = refl; single_and_broadcast = refl; session = refl },
 )
 
-pub takeover_run : (w : World) × Run (start example_settings) after_takeover w × ShowsAfterTakeover w
+pub takeover_run : (w : World) × Run (start one_station) after_takeover w × ShowsAfterTakeover w
 unfolding group_of way_of payload_sent frame_of_part last_part_of address_heard
 takeover_run = (
   _,
   ((
     _,
-    ((no_station_5, λ x s h. cc h.0), small_5, zero_holds, refl),
+    ((refl, λ x s h. cc h.0), small_5, zero_holds, refl),
     (
       _,
       (_, _, [], (refl, refl), refl, refl, refl),
       (
         _,
-        (_, [], refl, tt, refl),
+        (_, _, [], refl, refl, tt, refl),
         (
           _,
-          (_, [], refl, refl, refl),
+          (_, _, [], refl, refl, refl, refl),
           (
             _,
             (_, _, [], (refl, refl), refl, (record { uncontested = refl; uncut = refl }), refl),
@@ -233,28 +227,28 @@ takeover_run = (
                 (_, _, (_ ∷ _ ∷ []), (refl, refl), refl, refl, refl),
                 (
                   _,
-                  (_, [], refl, tt, refl),
+                  (_, _, [], refl, refl, tt, refl),
                   (
                     _,
                     (_, _, (_ ∷ []), (refl, refl), refl, refl, refl),
                     (
                       _,
-                      ((_ ∷ []), [], refl, refl, tt, refl),
+                      (_, (_ ∷ []), [], refl, refl, refl, tt, refl),
                       (
                         _,
                         (_, _, [], (refl, refl), refl, refl, refl),
                         (
                           _,
-                          (_, [], refl, tt, refl),
+                          (_, _, [], refl, refl, tt, refl),
                           (
                             _,
-                            ((no_station_4, λ x s h. other x _ s h.0 refl), small_4, zero_holds, refl),
+                            ((refl, λ x s h. other x _ s h.0 refl), small_4, zero_holds, refl),
                             (
                               _,
                               (_, _, [], (refl, refl), refl, refl, refl),
                               (
                                 _,
-                                (_, [], refl, tt, refl),
+                                (_, _, [], refl, refl, tt, refl),
                                 (
                                   _,
                                   (_, _, [], (refl, refl), refl, tt, refl),
@@ -266,7 +260,7 @@ takeover_run = (
                                       (_, _, [], (refl, refl), refl, refl, refl),
                                       (
                                         _,
-                                        (_, [], refl, tt, refl),
+                                        (_, _, [], refl, refl, tt, refl),
                                         refl,
                                       ),
                                     ),
@@ -287,5 +281,5 @@ takeover_run = (
       ),
     ),
   )),
-  record { begun = refl; gap_inside = refl; after_takeover = refl },
+  record { station = _; only = refl; begun = refl; gap_inside = refl; after_takeover = refl },
 )

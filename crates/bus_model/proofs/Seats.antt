@@ -12,7 +12,7 @@ use Rattle.parameter_group.specs.Calm.{is_contest, cuts}
 use Rattle.bus_model.specs.Machine.{Seat, is_of_session, session_address, way_address, item_of_part, parts_upto, plain_item, without_session}
 use Rattle.bus_model.specs.Messages.{Broadcast, IsProper, Message, One, Session, Way, is_broadcast, is_session, last_part_of, way_of}
 use Rattle.bus_model.specs.Order.{IsBefore}
-use Rattle.bus_model.specs.Traffic.{Item, Tag, claimed_by, owner_after, says}
+use Rattle.bus_model.specs.Traffic.{Item, Tag, claimed_by, is_station, owner_after, says}
 use Rattle.bus_model.proofs.Bridge.{claim_group, says_part}
 use Rattle.bus_model.proofs.Lawful.{Allowed, Continues, Follows, IsHonest, IsNoStart, IsPlain, IsVoiced, Lawful, PartLaw, breaks, cast, group_at, is_cast, is_foreign, is_of, last_of, sess, tag_of}
 use Rattle.bus_model.proofs.Lookback.{EachTag, Every, HasTag, IsFrom, IsMine, and_parts, claimed_by_skip, follows_first, kind_same, last_of_each, last_of_is, ne_test, part_same, same_kind_self, same_test, true_test}
@@ -47,19 +47,19 @@ part_honest n Broadcast m (suc j) = tt
 part_honest n (Session b) m zero = tt
 part_honest n (Session b) m (suc j) = tt
 
-pub part_voiced : (n : ℕ) (w : Way) (m : Message) (j : ℕ) (older : List Item) → IsVoiced n (group_at w m j) older
-part_voiced n One m j older = tt
-part_voiced n Broadcast m zero older = tt
-part_voiced n Broadcast m (suc j) older = tt
-part_voiced n (Session b) m zero older = tt
-part_voiced n (Session b) m (suc j) older = tt
+pub part_voiced : (n : ℕ) (w : Way) (m : Message) (j : ℕ) (older : List Item) → claimed_by m.source older ≡ Some n → IsVoiced n (group_at w m j) older
+part_voiced n One m j older own = tt
+part_voiced n Broadcast m zero older own = own
+part_voiced n Broadcast m (suc j) older own = own
+part_voiced n (Session b) m zero older own = tt
+part_voiced n (Session b) m (suc j) older own = own
 
-pub part_from : (held : Option ℕ) (w : Way) (m : Message) (j : ℕ) → IsFrom held (group_at w m j)
-part_from held One m j = tt
-part_from held Broadcast m zero = tt
-part_from held Broadcast m (suc j) = tt
-part_from held (Session b) m zero = tt
-part_from held (Session b) m (suc j) = tt
+pub part_from : (held : Option ℕ) (w : Way) (m : Message) (j : ℕ) → held ≡ Some m.source → IsFrom held (group_at w m j)
+part_from held One m j own = tt
+part_from held Broadcast m zero own = own
+part_from held Broadcast m (suc j) own = own
+part_from held (Session b) m zero own = tt
+part_from held (Session b) m (suc j) own = own
 
 pub claimed_parts : (x a : ℕ) (m : Message) (j : ℕ) (track : List Item) → IsProper m → j ≤ last_part_of m → claimed_by a (parts_upto x m j ++ track) ≡ claimed_by a track
 claimed_parts x a m zero track ok le = rw (says_part m 0 ok le) (part_no_claim a (way_of m) m 0 (claimed_by a track))
@@ -93,26 +93,26 @@ pub sess_self : (x : ℕ) (m : Message) (d j : ℕ) (xs : List Item) → IsPrope
 sess_self x m d j xs ok le e = rw (says_part m j ok le, part_breaks_none m.name m.source d m.name (way_of m) m j, e, same_test m.name) refl
 
 -- what a later part looks back to, by its way
-pub continues_at : (x st : ℕ) (w : Way) (m : Message) (j : ℕ) (xs : List Item) → IsProper m → j ≤ last_part_of m → (way_of m) ≡ w → Continues st w (item_of_part x m j ∷ xs) m (suc j)
+pub continues_at : (x : ℕ) (st : List ℕ) (w : Way) (m : Message) (j : ℕ) (xs : List Item) → IsProper m → j ≤ last_part_of m → (way_of m) ≡ w → Continues st w (item_of_part x m j ∷ xs) m (suc j)
 continues_at x st One m j xs ok le e = tt
 continues_at x st Broadcast m j xs ok le e = rw (says_part m j ok le, part_not_foreign m.name m.source (way_of m) m j, e, same_test m.name) refl
 continues_at x st (Session d) m j xs ok le e = sess_self x m d j xs ok le e
 
-pub continues_parts : (x st : ℕ) (m : Message) (j : ℕ) (track : List Item) → IsProper m → j ≤ last_part_of m → Continues st (way_of m) (parts_upto x m j ++ track) m (suc j)
+pub continues_parts : (x : ℕ) (st : List ℕ) (m : Message) (j : ℕ) (track : List Item) → IsProper m → j ≤ last_part_of m → Continues st (way_of m) (parts_upto x m j ++ track) m (suc j)
 continues_parts x st m zero track ok le = continues_at x st (way_of m) m 0 track ok le refl
 continues_parts x st m (suc j) track ok le = continues_at x st (way_of m) m (suc j) (parts_upto x m j ++ track) ok le refl
 
-pub part_allowed : (x st : ℕ) (m : Message) (j : ℕ) (older : List Item) → PartLaw st (item_of_part x m j) (tag_of m j) older → Allowed st (item_of_part x m j) older
+pub part_allowed : (x : ℕ) (st : List ℕ) (m : Message) (j : ℕ) (older : List Item) → PartLaw st (item_of_part x m j) (tag_of m j) older → Allowed st (item_of_part x m j) older
 part_allowed x st m j older law = record {
   tagged = λ t g. let e : t ≡ tag_of m j = cc in subst (λ (v : Tag). PartLaw st (item_of_part x m j) v older) (sym e) law;
   plain = λ g h. cc;
   starts = λ g. cc;
   honest = subst (IsHonest m.name) (sym (says_part m j law.proper law.upto)) (part_honest m.name (way_of m) m j);
-  voiced = subst (λ (g : Group). IsVoiced m.name g older) (sym (says_part m j law.proper law.upto)) (part_voiced m.name (way_of m) m j older);
+  voiced = subst (λ (g : Group). IsVoiced m.name g older) (sym (says_part m j law.proper law.upto)) (part_voiced m.name (way_of m) m j older law.owned);
 }
 
 -- a new message's parts may stand behind what its seat has
-pub parts_lawful : (x st : ℕ) (m : Message) (j : ℕ) (track : List Item) → IsProper m → x ≡ m.seat → m.name ≢ st → j ≤ last_part_of m → Lawful st track → claimed_by m.source track ≡ Some m.name → Continues st (way_of m) track m 0 → EachTag (λ t. t.message.number < m.number) track → Lawful st (parts_upto x m j ++ track)
+pub parts_lawful : (x : ℕ) (st : List ℕ) (m : Message) (j : ℕ) (track : List Item) → IsProper m → x ≡ m.seat → is_station st m.name ≡ false → j ≤ last_part_of m → Lawful st track → claimed_by m.source track ≡ Some m.name → Continues st (way_of m) track m 0 → EachTag (λ t. t.message.number < m.number) track → Lawful st (parts_upto x m j ++ track)
 parts_lawful x st m zero track ok own_seat unit le law own first older = (
   part_allowed x st m 0 track (record {
     proper = ok;
@@ -143,7 +143,7 @@ parts_lawful x st m (suc j) track ok own_seat unit le law own first older = (
 )
 
 -- the next part of the open session
-pub next_lawful : (x st : ℕ) (m : Message) (d j : ℕ) (track : List Item) → IsProper m → x ≡ m.seat → m.name ≢ st → (way_of m) ≡ Session d → suc j ≤ last_part_of m → Lawful st track → claimed_by m.source track ≡ Some m.name → last_of m.name m.kind track ≡ Some (tag_of m j) → sess m.name m.source d track ≡ Some (tag_of m j) → Lawful st (item_of_part x m (suc j) ∷ track)
+pub next_lawful : (x : ℕ) (st : List ℕ) (m : Message) (d j : ℕ) (track : List Item) → IsProper m → x ≡ m.seat → is_station st m.name ≡ false → (way_of m) ≡ Session d → suc j ≤ last_part_of m → Lawful st track → claimed_by m.source track ≡ Some m.name → last_of m.name m.kind track ≡ Some (tag_of m j) → sess m.name m.source d track ≡ Some (tag_of m j) → Lawful st (item_of_part x m (suc j) ∷ track)
 next_lawful x st m d j track ok own_seat unit w le law own last sofar = (
   part_allowed x st m (suc j) track (record {
     proper = ok;
@@ -162,9 +162,12 @@ next_lawful x st m d j track ok own_seat unit w le law own last sofar = (
 -- an untagged frame of a unit
 pub plain_no_start : (f : Group) → IsPlain f → IsNoStart f
 plain_no_start (ConnectionManagement s d (Rts a b c k)) h = h
+plain_no_start (ConnectionManagement s d (Bam a b k)) h = absurd h
+plain_no_start (Diagnostic k s p) h = h
+plain_no_start (DataTransfer s d p) h = absurd h
 plain_no_start _ h = tt
 
-pub sent_allowed : (st x n : ℕ) (f : FrameValue) (g : Group) (older : List Item) → group_of f ≡ g → IsPlain g → IsHonest n g → IsVoiced n g older → Allowed st (plain_item x n f) older
+pub sent_allowed : (st : List ℕ) (x n : ℕ) (f : FrameValue) (g : Group) (older : List Item) → group_of f ≡ g → IsPlain g → IsHonest n g → IsVoiced n g older → Allowed st (plain_item x n f) older
 sent_allowed st x n f g older e p h v = record {
   tagged = λ t i. cc;
   plain = λ t i. subst IsPlain (sym e) p;
@@ -226,11 +229,15 @@ pub reply_from : (s : Seat) (f : Group) → IsReply s f → IsFrom s.held f
 reply_from s (AddressClaimed a m) h = h.0
 reply_from s (ConnectionManagement a d (Abort k p)) h = h.0
 reply_from s (Request p d a) h = absurd h
+reply_from s (ConnectionManagement a d (Bam x y p)) h = absurd h
+reply_from s (DataTransfer a d p) h = absurd h
 reply_from s _ h = tt
 
 pub reply_voiced : (s : Seat) (f : Group) (older : List Item) → IsReply s f → ((a : ℕ) → s.held ≡ Some a → claimed_by a older ≡ Some s.name) → IsVoiced s.name f older
 reply_voiced s (ConnectionManagement a d (Abort k p)) older h own = own a h.0
 reply_voiced s (Request p d a) older h own = absurd h
+reply_voiced s (ConnectionManagement a d (Bam x y p)) older h own = absurd h
+reply_voiced s (DataTransfer a d p) older h own = absurd h
 reply_voiced s _ older h own = tt
 
 pub cond_same : {A : Type 0} (t : Bool) (x y : A) → x ≡ y → (if t then y else x) ≡ y
@@ -307,11 +314,11 @@ kept_each P (x ∷ xs) e = go (kept_each P xs e.1) (is_of_session x.tag)
     go ih false = (e.0, ih)
 
 -- what the frame of a part says
-pub part_says : (st : ℕ) (e : Item) (t : Tag) (older : List Item) → PartLaw st e t older → says e ≡ group_at (way_of t.message) t.message t.part
+pub part_says : (st : List ℕ) (e : Item) (t : Tag) (older : List Item) → PartLaw st e t older → says e ≡ group_at (way_of t.message) t.message t.part
 part_says st e t older law = ap group_of law.frame ∙ says_part t.message t.part law.proper law.upto
 
 -- a frame of a session is no claim and no part of a broadcast
-pub session_no_claim : (st : ℕ) (x : Item) (xs : List Item) (a : ℕ) (d : Option ℕ) → Allowed st x xs → is_of_session x.tag ≡ true → owner_after a (says x) d ≡ d
+pub session_no_claim : (st : List ℕ) (x : Item) (xs : List Item) (a : ℕ) (d : Option ℕ) → Allowed st x xs → is_of_session x.tag ≡ true → owner_after a (says x) d ≡ d
 session_no_claim st x xs a d law h = go x.tag refl h
   where
     go : (o : Option Tag) → x.tag ≡ o → is_of_session o ≡ true → owner_after a (says x) d ≡ d
@@ -327,14 +334,14 @@ session_not_cast n (Some t) h = go (way_of t.message) h
     go Broadcast h = cc
     go (Session d) h = and_false (t.message.name == n)
 
-pub session_not_foreign : (st n a : ℕ) (x : Item) (xs : List Item) → Allowed st x xs → is_of_session x.tag ≡ true → is_foreign n a (says x) ≡ false
+pub session_not_foreign : (st : List ℕ) (n a : ℕ) (x : Item) (xs : List Item) → Allowed st x xs → is_of_session x.tag ≡ true → is_foreign n a (says x) ≡ false
 session_not_foreign st n a x xs law h = go x.tag refl h
   where
     go : (o : Option Tag) → x.tag ≡ o → is_of_session o ≡ true → is_foreign n a (says x) ≡ false
     go None g h = cc
     go (Some t) g h = rw (part_says st x t xs (law.tagged t g)) (part_not_foreign n a (way_of t.message) t.message t.part)
 
-pub claimed_kept : (st a : ℕ) (q h : List Item) → Lawful st (q ++ h) → claimed_by a (without_session q ++ h) ≡ claimed_by a (q ++ h)
+pub claimed_kept : (st : List ℕ) (a : ℕ) (q h : List Item) → Lawful st (q ++ h) → claimed_by a (without_session q ++ h) ≡ claimed_by a (q ++ h)
 claimed_kept st a [] h law = refl
 claimed_kept st a (x ∷ xs) h law = go (claimed_kept st a xs h law.1) (is_of_session x.tag) refl
   where
@@ -342,7 +349,7 @@ claimed_kept st a (x ∷ xs) h law = go (claimed_kept st a xs h law.1) (is_of_se
     go ih true i = ih ∙ sym (session_no_claim st x (xs ++ h) a (claimed_by a (xs ++ h)) law.0 i)
     go ih false i = ap (owner_after a (says x)) ih
 
-pub cast_kept : (st n a : ℕ) (q h : List Item) → Lawful st (q ++ h) → cast n a (without_session q ++ h) ≡ cast n a (q ++ h)
+pub cast_kept : (st : List ℕ) (n a : ℕ) (q h : List Item) → Lawful st (q ++ h) → cast n a (without_session q ++ h) ≡ cast n a (q ++ h)
 cast_kept st n a [] h law = refl
 cast_kept st n a (x ∷ xs) h law = go (cast_kept st n a xs h law.1) (is_of_session x.tag) refl
   where
@@ -351,7 +358,7 @@ cast_kept st n a (x ∷ xs) h law = go (cast_kept st n a xs h law.1) (is_of_sess
     go ih false i = ap (λ (v : Option Tag). if is_foreign n a (says x) then None else (if is_cast n x.tag then x.tag else v)) ih
 
 -- the order of what is kept
-pub follows_kept : (st : ℕ) (t : Tag) (q h : List Item) → Lawful st (q ++ h) → is_session (way_of t.message) ≡ false → Follows (last_of t.message.name t.message.kind (q ++ h)) t → Follows (last_of t.message.name t.message.kind (without_session q ++ h)) t
+pub follows_kept : (st : List ℕ) (t : Tag) (q h : List Item) → Lawful st (q ++ h) → is_session (way_of t.message) ≡ false → Follows (last_of t.message.name t.message.kind (q ++ h)) t → Follows (last_of t.message.name t.message.kind (without_session q ++ h)) t
 follows_kept st t [] h law nos f = f
 follows_kept st t (x ∷ xs) h law nos f = go (is_of_session x.tag) refl (follows_kept st t xs h law.1 nos)
   where
@@ -405,13 +412,15 @@ way_not_session One d h e = cc
 way_not_session Broadcast d h e = cc
 way_not_session (Session b) d h e = cc
 
-pub voiced_kept : (st n : ℕ) (f : Group) (q h : List Item) → Lawful st (q ++ h) → IsVoiced n f (q ++ h) → IsVoiced n f (without_session q ++ h)
+pub voiced_kept : (st : List ℕ) (n : ℕ) (f : Group) (q h : List Item) → Lawful st (q ++ h) → IsVoiced n f (q ++ h) → IsVoiced n f (without_session q ++ h)
 voiced_kept st n (ConnectionManagement s d (Abort k p)) q h law v = claimed_kept st s q h law ∙ v
 voiced_kept st n (Request p d s) q h law v = λ le. claimed_kept st s q h law ∙ v le
+voiced_kept st n (ConnectionManagement s d (Bam x y p)) q h law v = claimed_kept st s q h law ∙ v
+voiced_kept st n (DataTransfer s d p) q h law v = claimed_kept st s q h law ∙ v
 voiced_kept st n _ q h law v = tt
 
 -- the frames of the session may be withdrawn
-pub lawful_kept : (st : ℕ) (q h : List Item) → Lawful st (q ++ h) → Lawful st (without_session q ++ h)
+pub lawful_kept : (st : List ℕ) (q h : List Item) → Lawful st (q ++ h) → Lawful st (without_session q ++ h)
 lawful_kept st [] h law = law
 lawful_kept st (x ∷ xs) h law = go (lawful_kept st xs h law.1) (is_of_session x.tag) refl
   where

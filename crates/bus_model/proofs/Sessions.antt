@@ -9,17 +9,17 @@ use Rattle.parameter_group.specs.Group.{Acknowledgment, AddressClaimed, CannotCl
 use Rattle.transport.specs.Assembling.{is_next}
 use Rattle.transport.specs.Pieces.{packet}
 use Rattle.transport.specs.declared.control.Control.TheVariants.{Abort, Bam, Cts, EndAck, Rts}
-use Rattle.bus_model.specs.Expected.{Missed, Own, Received, Reception, is_anchored, is_unbroken, passed, readings}
+use Rattle.bus_model.specs.Expected.{Missed, Own, Received, Reception, is_anchored, is_for, is_part, is_unbroken, passed, readings}
 use Rattle.reassembly.specs.Partials.{is_whole, unfinished, with_packet}
 use Rattle.parameter_group.specs.Calm.{is_contest}
 use Rattle.bus_model.specs.Heard.{Joining, StationSettings, address_heard, is_kind, kept_by_owner, kind_of, or_else, owner_heard, session_after, session_heard, started, without_kind}
 use Rattle.bus_model.specs.Machine.{IsFit}
 use Rattle.bus_model.specs.Messages.{Broadcast, IsAmong, IsProper, Message, One, Session, Way, is_session, last_part_of, payload_sent, way_of}
 use Rattle.bus_model.specs.Traffic.{Item, Tag, claimed_by, owner_after, says}
-use Rattle.bus_model.proofs.Bridge.{address_hold, address_read, count_of, many_last}
-use Rattle.bus_model.proofs.Lawful.{Allowed, Continues, IsPlain, IsVoiced, Lawful, PartLaw, breaks, group_at, is_foreign, is_sess, sess, tag_of}
-use Rattle.bus_model.proofs.Lookback.{Every, and_parts, or_parts, pick_cases, same_test, true_test}
-use Rattle.bus_model.proofs.Path.{IsStations, Marked, claim_keeps, first_is_part, half, half_open, kept, later_part, next_piece, not_first, owner_anchored, started_half}
+use Rattle.bus_model.proofs.Bridge.{address_hold, address_read, count_of, many_last, session_destination}
+use Rattle.bus_model.proofs.Lawful.{Allowed, Continues, IsNoStart, IsVoiced, Lawful, PartLaw, breaks, group_at, is_foreign, is_sess, sess, tag_of}
+use Rattle.bus_model.proofs.Lookback.{Every, and_parts, held_is, ne_test, or_parts, pick_cases, same_test, true_test}
+use Rattle.bus_model.proofs.Path.{IsStations, Marked, claim_keeps, first_is_part, first_unbroken, half, half_open, kept, later_part, next_piece, not_first, owner_anchored, started_half}
 use Rattle.bus_model.proofs.Seats.{part_says, swap_test}
 use Rattle.bus_model.proofs.SeatLaw.{IsBooked, Numbered}
 
@@ -28,7 +28,7 @@ break_foreign n a d by (AddressClaimed s m) h = (or_parts (s == a && not (m == n
 break_foreign n a d by _ h = refl
 
 -- while a session may go on, its source is claimed by its NAME
-pub sess_claimed : (st : ℕ) (m : Message) (d j : ℕ) (xs : List Item) → Lawful st xs → sess m.name m.source d xs ≡ Some (tag_of m j) → claimed_by m.source xs ≡ Some m.name
+pub sess_claimed : (st : List ℕ) (m : Message) (d j : ℕ) (xs : List Item) → Lawful st xs → sess m.name m.source d xs ≡ Some (tag_of m j) → claimed_by m.source xs ≡ Some m.name
 sess_claimed st m d j [] law h = cc
 sess_claimed st m d j (e ∷ xs) law h =
     elim (pick_cases (breaks m.name m.source d e.name (says e)) None (if is_sess m.name e.tag then e.tag else sess m.name m.source d xs) (Some (tag_of m j)) h) [
@@ -41,15 +41,10 @@ sess_claimed st m d j (e ∷ xs) law h =
           ])
     ]
 
-pub continues_session : (st : ℕ) (w : Way) (older : List Item) (m : Message) (d i : ℕ) → w ≡ Session d → Continues st w older m (suc i) → sess m.name m.source d older ≡ Some (tag_of m i)
+pub continues_session : (st : List ℕ) (w : Way) (older : List Item) (m : Message) (d i : ℕ) → w ≡ Session d → Continues st w older m (suc i) → sess m.name m.source d older ≡ Some (tag_of m i)
 continues_session st One older m d i e h = cc
 continues_session st Broadcast older m d i e h = cc
 continues_session st (Session b) older m d i e h = let g : b ≡ d = cc in subst (λ (v : ℕ). sess m.name m.source v older ≡ Some (tag_of m i)) g h
-
-pub continues_start : (st : ℕ) (w : Way) (older : List Item) (m : Message) (d : ℕ) → w ≡ Session d → Continues st w older m 0 → claimed_by d older ≡ Some st
-continues_start st One older m d e h = cc
-continues_start st Broadcast older m d e h = cc
-continues_start st (Session b) older m d e h = let g : b ≡ d = cc in subst (λ (v : ℕ). claimed_by v older ≡ Some st) g h.0
 
 pub rts_way : (w : Way) (x : Message) (p : ℕ) (s d a b c k : ℕ) → ConnectionManagement s d (Rts a b c k) ≡ group_at w x p → (is_session w ≡ true) × (x.source ≡ s)
 rts_way One x p s d a b c k h = cc
@@ -66,24 +61,20 @@ pack_way (Session e) x zero s d q le h = cc
 pack_way (Session e) x (suc p) s d q le h = (refl, cc)
 
 -- a session's part that may go on, and the path back to it: where that is unbroken, the station has the
--- destination's address, and it has joined just the parts so far
+-- destination's address; and where it has that address, it has joined just the parts so far
 pub record SessionAt (r : StationSettings) (path : List Reception) (m : Message) (d j : ℕ) : Type 0 where
-  pub held : is_unbroken m path ≡ true → address_heard r (readings path) ≡ Some d
-  pub joined : session_heard r m.source (readings path) ≡ half m j (is_unbroken m path)
+  pub held : is_unbroken r m path ≡ true → address_heard r (readings path) ≡ Some d
+  pub joined : address_heard r (readings path) ≡ Some d → session_heard r m.source (readings path) ≡ half m j (is_unbroken r m path)
 
 abbrev pub SessionsLaw : StationSettings → List Reception → Type 0
 SessionsLaw r path = (m : Message) (d j : ℕ) → (way_of m) ≡ Session d → sess m.name m.source d (passed path) ≡ Some (tag_of m j) → SessionAt r path m d j
 
--- the station's address is the one that it claimed last
-abbrev pub OnlyHeld : StationSettings → List Reception → Type 0
-OnlyHeld r path = (d : ℕ) → claimed_by d (passed path) ≡ Some r.name → address_heard r (readings path) ≡ Some d
-
 -- the frame of another neither starts nor goes on nor drops the session
-pub skip_session : (r : StationSettings) (m : Message) (d j : ℕ) (e : Item) (xs : List Item) (held own : Option ℕ) (b : Bool) → CanHold held → Allowed r.name e xs → Lawful r.name xs → e.name ≢ r.name → sess m.name m.source d xs ≡ Some (tag_of m j) → (b ≡ true → held ≡ Some d) → breaks m.name m.source d e.name (says e) ≡ false → is_sess m.name e.tag ≡ false → session_after r.name m.source (says e) held own (half m j b) ≡ half m j b
-skip_session r m d j e xs held own b can allowed law unit c at unbroke notsess = by_frame (says e) refl
+pub skip_session : (r : StationSettings) (st : List ℕ) (m : Message) (d j : ℕ) (e : Item) (xs : List Item) (held own : Option ℕ) (b : Bool) → CanHold held → Allowed st e xs → Lawful st xs → sess m.name m.source d xs ≡ Some (tag_of m j) → (b ≡ true → held ≡ Some d) → breaks m.name m.source d e.name (says e) ≡ false → is_sess m.name e.tag ≡ false → session_after r.name m.source (says e) held own (half m j b) ≡ half m j b
+skip_session r st m d j e xs held own b can allowed law c at unbroke notsess = by_frame (says e) refl
   where
     mine : claimed_by m.source xs ≡ Some m.name
-    mine = sess_claimed r.name m d j xs law c
+    mine = sess_claimed st m d j xs law c
 
     of_name : (t : Tag) → e.tag ≡ Some t → is_session (way_of t.message) ≡ true → t.message.source ≡ m.source → ⊥
     of_name t g w s =
@@ -95,15 +86,15 @@ skip_session r m d j e xs held own b can allowed law unit c at unbroke notsess =
         cc
 
     no_rts : (s a x y z k : ℕ) (tag : Option Tag) → e.tag ≡ tag → says e ≡ ConnectionManagement s a (Rts x y z k) → s ≡ m.source → ⊥
-    no_rts s a x y z k None g f i = subst IsPlain f (allowed.plain g unit)
+    no_rts s a x y z k None g f i = subst IsNoStart f (allowed.starts g)
     no_rts s a x y z k (Some t) g f i =
-        let w = rts_way (way_of t.message) t.message t.part s a x y z k (sym f ∙ part_says r.name e t xs (allowed.tagged t g)) in
+        let w = rts_way (way_of t.message) t.message t.part s a x y z k (sym f ∙ part_says st e t xs (allowed.tagged t g)) in
         of_name t g w.0 (w.1 ∙ i)
 
     no_pack : (s a : ℕ) (q : List ℕ) (tag : Option Tag) → a ≤ 253 → e.tag ≡ tag → says e ≡ DataTransfer s a q → s ≡ m.source → ⊥
-    no_pack s a q None le g f i = subst IsPlain f (allowed.plain g unit)
+    no_pack s a q None le g f i = let k : a ≡ 255 = subst IsNoStart f (allowed.starts g) in absurd (omega arith)
     no_pack s a q (Some t) le g f i =
-        let w = pack_way (way_of t.message) t.message t.part s a q le (sym f ∙ part_says r.name e t xs (allowed.tagged t g)) in
+        let w = pack_way (way_of t.message) t.message t.part s a q le (sym f ∙ part_says st e t xs (allowed.tagged t g)) in
         of_name t g w.0 (w.1 ∙ i)
 
     by_claim : (s n : ℕ) → breaks m.name m.source d e.name (AddressClaimed s n) ≡ false → session_after r.name m.source (AddressClaimed s n) held own (half m j b) ≡ half m j b
@@ -192,9 +183,9 @@ part_uncontested me held (Session d) m zero = refl
 part_uncontested me held (Session d) m (suc j) = refl
 
 -- so the station stays at its address
-pub address_part : (r : StationSettings) (e : Item) (m : Message) (j : ℕ) (path : List Reception) → PartLaw r.name e (tag_of m j) (passed path) → address_heard r (readings (Received e ∷ path)) ≡ address_heard r (readings path)
-address_part r e m j path p =
-    address_read r e.frame (readings path) (ap (is_contest r.name (address_heard r (readings path))) (part_says r.name e (tag_of m j) (passed path) p) ∙ part_uncontested r.name (address_heard r (readings path)) (way_of m) m j)
+pub address_part : (r : StationSettings) (st : List ℕ) (e : Item) (m : Message) (j : ℕ) (path : List Reception) → PartLaw st e (tag_of m j) (passed path) → address_heard r (readings (Received e ∷ path)) ≡ address_heard r (readings path)
+address_part r st e m j path p =
+    address_read r e.frame (readings path) (ap (is_contest r.name (address_heard r (readings path))) (part_says st e (tag_of m j) (passed path) p) ∙ part_uncontested r.name (address_heard r (readings path)) (way_of m) m j)
 
 -- a piece of the session
 pub piece_joined : (m : Message) (d i : ℕ) (held : Option ℕ) (b : Bool) → IsProper m → way_of m ≢ One → i < count_of m → (b ≡ true → held ≡ Some d) → (if true && is_held held d then unfinished (with_packet (packet (payload_sent m) (suc i)) (half m i b)) else half m i b) ≡ half m (suc i) b
@@ -291,18 +282,37 @@ session_owned r a (Gap n ∷ rs) j h = cc
 session_owned r a (Empty ∷ rs) j h = session_owned r a rs j h
 session_owned r a (Frame f ∷ rs) j h = session_after_owned r.name a (group_of f) (address_heard r rs) (owner_heard a rs) (session_heard r a rs) (session_owned r a rs) j h
 
+-- a contest drops all sessions
+contest_drops : (me a : ℕ) (g : Group) (held own : Option ℕ) (before : Option Joining) → is_contest me held g ≡ true → session_after me a g held own before ≡ None
+contest_drops me a (AddressClaimed s n) held own before h = rw h refl
+contest_drops me a _ held own before h = cc
+
+for_session : (held : Option ℕ) (m : Message) (d : ℕ) → way_of m ≡ Session d → is_for held m ≡ is_held held d
+for_session held m d w =
+    let q = session_destination m d w in
+    let no : (d == 255) ≡ false = ne_test d 255 q.1 in
+    rw (q.0, no) refl
+
 -- a part of the session is read
-pub session_part : (r : StationSettings) (m : Message) (d j : ℕ) (e : Item) (path : List Reception) → Marked r.name path → e.name ≢ r.name → way_of m ≡ Session d → PartLaw r.name e (tag_of m j) (passed path) → e.tag ≡ Some (tag_of m j) → OnlyHeld r path → SessionsLaw r path → SessionAt r (Received e ∷ path) m d j
-session_part r m d zero e path mk ne w p tag only law =
-    let f : says e ≡ ConnectionManagement m.source d (Rts (length (payload_sent m)) (count_of m) 255 (pgn_of_kind m.kind)) = part_says r.name e (tag_of m 0) (passed path) p ∙ ap (λ (v : Way). group_at v m 0) w in
+pub session_part : (r : StationSettings) (st : List ℕ) (m : Message) (d j : ℕ) (e : Item) (path : List Reception) → Marked r.name path → e.name ≢ r.name → way_of m ≡ Session d → PartLaw st e (tag_of m j) (passed path) → e.tag ≡ Some (tag_of m j) → SessionsLaw r path → SessionAt r (Received e ∷ path) m d j
+session_part r st m d zero e path mk ne w p tag law =
+    let f : says e ≡ ConnectionManagement m.source d (Rts (length (payload_sent m)) (count_of m) 255 (pgn_of_kind m.kind)) = part_says st e (tag_of m 0) (passed path) p ∙ ap (λ (v : Way). group_at v m 0) w in
     let o = owner_anchored r.name m.source m.name path mk (λ g. ne (p.name ∙ g)) p.owned in
-    let at : address_heard r (readings path) ≡ Some d = only d (continues_start r.name (way_of m) (passed path) m d w p.joined) in
     let l = (many_last m p.proper (no_one m d w)).1 in
+    let first = first_is_part m e.tag tag in
+    let stays = address_part r st e m 0 path p in
     record {
-      held = λ h. address_part r e m 0 path p ∙ at;
-      joined = rw (f, at, same_test m.source, same_test d, o, first_is_part m e.tag tag)
+      held = λ h.
+          let u : (is_for (address_heard r (readings path)) m && is_anchored m.source path) ≡ true = rw first at h in
+          let v = (and_parts (is_for (address_heard r (readings path)) m) (is_anchored m.source path) u).0 in
+          stays ∙ held_is (address_heard r (readings path)) d (sym (for_session (address_heard r (readings path)) m d w) ∙ v);
+      joined = λ now.
+          let at : address_heard r (readings path) ≡ Some d = sym stays ∙ now in
+          let yes : is_for (address_heard r (readings path)) m ≡ true = for_session (address_heard r (readings path)) m d w ∙ rw at (same_test d) in
+          subst (λ (b : Bool). session_heard r m.source (readings (Received e ∷ path)) ≡ half m 0 b) (sym (first_unbroken r m e path first yes))
+          (rw (f, at, same_test m.source, same_test d, o)
           (ap (λ (v : Option Joining). or_else v (session_heard r m.source (readings path))) (started_half m (is_anchored m.source path) l)
-          ∙ or_started m (is_anchored m.source path) (session_heard r m.source (readings path)) l (λ u. none o u (session_heard r m.source (readings path)) refl));
+          ∙ or_started m (is_anchored m.source path) (session_heard r m.source (readings path)) l (λ u. none o u (session_heard r m.source (readings path)) refl)));
     }
   where
     none : owner_heard m.source (readings path) ≡ (if is_anchored m.source path then Some m.name else None) → is_anchored m.source path ≡ false → (x : Option Joining) → session_heard r m.source (readings path) ≡ x → x ≡ None
@@ -311,25 +321,26 @@ session_part r m d zero e path mk ne w p tag only law =
         let a = session_owned r m.source (readings path) x i in
         let b : owner_heard m.source (readings path) ≡ None = o ∙ rw u refl in
         cc
-session_part r m d (suc i) e path mk ne w p tag only law =
-    let f : says e ≡ DataTransfer m.source d (packet (payload_sent m) (suc i)) = part_says r.name e (tag_of m (suc i)) (passed path) p ∙ ap (λ (v : Way). group_at v m (suc i)) w in
-    let before = law m d i w (continues_session r.name (way_of m) (passed path) m d i w p.joined) in
+session_part r st m d (suc i) e path mk ne w p tag law =
+    let f : says e ≡ DataTransfer m.source d (packet (payload_sent m) (suc i)) = part_says st e (tag_of m (suc i)) (passed path) p ∙ ap (λ (v : Way). group_at v m (suc i)) w in
+    let before = law m d i w (continues_session st (way_of m) (passed path) m d i w p.joined) in
     let le = (many_last m p.proper (no_one m d w)).0 in
     let place : suc i ≤ last_part_of m = p.upto in
     let later = later_part m i e.tag tag in
+    let stays = address_part r st e m (suc i) path p in
     record {
-      held = λ h. (let u : is_unbroken m path ≡ true = rw later at h in address_part r e m (suc i) path p ∙ before.held u);
-      joined = rw (f, before.joined, same_test m.source, later) (piece_joined m d i (address_heard r (readings path)) (is_unbroken m path) p.proper (no_one m d w) (omega arith) before.held);
+      held = λ h. (let u : is_unbroken r m path ≡ true = rw later at h in stays ∙ before.held u);
+      joined = λ now. rw (f, before.joined (sym stays ∙ now), same_test m.source, later) (piece_joined m d i (address_heard r (readings path)) (is_unbroken r m path) p.proper (no_one m d w) (omega arith) before.held);
     }
 
 -- a frame is read
-pub sessions_read : (r : StationSettings) → IsFit r → (begun : List Message) (e : Item) (path : List Reception) → Numbered begun → Lawful r.name (e ∷ passed path) → Marked r.name (Received e ∷ path) → Every (IsBooked begun) (e ∷ passed path) → OnlyHeld r path → SessionsLaw r path → SessionsLaw r (Received e ∷ path)
-sessions_read r fit begun e path num law mk booked only before m d j w c =
+pub sessions_read : (r : StationSettings) (st : List ℕ) → IsFit r → (begun : List Message) (e : Item) (path : List Reception) → Numbered begun → Lawful st (e ∷ passed path) → Marked r.name (Received e ∷ path) → Every (IsBooked begun) (e ∷ passed path) → SessionsLaw r path → SessionsLaw r (Received e ∷ path)
+sessions_read r st fit begun e path num law mk booked before m d j w c =
     elim (pick_cases (breaks m.name m.source d e.name (says e)) None (if is_sess m.name e.tag then e.tag else sess m.name m.source d (passed path)) (Some (tag_of m j)) c) [
       | inl v ↦ cc v.1
       | inr v ↦
           elim (pick_cases (is_sess m.name e.tag) e.tag (sess m.name m.source d (passed path)) (Some (tag_of m j)) v.1) [
-            | inl u ↦ session_part r m d j e path mk.1 mk.0 w (law.0.tagged (tag_of m j) u.1) u.1 only before
+            | inl u ↦ session_part r st m d j e path mk.1 mk.0 w (law.0.tagged (tag_of m j) u.1) u.1 before
             | inr u ↦ other v.0 u.0 u.1 (before m d j w u.1)
           ]
     ]
@@ -347,15 +358,31 @@ sessions_read r fit begun e path num law mk booked only before m d j w c =
         ]
 
     other : breaks m.name m.source d e.name (says e) ≡ false → is_sess m.name e.tag ≡ false → sess m.name m.source d (passed path) ≡ Some (tag_of m j) → SessionAt r path m d j → SessionAt r (Received e ∷ path) m d j
-    other f n c ih =
-        let p = not_first begun m e num (begun_of (passed path) booked.1 c) booked.0 (λ t g same.
-        let yes : is_sess m.name (Some t) ≡ true = rw (same, same_test m.name, w) refl in
-        let nos : is_sess m.name (Some t) ≡ false = rw g at n in
-        cc) in
-        record {
-          held = λ h. (let u : is_unbroken m path ≡ true = rw p at h in address_read r e.frame (readings path) (unbreaking r.name m.name m.source d e.name (says e) (address_heard r (readings path)) f (ih.held u)) ∙ ih.held u);
-          joined = rw (ih.joined, p) (skip_session r m d j e (passed path) (address_heard r (readings path)) (owner_heard m.source (readings path)) (is_unbroken m path) (address_hold r (readings path) fit) law.0 law.1 mk.0 c ih.held f n);
-        }
+    other f n c ih = record {
+      held = λ h. (let u : is_unbroken r m path ≡ true = rw later at h in address_read r e.frame (readings path) (calm u) ∙ ih.held u);
+      joined = λ now. by_contest (is_contest r.name (address_heard r (readings path)) (says e)) refl now;
+    }
+      where
+        later : is_part m 0 e.tag ≡ false
+        later = not_first begun m e num (begun_of (passed path) booked.1 c) booked.0 (λ t g same.
+            let yes : is_sess m.name (Some t) ≡ true = rw (same, same_test m.name, w) refl in
+            let nos : is_sess m.name (Some t) ≡ false = rw g at n in
+            cc)
+
+        calm : is_unbroken r m path ≡ true → is_contest r.name (address_heard r (readings path)) (says e) ≡ false
+        calm u = unbreaking r.name m.name m.source d e.name (says e) (address_heard r (readings path)) f (ih.held u)
+
+        broken : is_contest r.name (address_heard r (readings path)) (says e) ≡ true → (b : Bool) → is_unbroken r m path ≡ b → None ≡ half m j b
+        broken k true i = let q = calm i in cc
+        broken k false i = refl
+
+        by_contest : (b : Bool) → is_contest r.name (address_heard r (readings path)) (says e) ≡ b → address_heard r (readings (Received e ∷ path)) ≡ Some d → session_heard r m.source (readings (Received e ∷ path)) ≡ half m j (is_unbroken r m (Received e ∷ path))
+        by_contest true k now =
+            contest_drops r.name m.source (says e) (address_heard r (readings path)) (owner_heard m.source (readings path)) (session_heard r m.source (readings path)) k
+            ∙ rw later (broken k (is_unbroken r m path) refl)
+        by_contest false k now =
+            rw (ih.joined (sym (address_read r e.frame (readings path) k) ∙ now), later)
+            (skip_session r st m d j e (passed path) (address_heard r (readings path)) (owner_heard m.source (readings path)) (is_unbroken r m path) (address_hold r (readings path) fit) law.0 law.1 c ih.held f n)
 
 -- a frame of the station's own passes
 pub sessions_own : (r : StationSettings) (e : Item) (path : List Reception) → IsStations r.name e → SessionsLaw r path → SessionsLaw r (Own e ∷ path)
@@ -369,4 +396,4 @@ sessions_own r e path own before m d j w c =
 
 -- frames are missed
 pub sessions_missed : (r : StationSettings) (es : List Item) (path : List Reception) → SessionsLaw r (Missed es ∷ path)
-sessions_missed r es path m d j w c = record { held = λ h. cc; joined = refl }
+sessions_missed r es path m d j w c = record { held = λ h. cc; joined = λ now. refl }

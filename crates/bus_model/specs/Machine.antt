@@ -1,4 +1,4 @@
--- The bus, its units and the station as a machine: what may happen next, and what it changes.
+-- The bus, its units and its stations as a machine: what may happen next, and what it changes.
 -- It leaves free whatever the law does not need, so the exact tables of units and station are special cases of it.
 use Rattle.std.specs.Prelude.{◌≡◌, ◌≢◌, ℕ, zero, suc, ◌+◌, ◌^◌, ◌<◌, ◌≤◌, Bool, true, false, List, [], ◌∷◌, ◌++◌, length, set, slice_get, Option, Some, None, if◌then◌else◌}
 use Rattle.can_frame.specs.FrameValue.{FrameValue}
@@ -6,18 +6,14 @@ use Rattle.can_frame.specs.declared.address.TheConstants.{GREATEST_ADDRESS, GLOB
 use Rattle.address_claim.specs.Frames.{claim_frame_value}
 use Rattle.dm_messages.specs.declared.kind.Kind.{Kind}
 use Rattle.fault_memory.specs.Memory.{MemoryValue}
-use Rattle.parameter_group.specs.Group.{Group, AddressClaimed, CannotClaim, Request, Acknowledgment, ConnectionManagement, Other, group_of}
-use Rattle.transport.specs.declared.control.Control.TheVariants.{Rts, Cts, EndAck, Abort}
+use Rattle.parameter_group.specs.Group.{Group, AddressClaimed, CannotClaim, Request, Acknowledgment, ConnectionManagement, DataTransfer, Diagnostic, Other, group_of}
+use Rattle.transport.specs.declared.control.Control.TheVariants.{Rts, Cts, EndAck, Bam, Abort}
 use Rattle.bus_model.specs.Messages.{Message, Way, One, Broadcast, Session, IsProper, frame_of_part, last_part_of, way_of, is_session}
-use Rattle.bus_model.specs.Traffic.{Tag, Item, says}
+use Rattle.bus_model.specs.Traffic.{Tag, Item, says, is_station}
 use Rattle.parameter_group.specs.Calm.{is_contest, IsCalm}
-use Rattle.bus_model.specs.Heard.{StationSettings, address_heard}
+use Rattle.bus_model.specs.Heard.{StationSettings, address_heard, kind_of}
 use Rattle.bus_model.specs.Expected.{Reception, Own, Received, Missed, readings, passed}
 use Rattle.address_claim.specs.Claiming.{CanHold}
-
--- the number of the station's seat
-abbrev pub station_seat : ℕ
-station_seat = 0
 
 -- a seat of a unit: its number, its NAME, the address it holds, what it wants carried, what it heard of the wire, and its
 -- open session with the last part queued
@@ -30,14 +26,23 @@ pub record Seat : Type 0 where
   pub heard : List Item
   pub session : Option Tag
 
--- the whole state
-pub record World : Type 0 where
+-- a station: its NAME and first address, what it wants carried, and the wire as far as it has it
+pub record Station : Type 0 where
   pub settings : StationSettings
+  pub asked : List Item
+  pub path : List Reception
+
+-- the whole state; a station's place is the number of its seat, and units' seats come behind
+pub record World : Type 0 where
+  pub stations : List Station
   pub wire : List Item  -- the frames carried
   pub seats : List Seat
-  pub asked : List Item  -- the station's queue
   pub begun : List Message  -- the messages begun
-  pub path : List Reception  -- the wire as far as the station has it
+
+-- the stations' NAMEs
+abbrev pub names_of : List Station → List ℕ
+names_of [] = []
+names_of (s ∷ ss) = s.settings.name ∷ names_of ss
 
 -- what a unit does with a frame that it hears
 pub data Answer : Type 0 where
@@ -54,10 +59,10 @@ pub data Event : Type 0 where
   Begin : (seat : ℕ) (kind : Kind) (memory : MemoryValue) (source : ℕ) → Event
   Turned : (seat : ℕ) → Event
   Carry : (seat : ℕ) → Event
-  Carry_station : Event
-  Ask : List FrameValue → Event  -- the station queues these frames, newest first
-  Read : List FrameValue → Event  -- the station receives a frame, and queues these in answer
-  Miss : ℕ → List FrameValue → Event  -- the station is told of so many missed frames, and queues these
+  Carry_station : (station : ℕ) → Event
+  Ask : (station : ℕ) → List FrameValue → Event  -- the station queues these frames, newest first
+  Read : (station : ℕ) → List FrameValue → Event  -- the station receives a frame, and queues these in answer
+  Miss : (station : ℕ) → ℕ → List FrameValue → Event  -- the station is told of so many missed frames, and queues these
   Leave : (seat : ℕ) → Event
 
 -- a frame of the seat x under NAME n that is no part of a message
@@ -219,25 +224,28 @@ IsLiveSeat w x s = (slice_get w.seats x ≡ Some s) × (s.live ≡ true)
 
 -- neither a live seat nor the station has the NAME
 abbrev pub IsFree : World → ℕ → Type 0
-IsFree w n = (n ≢ w.settings.name) × ((x : ℕ) (s : Seat) → IsLiveSeat w x s → s.name ≢ n)
+IsFree w n = (is_station (names_of w.stations) n ≡ false) × ((x : ℕ) (s : Seat) → IsLiveSeat w x s → s.name ≢ n)
 
 -- a unit that joins gets the next number, counts the whole wire as heard, and claims its address; numbers are given in
 -- order of joining, from 1 on, and none is used again, since seats stay in the list
 abbrev pub joined_seat : World → ℕ → ℕ → Seat
 joined_seat w n a =
-    record { number = suc (length w.seats); name = n; live = true; held = Some a; queue = claim_alone (suc (length w.seats)) n (Some a); heard = w.wire; session = None }
+    record { number = length w.stations + length w.seats; name = n; live = true; held = Some a; queue = claim_alone (length w.stations + length w.seats) n (Some a); heard = w.wire; session = None }
 
--- the station's own address
-abbrev pub station_address : World → Option ℕ
-station_address w = address_heard w.settings (readings w.path)
+-- a station's own address
+abbrev pub station_address : Station → Option ℕ
+station_address s = address_heard s.settings (readings s.path)
 
--- the station claims, asks and aborts from its own address alone (a request may bear address 254 where it holds none),
--- and starts no session; its other frames are free
+-- a station claims, asks, aborts and announces from its own address alone (a request may bear address 254 where it holds none);
+-- it starts no session and no diagnostic message, and sends packets to all alone; its other frames are free
 abbrev pub MaySend : ℕ → Option ℕ → Group → Type 0
 MaySend n held (AddressClaimed s m) = (held ≡ Some s) × (m ≡ n)
 MaySend n held (Request pgn d s) = s ≤ GREATEST_ADDRESS → held ≡ Some s
 MaySend n held (ConnectionManagement s d (Abort reason pgn)) = held ≡ Some s
+MaySend n held (ConnectionManagement s d (Bam size packets pgn)) = (held ≡ Some s) × (kind_of pgn ≡ None)
 MaySend n held (ConnectionManagement s d (Rts size packets most pgn)) = ⊥
+MaySend n held (DataTransfer s d bytes) = (held ≡ Some s) × (d ≡ GLOBAL_ADDRESS)
+MaySend n held (Diagnostic kind s bytes) = ⊥
 MaySend n held _ = Unit {0}
 
 -- each of these frames
@@ -245,26 +253,33 @@ abbrev pub AllMaySend : ℕ → Option ℕ → List FrameValue → Type 0
 AllMaySend n held [] = Unit {0}
 AllMaySend n held (f ∷ fs) = MaySend n held (group_of f) × AllMaySend n held fs
 
--- the station's queue after a reading: its claim alone where its address was contested
-abbrev pub asked_after : World → Group → Option ℕ → List Item
-asked_after w g held = if is_contest w.settings.name (station_address w) g then claim_alone station_seat w.settings.name held else w.asked
+-- the queue of the station on seat y after a reading: its claim alone where its address was contested
+abbrev pub asked_after : ℕ → Station → Group → Option ℕ → List Item
+asked_after y s g held = if is_contest s.settings.name (station_address s) g then claim_alone y s.settings.name held else s.asked
 
--- the station received the frame
-abbrev pub received : World → Item → World
-received w e =
-    record w { path = Received e ∷ w.path; asked = asked_after w (says e) (address_heard w.settings (readings (Received e ∷ w.path))) }
+-- it received the frame
+abbrev pub received : ℕ → Station → Item → Station
+received y s e =
+    record s { path = Received e ∷ s.path; asked = asked_after y s (says e) (address_heard s.settings (readings (Received e ∷ s.path))) }
 
--- after a gap the station withdraws its queue and claims again
-abbrev pub missed : World → List Item → World
-missed w es = record w { path = Missed es ∷ w.path; asked = claim_alone station_seat w.settings.name (station_address w) }
+-- after a gap it withdraws its queue and claims again
+abbrev pub missed : ℕ → Station → List Item → Station
+missed y s es = record s { path = Missed es ∷ s.path; asked = claim_alone y s.settings.name (station_address s) }
 
--- the station queues these frames
-abbrev pub with_asked : World → List FrameValue → World
-with_asked w frames = record w { asked = all_plain station_seat w.settings.name frames ++ w.asked }
+-- it queues these frames
+abbrev pub with_asked : ℕ → Station → List FrameValue → Station
+with_asked y s frames = record s { asked = all_plain y s.settings.name frames ++ s.asked }
 
--- the station may send these frames now
-abbrev pub CanAsk : World → List FrameValue → Type 0
-CanAsk w frames = AllMaySend w.settings.name (station_address w) frames
+-- it may send these frames now
+abbrev pub CanAsk : Station → List FrameValue → Type 0
+CanAsk s frames = AllMaySend s.settings.name (station_address s) frames
+
+-- the station on seat y
+abbrev pub IsAt : World → ℕ → Station → Type 0
+IsAt w y s = slice_get w.stations y ≡ Some s
+
+abbrev pub world_with_station : World → ℕ → Station → World
+world_with_station w y s = record w { stations = set w.stations y s }
 
 -- the event leads from one world to the other
 abbrev pub Step : World → Event → World → Type 0
@@ -279,16 +294,16 @@ Step old (Turned x) new = new ≡ old
 Step old (Carry x) new =
     (s : Seat) × (e : Item) × (rest : List Item) × IsLiveSeat old x s × (s.queue ≡ rest ++ e ∷ []) × (s.heard ≡ old.wire)
     × (new ≡ record old { wire = e ∷ old.wire; seats = set old.seats x (record s { queue = rest; heard = e ∷ old.wire }) })
-Step old Carry_station new =
-    (e : Item) × (rest : List Item) × (old.asked ≡ rest ++ e ∷ []) × (old.wire ≡ passed old.path)
-    × (new ≡ record old { wire = e ∷ old.wire; asked = rest; path = Own e ∷ old.path })
-Step old (Ask frames) new = CanAsk old frames × (new ≡ with_asked old frames)
-Step old (Read frames) new =
-    (e : Item) × (ahead : List Item) × (old.wire ≡ ahead ++ e ∷ passed old.path)
-    × CanAsk (received old e) frames × (new ≡ with_asked (received old e) frames)
-Step old (Miss n frames) new =
-    (es : List Item) × (ahead : List Item) × (length es ≡ n) × (old.wire ≡ ahead ++ (es ++ passed old.path))
-    × CanAsk (missed old es) frames × (new ≡ with_asked (missed old es) frames)
+Step old (Carry_station y) new =
+    (s : Station) × (e : Item) × (rest : List Item) × IsAt old y s × (s.asked ≡ rest ++ e ∷ []) × (old.wire ≡ passed s.path)
+    × (new ≡ record old { wire = e ∷ old.wire; stations = set old.stations y (record s { asked = rest; path = Own e ∷ s.path }) })
+Step old (Ask y frames) new = (s : Station) × IsAt old y s × CanAsk s frames × (new ≡ world_with_station old y (with_asked y s frames))
+Step old (Read y frames) new =
+    (s : Station) × (e : Item) × (ahead : List Item) × IsAt old y s × (old.wire ≡ ahead ++ e ∷ passed s.path)
+    × CanAsk (received y s e) frames × (new ≡ world_with_station old y (with_asked y (received y s e) frames))
+Step old (Miss y n frames) new =
+    (s : Station) × (es : List Item) × (ahead : List Item) × IsAt old y s × (length es ≡ n) × (old.wire ≡ ahead ++ (es ++ passed s.path))
+    × CanAsk (missed y s es) frames × (new ≡ world_with_station old y (with_asked y (missed y s es) frames))
 Step old (Leave x) new = (s : Seat) × IsLiveSeat old x s × (new ≡ world_with_seat old x (record s { live = false; queue = [] }))
 
 -- a whole run
@@ -296,12 +311,26 @@ abbrev pub Run : World → List Event → World → Type 0
 Run old [] new = new ≡ old
 Run old (e ∷ es) new = (mid : World) × Step old e mid × Run mid es new
 
--- nothing has happened yet; the station's claim is queued
-abbrev pub start : StationSettings → World
-start r =
-    record { settings = r; wire = []; seats = []; asked = claim_alone station_seat r.name (Some r.address); begun = []; path = [] }
+-- stations that have done nothing, from this seat on; the claim of each is queued
+abbrev pub new_stations : ℕ → List StationSettings → List Station
+new_stations y [] = []
+new_stations y (r ∷ rs) = record { settings = r; asked = claim_alone y r.name (Some r.address); path = [] } ∷ new_stations (suc y) rs
+
+-- nothing has happened yet
+abbrev pub start : List StationSettings → World
+start rs = record { stations = new_stations 0 rs; wire = []; seats = []; begun = [] }
 
 -- settings with a NAME of 64 bits and an address that can be held
 pub record IsFit (r : StationSettings) : Type 0 where
   pub name : r.name < 2 ^ 64
   pub address : r.address ≤ GREATEST_ADDRESS
+
+-- none of these has the NAME
+abbrev pub AreNot : ℕ → List StationSettings → Type 0
+AreNot n [] = Unit {0}
+AreNot n (r ∷ rs) = (r.name ≢ n) × AreNot n rs
+
+-- each is fit, and no two have one NAME
+abbrev pub AreFit : List StationSettings → Type 0
+AreFit [] = Unit {0}
+AreFit (r ∷ rs) = IsFit r × AreNot r.name rs × AreFit rs

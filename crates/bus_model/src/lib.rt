@@ -1,7 +1,7 @@
-//! The law of the station's lists: what they must be, and that they are, over every list of events.
+//! The law of the stations' lists: what they must be, and that they are, over every list of events.
 #![tactic(auto)]
 
-ghost use Rattle.std.specs.Prelude.{◌≡◌, ℕ, ◌+◌, List, slice_get, ◌∷◌, ◌++◌, ◌↔◌, Some, IsSome, true};
+ghost use Rattle.std.specs.Prelude.{◌≡◌, ℕ, ◌+◌, List, length, slice_get, ◌∷◌, ◌++◌, ◌↔◌, Some, IsSome, true};
 ghost use Rattle.dm_messages.specs.declared.kind.Kind.{Kind};
 ghost use Rattle.dm_messages.specs.declared.shown.Shown.{Shown};
 ghost use Rattle.bus_model.specs.Messages.{Message, IsAmong};
@@ -15,62 +15,66 @@ ghost use Rattle.bus_model.specs.LookBack.{IsOwner, EndsMessage};
 ghost use Rattle.bus_model.specs.Expected.{expected, readings, is_clear};
 ghost use Rattle.bus_model.specs.ClearPath.{IsOnClearPath, NoneMissed};
 ghost use Rattle.bus_model.specs.Whole.{received_whole};
-ghost use Rattle.bus_model.specs.Example.{example_settings, ShowsEachWay, ShowsAfterTakeover};
-ghost use Rattle.bus_model.specs.Machine.{World, Seat, Event, IsFit, Step, Run, start};
+ghost use Rattle.bus_model.specs.Example.{one_station, two_stations, ShowsEachWay, ShowsAfterTakeover, ShowsAtSecondAlone};
+ghost use Rattle.bus_model.specs.Machine.{World, Seat, Station, IsAt, Event, AreFit, IsFit, Step, Run, start};
 ghost use Rattle.bus_model.specs.Marks.{IsMarkedBy};
 ghost use Rattle.bus_model.specs.Whose.{IsFromItsSeat};
 
-/// The lists are exact: after every list of events, under each NAME and kind, the entries heard are the entries expected.
+/// The lists are exact: after every list of events, at each station, under each NAME and kind, the entries heard are the entries expected.
 pub fn lists_are_exact()
-    ensures { (settings : StationSettings) → IsFit settings → (events : List Event) (w : World) → Run (start settings) events w → (n : ℕ) (k : Kind) → entries_heard settings n k (readings w.path) ≡ expected n k w.begun w.path }
+    ensures { (settings : List StationSettings) → AreFit settings → (events : List Event) (w : World) → Run (start settings) events w → (y : ℕ) (s : Station) → IsAt w y s → (n : ℕ) (k : Kind)
+        → entries_heard s.settings n k (readings s.path) ≡ expected s.settings n k w.begun s.path }
 {}
 
 /// Who sends holds the address: before each frame of a message the last claim of its source bears the NAME of its seat.
 pub fn who_sends_holds_the_address()
-    ensures { (settings : StationSettings) → IsFit settings → (events : List Event) (w : World) → Run (start settings) events w → (after before : List Item) (e : Item) (t : Tag) → w.wire ≡ after ++ e ∷ before → e.tag ≡ Some t → claimed_by t.message.source before ≡ Some e.name }
+    ensures { (settings : List StationSettings) → AreFit settings → (events : List Event) (w : World) → Run (start settings) events w → (after before : List Item) (e : Item) (t : Tag) → w.wire ≡ after ++ e ∷ before → e.tag ≡ Some t → claimed_by t.message.source before ≡ Some e.name }
 {}
 
 /// Lawful traffic: each frame of a message is that part of it and comes from its seat, and parts stand in their order.
 pub fn traffic_is_lawful()
-    ensures { (settings : StationSettings) → IsFit settings → (events : List Event) (w : World) → Run (start settings) events w → IsLawfulTraffic w.begun w.wire }
+    ensures { (settings : List StationSettings) → AreFit settings → (events : List Event) (w : World) → Run (start settings) events w → IsLawfulTraffic w.begun w.wire }
 {}
 
-/// Seats have numbers, given in order of joining from 1 on and never again: the seat in place x has number x + 1.
+/// Seats have numbers: stations from 0 on, units behind them in order of joining, and no number is given twice.
 pub fn seats_are_numbered()
-    ensures { (settings : StationSettings) → IsFit settings → (events : List Event) (w : World) → Run (start settings) events w → (x : ℕ) (s : Seat) → slice_get w.seats x ≡ Some s → s.number ≡ x + 1 }
+    ensures { (settings : List StationSettings) → AreFit settings → (events : List Event) (w : World) → Run (start settings) events w → (x : ℕ) (s : Seat) → slice_get w.seats x ≡ Some s → s.number ≡ length w.stations + x }
 {}
 
-/// Each frame on the wire comes from the station or from a seat that joined, and bears that seat's number and NAME.
+/// Each frame on the wire comes from a station or from a seat that joined, and bears that seat's number and NAME.
 pub fn frames_come_from_their_seats()
-    ensures { (settings : StationSettings) → IsFit settings → (events : List Event) (w : World) → Run (start settings) events w → (after before : List Item) (e : Item) → w.wire ≡ after ++ e ∷ before → IsFromItsSeat w e }
+    ensures { (settings : List StationSettings) → AreFit settings → (events : List Event) (w : World) → Run (start settings) events w → (after before : List Item) (e : Item) → w.wire ≡ after ++ e ∷ before → IsFromItsSeat w e }
 {}
 
-/// The path is the wire as its readings mark it: the frames that are not the station's own, in order, where a frame marks the
+/// The path of each station is the wire as its readings mark it: the frames that are not the station's own, in order, where a frame marks the
 /// next one as received and a gap of n the next n as missed; later ones have no mark.
 pub fn path_is_marked()
-    ensures { (settings : StationSettings) → IsFit settings → (events : List Event) (w : World) → Run (start settings) events w → IsMarkedBy (readings w.path) w.wire w.path }
+    ensures { (settings : List StationSettings) → AreFit settings → (events : List Event) (w : World) → Run (start settings) events w → (y : ℕ) (s : Station) → IsAt w y s → IsMarkedBy y (readings s.path) w.wire s.path }
 {}
 
-/// Nothing unreadable: each message of a unit that ends can be read.
+/// Nothing unreadable: each message of a unit that ends at a station can be read.
 pub fn nothing_is_unreadable()
-    ensures { (settings : StationSettings) → IsFit settings → (events : List Event) (w : World) → Run (start settings) events w → unread_count settings (readings w.path) ≡ 0 }
+    ensures { (settings : List StationSettings) → AreFit settings → (events : List Event) (w : World) → Run (start settings) events w → (y : ℕ) (s : Station) → IsAt w y s → unread_count s.settings (readings s.path) ≡ 0 }
 {}
 
-/// A list only grows: at every step each list of entries, newest first, keeps its entries and gets new ones in front.
+/// A list only grows: at every step, at each station, each list of entries, newest first, keeps its entries and gets new ones in front.
 pub fn lists_only_grow()
-    ensures { (old new : World) (event : Event) → Step old event new → (settings : StationSettings) (n : ℕ) (k : Kind) → (more : List Shown) × (entries_heard settings n k (readings new.path) ≡ more ++ entries_heard settings n k (readings old.path)) }
+    ensures { (old new : World) (event : Event) → Step old event new → (y : ℕ) (s t : Station) → IsAt old y s → IsAt new y t → (settings : StationSettings) (n : ℕ) (k : Kind)
+        → (more : List Shown) × (entries_heard settings n k (readings t.path) ≡ more ++ entries_heard settings n k (readings s.path)) }
 {}
 
-/// Quiet addresses: where nothing was missed, the entries heard are the views of all messages whose last part was
-/// received, in the order begun. That each address is claimed under one NAME only need not be said: a unit that loses
+/// Quiet addresses: where a station missed nothing, its entries are the views of all messages, to all or to it, whose last part
+/// it received, in the order begun. That each address is claimed under one NAME only need not be said: a unit that loses
 /// its address sends no further part, so such a message has no last part.
 pub fn nothing_missed_shows_all()
-    ensures { (settings : StationSettings) → IsFit settings → (events : List Event) (w : World) → Run (start settings) events w → NoneMissed w.path → (n : ℕ) (k : Kind) → entries_heard settings n k (readings w.path) ≡ received_whole n k w.begun w.path }
+    ensures { (settings : List StationSettings) → AreFit settings → (events : List Event) (w : World) → Run (start settings) events w → (y : ℕ) (s : Station) → IsAt w y s → NoneMissed s.path → (n : ℕ) (k : Kind)
+        → entries_heard s.settings n k (readings s.path) ≡ received_whole s.settings n k w.begun s.path }
 {}
 
-/// Clear path: for the messages begun, the walk back along what was received is the clear path said by looking back.
+/// Clear path: for the messages begun, the walk back along what a station received is the clear path said by looking back.
 pub fn clear_path_looks_back()
-    ensures { (settings : StationSettings) → IsFit settings → (events : List Event) (w : World) → Run (start settings) events w → (m : Message) → IsAmong m w.begun → (is_clear m w.path ≡ true) ↔ IsOnClearPath m w.path }
+    ensures { (settings : List StationSettings) → AreFit settings → (events : List Event) (w : World) → Run (start settings) events w → (y : ℕ) (s : Station) → IsAt w y s → (m : Message) → IsAmong m w.begun
+        → (is_clear s.settings m s.path ≡ true) ↔ IsOnClearPath s.settings m s.path }
 {}
 
 /// Look-back form of an owner: over any list of readings it is the NAME in the address's last claim, with no gap since.
@@ -105,8 +109,10 @@ pub fn counts_look_back()
 {}
 
 /// The machine is not empty: one run shows an entry by a single frame, one by a broadcast of two packets and one by a
-/// session; another shows none for a message with a gap inside, and one after a takeover of the address.
+/// session; another shows none for a message with a gap inside, and one after a takeover of the address. In a third, with two stations, a
+/// session that the second asked for is shown there, and not at the first.
 pub fn machine_is_not_empty()
-    ensures each_way { (events : List Event) × (w : World) × Run (start example_settings) events w × ShowsEachWay w }
-    ensures after_takeover { (events : List Event) × (w : World) × Run (start example_settings) events w × ShowsAfterTakeover w }
+    ensures each_way { (events : List Event) × (w : World) × Run (start one_station) events w × ShowsEachWay w }
+    ensures after_takeover { (events : List Event) × (w : World) × Run (start one_station) events w × ShowsAfterTakeover w }
+    ensures at_second_alone { (events : List Event) × (w : World) × Run (start two_stations) events w × ShowsAtSecondAlone w }
 {}

@@ -29,6 +29,14 @@ full_back a v is stands full =
     let now : IsFull (garage_value_of a) = subst IsFull (sym is) full in
     omega (arith, length-reverse a.journal.items)
 
+-- a call that answers what `make_room` did
+pub full_told : {T U : Type 0} (a : Inside) (v : GarageValue) (y : Result T GarageError) (x : Result U GarageError) (e : GarageError) → garage_value_of a ≡ v → Stands a → y ≡ Err e → x ≡ Err e
+    → (IsErrOf y BookFull ↔ (a.limit < length a.journal.items + (a.live + 1))) → IsErrOf x BookFull ↔ IsFull v
+full_told a v y x e is stands refused told room = (
+  (λ h. full_of a v is stands (room.0 (let same : e ≡ BookFull = cc in refused ∙ ap Err same))),
+  (λ full. (let h : y ≡ Err BookFull = room.1 (full_back a v is stands full) in let same : e ≡ BookFull = cc in told ∙ ap Err same)),
+)
+
 view_same : (a : Inside) (v : GarageValue) (r : Settings) (events : List Event) → garage_value_of a ≡ v → r ≡ settings_of a → events ≡ a.journal.items
     → ◌≡◌ {A = GarageValue} (record { settings = r; journal = reverse events }) v
 view_same a v r events is settings journal = (let h = ap reverse journal in let same : ◌≡◌ {A = GarageValue} (record { settings = r; journal = reverse events }) (garage_value_of a) = cc in same ∙ is)

@@ -11,7 +11,7 @@ use Rattle.can_frame.specs.declared.reading.Reading.TheVariants as reading
 use Rattle.fault_memory.specs.Memory.{MemoryValue}
 use Rattle.unit_trait.specs.declared.question.Question.{Question}
 use Rattle.dm_messages.specs.declared.shown.Shown.{Shown}
-use Rattle.journal.specs.Journal.{GarageValue, Adds, listed_of, memory_told, state_of, tally_of}
+use Rattle.journal.specs.Journal.{GarageValue, Adds, listed_at, memory_told, state_of, tally_of}
 use Rattle.journal.specs.Promises.{KeepsLists}
 use Rattle.journal.specs.declared.event.Event.{Event}
 use Rattle.journal.specs.declared.event.Event.TheVariants.{Hear, Carry, Read}
@@ -45,7 +45,7 @@ memory_of_other : (k j : ℕ) (memory : MemoryValue) (answered : _) (es : List E
 unfolding memory_told
 memory_of_other k j memory answered es n = (let t : nat_eq j k ≡ false = ne_eqb j k (λ e. n (sym e)) in rw t refl)
 
-memory_read : (k : ℕ) (r : Reading) (es : List Event) → memory_told k (Read r ∷ es) ≡ memory_told k es
+memory_read : (k : ℕ) (r : Reading) (es : List Event) → memory_told k (Read 0 r ∷ es) ≡ memory_told k es
 unfolding memory_told
 memory_read k r es = refl
 
@@ -63,8 +63,8 @@ heard_untouched k g j memory answers unit heard.Nothing g' memory' unit' h n the
 
 pub read_untouched : (k : ℕ) (g g' : GarageValue) (r : Reading) → Reads g r g' → k < length (state_of g).traffic.seats → IsUntouched k g g'
 read_untouched k g g' reading.Empty h there = untouched_same k g g' h.1
-read_untouched k g g' (reading.Frame f) h there = untouched_by k g g' (Read (reading.Frame f)) h (unit_read k g g' (reading.Frame f) h there) (tally_more k (Read (reading.Frame f)) g.journal) (memory_read k (reading.Frame f) g.journal)
-read_untouched k g g' (reading.Gap n) h there = untouched_by k g g' (Read (reading.Gap n)) h (unit_read k g g' (reading.Gap n) h there) (tally_more k (Read (reading.Gap n)) g.journal) (memory_read k (reading.Gap n) g.journal)
+read_untouched k g g' (reading.Frame f) h there = untouched_by k g g' (Read 0 (reading.Frame f)) h (unit_read k g g' (reading.Frame f) h there) (tally_more k (Read 0 (reading.Frame f)) g.journal) (memory_read k (reading.Frame f) g.journal)
+read_untouched k g g' (reading.Gap n) h there = untouched_by k g g' (Read 0 (reading.Gap n)) h (unit_read k g g' (reading.Gap n) h there) (tally_more k (Read 0 (reading.Gap n)) g.journal) (memory_read k (reading.Gap n) g.journal)
 
 pub carried_untouched : (k : ℕ) (g g' : GarageValue) (c : Carried) → AddsCarry g c g' → k < length (state_of g).traffic.seats → IsUntouched k g g'
 carried_untouched k g g' (carried.Frame j f) h there = untouched_by k g g' (Carry j) h.1 (unit_carried k j g g' h.1 there) (tally_more k (Carry j) g.journal) (memory_carried k j g.journal)
@@ -255,8 +255,8 @@ comes_heard g k memory answers unit heard.Nothing g' memory' unit' h = comes_sam
 
 pub comes_read : (g g' : GarageValue) (r : Reading) → Reads g r g' → Comes g g'
 comes_read g g' reading.Empty h = comes_same g g' h.1
-comes_read g g' (reading.Frame f) h = comes_one g g' (Read (reading.Frame f)) h tt
-comes_read g g' (reading.Gap n) h = comes_one g g' (Read (reading.Gap n)) h tt
+comes_read g g' (reading.Frame f) h = comes_one g g' (Read 0 (reading.Frame f)) h tt
+comes_read g g' (reading.Gap n) h = comes_one g g' (Read 0 (reading.Gap n)) h tt
 
 pub comes_carried : (g g' : GarageValue) (c : Carried) → AddsCarry g c g' → Comes g g'
 comes_carried g g' (carried.Frame j f) h = comes_one g g' (Carry j) h.1 tt
@@ -297,9 +297,9 @@ hearing_refused a g g' s s' s'' so same kept = subst (λ (v : GarageValue). Hear
 
 lists_both : (a b c : GarageValue) → KeepsLists a b → KeepsLists b c → KeepsLists a c
 lists_both a b c h h' = record {
-  grows = λ n k.
-      (let one = h.grows n k in let two = h'.grows n k in
-      (one.0 ++ two.0, two.1 ∙ (ap (λ (l : List Shown). l ++ two.0) one.1 ∙ append_assoc (listed_of a n k) one.0 two.0)));
+  grows = λ y n k.
+      (let one = h.grows y n k in let two = h'.grows y n k in
+      (one.0 ++ two.0, two.1 ∙ (ap (λ (l : List Shown). l ++ two.0) one.1 ∙ append_assoc (listed_at a y n k) one.0 two.0)));
 }
 
 lists_led : (es : List Event) (a b : GarageValue) → LeadTo es a b → KeepsLists a b

@@ -1,5 +1,5 @@
 -- What a garage answers of its station is what the law says of its journal.
-use Rattle.std.proofs.Common.{◌≡◌, ℕ, true, List, Option, reverse, sym, ap, ◌∙◌, subst}
+use Rattle.std.proofs.Common.{◌≡◌, ℕ, true, List, Option, reverse, sym, ap, ◌∙◌, subst, arith}
 use Rattle.std.specs.Option.{option_map}
 use Rattle.std.specs.Prelude.{◌↔◌}
 use Rattle.dm_messages.specs.declared.kind.Kind.{Kind}
@@ -17,6 +17,7 @@ use Rattle.station_table.specs.declared.row.Row.{Row}
 use Rattle.station_table.proofs.Queries.{row_as_heard}
 use Rattle.journal.specs.Journal.{injected_of, readings_of, shown_of, state_of}
 use Rattle.journal.specs.Promises.{IsFromOwner, wire_of}
+use Rattle.journal.specs.State.{path_at, table_at}
 use Rattle.journal.specs.Worlds.{station_of}
 use Rattle.journal.proofs.Lifted.{from_owner, lawful_wire, looks_back, quiet}
 use Rattle.journal.proofs.Headline.{exact, readable, station}
@@ -24,12 +25,12 @@ use Rattle.garage.specs.Inside.{settings_of, garage_value_of, Stands}
 use Rattle.garage.specs.declared.garage.Garage.TheInside.{Inside}
 
 -- its tables stand for the readings in the journal
-pub tables : (a : Inside) → Stands a → StandsFor (station_of (settings_of a)) a.grant (state_of (garage_value_of a)).station (readings_of (reverse a.journal.items))
-tables a stands = station (settings_of a) (reverse a.journal.items) stands.fits
+pub tables : (a : Inside) → Stands a → StandsFor (station_of (settings_of a)) a.grant (table_at (state_of (garage_value_of a)) 0) (readings_of (reverse a.journal.items))
+tables a stands = station (settings_of a) (reverse a.journal.items) stands.fits 0 (omega arith)
 
 pub shown_expected : (a : Inside) (n : ℕ) (k : Kind) (l : List Shown) → l ≡ entries_under a.station.rows n k → Stands a → injected_of (reverse a.journal.items) ≡ 0 → l ≡ shown_of (garage_value_of a) n k
 shown_expected a n k l e stands none =
-    e ∙ (ap (λ (s : StationValue). entries_under s.rows n k) stands.station ∙ exact (settings_of a) (reverse a.journal.items) stands.fits none n k)
+    e ∙ (ap (λ (s : StationValue). entries_under s.rows n k) stands.station ∙ exact (settings_of a) (reverse a.journal.items) stands.fits none 0 (omega arith) n k)
 
 pub shown_heard : (a : Inside) (n : ℕ) (k : Kind) (l : List Shown) → l ≡ entries_under a.station.rows n k → Stands a
     → l ≡ reverse (entries_heard (station_of (settings_of a)) n k (readings_of (reverse a.journal.items)))
@@ -39,25 +40,25 @@ pub missed_heard : (a : Inside) (n : ℕ) → n ≡ a.station.missed → Stands 
 missed_heard a n e stands = e ∙ (ap (λ (s : StationValue). s.missed) stands.station ∙ (tables a stands).missed)
 
 pub none_unread : (a : Inside) (n : ℕ) → n ≡ a.station.unread → Stands a → injected_of (reverse a.journal.items) ≡ 0 → n ≡ 0
-none_unread a n e stands none = e ∙ (ap (λ (s : StationValue). s.unread) stands.station ∙ readable (settings_of a) (reverse a.journal.items) stands.fits none)
+none_unread a n e stands none = e ∙ (ap (λ (s : StationValue). s.unread) stands.station ∙ readable (settings_of a) (reverse a.journal.items) stands.fits none 0 (omega arith))
 
 pub row_known_heard : (a : Inside) (n : ℕ) (o : Option Row) → o ≡ row_of a.station.owners n (kept_under a.station.rows n) → Stands a
     → option_map row_heard_as o ≡ row_heard (station_of (settings_of a)) n (readings_of (reverse a.journal.items))
 row_known_heard a n o e stands =
-    row_as_heard (station_of (settings_of a)) a.grant (state_of (garage_value_of a)).station (readings_of (reverse a.journal.items)) n o
+    row_as_heard (station_of (settings_of a)) a.grant (table_at (state_of (garage_value_of a)) 0) (readings_of (reverse a.journal.items)) n o
     (e ∙ ap (λ (s : StationValue). row_of s.owners n (kept_under s.rows n)) stands.station) (tables a stands)
 
 -- as the garage keeps them
 pub kept_tables : (a : Inside) → Stands a → StandsFor (station_of (settings_of a)) a.grant a.station (readings_of (reverse a.journal.items))
 kept_tables a stands = subst (λ (s : StationValue). StandsFor (station_of (settings_of a)) a.grant s (readings_of (reverse a.journal.items))) (sym stands.station) (tables a stands)
 
-pub shown_quiet : (a : Inside) (n : ℕ) (k : Kind) (l : List Shown) → l ≡ entries_under a.station.rows n k → Stands a → injected_of (reverse a.journal.items) ≡ 0 → NoneMissed (state_of (garage_value_of a)).path
-    → l ≡ reverse (received_whole n k (state_of (garage_value_of a)).begun (state_of (garage_value_of a)).path)
-shown_quiet a n k l e stands none whole = shown_expected a n k l e stands none ∙ quiet (garage_value_of a) stands.fits none whole n k
+pub shown_quiet : (a : Inside) (n : ℕ) (k : Kind) (l : List Shown) → l ≡ entries_under a.station.rows n k → Stands a → injected_of (reverse a.journal.items) ≡ 0 → NoneMissed (path_at (state_of (garage_value_of a)) 0)
+    → l ≡ reverse (received_whole (station_of (settings_of a)) n k (state_of (garage_value_of a)).begun (path_at (state_of (garage_value_of a)) 0))
+shown_quiet a n k l e stands none whole = shown_expected a n k l e stands none ∙ quiet (garage_value_of a) stands.fits none 0 (omega arith) whole n k
 
 pub path_looks_back : (a : Inside) (m : Message) → Stands a → injected_of (reverse a.journal.items) ≡ 0 → IsAmong m (state_of (garage_value_of a)).begun
-    → (is_clear m (state_of (garage_value_of a)).path ≡ true) ↔ IsOnClearPath m (state_of (garage_value_of a)).path
-path_looks_back a m stands none among = looks_back (garage_value_of a) stands.fits none m among
+    → (is_clear (station_of (settings_of a)) m (path_at (state_of (garage_value_of a)) 0) ≡ true) ↔ IsOnClearPath (station_of (settings_of a)) m (path_at (state_of (garage_value_of a)) 0)
+path_looks_back a m stands none among = looks_back (garage_value_of a) stands.fits none 0 (omega arith) m among
 
 pub unread_heard : (a : Inside) (n : ℕ) → n ≡ a.station.unread → Stands a → n ≡ unread_count (station_of (settings_of a)) (readings_of (reverse a.journal.items))
 unread_heard a n e stands = e ∙ (ap (λ (s : StationValue). s.unread) stands.station ∙ (tables a stands).unread)

@@ -10,6 +10,7 @@ use Rattle.station_table.specs.StandsFor.{row_heard_as}
 use Rattle.station_table.specs.declared.row.Row.{Row}
 use Rattle.station_table.proofs.Queries.{name_as_heard, names_as_heard}
 use Rattle.journal.specs.Journal.{GarageValue, readings_of, state_of}
+use Rattle.journal.specs.State.{table_at}
 use Rattle.journal.specs.Worlds.{station_of}
 use Rattle.garage.specs.Inside.{settings_of, garage_value_of, Stands}
 use Rattle.garage.specs.Snapshots.{line_of}
@@ -19,13 +20,13 @@ use Rattle.garage.proofs.Headline.{tables}
 
 pub names_heard_of : (a : Inside) (n : ℕ) → n ≡ length a.station.rows → Stands a → n ≡ length (names_heard (readings_of (garage_value_of a).journal))
 names_heard_of a n e stands =
-    names_as_heard (station_of (settings_of a)) a.grant (state_of (garage_value_of a)).station (readings_of (garage_value_of a).journal) n
+    names_as_heard (station_of (settings_of a)) a.grant (table_at (state_of (garage_value_of a)) 0) (readings_of (garage_value_of a).journal) n
     (e ∙ ap (λ (s : StationValue). length s.rows) stands.station) (tables a stands)
 
 pub name_heard_at : (a : Inside) (place : ℕ) (o : Option ℕ) → o ≡ slice_get (map (λ e. e.0) a.station.rows) place → Stands a
     → o ≡ slice_get (names_heard (readings_of (garage_value_of a).journal)) place
 name_heard_at a place o e stands =
-    name_as_heard (station_of (settings_of a)) a.grant (state_of (garage_value_of a)).station (readings_of (garage_value_of a).journal) place o
+    name_as_heard (station_of (settings_of a)) a.grant (table_at (state_of (garage_value_of a)) 0) (readings_of (garage_value_of a).journal) place o
     (e ∙ ap (λ (s : StationValue). slice_get (map (λ e. e.0) s.rows) place) stands.station) (tables a stands)
 
 -- a row's address is the one that was heard

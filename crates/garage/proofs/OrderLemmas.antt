@@ -19,7 +19,7 @@ use Rattle.bus_ledger.specs.Newcomers.{live_units}
 use Rattle.bus_ledger.specs.declared.traffic.QueuedFrame.{QueuedFrame}
 use Rattle.bus_ledger.specs.declared.traffic.Which.TheVariants as which
 use Rattle.std.proofs.lemmas.List.{length-map}
-use Rattle.journal.specs.State.{State}
+use Rattle.journal.specs.State.{State, table_at}
 use Rattle.journal.specs.Steps.{after, after_order_of, reacted, untagged}
 use Rattle.journal.specs.Journal.{joins}
 use Rattle.journal.specs.declared.event.Event.{Event}
@@ -140,11 +140,11 @@ pub not_an_address : station.NotAnAddress ≢ station.OutOfMemory
 not_an_address e = absurd cc
 
 -- what the state becomes
-pub ordered_is : (o : Order) (s : State) (r : Reaction) → order_answer s.station o ≡ Ok r → after (Ordered o) s ≡ record s { traffic = reacted r s.traffic }
+pub ordered_is : (o : Order) (s : State) (r : Reaction) → order_answer (table_at s 0) o ≡ Ok r → after (Ordered 0 o) s ≡ record s { traffic = reacted 0 r s.traffic }
 unfolding after_order_of
 ordered_is o s r e = rw e refl
 
-pub joins_ordered : (o : Order) (es : List Event) → joins (Ordered o ∷ es) ≡ joins es
+pub joins_ordered : (o : Order) (es : List Event) → joins (Ordered 0 o ∷ es) ≡ joins es
 unfolding joins
 joins_ordered o es = refl
 
@@ -155,7 +155,7 @@ pub record Reacts (r : Reaction) (t u : Traffic) : Type 0 where
   pub units : live_units u ≡ live_units t
   pub queued : (j : ℕ) → (seat_at u j).queued ≤ (seat_at t j).queued + length r.put
 
-pub reacts : (r : Reaction) (t : Traffic) → Reacts r t (reacted r t)
+pub reacts : (r : Reaction) (t : Traffic) → Reacts r t (reacted 0 r t)
 reacts r t =
     let kept = keeps_withdrawn_if r.withdraw t in
     let u : Traffic = if r.withdraw then withdrawn 0 which.All t else t in

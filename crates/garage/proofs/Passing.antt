@@ -18,7 +18,7 @@ use Rattle.node_core.specs.Reaction.{node_after, question}
 use Rattle.node_core.specs.declared.heard.Answer.{Answer as UnitAnswer}
 use Rattle.node_core.specs.declared.heard.Answer.TheVariants.{NotAsked}
 use Rattle.journal.specs.Fits.{Fits}
-use Rattle.journal.specs.State.{Settings, State, UnitState, unit_at}
+use Rattle.journal.specs.State.{Settings, State, UnitState, unit_at, table_at}
 use Rattle.journal.specs.Steps.{after, after_hearing, next_for}
 use Rattle.journal.specs.Journal.{GarageValue, Adds, AllFit, memory_told, one_more, state_of, tally_of}
 use Rattle.journal.specs.declared.event.Event.{Event}
@@ -29,7 +29,7 @@ use Rattle.garage.specs.declared.garage.Garage.TheInside.{Inside}
 use Rattle.garage.specs.declared.garage.Place.{Place}
 use Rattle.garage.specs.declared.steps.HeardOne.TheVariants as heard
 use Rattle.garage.proofs.Traffics.{keeps_heard}
-use Rattle.garage.proofs.Standing.{state, added, fresh_one, hear_is, is_answered, joins_hear, next_within, place_tally, place_within, stands_more, tallies_one, unit_is}
+use Rattle.garage.proofs.Standing.{one_station, one_window, state, added, fresh_one, hear_is, is_answered, joins_hear, next_within, place_tally, place_within, stands_more, tallies_one, unit_is}
 
 -- the next frame of a seat, as the bus tells it
 pub next_is : (a : Inside) (v : GarageValue) (seat : ℕ) (o : Option FrameValue) → garage_value_of a ≡ v → Stands a
@@ -40,7 +40,7 @@ next_is a v seat o is stands e =
 
 -- what a frame that is heard quietly comes to: the seat has heard one more, and its unit keeps what it was told to keep
 pub quiet_did : (k : ℕ) (memory : MemoryValue) (f : FrameValue) (s : State) (node' : NodeValue) → next_for s k ≡ Some f → IsHeardQuietly (unit_at s k).node f node'
-    → after (Hear k memory NotAsked) s ≡ record s { traffic = heard_more k 1 s.traffic; units = slice_set s.units (k - 1) (record (unit_at s k) { node = node' }) }
+    → after (Hear k memory NotAsked) s ≡ record s { traffic = heard_more k 1 s.traffic; units = slice_set s.units (k - length s.stations) (record (unit_at s k) { node = node' }) }
 quiet_did k memory f s node' next quiet =
     let node = (unit_at s k).node in
     hear_is k memory NotAsked f s next
@@ -68,6 +68,7 @@ quiet_stands a b seat memory f x node' stands u lawful next read quiet settings 
     let s = state a in
     let k = seat - 1 in
     let h = place_within a seat stands u in
+    let one_is = one_window a stands in
     let low = u.0 in
     let same = place_unit a seat x stands u read in
     let node : x.node ≡ (unit_at s seat).node = sym (ap (λ (w : UnitState). w.node) same) in
@@ -85,9 +86,10 @@ quiet_stands a b seat memory f x node' stands u lawful next read quiet settings 
       journal = journal;
       fits = quiet_fits seat memory f s u lawful next quiet'.unasked;
       traffic = now ∙ (ap (λ (v : Traffic). heard_more seat 1 v) stands.traffic ∙ sym (ap (λ (v : State). v.traffic) is));
-      station = station ∙ (stands.station ∙ sym (ap (λ (v : State). v.station) is));
+      station = station ∙ (stands.station ∙ sym (ap (λ (v : State). table_at v 0) is));
       units = ap (map unit_of) places ∙ (map-set unit_of a.places.items k p ∙ (ap (λ (us : List UnitState). set us k (record (unit_of x) { node = node' })) stands.units
-          ∙ (ap (λ (w : UnitState). set s.units k (record w { node = node' })) (sym same) ∙ sym (ap (λ (v : State). v.units) is))));
+          ∙ (ap (λ (w : UnitState). set s.units k (record w { node = node' })) (sym same)
+          ∙ (ap (λ (n : ℕ). set s.units (seat - n) (record (unit_at s seat) { node = node' })) (sym (one_station a stands)) ∙ sym (ap (λ (v : State). v.units) is)))));
       begun = begun ∙ (stands.begun ∙ sym (ap (λ (v : State). length v.begun) is));
       injected = (let i = injected in omega arith);
       joined = joins_hear seat memory NotAsked _ ∙ (stands.joined ∙ sym long);
@@ -147,11 +149,11 @@ unfolding memory_told AllFit
 told_is_lawful r [] k m fits h = absurd cc
 told_is_lawful r (Hear j memory answered ∷ older) k m fits h = at_latest (nat_eq j k) memory m (memory_told k older) fits.0.2 (told_is_lawful r older k m fits.1) h
 told_is_lawful r (Begin j memory ∷ older) k m fits h = at_latest (nat_eq j k) memory m (memory_told k older) fits.0.2 (told_is_lawful r older k m fits.1) h
-told_is_lawful r (Join name address ∷ older) k m fits h = told_is_lawful r older k m fits.1 h
+told_is_lawful r (Join seat name address ∷ older) k m fits h = told_is_lawful r older k m fits.1 h
 told_is_lawful r (Turned j ∷ older) k m fits h = told_is_lawful r older k m fits.1 h
 told_is_lawful r (Carry j ∷ older) k m fits h = told_is_lawful r older k m fits.1 h
-told_is_lawful r (Read reading ∷ older) k m fits h = told_is_lawful r older k m fits.1 h
-told_is_lawful r (Ordered order ∷ older) k m fits h = told_is_lawful r older k m fits.1 h
+told_is_lawful r (Read y reading ∷ older) k m fits h = told_is_lawful r older k m fits.1 h
+told_is_lawful r (Ordered y order ∷ older) k m fits h = told_is_lawful r older k m fits.1 h
 told_is_lawful r (Leave j ∷ older) k m fits h = told_is_lawful r older k m fits.1 h
 told_is_lawful r (Inject frame ∷ older) k m fits h = told_is_lawful r older k m fits.1 h
 

@@ -1,5 +1,5 @@
 -- A unit that hears, begins a message or ends a turn keeps its seat.
-use Rattle.std.proofs.Common.{ℕ, false, true, ◌≡◌, ◌+◌, ◌<◌, nat_eq, eq-eqb, Bool, List, [], ◌∷◌, Option, Some, None, map, length, slice_get, if◌then◌else◌, refl, sym, ap, ◌∙◌, subst, arith, inl, inr}
+use Rattle.std.proofs.Common.{ℕ, false, true, ◌≡◌, ◌+◌, ◌<◌, ◌≤◌, nat_eq, eq-eqb, Bool, List, [], ◌∷◌, Option, Some, None, map, length, slice_get, if◌then◌else◌, refl, sym, ap, ◌∙◌, subst, arith, inl, inr}
 use Rattle.std.proofs.lemmas.List.{length-set, get_or-set_same, get_or-set_other}
 use Rattle.bus_ledger.proofs.Numbers.{same_or_not}
 use Rattle.bus_ledger.specs.Reception.{passes, reading_taken}
@@ -25,9 +25,9 @@ use Rattle.node_core.specs.declared.heard.Started.{Started}
 use Rattle.node_core.specs.declared.heard.Started.TheVariants as started
 use Rattle.node_core.specs.declared.heard.Withdraw.{Withdraw}
 use Rattle.node_core.specs.declared.heard.Withdraw.TheVariants as withdraw
-use Rattle.journal.specs.State.{State, unit_at}
+use Rattle.journal.specs.State.{State, unit_at, table_at}
 use Rattle.journal.specs.Steps.{put_all, withdrawn_by, after_hearing, after_hear_of, after_starting, after_begin_of, after_carry_of, after_read, next_for, reacted, tagged, untagged, begins_session, session_message_after}
-use Rattle.journal.specs.Journal.{GarageValue, Adds, IsSeated, joins, state_after, state_of, tallied, tally_of, with_event}
+use Rattle.journal.specs.Journal.{GarageValue, Adds, IsSeated, state_after, state_of, tallied, tally_of, with_event}
 use Rattle.journal.specs.declared.event.Event.{Event}
 use Rattle.journal.specs.declared.tally.Tally.{Tally}
 use Rattle.journal.specs.declared.event.Event.TheVariants.{Hear, Begin, Turned, Carry, Read}
@@ -40,10 +40,10 @@ use Rattle.garage.specs.declared.steps.Begin.TheVariants as began
 use Rattle.garage.proofs.Standing.{tally_more}
 
 pub keeps_itself : (k : ℕ) (t : Traffic) → KeepsSeat k t t
-keeps_itself k t = record { seats = refl; live = refl; name = refl }
+keeps_itself k t = record { windows = refl; seats = refl; live = refl; name = refl }
 
 pub keeps_both : (k : ℕ) (t t' t'' : Traffic) → KeepsSeat k t t' → KeepsSeat k t' t'' → KeepsSeat k t t''
-keeps_both k t t' t'' h h' = record { seats = h'.seats ∙ h.seats; live = h'.live ∙ h.live; name = h'.name ∙ h.name }
+keeps_both k t t' t'' h h' = record { windows = h'.windows ∙ h.windows; seats = h'.seats ∙ h.seats; live = h'.live ∙ h.live; name = h'.name ∙ h.name }
 
 -- a change of a seat's queue or of what it has heard
 keeps_changed : (k j : ℕ) (t : Traffic) (s : SeatValue) → k < length t.seats → s.live ≡ (seat_at t j).live → s.name ≡ (seat_at t j).name → KeepsSeat k t (with_seat t j s)
@@ -52,10 +52,10 @@ keeps_changed k j t s h live name =
       | inl same ↦
           let there : seat_at (with_seat t j s) k ≡ s = ap (λ (i : ℕ). seat_at (with_seat t j s) i) same ∙ get_or-set_same t.seats j s nobody (omega arith) in
           let was : seat_at t j ≡ seat_at t k = ap (λ (i : ℕ). seat_at t i) (sym same) in
-          record { seats = length-set t.seats j s; live = ap (λ v. v.live) there ∙ (live ∙ ap (λ v. v.live) was); name = ap (λ v. v.name) there ∙ (name ∙ ap (λ v. v.name) was) }
+          record { windows = refl; seats = length-set t.seats j s; live = ap (λ v. v.live) there ∙ (live ∙ ap (λ v. v.live) was); name = ap (λ v. v.name) there ∙ (name ∙ ap (λ v. v.name) was) }
       | inr n ↦
           let there : seat_at (with_seat t j s) k ≡ seat_at t k = get_or-set_other t.seats j k s nobody n in
-          record { seats = length-set t.seats j s; live = ap (λ v. v.live) there; name = ap (λ v. v.name) there }
+          record { windows = refl; seats = length-set t.seats j s; live = ap (λ v. v.live) there; name = ap (λ v. v.name) there }
     ]
 
 pub still_there : (k : ℕ) (t t' : Traffic) → KeepsSeat k t t' → k < length t.seats → k < length t'.seats
@@ -115,25 +115,25 @@ keeps_withdrawn_if : (b : Bool) (k : ℕ) (t : Traffic) → k < length t.seats �
 keeps_withdrawn_if true k t h = keeps_withdrawn k 0 which.All t h
 keeps_withdrawn_if false k t h = keeps_itself k t
 
-keeps_reacted : (k : ℕ) (r : Reaction) (t : Traffic) → k < length t.seats → KeepsSeat k t (reacted r t)
+keeps_reacted : (k : ℕ) (r : Reaction) (t : Traffic) → k < length t.seats → KeepsSeat k t (reacted 0 r t)
 keeps_reacted k r t h =
     let u : Traffic = if r.withdraw then withdrawn 0 which.All t else t in
     let one = keeps_withdrawn_if r.withdraw k t h in
-    keeps_both k t u (reacted r t) one (keeps_put k 0 (map untagged r.put) u (still_there k t u one h))
+    keeps_both k t u (reacted 0 r t) one (keeps_put k 0 (map untagged r.put) u (still_there k t u one h))
 
-keeps_read : (k : ℕ) (r : Reading) (s : State) → k < length s.traffic.seats → KeepsSeat k s.traffic (after_read r s).traffic
+keeps_read : (k : ℕ) (r : Reading) (s : State) → k < length s.traffic.seats → KeepsSeat k s.traffic (after_read 0 r s).traffic
 unfolding after_read
 keeps_read k r s h =
     let t = s.traffic in
     let one = keeps_changed k 0 t (hearing (passes r) (seat_at t 0)) h refl refl in
-    keeps_both k t (reading_taken r t) (after_read r s).traffic one (keeps_reacted k (station_reaction s.station r) (reading_taken r t) (still_there k t (reading_taken r t) one h))
+    keeps_both k t (reading_taken 0 r t) (after_read 0 r s).traffic one (keeps_reacted k (station_reaction (table_at s 0) r) (reading_taken 0 r t) (still_there k t (reading_taken 0 r t) one h))
 
 keeps_carried : (o : Option QueuedFrame) (k j : ℕ) (s : State) → k < length s.traffic.seats → KeepsSeat k s.traffic (after_carry_of o j s).traffic
 unfolding after_carry_of
 keeps_carried None k j s h = keeps_itself k s.traffic
 keeps_carried (Some q) k j s h =
     let c = keeps_changed k j s.traffic (sending (seat_at s.traffic j)) h refl refl in
-    record { seats = c.seats; live = c.live; name = c.name }
+    record { windows = c.windows; seats = c.seats; live = c.live; name = c.name }
 
 -- the same of garages
 by_event : (k : ℕ) (g g' new : GarageValue) → g' ≡ new → KeepsUnit k g new → KeepsUnit k g g'
@@ -152,9 +152,9 @@ pub unit_hears : {X : Type 0} (g : GarageValue) (k : ℕ) (memory : MemoryValue)
 unit_hears g k memory answers unit h g' memory' unit' hears there = seat_hears k g k memory answers unit h g' memory' unit' hears there
 
 -- so it does where the station reads, and where a frame is carried
-pub unit_read : (k : ℕ) (g g' : GarageValue) (r : Reading) → Adds g (Read r) g' → k < length (state_of g).traffic.seats → KeepsUnit k g g'
+pub unit_read : (k : ℕ) (g g' : GarageValue) (r : Reading) → Adds g (Read 0 r) g' → k < length (state_of g).traffic.seats → KeepsUnit k g g'
 unfolding state_after
-unit_read k g g' r h there = by_event k g g' (with_event (Read r) g) h.adds (keeps_read k r (state_of g) there)
+unit_read k g g' r h there = by_event k g g' (with_event (Read 0 r) g) h.adds (keeps_read k r (state_of g) there)
 
 pub unit_carried : (k j : ℕ) (g g' : GarageValue) → Adds g (Carry j) g' → k < length (state_of g).traffic.seats → KeepsUnit k g g'
 unfolding state_after
@@ -173,7 +173,7 @@ unit_turned g k g' h = by_event k g g' (with_event (Turned k) g) h.adds (keeps_i
 
 -- such a unit is live as before
 pub is_unit : (g g' : GarageValue) (k : ℕ) → KeepsUnit k g g' → IsUnit (state_of g).traffic k → IsUnit (state_of g').traffic k
-is_unit g g' k h u = (u.0, still_there k (state_of g).traffic (state_of g').traffic h u.1, h.live ∙ u.2)
+is_unit g g' k h u = (subst (λ (l : List ℕ). length l ≤ k) (sym h.windows) u.0, still_there k (state_of g).traffic (state_of g').traffic h u.1, h.live ∙ u.2)
 
 -- and stands on its seat with its new count of events
 pub still_seated : (g g' : GarageValue) (k name before events : ℕ) → KeepsUnit k g g' → IsSeated g k name before
@@ -185,7 +185,7 @@ still_seated g g' k name before events h seated e = record {
 }
 
 -- one event more of its own
-more_events : (k : ℕ) (g g' : GarageValue) (e : Event) (n : ℕ) → ((t : Tally) → (tallied k (joins g.journal) e t).events ≡ t.events + 1) → Adds g e g' → (tally_of k g.journal).events ≡ n → (tally_of k g'.journal).events ≡ n + 1
+more_events : (k : ℕ) (g g' : GarageValue) (e : Event) (n : ℕ) → ((t : Tally) → (tallied k e t).events ≡ t.events + 1) → Adds g e g' → (tally_of k g.journal).events ≡ n → (tally_of k g'.journal).events ≡ n + 1
 more_events k g g' e n rule h is =
     ap (λ (v : GarageValue). (tally_of k v.journal).events) h.adds
     ∙ (ap (λ (t : Tally). t.events) (tally_more k e g.journal) ∙ (rule (tally_of k g.journal) ∙ ap (λ (i : ℕ). i + 1) is))

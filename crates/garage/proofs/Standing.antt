@@ -2,7 +2,7 @@
 use Rattle.std.proofs.Common.{ℕ, suc, zero, ◌≡◌, ◌+◌, ◌-◌, ◌*◌, ◌<◌, ◌≤◌, List, [], ◌∷◌, ◌++◌, map, reverse, length, get_or, set, Bool, true, false, cond, ◌==◌, nat_eq, eq-eqb, Option, Some, None, slice_get, refl, sym, ap, ◌∙◌, subst, arith, inl, inr, if◌then◌else◌}
 use Rattle.std.proofs.lemmas.Bool.{ne_eqb}
 use Rattle.std.proofs.lemmas.List.{reverse-append, length-reverse, length-set, length_push, map-set, get_or_read, get_or-set_same, get_or-set_other, set-get_or}
-use Rattle.bus_ledger.specs.BusValue.{SeatValue, Traffic, nobody, seat_at, IsUnit}
+use Rattle.bus_ledger.specs.BusValue.{SeatValue, Traffic, nobody, seat_at, IsStation, IsUnit}
 use Rattle.bus_ledger.specs.Newcomers.{live_units}
 use Rattle.bus_ledger.specs.Changes.{leaving, left, sending, carried_from, carried_frame, queued, with_newcomer, injected}
 use Rattle.bus_ledger.specs.declared.traffic.QueuedFrame.{QueuedFrame}
@@ -12,8 +12,10 @@ use Rattle.std.proofs.lemmas.List.{set_past, get_or_push, get_or_append_left}
 use Rattle.std.proofs.lemmas.List.Sums.{sum_by-set}
 use Rattle.fault_memory.specs.Memory.{MemoryValue, IsLawfulMemory}
 use Rattle.can_frame.specs.declared.reading.Reading.{Reading}
-use Rattle.journal.specs.State.{Settings, State, UnitState, unit_at}
-use Rattle.journal.specs.Steps.{after, after_leave, after_carry_of, item_of, reacted, after_read, path_after, after_join, after_inject, untagged}
+use Rattle.journal.proofs.Readings.{stationed}
+use Rattle.journal.proofs.Station.{carry_same, read_own}
+use Rattle.journal.specs.State.{Settings, State, StationState, UnitState, path_at, station_at, table_at, unit_at}
+use Rattle.journal.specs.Steps.{after, after_leave, after_carry_of, item_of, reacted, after_read, path_after, after_join, after_inject, untagged, with_station}
 use Rattle.bus_ledger.specs.Reception.{reading_taken}
 use Rattle.station_table.specs.Reactions.{station_reaction}
 use Rattle.station_table.specs.Steps.{after_reading as station_after}
@@ -64,7 +66,7 @@ pub fit_more : (r : Settings) (e : Event) (older : List Event) → Fits (state_a
 unfolding AllFit
 fit_more r e older f all = (f, all)
 
-pub tally_more : (k : ℕ) (e : Event) (older : List Event) → tally_of k (e ∷ older) ≡ tallied k (joins older) e (tally_of k older)
+pub tally_more : (k : ℕ) (e : Event) (older : List Event) → tally_of k (e ∷ older) ≡ tallied k e (tally_of k older)
 unfolding tally_of
 tally_more k e older = refl
 
@@ -81,21 +83,21 @@ few_if : (b : Bool) (n : ℕ) (t u : Tally) → IsFewTally n t → IsFewTally (s
 few_if true n t u f g = g
 few_if false n t u f g = record { events = (let h = f.events in omega arith); turned = (let h = f.turned in omega arith); left = (let h = f.left in omega arith) }
 
-few_event : (k before n : ℕ) (e : Event) (t : Tally) → IsFewTally n t → IsFewTally (suc n) (tallied k before e t)
-few_event k before n (Join name address) t f = few_if ((before + 1) == k) n t _ f (record { events = (let h = f.events in omega arith); turned = (let h = f.turned in omega arith); left = (let h = f.left in omega arith) })
-few_event k before n (Hear j memory answered) t f = few_if (j == k) n t _ f (record { events = (let h = f.events in omega arith); turned = (let h = f.turned in omega arith); left = (let h = f.left in omega arith) })
-few_event k before n (Begin j memory) t f = few_if (j == k) n t _ f (record { events = (let h = f.events in omega arith); turned = (let h = f.turned in omega arith); left = (let h = f.left in omega arith) })
-few_event k before n (Turned j) t f = few_if (j == k) n t _ f (record { events = (let h = f.events in omega arith); turned = (let h = f.turned in omega arith); left = (let h = f.left in omega arith) })
-few_event k before n (Carry j) t f = few_if false n t t f (record { events = (let h = f.events in omega arith); turned = (let h = f.turned in omega arith); left = (let h = f.left in omega arith) })
-few_event k before n (Read r) t f = few_if false n t t f (record { events = (let h = f.events in omega arith); turned = (let h = f.turned in omega arith); left = (let h = f.left in omega arith) })
-few_event k before n (Ordered o) t f = few_if false n t t f (record { events = (let h = f.events in omega arith); turned = (let h = f.turned in omega arith); left = (let h = f.left in omega arith) })
-few_event k before n (Leave j) t f = few_if (j == k) n t _ f (record { events = (let h = f.events in omega arith); turned = (let h = f.turned in omega arith); left = (let h = f.left in omega arith) })
-few_event k before n (Inject x) t f = few_if false n t t f (record { events = (let h = f.events in omega arith); turned = (let h = f.turned in omega arith); left = (let h = f.left in omega arith) })
+few_event : (k n : ℕ) (e : Event) (t : Tally) → IsFewTally n t → IsFewTally (suc n) (tallied k e t)
+few_event k n (Join seat name address) t f = few_if (seat == k) n t _ f (record { events = (let h = f.events in omega arith); turned = (let h = f.turned in omega arith); left = (let h = f.left in omega arith) })
+few_event k n (Hear j memory answered) t f = few_if (j == k) n t _ f (record { events = (let h = f.events in omega arith); turned = (let h = f.turned in omega arith); left = (let h = f.left in omega arith) })
+few_event k n (Begin j memory) t f = few_if (j == k) n t _ f (record { events = (let h = f.events in omega arith); turned = (let h = f.turned in omega arith); left = (let h = f.left in omega arith) })
+few_event k n (Turned j) t f = few_if (j == k) n t _ f (record { events = (let h = f.events in omega arith); turned = (let h = f.turned in omega arith); left = (let h = f.left in omega arith) })
+few_event k n (Carry j) t f = few_if false n t t f (record { events = (let h = f.events in omega arith); turned = (let h = f.turned in omega arith); left = (let h = f.left in omega arith) })
+few_event k n (Read y r) t f = few_if false n t t f (record { events = (let h = f.events in omega arith); turned = (let h = f.turned in omega arith); left = (let h = f.left in omega arith) })
+few_event k n (Ordered y o) t f = few_if false n t t f (record { events = (let h = f.events in omega arith); turned = (let h = f.turned in omega arith); left = (let h = f.left in omega arith) })
+few_event k n (Leave j) t f = few_if (j == k) n t _ f (record { events = (let h = f.events in omega arith); turned = (let h = f.turned in omega arith); left = (let h = f.left in omega arith) })
+few_event k n (Inject x) t f = few_if false n t t f (record { events = (let h = f.events in omega arith); turned = (let h = f.turned in omega arith); left = (let h = f.left in omega arith) })
 
 pub tally_few : (k : ℕ) (es : List Event) → IsFewTally (length es) (tally_of k es)
 unfolding tally_of
 tally_few k [] = record { events = omega arith; turned = omega arith; left = omega arith }
-tally_few k (e ∷ es) = few_event k (joins es) (length es) e (tally_of k es) (tally_few k es)
+tally_few k (e ∷ es) = few_event k (length es) e (tally_of k es) (tally_few k es)
 
 -- the counts of a place that was read
 pub place_few : (a : Inside) (k : ℕ) (x : Place) → Stands a → k < length a.places.items → x ≡ get_or a.places.items k x → IsFewTally (length a.journal.items) x.tally
@@ -103,11 +105,19 @@ place_few a k x stands h read =
     let t : x.tally ≡ tally_of (suc k) (reverse a.journal.items) = ap (λ (p : Place). p.tally) (get_or_read a.places.items k x h read no_place) ∙ stands.tallies k h in
     subst (λ (n : ℕ). IsFewTally n x.tally) (length-reverse a.journal.items) (subst (λ (u : Tally). IsFewTally (length (reverse a.journal.items)) u) (sym t) (tally_few (suc k) (reverse a.journal.items)))
 
+-- it has one station, with a window
+pub one_station : (a : Inside) → Stands a → length (state a).stations ≡ 1
+one_station a stands = (stationed (settings_of a) (reverse a.journal.items) stands.fits).count
+
+pub one_window : (a : Inside) → Stands a → length (state a).traffic.windows ≡ 1
+one_window a stands = (stationed (settings_of a) (reverse a.journal.items) stands.fits).windows
+
 -- the seats of units are one more than the places
 pub place_within : (a : Inside) (k : ℕ) → Stands a → IsUnit (state a).traffic k → k - 1 < length a.places.items
 place_within a k stands u =
     let n : length a.bus.traffic.seats ≡ length (state a).traffic.seats = ap (λ (t : Traffic). length t.seats) stands.traffic in
     let s = stands.seats in
+    let one = one_window a stands in
     let low = u.0 in
     let high = u.1 in
     omega arith
@@ -115,7 +125,7 @@ place_within a k stands u =
 -- one place whose tally changes with one event of its seat
 pub tallies_one : (xs : List Place) (es : List Event) (e : Event) (k seat : ℕ) (p : Place) (f : Tally → Tally)
     → ((j : ℕ) → j < length xs → (place_at xs j).tally ≡ tally_of (suc j) es)
-    → ((j : ℕ) (t : Tally) → tallied j (joins es) e t ≡ (if seat == j then f t else t))
+    → ((j : ℕ) (t : Tally) → tallied j e t ≡ (if seat == j then f t else t))
     → seat ≡ suc k → k < length xs → p.tally ≡ f (place_at xs k).tally
     → (j : ℕ) → j < length (set xs k p) → (place_at (set xs k p) j).tally ≡ tally_of (suc j) (e ∷ es)
 tallies_one xs es e k seat p f old rule at h is j l =
@@ -139,24 +149,24 @@ from_outside _ = 0
 
 injected_more : (e : Event) (es : List Event) → injected_of (e ∷ es) ≡ injected_of es + from_outside e
 unfolding injected_of
-injected_more (Join name address) es = omega arith
+injected_more (Join seat name address) es = omega arith
 injected_more (Hear k memory answered) es = omega arith
 injected_more (Begin k memory) es = omega arith
 injected_more (Turned k) es = omega arith
 injected_more (Carry k) es = omega arith
-injected_more (Read r) es = omega arith
-injected_more (Ordered o) es = omega arith
+injected_more (Read y r) es = omega arith
+injected_more (Ordered y o) es = omega arith
 injected_more (Leave k) es = omega arith
 injected_more (Inject f) es = refl
 
 few_outside : (e : Event) → from_outside e ≤ 1
-few_outside (Join name address) = omega arith
+few_outside (Join seat name address) = omega arith
 few_outside (Hear k memory answered) = omega arith
 few_outside (Begin k memory) = omega arith
 few_outside (Turned k) = omega arith
 few_outside (Carry k) = omega arith
-few_outside (Read r) = omega arith
-few_outside (Ordered o) = omega arith
+few_outside (Read y r) = omega arith
+few_outside (Ordered y o) = omega arith
 few_outside (Leave k) = omega arith
 few_outside (Inject f) = omega arith
 
@@ -174,7 +184,7 @@ pub record More (a b : Inside) (e : Event) : Type 0 where
   pub journal : b.journal.items ≡ a.journal.items ++ e ∷ []
   pub fits : Fits (state a) e
   pub traffic : b.bus.traffic ≡ (after e (state a)).traffic
-  pub station : b.station ≡ (after e (state a)).station
+  pub station : b.station ≡ table_at (after e (state a)) 0
   pub units : map unit_of b.places.items ≡ (after e (state a)).units
   pub begun : b.begun ≡ length (after e (state a)).begun
   pub injected : b.injected ≡ a.injected + from_outside e
@@ -201,7 +211,7 @@ stands_more a b e stands m =
     record {
       few = (let f = stands.few in omega arith);
       traffic = m.traffic ∙ ap (λ (s : State). s.traffic) (sym is);
-      station = m.station ∙ ap (λ (s : State). s.station) (sym is);
+      station = m.station ∙ ap (λ (s : State). table_at s 0) (sym is);
       units = m.units ∙ ap (λ (s : State). s.units) (sym is);
       begun = m.begun ∙ ap (λ (s : State). length s.begun) (sym is);
       fits = subst (λ (r : Settings). AllFit r (reverse b.journal.items)) (sym m.settings) (subst (λ (es : List Event). AllFit (settings_of a) es) (sym history) (fit_more (settings_of a) e (reverse a.journal.items) m.fits stands.fits));
@@ -244,7 +254,7 @@ pub joins_carry : (k : ℕ) (es : List Event) → joins (Carry k ∷ es) ≡ joi
 unfolding joins
 joins_carry k es = refl
 
-pub joins_read : (r : Reading) (es : List Event) → joins (Read r ∷ es) ≡ joins es
+pub joins_read : (r : Reading) (es : List Event) → joins (Read 0 r ∷ es) ≡ joins es
 unfolding joins
 joins_read r es = refl
 
@@ -252,12 +262,9 @@ pub joins_leave : (k : ℕ) (es : List Event) → joins (Leave k ∷ es) ≡ joi
 unfolding joins
 joins_leave k es = refl
 
-pub joins_join : (n w : ℕ) (es : List Event) → joins (Join n w ∷ es) ≡ joins es + 1
+pub joins_join : (k n w : ℕ) (es : List Event) → joins (Join k n w ∷ es) ≡ joins es + 1
 unfolding joins
-joins_join n w es = refl
-
-pub place_tally : (a : Inside) (k : ℕ) (x : Place) → k < length a.places.items → x ≡ get_or a.places.items k x → x.tally ≡ (place_at a.places.items k).tally
-place_tally a k x h read = ap (λ (p : Place). p.tally) (get_or_read a.places.items k x h read no_place)
+joins_join k n w es = refl
 
 pub bus_unit : (a : Inside) (k : ℕ) → Stands a → IsUnit (state a).traffic k → IsUnit a.bus.traffic k
 bus_unit a k stands u = subst (λ (t : Traffic). IsUnit t k) (sym stands.traffic) u
@@ -294,32 +301,31 @@ sent_live xs k = elim (within_or_past k (length xs)) [
 ]
 
 pub sent_units : (t : Traffic) (k : ℕ) (q : QueuedFrame) → live_units (carried_from k q t) ≡ live_units t
-sent_units t k q = ap (λ (n : ℕ). n - 1) (sent_live t.seats k)
+sent_units t k q = ap (λ (n : ℕ). n - length t.windows) (sent_live t.seats k)
 
 -- the frame that is carried is the first of its seat's queue
 pub carry_is : (k : ℕ) (q : QueuedFrame) (s : State) → slice_get (seat_at s.traffic k).queue 0 ≡ Some q
-    → after (Carry k) s ≡ record s { traffic = carried_from k q s.traffic; path = if k == 0 then Own (item_of s (carried_frame k q)) ∷ s.path else s.path }
+    → after (Carry k) s ≡ record s { traffic = carried_from k q s.traffic; stations = with_station k (record (station_at s k) { path = Own (item_of s (carried_frame k q)) ∷ path_at s k }) s.stations }
 unfolding after_carry_of
 carry_is k q s e = rw e refl
 
 pub tallies_still : (xs : List Place) (es : List Event) (e : Event) → ((j : ℕ) → j < length xs → (place_at xs j).tally ≡ tally_of (suc j) es)
-    → ((j : ℕ) (t : Tally) → tallied j (joins es) e t ≡ t) → (j : ℕ) → j < length xs → (place_at xs j).tally ≡ tally_of (suc j) (e ∷ es)
+    → ((j : ℕ) (t : Tally) → tallied j e t ≡ t) → (j : ℕ) → j < length xs → (place_at xs j).tally ≡ tally_of (suc j) (e ∷ es)
 tallies_still xs es e old rule j h = old j h ∙ sym (tally_more (suc j) e es ∙ rule (suc j) (tally_of (suc j) es))
 
-pub read_is : (r : Reading) (s : State) → after (Read r) s ≡ record s {
-  traffic = reacted (station_reaction s.station r) (reading_taken r s.traffic);
-  station = station_after s.station r;
-  path = path_after r s;
+pub read_is : (r : Reading) (s : State) → after (Read 0 r) s ≡ record s {
+  traffic = reacted 0 (station_reaction (table_at s 0) r) (reading_taken 0 r s.traffic);
+  stations = with_station 0 (record { table = station_after (table_at s 0) r; path = path_after 0 r s }) s.stations;
 }
 unfolding after_read
 read_is r s = refl
 
-pub join_is : (name address : ℕ) (s : State) → after (Join name address) s ≡ record s {
+pub join_is : (seat name address : ℕ) (s : State) → after (Join seat name address) s ≡ record s {
   traffic = queued (length s.traffic.seats) (untagged (claim_frame_value name (Some address))) (with_newcomer name s.traffic);
   units = s.units ++ new_unit name address ∷ [];
 }
 unfolding after_join
-join_is name address s = refl
+join_is seat name address s = refl
 
 pub inject_is : (f : FrameValue) (s : State) → after (Inject f) s ≡ record s { traffic = injected f s.traffic }
 unfolding after_inject
@@ -328,6 +334,17 @@ inject_is f s = refl
 pub joins_inject : (f : FrameValue) (es : List Event) → joins (Inject f ∷ es) ≡ joins es
 unfolding joins
 joins_inject f es = refl
+
+-- the station's tables after its reading, and after a carry
+pub read_table : (a : Inside) (r : Reading) → Stands a → table_at (after (Read 0 r) (state a)) 0 ≡ station_after (table_at (state a) 0) r
+read_table a r stands = (let one = one_station a stands in ap (λ (v : StationState). v.table) (read_own 0 r (state a) (omega arith)))
+
+pub carry_table : (k : ℕ) (s : State) → table_at (after (Carry k) s) 0 ≡ table_at s 0
+carry_table k s = (carry_same (slice_get (seat_at s.traffic k).queue 0) k s).table 0
+
+-- the station is one of the bus
+pub station_zero : (a : Inside) → Stands a → IsStation (state a).traffic 0
+station_zero a stands = (let one = one_window a stands in omega arith)
 
 -- a call that added this event
 pub added : (a b : Inside) (v : GarageValue) (e : Event) → garage_value_of a ≡ v → settings_of b ≡ settings_of a → b.journal.items ≡ a.journal.items ++ e ∷ [] → Fits (state a) e → Adds v e (garage_value_of b)
@@ -350,7 +367,7 @@ still a b stands settings traffic station places begun live injected journal roo
     record {
       few = (let f = stands.few in omega arith);
       traffic = traffic ∙ (stands.traffic ∙ ap (λ (s : State). s.traffic) (sym same));
-      station = station ∙ (stands.station ∙ ap (λ (s : State). s.station) (sym same));
+      station = station ∙ (stands.station ∙ ap (λ (s : State). table_at s 0) (sym same));
       units = ap (map unit_of) places ∙ (stands.units ∙ ap (λ (s : State). s.units) (sym same));
       begun = begun ∙ (stands.begun ∙ ap (λ (s : State). length s.begun) (sym same));
       fits = subst (λ (r : Settings). AllFit r (reverse b.journal.items)) (sym settings) (subst (λ (es : List Event). AllFit (settings_of a) (reverse es)) (sym journal) stands.fits);
@@ -376,8 +393,35 @@ unit_in (x ∷ xs) (suc k) = unit_in xs k
 -- the unit on a seat is that of its place
 pub unit_is : (a : Inside) (seat : ℕ) (x : Place) → Stands a → seat - 1 < length a.places.items → x ≡ get_or a.places.items (seat - 1) x → unit_at (state a) seat ≡ unit_of x
 unit_is a seat x stands h read =
-    ap (λ (us : List UnitState). get_or us (seat - 1) (new_unit 0 0)) (sym stands.units)
-    ∙ (unit_in a.places.items (seat - 1) ∙ ap unit_of (sym (get_or_read a.places.items (seat - 1) x h read no_place)))
+    ap (λ (n : ℕ). get_or (state a).units (seat - n) (new_unit 0 0)) (one_station a stands)
+    ∙ (ap (λ (us : List UnitState). get_or us (seat - 1) (new_unit 0 0)) (sym stands.units)
+    ∙ (unit_in a.places.items (seat - 1) ∙ ap unit_of (sym (get_or_read a.places.items (seat - 1) x h read no_place))))
+
+pub place_tally : (a : Inside) (k : ℕ) (x : Place) → k < length a.places.items → x ≡ get_or a.places.items k x → x.tally ≡ (place_at a.places.items k).tally
+place_tally a k x h read = ap (λ (p : Place). p.tally) (get_or_read a.places.items k x h read no_place)
+
+-- the same at what callers see: a unit's seat has its place, which keeps what the unit keeps
+pub seat_low : (a : Inside) (v : GarageValue) (seat : ℕ) → garage_value_of a ≡ v → Stands a → IsUnit (state_of v).traffic seat → 1 ≤ seat
+seat_low a v seat is stands u = (let one = one_window a stands in let low = (unit_now a v seat is u).0 in omega arith)
+
+pub bus_low : (a : Inside) (seat : ℕ) → Stands a → IsUnit a.bus.traffic seat → 1 ≤ seat
+bus_low a seat stands u = (let one = ap (λ (t : Traffic). length t.windows) stands.traffic ∙ one_window a stands in let low = u.0 in omega arith)
+
+pub seat_placed : (a : Inside) (v : GarageValue) (seat : ℕ) → garage_value_of a ≡ v → Stands a → IsUnit (state_of v).traffic seat → seat - 1 < length a.places.items
+seat_placed a v seat is stands u = place_within a seat stands (unit_now a v seat is u)
+
+pub place_told : (a : Inside) (v : GarageValue) (seat : ℕ) (x : Place) → garage_value_of a ≡ v → Stands a → IsUnit (state_of v).traffic seat → x ≡ get_or a.places.items (seat - 1) x → x.tally.events ≡ (tally_of seat v.journal).events
+place_told a v seat x is stands u read =
+    let h = seat_placed a v seat is stands u in
+    let low = seat_low a v seat is stands u in
+    let own : suc (seat - 1) ≡ seat = omega arith in
+    ap (λ (t : Tally). t.events) (place_tally a (seat - 1) x h read ∙ stands.tallies (seat - 1) h)
+    ∙ (ap (λ (j : ℕ). (tally_of j (reverse a.journal.items)).events) own ∙ ap (λ (g : GarageValue). (tally_of seat g.journal).events) is)
+
+pub place_node : (a : Inside) (v : GarageValue) (seat : ℕ) (x : Place) → garage_value_of a ≡ v → Stands a → IsUnit (state_of v).traffic seat → x ≡ get_or a.places.items (seat - 1) x → (unit_at (state_of v) seat).node ≡ x.node
+place_node a v seat x is stands u read =
+    ap (λ (g : GarageValue). (unit_at (state_of g) seat).node) (sym is)
+    ∙ ap (λ (n : UnitState). n.node) (unit_is a seat x stands (seat_placed a v seat is stands u) read)
 
 -- a place replaced by an equal one
 pub same_place : (xs : List Place) (k : ℕ) (x p : Place) → k < length xs → x ≡ get_or xs k x → p ≡ x → set xs k p ≡ xs
@@ -412,33 +456,33 @@ next_within (x ∷ xs) (suc i) f e = let r = next_within xs i f e in omega arith
 
 -- a seat that was never given has no events
 pub fresh_one : (es : List Event) (e : Event) (seat n : ℕ) (f : Tally → Tally) → ((k : ℕ) → n < k → tally_of k es ≡ no_tally)
-    → ((j : ℕ) (t : Tally) → tallied j (joins es) e t ≡ (if seat == j then f t else t)) → seat ≤ n → (k : ℕ) → n < k → tally_of k (e ∷ es) ≡ no_tally
+    → ((j : ℕ) (t : Tally) → tallied j e t ≡ (if seat == j then f t else t)) → seat ≤ n → (k : ℕ) → n < k → tally_of k (e ∷ es) ≡ no_tally
 fresh_one es e seat n f old rule low k h =
     let t : nat_eq seat k ≡ false = ne_eqb seat k (λ d. omega arith) in
     tally_more k e es ∙ (rule k (tally_of k es) ∙ rw t (old k h))
 
-pub fresh_still : (es : List Event) (e : Event) (n : ℕ) → ((k : ℕ) → n < k → tally_of k es ≡ no_tally) → ((j : ℕ) (t : Tally) → tallied j (joins es) e t ≡ t) → (k : ℕ) → n < k → tally_of k (e ∷ es) ≡ no_tally
+pub fresh_still : (es : List Event) (e : Event) (n : ℕ) → ((k : ℕ) → n < k → tally_of k es ≡ no_tally) → ((j : ℕ) (t : Tally) → tallied j e t ≡ t) → (k : ℕ) → n < k → tally_of k (e ∷ es) ≡ no_tally
 fresh_still es e n old rule k h = tally_more k e es ∙ (rule k (tally_of k es) ∙ old k h)
 
-pub fresh_join : (es : List Event) (name address n : ℕ) → ((k : ℕ) → n < k → tally_of k es ≡ no_tally) → joins es ≡ n → (k : ℕ) → n + 1 < k → tally_of k (Join name address ∷ es) ≡ no_tally
-fresh_join es name address n old is k h =
-    let t : nat_eq (joins es + 1) k ≡ false = ne_eqb (joins es + 1) k (λ d. omega arith) in
-    tally_more k (Join name address) es ∙ rw t (old k (omega arith))
+pub fresh_join : (es : List Event) (seat name address n : ℕ) → ((k : ℕ) → n < k → tally_of k es ≡ no_tally) → seat ≡ n + 1 → (k : ℕ) → n + 1 < k → tally_of k (Join seat name address ∷ es) ≡ no_tally
+fresh_join es seat name address n old is k h =
+    let t : nat_eq seat k ≡ false = ne_eqb seat k (λ d. omega arith) in
+    tally_more k (Join seat name address) es ∙ rw t (old k (omega arith))
 
 -- a place for a unit that joins
-pub tallies_push : (xs : List Place) (es : List Event) (p : Place) (name address : ℕ) → ((j : ℕ) → j < length xs → (place_at xs j).tally ≡ tally_of (suc j) es) → joins es ≡ length xs
+pub tallies_push : (xs : List Place) (es : List Event) (p : Place) (seat name address : ℕ) → ((j : ℕ) → j < length xs → (place_at xs j).tally ≡ tally_of (suc j) es) → seat ≡ suc (length xs)
     → p.tally ≡ record { joined = 1; turned = 0; left = 0; events = 1 } → tally_of (suc (length xs)) es ≡ no_tally
-    → (j : ℕ) → j < length (xs ++ p ∷ []) → (place_at (xs ++ p ∷ []) j).tally ≡ tally_of (suc j) (Join name address ∷ es)
-tallies_push xs es p name address old n is none j l =
-    let more = tally_more (suc j) (Join name address) es in
+    → (j : ℕ) → j < length (xs ++ p ∷ []) → (place_at (xs ++ p ∷ []) j).tally ≡ tally_of (suc j) (Join seat name address ∷ es)
+tallies_push xs es p seat name address old n is none j l =
+    let more = tally_more (suc j) (Join seat name address) es in
     elim (same_or_not j (length xs)) [
       | inl e ↦
-          let t : nat_eq (joins es + 1) (suc j) ≡ true = eq-eqb (joins es + 1) (suc j) (omega arith) in
+          let t : nat_eq seat (suc j) ≡ true = eq-eqb seat (suc j) (omega arith) in
           let z : tally_of (suc j) es ≡ no_tally = ap (λ (i : ℕ). tally_of (suc i) es) e ∙ none in
           let here : (place_at (xs ++ p ∷ []) j).tally ≡ p.tally = ap (λ (q : Place). q.tally) (get_or_push xs p no_place j (sym e)) in
           here ∙ (is ∙ sym (more ∙ rw (t, z) refl))
       | inr e ↦
-          let t : nat_eq (joins es + 1) (suc j) ≡ false = ne_eqb (joins es + 1) (suc j) (λ d. e (omega arith)) in
+          let t : nat_eq seat (suc j) ≡ false = ne_eqb seat (suc j) (λ d. e (omega arith)) in
           let l' : j < length xs = omega (arith, length_push xs p) in
           let there : (place_at (xs ++ p ∷ []) j).tally ≡ (place_at xs j).tally = ap (λ (q : Place). q.tally) (get_or_append_left xs (p ∷ []) no_place j l') in
           there ∙ (old j l' ∙ sym (more ∙ rw t refl))
@@ -469,21 +513,22 @@ state_next a b e settings journal =
     ∙ (ap (λ (r : Settings). state_after r (e ∷ reverse a.journal.items)) settings ∙ state_more (settings_of a) e (reverse a.journal.items))
 
 -- a unit that has just joined is seated with one event of its own
-pub seated_join : (a b : Inside) (name want k : ℕ) → Stands a → settings_of b ≡ settings_of a → b.journal.items ≡ a.journal.items ++ Join name want ∷ [] → k ≡ length (state a).traffic.seats → IsSeated (garage_value_of b) k name 1
+pub seated_join : (a b : Inside) (name want k : ℕ) → Stands a → settings_of b ≡ settings_of a → b.journal.items ≡ a.journal.items ++ Join k name want ∷ [] → k ≡ length (state a).traffic.seats → IsSeated (garage_value_of b) k name 1
 seated_join a b name want k stands settings journal at =
     let t = (state a).traffic in
     let q = untagged (claim_frame_value name (Some want)) in
     let n = length t.seats in
-    let now : (state b).traffic ≡ queued n q (with_newcomer name t) = ap (λ (s : State). s.traffic) (state_next a b (Join name want) settings journal ∙ join_is name want (state a)) in
+    let now : (state b).traffic ≡ queued n q (with_newcomer name t) = ap (λ (s : State). s.traffic) (state_next a b (Join k name want) settings journal ∙ join_is k name want (state a)) in
     let l = IsLive-queued (with_newcomer name t) n n q (joined_live t name) in
     let many : length a.bus.traffic.seats ≡ n = ap (λ (u : Traffic). length u.seats) stands.traffic in
     let seats = stands.seats in
+    let one = one_window a stands in
     let u : IsUnit (queued n q (with_newcomer name t)) n = (omega arith, l.0, l.1) in
-    let history : reverse b.journal.items ≡ Join name want ∷ reverse a.journal.items = ap reverse journal ∙ newest a.journal.items (Join name want) in
-    let last : nat_eq (joins (reverse a.journal.items) + 1) k ≡ true = (let j = stands.joined in eq-eqb (joins (reverse a.journal.items) + 1) k (omega arith)) in
+    let history : reverse b.journal.items ≡ Join k name want ∷ reverse a.journal.items = ap reverse journal ∙ newest a.journal.items (Join k name want) in
+    let last : nat_eq k k ≡ true = eq-eqb k k refl in
     let none = stands.fresh k (omega arith) in
     let tally : tally_of k (reverse b.journal.items) ≡ record { joined = 1; turned = 0; left = 0; events = 1 } =
-    ap (λ (es : List Event). tally_of k es) history ∙ (tally_more k (Join name want) (reverse a.journal.items) ∙ rw (last, none) refl) in
+    ap (λ (es : List Event). tally_of k es) history ∙ (tally_more k (Join k name want) (reverse a.journal.items) ∙ rw (last, none) refl) in
     record {
       unit = subst (λ (i : ℕ). IsUnit (state b).traffic i) (sym at) (subst (λ (v : Traffic). IsUnit v n) (sym now) u);
       named = ap (λ (i : ℕ). (seat_at (state b).traffic i).name) at ∙ (ap (λ (v : Traffic). (seat_at v n).name) now ∙ joined_name t name q);

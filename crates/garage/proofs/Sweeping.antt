@@ -23,7 +23,7 @@ use Rattle.garage.proofs.Crew.{comes_both, comes_heard, crew_heard, heard_untouc
 use Rattle.garage.proofs.LastFrames.{heard_so, last_for, settled_last}
 use Rattle.garage.proofs.Passing.{hears_quietly, quiet_passes, quiet_stands, told_hearing, told_inside}
 use Rattle.garage.proofs.SeatKept.{hearing_counted, still_seated, unit_hears}
-use Rattle.garage.proofs.Standing.{place_tally, place_within, state}
+use Rattle.garage.proofs.Standing.{one_window, place_tally, place_within, state}
 
 -- how far such a sweep has come: all stands, and there is room for this many units more
 pub record Sweeps {P : Type 0} (sitting : P → Sitting) (before : GarageValue) (sifted : Sifted) (a : Inside) (units : List P) (marks : List Bool) (left : ℕ) : Type 0 where
@@ -50,6 +50,7 @@ swept_by sitting before sifted a units marks left fewer less so = record {
 counts_of : (a : Inside) (seat n : ℕ) (x : Place) → Stands a → IsUnit (state a).traffic seat → x ≡ get_or a.places.items (seat - 1) x → (tally_of seat (garage_value_of a).journal).events ≡ n → x.tally.events ≡ n
 counts_of a seat n x stands u read counted =
     let k = seat - 1 in
+    let one_is = one_window a stands in
     let low = u.0 in
     let h = place_within a seat stands u in
     let own : suc k ≡ seat = omega arith in

@@ -78,18 +78,18 @@ count_left xs k h live =
     omega arith
 
 -- beside the station a unit is live
-pub some_live : (t : Traffic) (k : ℕ) → (seat_at t 0).live ≡ true → IsUnit t k → 1 ≤ live_units t
-some_live t k station u =
+pub some_live : (t : Traffic) (k : ℕ) → length t.windows ≡ 1 → (seat_at t 0).live ≡ true → IsUnit t k → 1 ≤ live_units t
+some_live t k one station u =
     let l = count_left t.seats k u.1 u.2 in
     let n : 0 ≢ k = (λ e. let z = u.0 in omega arith) in
     let there : 0 < length (set t.seats k (leaving (seat_at t k))) = (let z = u.1 in omega (arith, length-set t.seats k (leaving (seat_at t k)))) in
     let o = count_live (set t.seats k (leaving (seat_at t k))) 0 there (ap (λ (s : SeatValue). s.live) (get_or-set_other t.seats k 0 (leaving (seat_at t k)) nobody n) ∙ station) in
     omega arith
 
-pub live_left : (t : Traffic) (k : ℕ) → (seat_at t 0).live ≡ true → IsUnit t k → live_units (left k t) + 1 ≡ live_units t
-live_left t k station u =
+pub live_left : (t : Traffic) (k : ℕ) → length t.windows ≡ 1 → (seat_at t 0).live ≡ true → IsUnit t k → live_units (left k t) + 1 ≡ live_units t
+live_left t k one station u =
     let l = count_left t.seats k u.1 u.2 in
-    let o = some_live t k station u in
+    let o = some_live t k one station u in
     omega arith
 
 -- the next element of a list was queued
@@ -134,7 +134,7 @@ keeps_set t k y live queued = record {
   wire = refl;
   live = λ j. set_live t.seats k j y live;
   queued = λ j. set_queued t.seats k j y queued;
-  units = ap (λ (n : ℕ). n - 1) (set_units t.seats k y live);
+  units = ap (λ (n : ℕ). n - length t.windows) (set_units t.seats k y live);
 }
 
 pub keeps_refl : (t : Traffic) → Keeps t t
@@ -164,7 +164,7 @@ pub keeps_withdrawn_if : (b : Bool) (t : Traffic) → Keeps t (if b then withdra
 keeps_withdrawn_if true t = keeps_withdrawn t 0 which.All
 keeps_withdrawn_if false t = keeps_refl t
 
-pub keeps_read : (r : Reading) (t : Traffic) → Keeps t (reading_taken r t)
+pub keeps_read : (r : Reading) (t : Traffic) → Keeps t (reading_taken 0 r t)
 keeps_read r t = keeps_heard t 0 (passes r)
 
 pub live_kept : (t u : Traffic) (k : ℕ) → Keeps t u → IsLive t k → IsLive u k
@@ -195,7 +195,7 @@ put_wire k (q ∷ qs) t = put_wire k qs (queued k q t)
 
 pub put_units : (k : ℕ) (qs : List QueuedFrame) (t : Traffic) → live_units (put_all k qs t) ≡ live_units t
 put_units k [] t = refl
-put_units k (q ∷ qs) t = put_units k qs (queued k q t) ∙ ap (λ (n : ℕ). n - 1) (set_units t.seats k (queueing q (seat_at t k)) refl)
+put_units k (q ∷ qs) t = put_units k qs (queued k q t) ∙ ap (λ (n : ℕ). n - length t.windows) (set_units t.seats k (queueing q (seat_at t k)) refl)
 
 -- some frames more were queued, and nothing else changed that counts
 pub record PutsOn (n : ℕ) (t u : Traffic) : Type 0 where
@@ -212,25 +212,25 @@ puts k qs t v keeps = record {
   queued = λ j. (let b = put_bound k qs v j in let q = keeps.queued j in omega arith);
 }
 
-pub puts_reacted : (r : Reaction) (t v : Traffic) → Keeps t v → PutsOn (length r.put) t (reacted r v)
+pub puts_reacted : (r : Reaction) (t v : Traffic) → Keeps t v → PutsOn (length r.put) t (reacted 0 r v)
 puts_reacted r t v keeps =
-    subst (λ (n : ℕ). PutsOn n t (reacted r v)) (length-map r.put untagged) (puts 0 (map untagged r.put) t _ (keeps_then t v _ keeps (keeps_withdrawn_if r.withdraw v)))
+    subst (λ (n : ℕ). PutsOn n t (reacted 0 r v)) (length-map r.put untagged) (puts 0 (map untagged r.put) t _ (keeps_then t v _ keeps (keeps_withdrawn_if r.withdraw v)))
 
 -- the station's seat was given and is not gone
 pub station_live : (t : Traffic) → (seat_at t 0).live ≡ true → IsLive t 0
 station_live t live = (given t.seats 0 live, live)
 
-pub live_read : (t : Traffic) (r : Reading) → IsLive t 0 → IsLive (reading_taken r t) 0
+pub live_read : (t : Traffic) (r : Reading) → IsLive t 0 → IsLive (reading_taken 0 r t) 0
 live_read t r h = (
   omega (arith, length-set t.seats 0 (hearing (passes r) (seat_at t 0))),
   ap (λ (s : SeatValue). s.live) (get_or-set_same t.seats 0 (hearing (passes r) (seat_at t 0)) nobody h.0) ∙ h.1,
 )
 
 -- one unit more is live
-pub joined_units : (t : Traffic) (name : ℕ) → (seat_at t 0).live ≡ true → live_units (with_newcomer name t) ≡ live_units t + 1
-joined_units t name station =
+pub joined_units : (t : Traffic) (name : ℕ) → length t.windows ≡ 1 → (seat_at t 0).live ≡ true → live_units (with_newcomer name t) ≡ live_units t + 1
+joined_units t name one station =
     let s = sum_by_push weight t.seats (newcomer name (length t.wire)) in
-    let one = count_live t.seats 0 (given t.seats 0 station) station in
+    let some = count_live t.seats 0 (given t.seats 0 station) station in
     omega arith
 
 joined_at : (xs : List SeatValue) (y : SeatValue) (j : ℕ) → y.queued ≡ 0 → (get_or (xs ++ y ∷ []) j nobody).queued ≤ (get_or xs j nobody).queued

@@ -53,8 +53,8 @@ Begins old k memory begin.Held new = (is_open (unit_at (state_of old) k).node.se
 
 -- the next reading was taken; or there is none
 abbrev pub Reads : GarageValue → Reading → GarageValue → Type 0
-Reads old reading.Empty new = (next_reading (state_of old).traffic ≡ reading.Empty) × (new ≡ old)
-Reads old r new = Adds old (event.Read r) new
+Reads old reading.Empty new = (next_reading (state_of old).traffic 0 ≡ reading.Empty) × (new ≡ old)
+Reads old r new = Adds old (event.Read 0 r) new
 
 -- a unit's count of its own events after hearing: one more where a frame was heard
 abbrev pub counted_hearing : ℕ → HeardOne → ℕ

@@ -42,8 +42,9 @@ last_frame g = option_map (λ c. c.frame) (slice_get (state_of g).traffic.wire (
 abbrev pub IsLastSifted : Sifted → GarageValue → Type 0
 IsLastSifted sifted g = (f : FrameValue) → last_frame g ≡ Some f → IsSifted sifted f
 
--- a seat is as live as it was, under the same NAME, among as many seats
+-- a seat is as live as it was, under the same NAME, among as many seats and the same stations
 pub record KeepsSeat (k : ℕ) (t t' : Traffic) : Type 0 where
+  pub windows : t'.windows ≡ t.windows
   pub seats : length t'.seats ≡ length t.seats
   pub live : (seat_at t' k).live ≡ (seat_at t k).live
   pub name : (seat_at t' k).name ≡ (seat_at t k).name
@@ -68,12 +69,12 @@ AreOthersUntouched j g g' = (k : ℕ) → k ≢ j → k < length (state_of g).tr
 -- the events of a round: a unit hears, the station reads, a frame is carried
 abbrev pub IsOfRound : Event → Type 0
 IsOfRound (Hear k memory answered) = Unit {0}
-IsOfRound (Read r) = Unit {0}
+IsOfRound (Read y r) = Unit {0}
 IsOfRound (Carry k) = Unit {0}
-IsOfRound (Join name address) = ⊥
+IsOfRound (Join seat name address) = ⊥
 IsOfRound (Begin k memory) = ⊥
 IsOfRound (Turned k) = ⊥
-IsOfRound (Ordered order) = ⊥
+IsOfRound (Ordered y order) = ⊥
 IsOfRound (Leave k) = ⊥
 IsOfRound (Inject frame) = ⊥
 

@@ -2,7 +2,8 @@
 use Rattle.std.specs.Prelude.{ℕ, suc, ◌≡◌, ◌+◌, ◌*◌, ◌<◌, ◌≤◌, ◌^◌, List, map, reverse, length, slice_index_or}
 use Rattle.bus_ledger.specs.BusValue.{seat_at}
 use Rattle.bus_ledger.specs.Newcomers.{live_units}
-use Rattle.journal.specs.State.{Settings, UnitState}
+use Rattle.journal.specs.State.{Settings, UnitState, table_at}
+use Rattle.garage.specs.Opening.{with_one}
 use Rattle.journal.specs.Journal.{GarageValue, state_of, AllFit, injected_of, joins, tally_of}
 use Rattle.journal.specs.declared.tally.Tally.{Tally}
 use Rattle.node_core.specs.NodeValue.{new_node}
@@ -10,7 +11,7 @@ use Rattle.garage.specs.declared.garage.Place.{Place}
 use Rattle.garage.specs.declared.garage.Garage.TheInside.{Inside}
 
 abbrev pub settings_of : Inside → Settings
-settings_of g = record { name = g.name; address = g.address; window = g.window; grant = g.grant; limit = g.limit }
+settings_of g = with_one (record { name = g.name; address = g.address; window = g.window; grant = g.grant }) g.limit
 
 abbrev pub garage_value_of : Inside → GarageValue
 garage_value_of g = record { settings = settings_of g; journal = reverse g.journal.items }
@@ -31,7 +32,7 @@ place_at places k = slice_index_or places k no_place
 pub record Stands (g : Inside) : Type 0 where
   pub few : g.limit ≤ 2 ^ 24
   pub traffic : g.bus.traffic ≡ (state_of (garage_value_of g)).traffic
-  pub station : g.station ≡ (state_of (garage_value_of g)).station
+  pub station : g.station ≡ (table_at (state_of (garage_value_of g)) 0)
   pub units : map unit_of g.places.items ≡ (state_of (garage_value_of g)).units
   pub begun : g.begun ≡ length (state_of (garage_value_of g)).begun
   pub fits : AllFit (settings_of g) (reverse g.journal.items)

@@ -1,5 +1,5 @@
 ghost use Rattle.std.specs.Prelude.{◌≡◌, ◌≤◌, ◌↔◌, ◌⊎◌, IfOk, IfErr, IsErrOf, IsTrue};
-ghost use Rattle.garage.specs.Opening.{new_garage, IsSetting};
+ghost use Rattle.garage.specs.Opening.{new_garage, with_one, IsSetting};
 
 use crate::error::GarageError;
 use crate::garage::{Garage, MOST_EVENTS};
@@ -29,8 +29,8 @@ impl Garage {
         grant: u8,
         limit: u32,
     ) -> Result<Garage, GarageError>
-        ensures ok { IfOk result (λ g. g ≡ new_garage (record { name = name; address = address; window = window; grant = grant; limit = limit })) }
-        ensures bad_setting { IsErrOf result GarageError.BadSetting ↔ (¬ IsSetting (record { name = name; address = address; window = window; grant = grant; limit = limit })) }
+        ensures ok { IfOk result (λ g. g ≡ new_garage (with_one (record { name = name; address = address; window = window; grant = grant }) limit)) }
+        ensures bad_setting { IsErrOf result GarageError.BadSetting ↔ (¬ IsSetting (record { name = name; address = address; window = window; grant = grant }) limit) }
         ensures only { IfErr result (λ e. (e ≡ GarageError.BadSetting) ⊎ (e ≡ GarageError.OutOfMemory)) }
     {
         if !is_setting(address, window, grant, limit) {
@@ -59,7 +59,7 @@ impl Garage {
 
 /// Whether a garage can be opened with these settings.
 fn is_setting(address: u8, window: u32, grant: u8, limit: u32) -> bool
-    ensures { IsTrue result ↔ IsSetting (record { name = 0; address = address; window = window; grant = grant; limit = limit }) }
+    ensures { IsTrue result ↔ IsSetting (record { name = 0; address = address; window = window; grant = grant }) limit }
 {
     address <= GREATEST_ADDRESS
         && window >= 1

@@ -19,6 +19,7 @@ const MOST_ORDERED: usize = 3;
 impl Garage {
     ghost use Rattle.journal.specs.Journal.{state_of, Adds, known_address, own_address};
     ghost use Rattle.journal.specs.Promises.{KeepsLists};
+    ghost use Rattle.journal.specs.State.{table_at};
     ghost use Rattle.journal.specs.declared.event.Event.TheVariants.{Ordered};
     ghost use Rattle.garage.specs.Obeying.{Obeys};
     ghost use Rattle.garage.specs.Room.{IsFull};
@@ -29,7 +30,7 @@ impl Garage {
     /// `BookFull`, `OutOfMemory`; then nothing changed.
     #[tactic(auto, using(crate::proofs::OrderLemmas::obeys_ask))]
     pub fn ask(&mut self, alloc: Global, name: Name, ask: Ask) -> Result<(), GarageError>
-        ensures ok { OnOk result (Adds self.old (Ordered (order.Ask name ask)) self.new) }
+        ensures ok { OnOk result (Adds self.old (Ordered 0 (order.Ask name ask)) self.new) }
         ensures not_held { IsErrOf result GarageError.NotHeld ↔ IsNone (own_address self.old) }
         ensures no_address { IsErrOf result GarageError.NoAddress ↔ (IsSome (own_address self.old) × IsNone (known_address self.old name)) }
         ensures full { IsErrOf result GarageError.BookFull ↔ (IsSome (own_address self.old) × IsSome (known_address self.old name) × IsFull self.old) }
@@ -47,7 +48,7 @@ impl Garage {
     /// Refused, in this order: `NotHeld` where the station holds no address, `BookFull`, `OutOfMemory`; then nothing changed.
     #[tactic(auto, using(crate::proofs::OrderLemmas::obeys_ask_all))]
     pub fn ask_all(&mut self, alloc: Global, ask: Ask) -> Result<(), GarageError>
-        ensures ok { OnOk result (Adds self.old (Ordered (order.AskAll ask)) self.new) }
+        ensures ok { OnOk result (Adds self.old (Ordered 0 (order.AskAll ask)) self.new) }
         ensures not_held { IsErrOf result GarageError.NotHeld ↔ IsNone (own_address self.old) }
         ensures full { IsErrOf result GarageError.BookFull ↔ (IsSome (own_address self.old) × IsFull self.old) }
         ensures only { IfErr result (λ e. (e ≡ GarageError.NotHeld) ⊎ (e ≡ GarageError.BookFull) ⊎ (e ≡ GarageError.OutOfMemory)) }
@@ -65,7 +66,7 @@ impl Garage {
     /// `OutOfMemory`; then nothing changed.
     #[tactic(auto, using(crate::proofs::OrderLemmas::obeys_command))]
     pub fn command(&mut self, alloc: Global, name: Name, address: u8) -> Result<(), GarageError>
-        ensures ok { OnOk result (Adds self.old (Ordered (order.Command name address)) self.new) }
+        ensures ok { OnOk result (Adds self.old (Ordered 0 (order.Command name address)) self.new) }
         ensures not_an_address { IsErrOf result GarageError.NotAnAddress ↔ (GREATEST_ADDRESS < address) }
         ensures not_held { IsErrOf result GarageError.NotHeld ↔ ((address ≤ GREATEST_ADDRESS) × IsNone (own_address self.old)) }
         ensures full { IsErrOf result GarageError.BookFull ↔ ((address ≤ GREATEST_ADDRESS) × IsSome (own_address self.old) × IsFull self.old) }
@@ -85,8 +86,8 @@ impl Garage {
         order: Order,
         answer: Result<Reaction, StationError>,
     ) -> Result<(), GarageError>
-        requires { IfOk answer (Obeys (state_of self.old).station order) }
-        ensures ok { OnOk result (Adds self.old (Ordered order) self.new) }
+        requires { IfOk answer (Obeys (table_at (state_of self.old) 0) order) }
+        ensures ok { OnOk result (Adds self.old (Ordered 0 order) self.new) }
         ensures refused { (e : AnyRefusal) → e ≢ StationError.OutOfMemory → ((result ≡ Err (of_station e)) ↔ (answer ≡ Err e)) }
         ensures full { IsErrOf result GarageError.BookFull ↔ (IsOkUnless answer StationError.OutOfMemory × IsFull self.old) }
         ensures only { IfErr result (λ e. (e ≡ GarageError.BookFull) ⊎ (e ≡ GarageError.OutOfMemory) ⊎ ((s : AnyRefusal) × (answer ≡ Err s) × (e ≡ of_station s))) }
@@ -104,7 +105,7 @@ impl Garage {
         make_room(&mut self.journal, self.live + 1, self.limit)?;
         self.bus.reserve(0, MOST_ORDERED)?;
         react(&mut self.bus, &reaction);
-        self.journal.note_order(order);
+        self.journal.note_order(0, order);
         Ok(())
     }
 }

@@ -119,7 +119,7 @@ impl Garage {
         want: u8,
     ) -> Result<Parked, (Box<dyn Unit>, GarageError)>
         requires { Unit {0} }
-        ensures ok { IfOk result (λ p. Adds self.old (Join (name_of unit) want) self.new × (p.unit ≡ unit) × (p.seat ≡ length (state_of self.old).traffic.seats) × IsSeated self.new p.seat (name_of unit) p.events) }
+        ensures ok { IfOk result (λ p. Adds self.old (Join p.seat (name_of unit) want) self.new × (p.unit ≡ unit) × (p.seat ≡ length (state_of self.old).traffic.seats) × IsSeated self.new p.seat (name_of unit) p.events) }
         ensures not_an_address { (result ≡ Err (unit, GarageError.NotAnAddress)) ↔ (GREATEST_ADDRESS < want) }
         ensures name_in_use { (result ≡ Err (unit, GarageError.NameInUse)) ↔ ((want ≤ GREATEST_ADDRESS) × HasNameInUse self.old (name_of unit)) }
         ensures too_many { (result ≡ Err (unit, GarageError.TooManySeats)) ↔ ((want ≤ GREATEST_ADDRESS) × HasTooMany self.old (name_of unit)) }
@@ -143,8 +143,10 @@ impl Garage {
     }
 
     /// Whether this garage has a live seat with this number, NAME and count of events.
+    #[tactic(auto, using(crate::proofs::Standing::seat_low, crate::proofs::Standing::bus_low))]
     pub(crate) fn is_seated(&self, seat: u32, name: Name, events: u32) -> bool
-        ensures { IsTrue result ↔ IsSeated self.now seat name events }
+        ensures seated { IsTrue result ↔ IsSeated self.now seat name events }
+        ensures low { IsTrue result → 1 ≤ seat }
     {
         match self.bus.unit_name(seat) {
             Some(owner) => owner == name && self.events_of(seat) == events,
@@ -153,6 +155,7 @@ impl Garage {
     }
 
     /// How many events of its own a live unit has.
+    #[tactic(auto, using(crate::proofs::Standing::seat_low, crate::proofs::Standing::seat_placed, crate::proofs::Standing::place_told))]
     pub(crate) fn events_of(&self, seat: u32) -> u32
         requires { IsUnit (state_of self.now).traffic seat }
         ensures count { result ≡ (tally_of seat self.now.journal).events }

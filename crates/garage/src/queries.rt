@@ -4,6 +4,7 @@ ghost use Rattle.std.specs.Option.{option_map};
 ghost use Rattle.bus_model.specs.Heard.{row_heard};
 ghost use Rattle.station_table.specs.StandsFor.{row_of, row_heard_as};
 ghost use Rattle.journal.specs.Journal.{joins, readings_of, state_of, tally_of};
+ghost use Rattle.journal.specs.State.{table_at};
 ghost use Rattle.journal.specs.Worlds.{station_of};
 ghost use Rattle.garage.specs.Opening.{no_events};
 
@@ -25,7 +26,7 @@ impl Garage {
     #[tactic(auto, using(crate::proofs::Headline::row_known_heard))]
     pub fn row(&self, name: Name) -> Option<Row>
         ensures heard { option_map row_heard_as result ≡ row_heard (station_of self.now.settings) name (readings_of self.now.journal) }
-        ensures kept { result ≡ row_of (state_of self.now).station.owners name (kept_under (state_of self.now).station.rows name) }
+        ensures kept { result ≡ row_of (table_at (state_of self.now) 0).owners name (kept_under (table_at (state_of self.now) 0).rows name) }
     {
         self.station.row(name)
     }

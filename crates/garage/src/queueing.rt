@@ -116,7 +116,7 @@ pub(crate) fn react(bus: &mut Bus, reaction: &Reaction)
     requires live { IsLive bus.old.traffic 0 }
     requires spare { length reaction.now.put ≤ spare_at bus.old 0 }
     requires few { (seat_at bus.old.traffic 0).queued + length reaction.now.put < 2 ^ 32 }
-    ensures { bus.new.traffic ≡ reacted reaction.now bus.old.traffic }
+    ensures { bus.new.traffic ≡ reacted 0 reaction.now bus.old.traffic }
 {
     withdraw_if(bus, reaction.withdraw);
     queue_frames(bus, 0, reaction.put.as_slice());

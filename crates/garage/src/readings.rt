@@ -26,8 +26,8 @@ impl Garage {
         ensures ok { IfOk result (λ r. Reads self.old r self.new) }
         // Readings end by this count.
         ensures few { length self.old.journal < 2 ^ 32 }
-        ensures empty { (result ≡ Ok Reading.Empty) ↔ (next_reading (state_of self.old).traffic ≡ Reading.Empty) }
-        ensures full { IsErrOf result GarageError.BookFull ↔ ((next_reading (state_of self.old).traffic ≢ Reading.Empty) × IsFull self.old) }
+        ensures empty { (result ≡ Ok Reading.Empty) ↔ (next_reading (state_of self.old).traffic 0 ≡ Reading.Empty) }
+        ensures full { IsErrOf result GarageError.BookFull ↔ ((next_reading (state_of self.old).traffic 0 ≢ Reading.Empty) × IsFull self.old) }
         ensures only { IfErr result IsWant }
         ensures err { OnErr result (self.new ≡ self.old) }
         ensures lists { KeepsLists self.old self.new }
@@ -46,7 +46,7 @@ impl Garage {
     #[inline(never)]
     #[tactic(auto, using(crate::proofs::Lists::lists_same, crate::proofs::Lists::lists_added))]
     fn take_reading(&mut self, alloc: Global, reading: &Reading) -> Result<(), GarageError>
-        requires next { reading.now ≡ next_reading (state_of self.old).traffic }
+        requires next { reading.now ≡ next_reading (state_of self.old).traffic 0 }
         requires some { reading.now ≢ Reading.Empty }
         ensures ok { OnOk result (Reads self.old reading.now self.new) }
         ensures full { IsErrOf result GarageError.BookFull ↔ IsFull self.old }
@@ -59,7 +59,7 @@ impl Garage {
         let reaction = self.station.take(alloc, *reading)?;
         self.bus.tap_pass();
         react(&mut self.bus, &reaction);
-        self.journal.note_read(*reading);
+        self.journal.note_read(0, *reading);
         Ok(())
     }
 }

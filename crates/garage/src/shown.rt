@@ -5,6 +5,7 @@ ghost use Rattle.bus_model.specs.Heard.{entries_heard, missed_count, unread_coun
 ghost use Rattle.bus_model.specs.Messages.{Message, IsAmong};
 ghost use Rattle.bus_model.specs.Whole.{received_whole};
 ghost use Rattle.journal.specs.Journal.{injected_of, state_of, readings_of, shown_of};
+ghost use Rattle.journal.specs.State.{path_at, table_at};
 ghost use Rattle.journal.specs.Worlds.{station_of};
 ghost use Rattle.station_table.specs.KeptValue.{entries_under};
 
@@ -27,9 +28,9 @@ impl Garage {
     pub fn shown(&self, name: Name, kind: Kind) -> &[Shown]
         ensures expected { injected_of self.now.journal ≡ 0 → result.now ≡ shown_of self.now name kind }
         ensures heard { result.now ≡ reverse (entries_heard (station_of self.now.settings) name kind (readings_of self.now.journal)) }
-        ensures quiet { injected_of self.now.journal ≡ 0 → NoneMissed (state_of self.now).path → result.now ≡ reverse (received_whole name kind (state_of self.now).begun (state_of self.now).path) }
-        ensures looks_back { injected_of self.now.journal ≡ 0 → (m : Message) → IsAmong m (state_of self.now).begun → (is_clear m (state_of self.now).path ≡ true) ↔ IsOnClearPath m (state_of self.now).path }
-        ensures kept { result.now ≡ entries_under (state_of self.now).station.rows name kind }
+        ensures quiet { injected_of self.now.journal ≡ 0 → NoneMissed (path_at (state_of self.now) 0) → result.now ≡ reverse (received_whole (station_of self.now.settings) name kind (state_of self.now).begun (path_at (state_of self.now) 0)) }
+        ensures looks_back { injected_of self.now.journal ≡ 0 → (m : Message) → IsAmong m (state_of self.now).begun → (is_clear (station_of self.now.settings) m (path_at (state_of self.now) 0) ≡ true) ↔ IsOnClearPath (station_of self.now.settings) m (path_at (state_of self.now) 0) }
+        ensures kept { result.now ≡ entries_under (table_at (state_of self.now) 0).rows name kind }
     {
         self.station.shown(name, kind)
     }
@@ -38,7 +39,7 @@ impl Garage {
     #[tactic(auto, using(crate::proofs::Headline::missed_heard))]
     pub fn missed(&self) -> u64
         ensures heard { result ≡ missed_count (readings_of self.now.journal) }
-        ensures kept { result ≡ (state_of self.now).station.missed }
+        ensures kept { result ≡ (table_at (state_of self.now) 0).missed }
     {
         self.station.missed()
     }
@@ -48,7 +49,7 @@ impl Garage {
     pub fn unread(&self) -> u64
         ensures none { injected_of self.now.journal ≡ 0 → result ≡ 0 }
         ensures heard { result ≡ unread_count (station_of self.now.settings) (readings_of self.now.journal) }
-        ensures kept { result ≡ (state_of self.now).station.unread }
+        ensures kept { result ≡ (table_at (state_of self.now) 0).unread }
     {
         self.station.unread()
     }

@@ -87,6 +87,7 @@ impl Garage {
     /// it is such a frame. Else nothing changes.
     ///
     /// Refused where the journal has no room, then where there is no memory; then nothing changed.
+    #[tactic(auto, using(crate::proofs::Standing::seat_low, crate::proofs::Standing::seat_placed))]
     fn hear_quietly(
         &mut self,
         seat: u32,
@@ -116,6 +117,7 @@ impl Garage {
     /// The unit on the seat, whose memory is the one that its latest event tells and is not looked at, settles this frame, its next
     /// one; answers whether it did. Else, and where the journal has no room ready, nothing changes.
     #[inline(always)]
+    #[tactic(auto, using(crate::proofs::Standing::seat_low, crate::proofs::Standing::seat_placed))]
     pub(crate) fn pass(&mut self, seat: u32, frame: &Frame) -> bool
         requires unit { IsUnit (state_of self.old).traffic seat }
         requires next { next_for (state_of self.old) seat ≡ Some frame.now }
@@ -141,6 +143,7 @@ impl Garage {
     /// `told` is whether its memory is known to be the one that its latest event tells, and the answer says so of it afterwards.
     ///
     /// Refused where the journal has no room, then where there is no memory; then nothing changed, and the unit was not asked.
+    #[tactic(auto, using(crate::proofs::Standing::seat_low, crate::proofs::Standing::seat_placed))]
     pub(crate) fn react_to(
         &mut self,
         alloc: Global,
@@ -190,6 +193,7 @@ impl Garage {
     ///
     /// Refused where the unit holds no address, then, where a DM1 can begin, where the journal has no room, then where there
     /// is no memory; then nothing changed.
+    #[tactic(auto, using(crate::proofs::Standing::seat_low, crate::proofs::Standing::seat_placed, crate::proofs::Standing::place_node))]
     pub(crate) fn begin(
         &mut self,
         alloc: Global,
@@ -223,6 +227,7 @@ impl Garage {
     /// The unit on the seat begins a DM1 of its memory, with these frames.
     ///
     /// Refused where the journal has no room, then where there is no memory; then nothing changed.
+    #[tactic(auto, using(crate::proofs::Standing::seat_low, crate::proofs::Standing::seat_placed))]
     fn begin_message(&mut self, seat: u32, unit: &dyn Unit, put: Outs) -> Result<(), GarageError>
         requires unit { IsUnit (state_of self.old).traffic seat }
         requires begins { BeginsWith (unit_at (state_of self.old) seat).node (memory_of unit.now) put }
@@ -257,6 +262,7 @@ impl Garage {
     /// A turn of the unit on the seat is over.
     ///
     /// Refused where the journal has no room, then where there is no memory; then nothing changed.
+    #[tactic(auto, using(crate::proofs::Standing::seat_low, crate::proofs::Standing::seat_placed))]
     pub(crate) fn turned(&mut self, seat: u32) -> Result<(), GarageError>
         requires { IsUnit (state_of self.old).traffic seat }
         ensures ok { OnOk result (Adds self.old (Turned seat) self.new) }

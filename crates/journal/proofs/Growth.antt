@@ -1,5 +1,5 @@
 -- What stays as it was when a message begins, a frame is carried, or one seat changes.
-use Rattle.std.proofs.Common.{ℕ, suc, ◌≡◌, ◌<◌, ◌≤◌, ◌==◌, List, [], ◌∷◌, ◌++◌, map, reverse, length, get_or, set, true, Option, Some, None, refl, sym, ap, ◌∙◌, subst, arith, inl, inr}
+use Rattle.std.proofs.Common.{ℕ, ◌≡◌, ◌+◌, ◌<◌, ◌≤◌, ◌==◌, List, [], ◌∷◌, ◌++◌, map, reverse, length, get_or, set, true, Option, Some, None, refl, sym, ap, ◌∙◌, subst, arith, inl, inr}
 use Rattle.std.proofs.lemmas.Bool.{ne_eqb}
 use Rattle.std.proofs.lemmas.List.{get_or-set_same, get_or-set_other, take-append-le, length-append}
 use Rattle.bus_ledger.specs.BusValue.{SeatValue, nobody, seat_at}
@@ -127,22 +127,22 @@ known_push begun (p ∷ qs) q k h = (k.0, known_push begun qs q k.1 h)
 
 -- ---- one seat
 
--- three lists that correspond still do where one place of each changed
-pub seated_set : (R : SeatValue → UnitState → Seat → Type 0) (seats : List SeatValue) (units : List UnitState) (xs : List Seat) (j : ℕ) (v : SeatValue) (u : UnitState) (x : Seat)
-    → length seats ≡ suc (length units) → length xs ≡ length units → R v u x
-    → ((i : ℕ) → i < length units → R (get_or seats (suc i) nobody) (get_or units i (new_unit 0 0)) (get_or xs i no_seat))
-    → (i : ℕ) → i < length units → R (get_or (set seats (suc j) v) (suc i) nobody) (get_or (set units j u) i (new_unit 0 0)) (get_or (set xs j x) i no_seat)
-seated_set R seats units xs j v u x ls lx h old i l = elim (same_or_not j i) [
-  | inl e ↦ (let at : R (get_or (set seats (suc i) v) (suc i) nobody) (get_or (set units i u) i (new_unit 0 0)) (get_or (set xs i x) i no_seat) =
-      rw (get_or-set_same seats (suc i) v nobody (omega arith), get_or-set_same units i u (new_unit 0 0) l, get_or-set_same xs i x no_seat (omega arith)) h in
-      subst (λ (y : ℕ). R (get_or (set seats (suc y) v) (suc i) nobody) (get_or (set units y u) i (new_unit 0 0)) (get_or (set xs y x) i no_seat)) (sym e) at)
-  | inr n ↦ rw (get_or-set_other seats (suc j) (suc i) v nobody (λ e. n (omega arith)), get_or-set_other units j i u (new_unit 0 0) (λ e. n (sym e)), get_or-set_other xs j i x no_seat (λ e. n (sym e))) (old i l)
+-- three lists that correspond still do where one place of each changed; the first has others, base of them, in front
+pub seated_set : (R : SeatValue → UnitState → Seat → Type 0) (base : ℕ) (seats : List SeatValue) (units : List UnitState) (xs : List Seat) (j : ℕ) (v : SeatValue) (u : UnitState) (x : Seat)
+    → length seats ≡ base + length units → length xs ≡ length units → R v u x
+    → ((i : ℕ) → i < length units → R (get_or seats (base + i) nobody) (get_or units i (new_unit 0 0)) (get_or xs i no_seat))
+    → (i : ℕ) → i < length units → R (get_or (set seats (base + j) v) (base + i) nobody) (get_or (set units j u) i (new_unit 0 0)) (get_or (set xs j x) i no_seat)
+seated_set R base seats units xs j v u x ls lx h old i l = elim (same_or_not j i) [
+  | inl e ↦ (let at : R (get_or (set seats (base + i) v) (base + i) nobody) (get_or (set units i u) i (new_unit 0 0)) (get_or (set xs i x) i no_seat) =
+      rw (get_or-set_same seats (base + i) v nobody (omega arith), get_or-set_same units i u (new_unit 0 0) l, get_or-set_same xs i x no_seat (omega arith)) h in
+      subst (λ (y : ℕ). R (get_or (set seats (base + y) v) (base + i) nobody) (get_or (set units y u) i (new_unit 0 0)) (get_or (set xs y x) i no_seat)) (sym e) at)
+  | inr n ↦ rw (get_or-set_other seats (base + j) (base + i) v nobody (λ e. n (omega arith)), get_or-set_other units j i u (new_unit 0 0) (λ e. n (sym e)), get_or-set_other xs j i x no_seat (λ e. n (sym e))) (old i l)
 ]
 
 -- the machine's seats keep their numbers where one of them changed
-pub numbers_set : (xs : List Seat) (j n : ℕ) (x : Seat) → length xs ≡ n → x.number ≡ suc j → ((i : ℕ) → i < n → (get_or xs i no_seat).number ≡ suc i)
-    → (i : ℕ) → i < n → (get_or (set xs j x) i no_seat).number ≡ suc i
-numbers_set xs j n x lx h old i l = elim (same_or_not j i) [
-  | inl e ↦ ap (λ (k : ℕ). (get_or (set xs k x) i no_seat).number) e ∙ (ap (λ (y : Seat). y.number) (get_or-set_same xs i x no_seat (omega arith)) ∙ (h ∙ ap suc e))
+pub numbers_set : (base : ℕ) (xs : List Seat) (j n : ℕ) (x : Seat) → length xs ≡ n → x.number ≡ base + j → ((i : ℕ) → i < n → (get_or xs i no_seat).number ≡ base + i)
+    → (i : ℕ) → i < n → (get_or (set xs j x) i no_seat).number ≡ base + i
+numbers_set base xs j n x lx h old i l = elim (same_or_not j i) [
+  | inl e ↦ ap (λ (k : ℕ). (get_or (set xs k x) i no_seat).number) e ∙ (ap (λ (y : Seat). y.number) (get_or-set_same xs i x no_seat (omega arith)) ∙ (h ∙ ap (λ (k : ℕ). base + k) e))
   | inr other ↦ ap (λ (y : Seat). y.number) (get_or-set_other xs j i x no_seat (λ e. other (sym e))) ∙ old i l
 ]

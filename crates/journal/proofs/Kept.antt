@@ -12,22 +12,22 @@ use Rattle.journal.specs.declared.note.Note.TheVariants as note
 use Rattle.journal.specs.declared.passing.Passing.{Passing}
 
 note_more : (ms : List MemoryValue) (m : MemoryValue) (n : Note) (older : List Event) → IsNoted (length ms) n → with_note (ms ++ m ∷ []) n older ≡ with_note ms n older
-note_more ms m (note.Join address name) older h = refl
+note_more ms m (note.Join address seat name) older h = refl
 note_more ms m (note.Hear answered k n) older h = ap (λ (v : MemoryValue). Hear k v answered ∷ older) (get_or_append_left ms (m ∷ []) new_memory n h)
 note_more ms m (note.Passed first count) older h = refl
 note_more ms m (note.PassedAgain k count) older h = refl
 note_more ms m (note.Begin k n) older h = ap (λ (v : MemoryValue). Begin k v ∷ older) (get_or_append_left ms (m ∷ []) new_memory n h)
 note_more ms m (note.Turned k) older h = refl
 note_more ms m (note.Carry k) older h = refl
-note_more ms m (note.Frame bytes id) older h = refl
+note_more ms m (note.Frame station bytes id) older h = refl
 note_more ms m (note.Relayed bytes k id) older h = refl
 note_more ms m (note.ReadAndCarried bytes k id) older h = refl
-note_more ms m (note.Gap missed) older h = refl
-note_more ms m note.Empty older h = refl
-note_more ms m (note.Ask ask name) older h = refl
-note_more ms m (note.AskOther group name) older h = refl
-note_more ms m (note.AskAll ask) older h = refl
-note_more ms m (note.Command address name) older h = refl
+note_more ms m (note.Gap station missed) older h = refl
+note_more ms m (note.Empty station) older h = refl
+note_more ms m (note.Ask station ask name) older h = refl
+note_more ms m (note.AskOther station group name) older h = refl
+note_more ms m (note.AskAll station ask) older h = refl
+note_more ms m (note.Command station address name) older h = refl
 note_more ms m (note.Leave k) older h = refl
 note_more ms m (note.Inject bytes id) older h = refl
 

@@ -1,4 +1,5 @@
 pub mod Seated
+pub mod Posts
 pub mod Growth
 pub mod Changed
 pub mod Coming

@@ -1,14 +1,14 @@
 -- The law of the bus's machine, put to the world that a journal leads to, in the words of the journal.
-use Rattle.std.proofs.Common.{◌≡◌, ℕ, suc, zero, true, List, [], ◌∷◌, ◌++◌, append_assoc, Some, reverse, take, drop, slice_get, refl, sym, ap, ◌∙◌, subst}
+use Rattle.std.proofs.Common.{◌≡◌, ◌<◌, ℕ, suc, zero, Bool, true, false, List, [], ◌∷◌, ◌++◌, length, if◌then◌else◌, ◌==◌, append_assoc, Some, reverse, take, drop, slice_get, refl, sym, ap, ◌∙◌, subst}
 use Rattle.std.specs.Prelude.{◌↔◌}
 use Rattle.std.proofs.lemmas.List.{reverse-append}
 use Rattle.dm_messages.specs.declared.kind.Kind.{Kind}
 use Rattle.dm_messages.specs.declared.shown.Shown.{Shown}
 use Rattle.bus_model.specs.ClearPath.{IsOnClearPath, NoneMissed}
 use Rattle.bus_model.specs.Expected.{is_clear, passed}
+use Rattle.can_frame.specs.declared.reading.Reading.{Reading}
 use Rattle.bus_model.specs.Heard.{ended, entries_heard, put}
 use Rattle.bus_model.specs.LawfulTraffic.{IsLawfulTraffic}
-use Rattle.bus_model.specs.Machine.{World, start}
 use Rattle.bus_model.specs.Messages.{Message, IsAmong}
 use Rattle.bus_model.specs.Traffic.{Item}
 use Rattle.bus_model.specs.Whole.{received_whole}
@@ -18,27 +18,21 @@ use Rattle.bus_model.proofs.Lawful.{Lawful}
 use Rattle.bus_model.proofs.Lookback.{lawful_rest}
 use Rattle.bus_model.proofs.Quiet.{clear_whole, expected_whole}
 use Rattle.bus_model.proofs.Wire.{lawful_traffic}
-use Rattle.bus_model.proofs.Worlds.{WorldLaw, law_run, law_start, passed_booked, passed_lawful}
-use Rattle.journal.specs.Journal.{GarageValue, Adds, injected_of, listed_of, readings_of, shown_of, state_of, with_event}
+use Rattle.bus_model.proofs.Worlds.{passed_booked}
+use Rattle.journal.specs.Journal.{GarageValue, Adds, injected_of, listed_at, readings_at, shown_at, state_of, with_event}
 use Rattle.journal.specs.Promises.{IsFromOwner, IsLawful, IsPrefix, KeepsLists, wire_of}
-use Rattle.journal.specs.Worlds.{items_of, station_of, world_of}
+use Rattle.journal.specs.State.{path_at, setting_at}
+use Rattle.journal.specs.Worlds.{items_of, station_of_at, world_station}
 use Rattle.journal.specs.declared.event.Event.{Event}
 use Rattle.journal.specs.declared.event.Event.TheVariants.{Join, Hear, Begin, Turned, Carry, Read, Ordered, Leave, Inject}
-use Rattle.journal.proofs.Reaching.{reached, settings_fit}
-
--- the world of a garage into which no frame came from outside, of which the law holds
-world : (g : GarageValue) → IsLawful g → injected_of g.journal ≡ 0 → World
-world g fit none = world_of g.settings (state_of g) (reached g.settings g.journal fit none).seats
-
-law : (g : GarageValue) (fit : IsLawful g) (none : injected_of g.journal ≡ 0) → WorldLaw (world g fit none)
-unfolding world
-law g fit none =
-    let now = reached g.settings g.journal fit none in
-    law_run (start (station_of g.settings)) now.events (world g fit none) (law_start (station_of g.settings) (settings_fit g.settings g.journal fit)) now.run
+use Rattle.journal.proofs.Headline.{holds_after, law_after, names_in, world_after}
 
 pub lawful_wire : (g : GarageValue) → IsLawful g → injected_of g.journal ≡ 0 → IsLawfulTraffic (state_of g).begun (wire_of (state_of g))
-unfolding world
-lawful_wire g fit none = let l = law g fit none in lawful_traffic (world g fit none).settings.name (world g fit none).begun (world g fit none).wire l.wire l.booked
+unfolding world_after
+lawful_wire g fit none =
+    let l = law_after g.settings g.journal fit none in
+    let w = world_after g.settings g.journal fit none in
+    lawful_traffic (names_in g.settings) w.begun w.wire l.wire l.booked
 
 -- the wire at one of its frames
 split_at : {A : Type 0} (xs : List A) (i : ℕ) (x : A) → slice_get xs i ≡ Some x → xs ≡ take i xs ++ x ∷ drop (suc i) xs
@@ -47,37 +41,48 @@ split_at (y ∷ xs) zero x e = (let same : y ≡ x = cc in ap (λ (z : _). z ∷
 split_at (y ∷ xs) (suc i) x e = ap (λ (l : List _). y ∷ l) (split_at xs i x e)
 
 pub from_owner : (g : GarageValue) → IsLawful g → injected_of g.journal ≡ 0 → (i : ℕ) → IsFromOwner (state_of g) i
-unfolding world
+unfolding world_after
 from_owner g fit none i e t at tag =
     let xs = items_of (state_of g) in
     let there : xs ≡ (take i xs ++ e ∷ []) ++ drop (suc i) xs = split_at xs i e at ∙ sym (append_assoc (take i xs) (e ∷ []) (drop (suc i) xs)) in
     let split : reverse xs ≡ reverse (drop (suc i) xs) ++ e ∷ reverse (take i xs) =
     ap reverse there ∙ (reverse-append (take i xs ++ e ∷ []) (drop (suc i) xs) ∙ ap (λ (l : List Item). reverse (drop (suc i) xs) ++ l) (reverse-append (take i xs) (e ∷ []))) in
-    let p = (lawful_rest (world g fit none).settings.name (reverse (drop (suc i) xs)) (e ∷ reverse (take i xs)) (subst (Lawful (world g fit none).settings.name) split (law g fit none).wire)).0.tagged t tag in
+    let p = (lawful_rest (names_in g.settings) (reverse (drop (suc i) xs)) (e ∷ reverse (take i xs)) (subst (Lawful (names_in g.settings)) split (law_after g.settings g.journal fit none).wire)).0.tagged t tag in
     p.owned ∙ ap Some (sym p.name)
 
--- what the station has of the wire, of which the law holds too
-lawful_path : (g : GarageValue) (fit : IsLawful g) (none : injected_of g.journal ≡ 0) → Lawful (world g fit none).settings.name (passed (state_of g).path)
-unfolding world
-lawful_path g fit none = passed_lawful (world g fit none) (law g fit none)
+-- what a station has of the wire, of which the law holds too
+lawful_path : (g : GarageValue) (fit : IsLawful g) (none : injected_of g.journal ≡ 0) (y : ℕ) → y < length g.settings.stations → Lawful (names_in g.settings) (passed (path_at (state_of g) y))
+lawful_path g fit none y h =
+    let here = holds_after g.settings g.journal fit none y h in
+    (lawful_rest (names_in g.settings) here.law.past.ahead (passed (path_at (state_of g) y)) (subst (Lawful (names_in g.settings)) here.law.past.reach (law_after g.settings g.journal fit none).wire))
 
-pub looks_back : (g : GarageValue) → IsLawful g → injected_of g.journal ≡ 0 → (m : Message) → IsAmong m (state_of g).begun → (is_clear m (state_of g).path ≡ true) ↔ IsOnClearPath m (state_of g).path
-unfolding world
-looks_back g fit none m among =
-    let l = law g fit none in
-    let w = world g fit none in
-    let lawful = lawful_path g fit none in
-    let booked = passed_booked w l in
-    (clear_is w.settings.name w.begun m w.path l.numbered among lawful l.marked booked, found_clear w.settings.name w.begun m w.path l.numbered among lawful booked)
+pub looks_back : (g : GarageValue) → IsLawful g → injected_of g.journal ≡ 0 → (y : ℕ) → y < length g.settings.stations → (m : Message) → IsAmong m (state_of g).begun
+    → (is_clear (station_of_at g.settings y) m (path_at (state_of g) y) ≡ true) ↔ IsOnClearPath (station_of_at g.settings y) m (path_at (state_of g) y)
+unfolding world_after
+looks_back g fit none y h m among =
+    let st = names_in g.settings in
+    let r = station_of_at g.settings y in
+    let path = path_at (state_of g) y in
+    let l = law_after g.settings g.journal fit none in
+    let w = world_after g.settings g.journal fit none in
+    let here = holds_after g.settings g.journal fit none y h in
+    let lawful = lawful_path g fit none y h in
+    let booked = passed_booked st w (world_station (state_of g) y (setting_at g.settings y)) l here in
+    (clear_is r st w.begun m path l.numbered among lawful here.marked booked, found_clear r st w.begun m path l.numbered among lawful booked)
 
-pub quiet : (g : GarageValue) → IsLawful g → injected_of g.journal ≡ 0 → NoneMissed (state_of g).path → (n : ℕ) (k : Kind) → shown_of g n k ≡ reverse (received_whole n k (state_of g).begun (state_of g).path)
-unfolding world
-quiet g fit none whole n k =
-    let l = law g fit none in
-    let w = world g fit none in
-    let lawful = lawful_path g fit none in
-    let booked = passed_booked w l in
-    ap reverse (expected_whole n k w.begun w.path (λ m among. clear_whole w.settings.name w.begun m w.path l.numbered among whole lawful l.marked booked))
+pub quiet : (g : GarageValue) → IsLawful g → injected_of g.journal ≡ 0 → (y : ℕ) → y < length g.settings.stations → NoneMissed (path_at (state_of g) y) → (n : ℕ) (k : Kind)
+    → shown_at g y n k ≡ reverse (received_whole (station_of_at g.settings y) n k (state_of g).begun (path_at (state_of g) y))
+unfolding world_after
+quiet g fit none y h whole n k =
+    let st = names_in g.settings in
+    let r = station_of_at g.settings y in
+    let path = path_at (state_of g) y in
+    let l = law_after g.settings g.journal fit none in
+    let w = world_after g.settings g.journal fit none in
+    let here = holds_after g.settings g.journal fit none y h in
+    let lawful = lawful_path g fit none y h in
+    let booked = passed_booked st w (world_station (state_of g) y (setting_at g.settings y)) l here in
+    ap reverse (expected_whole r n k w.begun path (λ m among. clear_whole r st w.begun m path l.numbered among whole lawful here.marked booked))
 
 -- a reading more
 grown : (before after : List Shown) → (more : List Shown) × (after ≡ more ++ before) → IsPrefix (reverse before) (reverse after)
@@ -86,27 +91,36 @@ grown before after (more, e) = (reverse more, ap reverse e ∙ reverse-append mo
 still : (l : List Shown) → IsPrefix (reverse l) (reverse l)
 still l = grown l l ([], refl)
 
-listed_more : (g : GarageValue) (e : Event) (n : ℕ) (k : Kind) → IsPrefix (listed_of g n k) (listed_of (with_event e g) n k)
-unfolding readings_of
-listed_more g (Join name address) n k = still (entries_heard (station_of g.settings) n k (readings_of g.journal))
-listed_more g (Hear j memory answered) n k = still (entries_heard (station_of g.settings) n k (readings_of g.journal))
-listed_more g (Begin j memory) n k = still (entries_heard (station_of g.settings) n k (readings_of g.journal))
-listed_more g (Turned j) n k = still (entries_heard (station_of g.settings) n k (readings_of g.journal))
-listed_more g (Carry j) n k = still (entries_heard (station_of g.settings) n k (readings_of g.journal))
-listed_more g (Read x) n k =
-    let r = station_of g.settings in
-    let rs = readings_of g.journal in
+still_at : (g : GarageValue) (y n : ℕ) (k : Kind) → IsPrefix (listed_at g y n k) (listed_at g y n k)
+still_at g y n k = still (entries_heard (station_of_at g.settings y) n k (readings_at y g.journal))
+
+-- a reading of this station, or of another
+read_listed : (g : GarageValue) (x : Reading) (y n : ℕ) (k : Kind) (own : Bool)
+    → IsPrefix (listed_at g y n k) (reverse (entries_heard (station_of_at g.settings y) n k (if own then x ∷ readings_at y g.journal else readings_at y g.journal)))
+read_listed g x y n k true =
+    let r = station_of_at g.settings y in
+    let rs = readings_at y g.journal in
     grown (entries_heard r n k rs) (put n k (ended r x rs) (entries_heard r n k rs)) (put_grows n k (ended r x rs) (entries_heard r n k rs))
-listed_more g (Ordered o) n k = still (entries_heard (station_of g.settings) n k (readings_of g.journal))
-listed_more g (Leave j) n k = still (entries_heard (station_of g.settings) n k (readings_of g.journal))
-listed_more g (Inject f) n k = still (entries_heard (station_of g.settings) n k (readings_of g.journal))
+read_listed g x y n k false = still_at g y n k
+
+listed_more : (g : GarageValue) (e : Event) (y n : ℕ) (k : Kind) → IsPrefix (listed_at g y n k) (listed_at (with_event e g) y n k)
+unfolding readings_at
+listed_more g (Join seat name address) y n k = still_at g y n k
+listed_more g (Hear j memory answered) y n k = still_at g y n k
+listed_more g (Begin j memory) y n k = still_at g y n k
+listed_more g (Turned j) y n k = still_at g y n k
+listed_more g (Carry j) y n k = still_at g y n k
+listed_more g (Read j x) y n k = read_listed g x y n k (j == y)
+listed_more g (Ordered j o) y n k = still_at g y n k
+listed_more g (Leave j) y n k = still_at g y n k
+listed_more g (Inject f) y n k = still_at g y n k
 
 pub keeps_same : (old new : GarageValue) → new ≡ old → KeepsLists old new
 keeps_same old new e = record {
-  grows = λ n k. (let s = still (entries_heard (station_of old.settings) n k (readings_of old.journal)) in (s.0, ap (λ (g : GarageValue). listed_of g n k) e ∙ s.1));
+  grows = λ y n k. (let s = still_at old y n k in (s.0, ap (λ (g : GarageValue). listed_at g y n k) e ∙ s.1));
 }
 
 pub keeps_adds : (old new : GarageValue) (e : Event) → Adds old e new → KeepsLists old new
 keeps_adds old new e adds = record {
-  grows = λ n k. (let more = listed_more old e n k in (more.0, ap (λ (g : GarageValue). listed_of g n k) adds.adds ∙ more.1));
+  grows = λ y n k. (let more = listed_more old e y n k in (more.0, ap (λ (g : GarageValue). listed_at g y n k) adds.adds ∙ more.1));
 }

@@ -1,11 +1,12 @@
--- Whatever happens, frames from outside too, the station's seat is live.
-use Rattle.std.proofs.Common.{ℕ, suc, zero, ◌≡◌, ◌<◌, List, [], ◌∷◌, ◌++◌, map, length, get_or, set, Bool, true, false, Option, Some, None, Result, Ok, Err, if◌then◌else◌, refl, ap, ◌∙◌, arith}
-use Rattle.std.proofs.lemmas.List.{get_or_append_left}
+-- Whatever happens, frames from outside too, each station's seat is live.
+use Rattle.std.proofs.Common.{ℕ, suc, zero, ◌≡◌, ◌<◌, List, [], ◌∷◌, ◌++◌, map, length, get_or, set, Bool, true, false, Option, Some, None, Result, Ok, Err, if◌then◌else◌, refl, sym, ap, ◌∙◌, subst, arith}
+use Rattle.std.proofs.lemmas.List.{get_or-set_other, get_or_append_left}
 use Rattle.can_frame.specs.FrameValue.{FrameValue}
 use Rattle.can_frame.specs.declared.reading.Reading.{Reading}
 use Rattle.fault_memory.specs.Memory.{MemoryValue}
 use Rattle.dm_messages.specs.declared.kind.Kind.TheVariants.{Dm1}
-use Rattle.bus_ledger.specs.BusValue.{SeatValue, Traffic, nobody, seat_at}
+use Rattle.bus_ledger.specs.BusValue.{IsStation, SeatValue, Traffic, nobody, seat_at}
+use Rattle.bus_ledger.proofs.Sounds.{live_within}
 use Rattle.bus_ledger.specs.Changes.{hearing, heard_more, leaving, newcomer, queued, queueing, sending, with_seat, withdrawing, withdrawn}
 use Rattle.bus_ledger.specs.Reception.{passes, reading_taken as taken}
 use Rattle.bus_ledger.specs.declared.traffic.QueuedFrame.{QueuedFrame}
@@ -23,10 +24,12 @@ use Rattle.node_core.specs.declared.heard.Withdraw.TheVariants as withdraw
 use Rattle.station_table.specs.Reactions.{station_reaction}
 use Rattle.station_table.specs.declared.error.StationError.{StationError}
 use Rattle.station_table.specs.declared.reaction.Reaction.{Reaction}
-use Rattle.journal.specs.State.{Settings, State, unit_at}
+use Rattle.journal.specs.State.{Settings, State, table_at, unit_at}
 use Rattle.journal.specs.Steps.{after, after_join, after_hear_of, after_begin_of, after_starting, after_hearing, after_carry_of, after_read, after_order_of, after_leave, after_inject, next_for, order_answer, put_all, begins_session, reacted, session_message_after, tagged, untagged, withdrawn_by}
 use Rattle.journal.specs.Fits.{Fits}
 use Rattle.journal.specs.Journal.{AllFit, state_after}
+use Rattle.journal.proofs.Readings.{stationed}
+use Rattle.journal.proofs.Starting.{seat_started}
 use Rattle.journal.specs.declared.event.Event.{Event}
 use Rattle.journal.specs.declared.event.Event.TheVariants.{Join, Hear, Begin, Turned, Carry, Read, Ordered, Leave, Inject}
 
@@ -53,11 +56,11 @@ withdrawn_lives k withdraw.Keep t j = refl
 withdrawn_lives k withdraw.Session t j = seat_lives t k (withdrawing which.Session (seat_at t k)) refl j
 withdrawn_lives k withdraw.All t j = seat_lives t k (withdrawing which.All (seat_at t k)) refl j
 
-reacted_lives : (r : Reaction) (t : Traffic) → SameLives t (reacted r t)
-reacted_lives r t j = put_lives 0 (map untagged r.put) (if r.withdraw then withdrawn 0 which.All t else t) j ∙ go r.withdraw
+reacted_lives : (y : ℕ) (r : Reaction) (t : Traffic) → SameLives t (reacted y r t)
+reacted_lives y r t j = put_lives y (map untagged r.put) (if r.withdraw then withdrawn y which.All t else t) j ∙ go r.withdraw
   where
-    go : (b : Bool) → (seat_at (if b then withdrawn 0 which.All t else t) j).live ≡ (seat_at t j).live
-    go true = seat_lives t 0 (withdrawing which.All (seat_at t 0)) refl j
+    go : (b : Bool) → (seat_at (if b then withdrawn y which.All t else t) j).live ≡ (seat_at t j).live
+    go true = seat_lives t y (withdrawing which.All (seat_at t y)) refl j
     go false = refl
 
 heard_lives : (k : ℕ) (w : Withdraw) (qs : List QueuedFrame) (t : Traffic) → SameLives t (put_all k qs (withdrawn_by k w (heard_more k 1 t)))
@@ -88,49 +91,41 @@ unfolding after_carry_of
 carry_lives None k s j = refl
 carry_lives (Some q) k s j = at_place s.traffic.seats k j (sending (seat_at s.traffic k)) refl
 
-read_lives : (x : Reading) (s : State) → SameLives s.traffic (after_read x s).traffic
+read_lives : (y : ℕ) (x : Reading) (s : State) → SameLives s.traffic (after_read y x s).traffic
 unfolding after_read
-read_lives x s j = reacted_lives (station_reaction s.station x) (taken x s.traffic) j ∙ seat_lives s.traffic 0 (hearing (passes x) (seat_at s.traffic 0)) refl j
+read_lives y x s j = reacted_lives y (station_reaction (table_at s y) x) (taken y x s.traffic) j ∙ seat_lives s.traffic y (hearing (passes x) (seat_at s.traffic y)) refl j
 
-order_lives : (o : Result Reaction StationError) (s : State) → SameLives s.traffic (after_order_of o s).traffic
+order_lives : (y : ℕ) (o : Result Reaction StationError) (s : State) → SameLives s.traffic (after_order_of y o s).traffic
 unfolding after_order_of
-order_lives (Err e) s j = refl
-order_lives (Ok r) s j = reacted_lives r s.traffic j
+order_lives y (Err e) s j = refl
+order_lives y (Ok r) s j = reacted_lives y r s.traffic j
 
 -- a seat that goes is a unit's
-leave_lives : (k : ℕ) (s : State) → 0 < k → (seat_at (after_leave k s).traffic 0).live ≡ (seat_at s.traffic 0).live
+leave_lives : (y k : ℕ) (s : State) → y < k → (seat_at (after_leave k s).traffic y).live ≡ (seat_at s.traffic y).live
 unfolding after_leave
-leave_lives zero s l = absurd (omega arith)
-leave_lives (suc k) s l = first s.traffic.seats k (leaving (seat_at s.traffic (suc k)))
-  where
-    first : (xs : List SeatValue) (k : ℕ) (y : SeatValue) → (get_or (set xs (suc k) y) 0 nobody).live ≡ (get_or xs 0 nobody).live
-    first [] k y = refl
-    first (x ∷ xs) k y = refl
+leave_lives y k s l = ap (λ (v : SeatValue). v.live) (get_or-set_other s.traffic.seats k y (leaving (seat_at s.traffic k)) nobody (λ e. absurd (omega (arith, e, l))))
 
 -- one that comes is the last
-join_lives : (name address : ℕ) (s : State) → (seat_at s.traffic 0).live ≡ true → (seat_at (after_join name address s).traffic 0).live ≡ true
+join_lives : (y name address : ℕ) (s : State) → (seat_at s.traffic y).live ≡ true → (seat_at (after_join name address s).traffic y).live ≡ true
 unfolding after_join
-join_lives name address s live =
-    seat_lives (record s.traffic { seats = s.traffic.seats ++ newcomer name (length s.traffic.wire) ∷ [] }) (length s.traffic.seats) _ refl 0
-    ∙ (ap (λ (v : SeatValue). v.live) (get_or_append_left s.traffic.seats (newcomer name (length s.traffic.wire) ∷ []) nobody 0 (some s.traffic.seats live)) ∙ live)
-  where
-    some : (xs : List SeatValue) → (get_or xs 0 nobody).live ≡ true → 0 < length xs
-    some [] e = absurd cc
-    some (x ∷ xs) e = omega arith
+join_lives y name address s live =
+    seat_lives (record s.traffic { seats = s.traffic.seats ++ newcomer name (length s.traffic.wire) ∷ [] }) (length s.traffic.seats) _ refl y
+    ∙ (ap (λ (v : SeatValue). v.live) (get_or_append_left s.traffic.seats (newcomer name (length s.traffic.wire) ∷ []) nobody y (live_within s.traffic.seats y live)) ∙ live)
 
-still_lives : (e : Event) (s : State) → Fits s e → (seat_at s.traffic 0).live ≡ true → (seat_at (after e s).traffic 0).live ≡ true
+still_lives : (e : Event) (s : State) (y : ℕ) → Fits s e → IsStation s.traffic y → (seat_at s.traffic y).live ≡ true → (seat_at (after e s).traffic y).live ≡ true
 unfolding after_inject
-still_lives (Join name address) s f live = join_lives name address s live
-still_lives (Hear k memory answered) s f live = hear_lives (next_for s k) k memory answered s 0 ∙ live
-still_lives (Begin k memory) s f live = begin_lives (unit_at s k).node.claimer.held k memory s 0 ∙ live
-still_lives (Turned k) s f live = live
-still_lives (Carry k) s f live = carry_lives _ k s 0 ∙ live
-still_lives (Read x) s f live = read_lives x s 0 ∙ live
-still_lives (Ordered o) s f live = order_lives (order_answer s.station o) s 0 ∙ live
-still_lives (Leave k) s f live = leave_lives k s f.0 ∙ live
-still_lives (Inject x) s f live = live
+still_lives (Join seat name address) s y f h live = join_lives y name address s live
+still_lives (Hear k memory answered) s y f h live = hear_lives (next_for s k) k memory answered s y ∙ live
+still_lives (Begin k memory) s y f h live = begin_lives (unit_at s k).node.claimer.held k memory s y ∙ live
+still_lives (Turned k) s y f h live = live
+still_lives (Carry k) s y f h live = carry_lives _ k s y ∙ live
+still_lives (Read j x) s y f h live = read_lives j x s y ∙ live
+still_lives (Ordered j o) s y f h live = order_lives j (order_answer (table_at s j) o) s y ∙ live
+still_lives (Leave k) s y f h live = leave_lives y k s (let l = f.0 in omega arith) ∙ live
+still_lives (Inject x) s y f h live = live
 
-pub station_lives : (r : Settings) (journal : List Event) → AllFit r journal → (seat_at (state_after r journal).traffic 0).live ≡ true
+pub stations_live : (r : Settings) (journal : List Event) (y : ℕ) → AllFit r journal → y < length r.stations → (seat_at (state_after r journal).traffic y).live ≡ true
 unfolding state_after AllFit
-station_lives r [] f = refl
-station_lives r (e ∷ older) f = still_lives e (state_after r older) f.0 (station_lives r older f.1)
+stations_live r [] y f h = ap (λ (v : SeatValue). v.live) (seat_started r y h)
+stations_live r (e ∷ older) y f h =
+    still_lives e (state_after r older) y f.0 (subst (λ (n : ℕ). y < n) (sym (stationed r older f.1).windows) h) (stations_live r older y f.1 h)

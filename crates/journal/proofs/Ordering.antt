@@ -1,15 +1,16 @@
--- What the station is told to send, and what it carries, are steps of the machine.
-use Rattle.std.proofs.Common.{ℕ, suc, zero, ◌≡◌, ◌+◌, ◌<◌, ◌≤◌, ◌==◌, ◌&&◌, List, [], ◌∷◌, ◌++◌, map, reverse, take, drop, length, slice_get, Bool, true, false, Option, Some, None, Result, Ok, Err, nat_lt, if◌then◌else◌, take_all, refl, sym, ap, ap₂, ◌∙◌, subst, arith}
-use Rattle.std.proofs.lemmas.List.{length-append, length-map, reverse-append, map-append}
+-- What a station is told to send, and what it carries, are steps of the machine.
+use Rattle.std.proofs.Common.{ℕ, suc, zero, ◌≡◌, ◌≢◌, ◌+◌, ◌<◌, ◌≤◌, ◌==◌, ◌&&◌, List, [], ◌∷◌, ◌++◌, map, reverse, take, drop, length, set, slice_get, Bool, true, false, Option, Some, None, Result, Ok, Err, nat_lt, if◌then◌else◌, take_all, refl, sym, ap, ap₂, ◌∙◌, subst, arith, inl, inr}
+use Rattle.std.proofs.lemmas.List.{get_or-set_same, length-append, length-map, reverse-append, map-append}
 use Rattle.address_claim.specs.Claiming.{is_held, CanHold}
 use Rattle.bus_ledger.specs.BusValue.{SeatValue, seat_at}
+use Rattle.bus_ledger.proofs.Numbers.{same_or_not}
 use Rattle.bus_ledger.specs.Carrying.{IsCarriedNext}
 use Rattle.bus_ledger.specs.Changes.{carried_frame, carried_from, sending, with_seat}
 use Rattle.bus_ledger.specs.declared.traffic.CarriedFrame.{CarriedFrame}
 use Rattle.bus_ledger.specs.declared.traffic.QueuedFrame.{QueuedFrame}
 use Rattle.bus_model.specs.Traffic.{Item}
 use Rattle.bus_model.specs.Heard.{address_heard}
-use Rattle.bus_model.specs.Expected.{Own, readings}
+use Rattle.bus_model.specs.Expected.{Own, passed, readings}
 use Rattle.bus_model.specs.Machine.{Carry_station, IsFit, Seat, Step}
 use Rattle.bus_model.specs.Machine.{Ask as Asks}
 use Rattle.bus_model.proofs.Lookback.{true_test}
@@ -23,19 +24,20 @@ use Rattle.station_table.specs.StationValue.{StationValue}
 use Rattle.station_table.specs.Reactions.{asking, commanding}
 use Rattle.station_table.specs.declared.reaction.Ask.{Ask as Asked}
 use Rattle.station_table.specs.declared.reaction.Reaction.{Reaction}
-use Rattle.journal.specs.State.{Settings, State}
+use Rattle.journal.specs.State.{Settings, State, StationState, no_station, path_at, setting_at, station_at, table_at}
 use Rattle.journal.specs.Steps.{after, after_carry_of, after_order_of, item_of, order_answer, reacted}
 use Rattle.journal.specs.Fits.{Fits}
-use Rattle.journal.specs.Worlds.{items_of, queued_item, queue_of, station_of, world_of}
+use Rattle.journal.specs.Worlds.{items_of, queued_item, queue_of, station_of_at, world_of, world_station}
 use Rattle.journal.specs.declared.event.Event.TheVariants.{Carry, Ordered}
 use Rattle.journal.specs.declared.order.Order.{Order}
 use Rattle.journal.specs.declared.order.Order.TheVariants as order
-use Rattle.journal.proofs.Seated.{AreCarried, AreKnown, Stands}
+use Rattle.journal.proofs.Seated.{AreCarried, AreKnown, IsPost, Stands}
 use Rattle.journal.proofs.Growth.{carried_push, items_same, seat_carried, SameNames}
 use Rattle.journal.proofs.Station.{AtStation}
-use Rattle.journal.proofs.OwnSeat.{OwnChange, own_set, seat_as, set_at, stands_own}
+use Rattle.journal.proofs.OwnSeat.{OwnChange, OwnStation, own_set, post_as, seat_as, set_at, stands_own, station_same, station_set}
+use Rattle.journal.proofs.Posts.{IsSamePost, post_carried, station_with, stations_set, world_parts}
 use Rattle.journal.proofs.StationAnswers.{Answers, ask_answers, command_answers}
-use Rattle.journal.proofs.Reading.{Runs, heard_held, heard_holds, own_reacted, reacted_asked, reacted_heard, reacted_known, world_own, world_parts}
+use Rattle.journal.proofs.Reading.{Runs, at_post, heard_held, heard_holds, own_reacted, reacted_asked, reacted_heard, reacted_known, seat_given, world_own}
 
 -- ---- orders
 
@@ -87,36 +89,51 @@ order_answers n s (order.AskAll ask) x long hold e = asks n s.claimer.held ask (
 order_answers n s (order.Command name address) x long hold e =
     commands n s.claimer.held name address x hold (within (nat_lt 253 address) NotAnAddress (command_from s.claimer.held name address) x e)
 
--- what the station is told to queue
-queued_runs : (r : Settings) (s : State) (seats : List Seat) (x : Reaction) → Stands r s seats → Answers x r.name false (address_heard (station_of r) (readings s.path)) → Runs r s (record s { traffic = reacted x s.traffic }) seats
-queued_runs r s seats x stands a = (
-  Asks a.frames,
-  (a.may, world_own r s (record s { traffic = reacted x s.traffic }) seats _ s.path stands own refl (reacted_asked s.begun x s.traffic r.name false _ a given stands.name) refl),
-  stands_own r s (record s { traffic = reacted x s.traffic }) seats stands own refl refl
-      (reacted_known s.begun x s.traffic given stands.known)
-      (subst (λ (n : ℕ). n ≤ length s.traffic.wire) (sym heard) stands.within)
-      (stands.passed' ∙ ap (λ (n : ℕ). reverse (take n (items_of s))) (sym heard)),
+-- what a station is told to queue
+queued_runs : (r : Settings) (y : ℕ) (s : State) (seats : List Seat) (x : Reaction) → Stands r s seats → y < length s.stations → Answers x (setting_at r y).name false (address_heard (station_of_at r y) (readings (path_at s y)))
+    → Runs r s (record s { traffic = reacted y x s.traffic }) seats
+queued_runs r y s seats x stands h a = (
+  Asks y a.frames,
+  (
+    world_station s y (setting_at r y),
+    at_post r y s seats stands h,
+    a.may,
+    world_own r y s now seats _ (path_at s y) stands own (station_same y s now refl) refl (reacted_asked s.begun y x s.traffic (setting_at r y).name false _ a given post.name) refl,
+  ),
+  stands_own r y s now seats stands h own (station_same y s now refl) refl refl (record {
+    name = own.name ∙ post.name;
+    live = own.live ∙ post.live;
+    known = reacted_known s.begun y x s.traffic given post.known;
+    within = subst (λ (n : ℕ). n ≤ length (items_of s)) (sym heard) post.within;
+    passed' = post.passed' ∙ ap (λ (n : ℕ). reverse (take n (items_of s))) (sym heard);
+  }),
 )
   where
-    given : 0 < length s.traffic.seats
-    given = (let c = stands.count in omega arith)
+    now : State
+    now = record s { traffic = reacted y x s.traffic }
 
-    own : OwnChange s.traffic (reacted x s.traffic)
-    own = own_reacted x s.traffic
+    post : IsPost (setting_at r y) s.begun (items_of s) (seat_at s.traffic y) (path_at s y)
+    post = stands.posts y h
 
-    heard : (seat_at (reacted x s.traffic) 0).heard ≡ (seat_at s.traffic 0).heard
-    heard = reacted_heard x s.traffic given
+    given : y < length s.traffic.seats
+    given = seat_given r y s seats stands h
+
+    own : OwnChange y s.traffic (reacted y x s.traffic)
+    own = own_reacted y x s.traffic
+
+    heard : (seat_at (reacted y x s.traffic) y).heard ≡ (seat_at s.traffic y).heard
+    heard = reacted_heard y x s.traffic given
 
 -- an order is a step of the machine
-pub order_runs : (r : Settings) (s : State) (seats : List Seat) (o : Order) → IsFit (station_of r) → Stands r s seats → AtStation r s → Fits s (Ordered o) → Runs r s (after (Ordered o) s) seats
+pub order_runs : (r : Settings) (y : ℕ) (s : State) (seats : List Seat) (o : Order) → IsFit (station_of_at r y) → Stands r s seats → y < length s.stations → AtStation r y s → Fits s (Ordered y o) → Runs r s (after (Ordered y o) s) seats
 unfolding after_order_of
-order_runs r s seats o fit stands at fits =
-    subst (λ (x : Result Reaction StationError). Runs r s (after_order_of x s) seats) (sym fits.1)
-    (queued_runs r s seats fits.0 stands
-    (subst (λ (held : Option ℕ). Answers fits.0 r.name false held) (heard_held r s at)
-    (order_answers r.name s.station o fits.0 at.places.owners (heard_holds r s fit at) fits.1)))
+order_runs r y s seats o fit stands h at fits =
+    subst (λ (x : Result Reaction StationError). Runs r s (after_order_of y x s) seats) (sym fits.1.1)
+    (queued_runs r y s seats fits.1.0 stands h
+    (subst (λ (held : Option ℕ). Answers fits.1.0 (setting_at r y).name false held) (heard_held r y s at)
+    (order_answers (setting_at r y).name (table_at s y) o fits.1.0 at.places.owners (heard_holds r y s fit at) fits.1.1)))
 
--- ---- what the station carries
+-- ---- what a station carries
 
 -- a seat that offers a frame has heard the whole wire, and the frame is the first of its queue
 offered_first : (live : Bool) (heard n : ℕ) (qs : List QueuedFrame) (q : QueuedFrame) → (if live && (heard == n) then slice_get qs 0 else None) ≡ Some q → (heard ≡ n) × ((rest : List QueuedFrame) × (qs ≡ q ∷ rest))
@@ -128,92 +145,155 @@ offered_first live heard n qs q e = go live (heard == n) refl qs e
     go true true i [] e = absurd cc
     go true true i (p ∷ qs) e = (true_test heard n i, (qs, cc))
 
--- the state after its first frame is carried
-abbrev carried_state : State → QueuedFrame → State
-carried_state s q = record s { traffic = carried_from 0 q s.traffic; path = Own (item_of s (carried_frame 0 q)) ∷ s.path }
+-- a station that sent its frame
+abbrev station_sent : ℕ → State → QueuedFrame → StationState
+station_sent y s q = record (station_at s y) { path = Own (item_of s (carried_frame y q)) ∷ path_at s y }
 
-own_sending : (s : State) → OwnChange s.traffic (with_seat s.traffic 0 (sending (seat_at s.traffic 0)))
-own_sending s = own_set s.traffic (sending (seat_at s.traffic 0)) refl refl
+-- the state after the first frame of a station is carried
+abbrev carried_state : ℕ → State → QueuedFrame → State
+carried_state y s q = record s { traffic = carried_from y q s.traffic; stations = set s.stations y (station_sent y s q) }
 
-carried_names : (s : State) (q : QueuedFrame) → SameNames s (carried_state s q)
-carried_names s q zero l = (own_sending s).name
-carried_names s q (suc i) l = ap (λ (v : SeatValue). v.name) ((own_sending s).others i)
+own_sending : (y : ℕ) (s : State) → OwnChange y s.traffic (with_seat s.traffic y (sending (seat_at s.traffic y)))
+own_sending y s = own_set y s.traffic (sending (seat_at s.traffic y)) refl refl
+
+station_sends : (y : ℕ) (s : State) (q : QueuedFrame) → OwnStation y s (carried_state y s q)
+station_sends y s q = station_set y s (carried_state y s q) (station_sent y s q) refl
+
+carried_names : (y : ℕ) (s : State) (q : QueuedFrame) → SameNames s (carried_state y s q)
+carried_names y s q k l = elim (same_or_not k y) [
+  | inl e ↦ subst (λ (i : ℕ). (seat_at (carried_state y s q).traffic i).name ≡ (seat_at s.traffic i).name) (sym e) (own_sending y s).name
+  | inr other ↦ ap (λ (v : SeatValue). v.name) ((own_sending y s).others k other)
+]
 
 -- the wire has one item more
-carried_items : (r : Settings) (s : State) (seats : List Seat) (q : QueuedFrame) → Stands r s seats → items_of (carried_state s q) ≡ items_of s ++ item_of s (carried_frame 0 q) ∷ []
-carried_items r s seats q stands =
-    map-append (item_of (carried_state s q)) s.traffic.wire (carried_frame 0 q ∷ [])
-    ∙ ap₂ (λ (l : List Item) (n : ℕ). l ++ record { seat = 0; name = n; frame = q.frame; tag = (item_of s (carried_frame 0 q)).tag } ∷ []) (items_same s (carried_state s q) s.traffic.wire (carried_names s q) refl stands.carried) (own_sending s).name
+carried_items : (r : Settings) (y : ℕ) (s : State) (seats : List Seat) (q : QueuedFrame) → Stands r s seats → items_of (carried_state y s q) ≡ items_of s ++ item_of s (carried_frame y q) ∷ []
+carried_items r y s seats q stands =
+    map-append (item_of (carried_state y s q)) s.traffic.wire (carried_frame y q ∷ [])
+    ∙ ap₂ (λ (l : List Item) (n : ℕ). l ++ record { seat = y; name = n; frame = q.frame; tag = (item_of s (carried_frame y q)).tag } ∷ []) (items_same s (carried_state y s q) s.traffic.wire (carried_names y s q) refl stands.carried) (own_sending y s).name
 
-carried_stands : (r : Settings) (s : State) (seats : List Seat) (q : QueuedFrame) (rest : List QueuedFrame) → Stands r s seats → (seat_at s.traffic 0).heard ≡ length s.traffic.wire → (seat_at s.traffic 0).queue ≡ q ∷ rest → Stands r (carried_state s q) seats
-carried_stands r s seats q rest stands whole first = record {
-  name = (own_sending s).name ∙ stands.name;
-  live = (own_sending s).live ∙ stands.live;
-  known = subst (AreKnown s.begun) (sym (ap (λ (v : SeatValue). v.queue) there ∙ ap (drop 1) first)) known.1;
-  within = subst (λ (n : ℕ). n ≤ length (s.traffic.wire ++ c ∷ [])) (sym heard) (omega (arith, length-append s.traffic.wire (c ∷ [])));
-  passed' =
-      ap (λ (l : List Item). item_of s c ∷ l) (stands.passed' ∙ ap reverse (take_all (seat_at s.traffic 0).heard (items_of s) (omega (arith, length-map s.traffic.wire (item_of s)))))
-      ∙ (sym (reverse-append (items_of s) (item_of s c ∷ [])) ∙ ap reverse (sym all));
-  carried = subst (λ (n : ℕ). AreCarried s.begun n (s.traffic.wire ++ c ∷ [])) (sym (own_sending s).places) (carried_push s.begun (length s.traffic.seats) s.traffic.wire c stands.carried (record { seat = given; known = known.0 }));
-  count = (own_sending s).places ∙ stands.count;
+carried_stands : (r : Settings) (y : ℕ) (s : State) (seats : List Seat) (q : QueuedFrame) (rest : List QueuedFrame) → Stands r s seats → y < length s.stations → (seat_at s.traffic y).heard ≡ length s.traffic.wire → (seat_at s.traffic y).queue ≡ q ∷ rest
+    → Stands r (carried_state y s q) seats
+carried_stands r y s seats q rest stands h whole first = record {
+  settings = st.count ∙ stands.settings;
+  windows = stands.windows ∙ sym st.count;
+  posts = λ i l. elim (same_or_not i y) [
+    | inl e ↦ subst (λ (k : ℕ). IsPost (setting_at r k) s.begun (items_of now) (seat_at now.traffic k) (path_at now k)) (sym e) own
+    | inr other ↦ post_as items refl ((own_sending y s).others i other) (ap (λ (v : StationState). v.path) (st.others i other)) (post_carried (items_of s) (item_of s c) (seat_at s.traffic i) (path_at s i) (stands.posts i (subst (λ (n : ℕ). i < n) st.count l)))
+  ];
+  carried = subst (λ (n : ℕ). AreCarried s.begun n (s.traffic.wire ++ c ∷ [])) (sym (own_sending y s).places) (carried_push s.begun (length s.traffic.seats) s.traffic.wire c stands.carried (record { seat = given; known = known.0 }));
+  count = (own_sending y s).places ∙ (stands.count ∙ ap (λ (n : ℕ). n + length s.units) (sym st.count));
   places = stands.places;
-  numbers = stands.numbers;
-  seated = λ i l. seat_as items refl ((own_sending s).others i) refl (seat_carried s.begun (items_of s) (item_of s c) _ _ _ (stands.seated i l));
+  numbers = λ i l. stands.numbers i l ∙ ap (λ (n : ℕ). n + i) (sym st.count);
+  seated = λ i l.
+      (let n = stands.count in
+      let same : seat_at now.traffic (length now.stations + i) ≡ seat_at s.traffic (length s.stations + i) =
+      ap (λ (n : ℕ). seat_at now.traffic (n + i)) st.count ∙ (own_sending y s).others (length s.stations + i) (λ e. absurd (omega (arith, e, h))) in
+      seat_as items refl same refl (seat_carried s.begun (items_of s) (item_of s c) _ _ _ (stands.seated i l)));
 }
   where
     c : CarriedFrame
-    c = carried_frame 0 q
+    c = carried_frame y q
 
-    given : 0 < length s.traffic.seats
-    given = (let n = stands.count in omega arith)
+    now : State
+    now = carried_state y s q
 
-    there : seat_at (carried_state s q).traffic 0 ≡ sending (seat_at s.traffic 0)
-    there = set_at s.traffic (sending (seat_at s.traffic 0)) given
+    st : OwnStation y s now
+    st = station_sends y s q
+
+    post : IsPost (setting_at r y) s.begun (items_of s) (seat_at s.traffic y) (path_at s y)
+    post = stands.posts y h
+
+    given : y < length s.traffic.seats
+    given = seat_given r y s seats stands h
+
+    there : seat_at now.traffic y ≡ sending (seat_at s.traffic y)
+    there = set_at y s.traffic (sending (seat_at s.traffic y)) given
 
     known : AreKnown s.begun (q ∷ rest)
-    known = subst (AreKnown s.begun) first stands.known
+    known = subst (AreKnown s.begun) first post.known
 
-    heard : (seat_at (carried_state s q).traffic 0).heard ≡ length s.traffic.wire + 1
+    heard : (seat_at now.traffic y).heard ≡ length s.traffic.wire + 1
     heard = ap (λ (v : SeatValue). v.heard) there ∙ ap (λ (n : ℕ). n + 1) whole
 
-    items : items_of (carried_state s q) ≡ items_of s ++ item_of s c ∷ []
-    items = carried_items r s seats q stands
+    items : items_of now ≡ items_of s ++ item_of s c ∷ []
+    items = carried_items r y s seats q stands
 
-    all : take (seat_at (carried_state s q).traffic 0).heard (items_of (carried_state s q)) ≡ items_of s ++ item_of s c ∷ []
+    all : take (seat_at now.traffic y).heard (items_of now) ≡ items_of s ++ item_of s c ∷ []
     all =
-        ap (take (seat_at (carried_state s q).traffic 0).heard) items
-        ∙ take_all (seat_at (carried_state s q).traffic 0).heard (items_of s ++ item_of s c ∷ []) (omega (arith, heard, length-map s.traffic.wire (item_of s), length-append (items_of s) (item_of s c ∷ [])))
+        ap (take (seat_at now.traffic y).heard) items
+        ∙ take_all (seat_at now.traffic y).heard (items_of s ++ item_of s c ∷ []) (omega (arith, heard, length-map s.traffic.wire (item_of s), length-append (items_of s) (item_of s c ∷ [])))
 
-carried_runs : (r : Settings) (s : State) (seats : List Seat) (q : QueuedFrame) (rest : List QueuedFrame) → Stands r s seats → (seat_at s.traffic 0).heard ≡ length s.traffic.wire → (seat_at s.traffic 0).queue ≡ q ∷ rest
-    → Step (world_of r s seats) Carry_station (world_of r (carried_state s q) seats) × Stands r (carried_state s q) seats
-carried_runs r s seats q rest stands whole first = (
-  (item_of s (carried_frame 0 q), reverse (map item rest), asked, sym (stands.passed' ∙ ap reverse (take_all (seat_at s.traffic 0).heard (items_of s) (omega (arith, length-map s.traffic.wire (item_of s))))), world),
-  carried_stands r s seats q rest stands whole first,
+    path : path_at now y ≡ Own (item_of s c) ∷ path_at s y
+    path = ap (λ (v : StationState). v.path) (get_or-set_same s.stations y (station_sent y s q) no_station h)
+
+    own : IsPost (setting_at r y) s.begun (items_of now) (seat_at now.traffic y) (path_at now y)
+    own = record {
+      name = (own_sending y s).name ∙ post.name;
+      live = (own_sending y s).live ∙ post.live;
+      known = subst (AreKnown s.begun) (sym (ap (λ (v : SeatValue). v.queue) there ∙ ap (drop 1) first)) known.1;
+      within = (let n = length-map s.traffic.wire (item_of s) in let m = length-append (items_of s) (item_of s c ∷ []) in let k = ap length items in omega (arith, heard, k, m, n));
+      passed' =
+          ap passed path
+          ∙ (ap (λ (l : List Item). item_of s c ∷ l) (post.passed' ∙ ap reverse (take_all (seat_at s.traffic y).heard (items_of s) (omega (arith, length-map s.traffic.wire (item_of s)))))
+          ∙ (sym (reverse-append (items_of s) (item_of s c ∷ [])) ∙ ap reverse (sym all)));
+    }
+
+carried_runs : (r : Settings) (y : ℕ) (s : State) (seats : List Seat) (q : QueuedFrame) (rest : List QueuedFrame) → Stands r s seats → y < length s.stations → (seat_at s.traffic y).heard ≡ length s.traffic.wire → (seat_at s.traffic y).queue ≡ q ∷ rest
+    → Step (world_of r s seats) (Carry_station y) (world_of r (carried_state y s q) seats) × Stands r (carried_state y s q) seats
+carried_runs r y s seats q rest stands h whole first = (
+  (
+    world_station s y (setting_at r y),
+    item_of s c,
+    reverse (map item rest),
+    at_post r y s seats stands h,
+    asked,
+    sym (post.passed' ∙ ap reverse (take_all (seat_at s.traffic y).heard (items_of s) (omega (arith, length-map s.traffic.wire (item_of s))))),
+    world,
+  ),
+  carried_stands r y s seats q rest stands h whole first,
 )
   where
+    c : CarriedFrame
+    c = carried_frame y q
+
+    now : State
+    now = carried_state y s q
+
+    post : IsPost (setting_at r y) s.begun (items_of s) (seat_at s.traffic y) (path_at s y)
+    post = stands.posts y h
+
     item : QueuedFrame → Item
-    item = queued_item s.begun 0 (seat_at s.traffic 0).name
+    item = queued_item s.begun y (seat_at s.traffic y).name
 
-    given : 0 < length s.traffic.seats
-    given = (let n = stands.count in omega arith)
+    given : y < length s.traffic.seats
+    given = seat_given r y s seats stands h
 
-    asked : queue_of s.begun 0 (seat_at s.traffic 0) ≡ reverse (map item rest) ++ item q ∷ []
+    asked : queue_of s.begun y (seat_at s.traffic y) ≡ reverse (map item rest) ++ item q ∷ []
     asked = ap (λ (qs : List QueuedFrame). reverse (map item qs)) first ∙ reverse-append (item q ∷ []) (map item rest)
 
-    left : queue_of s.begun 0 (seat_at (carried_state s q).traffic 0) ≡ reverse (map item rest)
-    left = ap (queue_of s.begun 0) (set_at s.traffic (sending (seat_at s.traffic 0)) given) ∙ ap (λ (qs : List QueuedFrame). reverse (map item (drop 1 qs))) first
+    left : queue_of s.begun y (seat_at now.traffic y) ≡ reverse (map item rest)
+    left = ap (queue_of s.begun y) (set_at y s.traffic (sending (seat_at s.traffic y)) given) ∙ ap (λ (qs : List QueuedFrame). reverse (map item (drop 1 qs))) first
 
-    world : world_of r (carried_state s q) seats
-        ≡ record (world_of r s seats) { wire = item_of s (carried_frame 0 q) ∷ reverse (items_of s); asked = reverse (map item rest); path = Own (item_of s (carried_frame 0 q)) ∷ s.path }
+    path : path_at now y ≡ Own (item_of s c) ∷ path_at s y
+    path = ap (λ (v : StationState). v.path) (get_or-set_same s.stations y (station_sent y s q) no_station h)
+
+    other : (i : ℕ) → i ≢ y → IsSamePost s now i
+    other i n = record {
+      asked = ap (queue_of s.begun i) ((own_sending y s).others i n);
+      path = ap (λ (v : StationState). v.path) ((station_sends y s q).others i n);
+    }
+
+    world : world_of r now seats
+        ≡ record (world_of r s seats) { wire = item_of s c ∷ reverse (items_of s); stations = set (world_of r s seats).stations y (station_with (setting_at r y) (reverse (map item rest)) (Own (item_of s c) ∷ path_at s y)) }
     world =
-        world_parts (carried_items r s seats q stands) left refl refl
-        ∙ ap (λ (l : List Item). record (world_of r s seats) { wire = l; asked = reverse (map item rest); path = Own (item_of s (carried_frame 0 q)) ∷ s.path }) (reverse-append (items_of s) (item_of s (carried_frame 0 q) ∷ []))
+        world_parts (stations_set r s now y (reverse (map item rest)) (Own (item_of s c) ∷ path_at s y) left path (λ i n l. other i n)) (carried_items r y s seats q stands) refl
+        ∙ ap (λ (l : List Item). record (world_of r s seats) { wire = l; stations = set (world_of r s seats).stations y (station_with (setting_at r y) (reverse (map item rest)) (Own (item_of s c) ∷ path_at s y)) }) (reverse-append (items_of s) (item_of s c ∷ []))
 
--- a carry of the station is a step of the machine
-pub carry_station_runs : (r : Settings) (s : State) (seats : List Seat) (q : QueuedFrame) → Stands r s seats → IsCarriedNext s.traffic 0 q
-    → Step (world_of r s seats) Carry_station (world_of r (after (Carry 0) s) seats) × Stands r (after (Carry 0) s) seats
+-- a carry of a station is a step of the machine
+pub carry_station_runs : (r : Settings) (y : ℕ) (s : State) (seats : List Seat) (q : QueuedFrame) → Stands r s seats → y < length s.stations → IsCarriedNext s.traffic y q
+    → Step (world_of r s seats) (Carry_station y) (world_of r (after (Carry y) s) seats) × Stands r (after (Carry y) s) seats
 unfolding after_carry_of
-carry_station_runs r s seats q stands next =
-    let o = offered_first (seat_at s.traffic 0).live (seat_at s.traffic 0).heard (length s.traffic.wire) (seat_at s.traffic 0).queue q next.offers in
-    subst (λ (qs : List QueuedFrame). Step (world_of r s seats) Carry_station (world_of r (after_carry_of (slice_get qs 0) 0 s) seats) × Stands r (after_carry_of (slice_get qs 0) 0 s) seats)
-    (sym o.1.1) (carried_runs r s seats q o.1.0 stands o.0 o.1.1)
+carry_station_runs r y s seats q stands h next =
+    let o = offered_first (seat_at s.traffic y).live (seat_at s.traffic y).heard (length s.traffic.wire) (seat_at s.traffic y).queue q next.offers in
+    subst (λ (qs : List QueuedFrame). Step (world_of r s seats) (Carry_station y) (world_of r (after_carry_of (slice_get qs 0) y s) seats) × Stands r (after_carry_of (slice_get qs 0) y s) seats)
+    (sym o.1.1) (carried_runs r y s seats q o.1.0 stands h o.0 o.1.1)

@@ -36,14 +36,14 @@ told_over ms run ns n n' e none last more =
     let after : events_of ms (newest_first run (set ns (length ns - 1) n')) ≡ with_note ms n' older = events_note ms run n' ends.0 (set ns (length ns - 1) n') (omega arith) ends.2 in
     after ∙ (more older ∙ ap (λ (es : List Event). e ∷ es) (sym before))
 
--- a carry after a reading
-pub over_reading : (run : Passing) (ns : List Note) (bytes : List ℕ) (id seat k : ℕ) → run.first ≡ run.next → slice_get ns (length ns - 1) ≡ Some (note.Frame bytes id) → k ≡ seat
+-- a carry after a reading of station 0
+pub over_reading : (run : Passing) (ns : List Note) (bytes : List ℕ) (id seat k : ℕ) → run.first ≡ run.next → slice_get ns (length ns - 1) ≡ Some (note.Frame 0 bytes id) → k ≡ seat
     → TellsOver run ns (Carry seat) (note.ReadAndCarried bytes k id)
 over_reading run ns bytes id seat k none last same = λ ms.
-    told_over ms run ns (note.Frame bytes id) (note.ReadAndCarried bytes k id) (Carry seat) none last (λ older. rw same refl)
+    told_over ms run ns (note.Frame 0 bytes id) (note.ReadAndCarried bytes k id) (Carry seat) none last (λ older. rw same refl)
 
--- a reading after a carry
+-- a reading of station 0 after a carry
 pub over_carry : (run : Passing) (ns : List Note) (bytes bytes' : List ℕ) (id seat k : ℕ) → run.first ≡ run.next → slice_get ns (length ns - 1) ≡ Some (note.Carry seat)
-    → k ≡ seat → bytes' ≡ bytes → TellsOver run ns (Read (reading.Frame (frame id bytes))) (note.Relayed bytes' k id)
+    → k ≡ seat → bytes' ≡ bytes → TellsOver run ns (Read 0 (reading.Frame (frame id bytes))) (note.Relayed bytes' k id)
 over_carry run ns bytes bytes' id seat k none last same these = λ ms.
-    told_over ms run ns (note.Carry seat) (note.Relayed bytes' k id) (Read (reading.Frame (frame id bytes))) none last (λ older. rw (same, these) refl)
+    told_over ms run ns (note.Carry seat) (note.Relayed bytes' k id) (Read 0 (reading.Frame (frame id bytes))) none last (λ older. rw (same, these) refl)

@@ -11,6 +11,7 @@ use Rattle.transport.specs.Pieces.{is_message_size}
 use Rattle.transport.specs.declared.control.Control.{Control}
 use Rattle.transport.specs.declared.control.Control.TheVariants.{Rts, Cts, EndAck, Bam, Abort}
 use Rattle.parameter_group.specs.Group.{Group, control_group, group_of}
+use Rattle.bus_model.specs.Heard.{kind_of}
 use Rattle.bus_model.specs.Machine.{MaySend}
 use Rattle.bus_model.proofs.Bridge.{claim_group, says_claim, says_by, says_packet, pgn_from, control_pgn}
 use Rattle.bus_model.proofs.Lookback.{held_is}
@@ -48,9 +49,10 @@ ack_may n held control requester pgn d s l k =
     (pgn_from (pdu1_number 6 59392 d s) 232 (omega arith) (omega arith) (omega arith) (omega arith)) (omega arith) (omega arith))
     tt
 
--- no message is started with one address
+-- no message is started with one address, and none of a kind that stations list is announced to all
 abbrev pub IsNoRts : Control → Type 0
 IsNoRts (Rts size packets most pgn) = ⊥
+IsNoRts (Bam size packets pgn) = kind_of (pgn % 256 + 256 * (pgn / 256 % 256) + 65536 * (pgn / 65536)) ≡ None
 IsNoRts _ = Unit {0}
 
 -- connection management that starts none, from its address
@@ -62,17 +64,17 @@ control_may n held c s d k l starts own =
     end_ack true size packets pgn = tt
     end_ack false size packets pgn = tt
 
-    bam : (b : Bool) (size packets pgn : ℕ) → MaySend n held (control_group d s (if b then Some (Bam size packets pgn) else None))
-    bam true size packets pgn = tt
-    bam false size packets pgn = tt
+    bam : (b : Bool) (size packets pgn : ℕ) → kind_of pgn ≡ None → MaySend n held (control_group d s (if b then Some (Bam size packets pgn) else None))
+    bam true size packets pgn none = (own, none)
+    bam false size packets pgn none = tt
 
     go : (c : Control) → IsNoRts c → MaySend n held (control_group d s (control_of (control_bytes c)))
     go (Rts size packets most pgn) starts = absurd starts
     go (Cts granted next pgn) starts = tt
     go (EndAck size packets pgn) starts = end_ack (is_message_size (size % 256 + 256 * (size / 256)) packets) _ packets _
-    go (Bam size packets pgn) starts = bam (is_message_size (size % 256 + 256 * (size / 256)) packets) _ packets _
+    go (Bam size packets pgn) starts = bam (is_message_size (size % 256 + 256 * (size / 256)) packets) _ packets _ starts
     go (Abort reason pgn) starts = own
 
--- a packet
-pub packet_may : (n : ℕ) (held : Option ℕ) (bytes : List ℕ) (s d : ℕ) → s ≤ 255 → d ≤ 255 → MaySend n held (group_of (packet_frame bytes s d))
-packet_may n held bytes s d k l = may_as n held (packet_frame bytes s d) _ (says_packet bytes s d l k) tt
+-- a packet to all, from its address
+pub packet_may : (n : ℕ) (held : Option ℕ) (bytes : List ℕ) (s : ℕ) → s ≤ 255 → held ≡ Some s → MaySend n held (group_of (packet_frame bytes s 255))
+packet_may n held bytes s k own = may_as n held (packet_frame bytes s 255) _ (says_packet bytes s 255 (omega arith) k) (own, refl)

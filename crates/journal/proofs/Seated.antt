@@ -1,17 +1,17 @@
 -- When a unit's seat on the bus, with what the unit keeps, is a seat of the law's machine.
-use Rattle.std.proofs.Common.{ℕ, suc, ◌≡◌, ◌<◌, ◌≤◌, ◌^◌, List, [], ◌∷◌, reverse, take, length, get_or, true, false, Option, Some, None}
+use Rattle.std.proofs.Common.{ℕ, ◌≡◌, ◌+◌, ◌<◌, ◌≤◌, ◌^◌, List, [], ◌∷◌, reverse, take, length, get_or, true, false, Option, Some, None}
 use Rattle.bus_ledger.specs.BusValue.{SeatValue, seat_at}
 use Rattle.bus_ledger.specs.declared.traffic.QueuedFrame.{QueuedFrame}
 use Rattle.bus_ledger.specs.declared.traffic.CarriedFrame.{CarriedFrame}
 use Rattle.bus_ledger.specs.declared.traffic.Tag.{Tag}
 use Rattle.bus_model.specs.Messages.{Message, Session, way_of, is_session, payload_sent}
 use Rattle.bus_model.specs.Traffic.{Item, Tag as PartOf}
-use Rattle.bus_model.specs.Expected.{passed}
+use Rattle.bus_model.specs.Expected.{Reception, passed}
 use Rattle.address_claim.specs.Claiming.{CanHold}
 use Rattle.bus_model.specs.Machine.{Seat}
 use Rattle.dm_messages.specs.View.{pgn_of_kind}
 use Rattle.node_core.specs.declared.session.OpenSession.{OpenSession}
-use Rattle.journal.specs.State.{Settings, State, UnitState, new_unit}
+use Rattle.journal.specs.State.{Settings, State, StationSetting, UnitState, new_unit, path_at, setting_at}
 use Rattle.journal.specs.Steps.{message_numbered, seat_number_of}
 use Rattle.journal.specs.Worlds.{items_of, queue_of}
 
@@ -79,15 +79,21 @@ abbrev pub AreCarried : List Message → ℕ → List CarriedFrame → Type 0
 AreCarried begun seats [] = Unit {0}
 AreCarried begun seats (c ∷ cs) = IsCarried begun seats c × AreCarried begun seats cs
 
--- the state, with these seats, is a world of the machine
+-- a station's seat on the bus, and what the station has of the wire, with these messages begun and these items carried
+pub record IsPost (r : StationSetting) (begun : List Message) (items : List Item) (v : SeatValue) (path : List Reception) : Type 0 where
+  pub name : v.name ≡ r.name
+  pub live : v.live ≡ true
+  pub known : AreKnown begun v.queue
+  pub within : v.heard ≤ length items
+  pub passed' : passed path ≡ reverse (take v.heard items)
+
+-- the state, with these seats, is a world of the machine; units sit behind the stations
 pub record Stands (r : Settings) (s : State) (seats : List Seat) : Type 0 where
-  pub name : (seat_at s.traffic 0).name ≡ r.name
-  pub live : (seat_at s.traffic 0).live ≡ true
-  pub known : AreKnown s.begun (seat_at s.traffic 0).queue
-  pub within : (seat_at s.traffic 0).heard ≤ length s.traffic.wire
-  pub passed' : passed s.path ≡ reverse (take (seat_at s.traffic 0).heard (items_of s))
+  pub settings : length s.stations ≡ length r.stations
+  pub windows : length s.traffic.windows ≡ length s.stations
+  pub posts : (y : ℕ) → y < length s.stations → IsPost (setting_at r y) s.begun (items_of s) (seat_at s.traffic y) (path_at s y)
   pub carried : AreCarried s.begun (length s.traffic.seats) s.traffic.wire
-  pub count : length s.traffic.seats ≡ suc (length s.units)
+  pub count : length s.traffic.seats ≡ length s.stations + length s.units
   pub places : length seats ≡ length s.units
-  pub numbers : (i : ℕ) → i < length s.units → (get_or seats i no_seat).number ≡ suc i
-  pub seated : (i : ℕ) → i < length s.units → IsSeat s.begun (items_of s) (seat_at s.traffic (suc i)) (get_or s.units i (new_unit 0 0)) (get_or seats i no_seat)
+  pub numbers : (i : ℕ) → i < length s.units → (get_or seats i no_seat).number ≡ length s.stations + i
+  pub seated : (i : ℕ) → i < length s.units → IsSeat s.begun (items_of s) (seat_at s.traffic (length s.stations + i)) (get_or s.units i (new_unit 0 0)) (get_or seats i no_seat)

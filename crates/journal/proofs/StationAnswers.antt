@@ -175,10 +175,10 @@ ask_answers n own ask d l k = one_answer n (Some own) _ (request_may n (Some own
 pub command_answers : (n own name address : ℕ) → own ≤ 253 → Answers (commanding own name address) n false (Some own)
 command_answers n own name address l =
     let payload : List ℕ = commanded_bytes (record { name = name; address = address }) in
-    let packet : (bytes : List ℕ) → MaySend n (Some own) (group_of (packet_frame bytes own 255)) = λ bytes. packet_may n (Some own) bytes own 255 (omega arith) (omega arith) in
+    let packet : (bytes : List ℕ) → MaySend n (Some own) (group_of (packet_frame bytes own 255)) = λ bytes. packet_may n (Some own) bytes own (omega arith) refl in
     record {
       frames = reverse (frames_of_message payload 65240 own 255);
-      may = (packet (piece payload 2), (packet (piece payload 1), (control_may n (Some own) (Bam 9 2 65240) own 255 (omega arith) (omega arith) tt refl, tt)));
+      may = (packet (piece payload 2), (packet (piece payload 1), (control_may n (Some own) (Bam 9 2 65240) own 255 (omega arith) (omega arith) refl refl, tt)));
       withdraws = refl;
       puts = sym (append-nil (reverse (frames_of_message payload 65240 own 255)));
     }

@@ -23,16 +23,16 @@ pub record Plain (ms : List MemoryValue) (n : Note) (older : List Event) : Type 
 
 pub plain : (ms : List MemoryValue) (n : Note) (older : List Event) → told_by n ≡ None → IsSome (event_of ms n) → Plain ms n older
 unfolding memory_told
-plain ms (note.Join address name) older h single = record { noted = λ many. tt; untold = λ k. refl; alone = λ e is. cc; longer = refl }
+plain ms (note.Join address seat name) older h single = record { noted = λ many. tt; untold = λ k. refl; alone = λ e is. cc; longer = refl }
 plain ms (note.Turned a) older h single = record { noted = λ many. tt; untold = λ k. refl; alone = λ e is. cc; longer = refl }
 plain ms (note.Carry a) older h single = record { noted = λ many. tt; untold = λ k. refl; alone = λ e is. cc; longer = refl }
-plain ms (note.Frame bytes id) older h single = record { noted = λ many. tt; untold = λ k. refl; alone = λ e is. cc; longer = refl }
-plain ms (note.Gap missed) older h single = record { noted = λ many. tt; untold = λ k. refl; alone = λ e is. cc; longer = refl }
-plain ms note.Empty older h single = record { noted = λ many. tt; untold = λ k. refl; alone = λ e is. cc; longer = refl }
-plain ms (note.Ask ask name) older h single = record { noted = λ many. tt; untold = λ k. refl; alone = λ e is. cc; longer = refl }
-plain ms (note.AskOther group name) older h single = record { noted = λ many. tt; untold = λ k. refl; alone = λ e is. cc; longer = refl }
-plain ms (note.AskAll ask) older h single = record { noted = λ many. tt; untold = λ k. refl; alone = λ e is. cc; longer = refl }
-plain ms (note.Command address name) older h single = record { noted = λ many. tt; untold = λ k. refl; alone = λ e is. cc; longer = refl }
+plain ms (note.Frame station bytes id) older h single = record { noted = λ many. tt; untold = λ k. refl; alone = λ e is. cc; longer = refl }
+plain ms (note.Gap station missed) older h single = record { noted = λ many. tt; untold = λ k. refl; alone = λ e is. cc; longer = refl }
+plain ms (note.Empty station) older h single = record { noted = λ many. tt; untold = λ k. refl; alone = λ e is. cc; longer = refl }
+plain ms (note.Ask station ask name) older h single = record { noted = λ many. tt; untold = λ k. refl; alone = λ e is. cc; longer = refl }
+plain ms (note.AskOther station group name) older h single = record { noted = λ many. tt; untold = λ k. refl; alone = λ e is. cc; longer = refl }
+plain ms (note.AskAll station ask) older h single = record { noted = λ many. tt; untold = λ k. refl; alone = λ e is. cc; longer = refl }
+plain ms (note.Command station address name) older h single = record { noted = λ many. tt; untold = λ k. refl; alone = λ e is. cc; longer = refl }
 plain ms (note.Leave a) older h single = record { noted = λ many. tt; untold = λ k. refl; alone = λ e is. cc; longer = refl }
 plain ms (note.Inject bytes id) older h single = record { noted = λ many. tt; untold = λ k. refl; alone = λ e is. cc; longer = refl }
 plain ms (note.Hear answered a b) older h single = absurd cc
@@ -74,16 +74,16 @@ pub telling : (ms : List MemoryValue) (n : Note) (j i : ℕ) (older : List Event
 unfolding memory_told
 telling ms (note.Hear answered a b) j i older h = record { noted = λ many l. (let e = pair_second a b j i h in omega arith); told = λ k. at_seat ms a b j i k older h; alone = λ e is. cc; longer = refl }
 telling ms (note.Begin a b) j i older h = record { noted = λ many l. (let e = pair_second a b j i h in omega arith); told = λ k. at_seat ms a b j i k older h; alone = λ e is. cc; longer = refl }
-telling ms (note.Join address name) j i older h = absurd cc
+telling ms (note.Join address seat name) j i older h = absurd cc
 telling ms (note.Turned a) j i older h = absurd cc
 telling ms (note.Carry a) j i older h = absurd cc
-telling ms (note.Frame bytes id) j i older h = absurd cc
-telling ms (note.Gap missed) j i older h = absurd cc
-telling ms note.Empty j i older h = absurd cc
-telling ms (note.Ask ask name) j i older h = absurd cc
-telling ms (note.AskOther group name) j i older h = absurd cc
-telling ms (note.AskAll ask) j i older h = absurd cc
-telling ms (note.Command address name) j i older h = absurd cc
+telling ms (note.Frame station bytes id) j i older h = absurd cc
+telling ms (note.Gap station missed) j i older h = absurd cc
+telling ms (note.Empty station) j i older h = absurd cc
+telling ms (note.Ask station ask name) j i older h = absurd cc
+telling ms (note.AskOther station group name) j i older h = absurd cc
+telling ms (note.AskAll station ask) j i older h = absurd cc
+telling ms (note.Command station address name) j i older h = absurd cc
 telling ms (note.Leave a) j i older h = absurd cc
 telling ms (note.Inject bytes id) j i older h = absurd cc
 telling ms (note.Passed first count) j i older h = absurd cc
@@ -151,22 +151,22 @@ stored_more : (ms : List MemoryValue) (m : MemoryValue) (n : ℕ) (v : MemoryVal
 stored_more ms m n v h = (let t = h.there in record { there = omega (arith, length-append ms (m ∷ [])); value = get_or_append_left ms (m ∷ []) new_memory n t ∙ h.value })
 
 noted_more : (ms : List MemoryValue) (m : MemoryValue) (n : Note) → IsNoted (length ms) n → IsNoted (length (ms ++ m ∷ [])) n
-noted_more ms m (note.Join address name) h = tt
+noted_more ms m (note.Join address seat name) h = tt
 noted_more ms m (note.Hear answered k n) h = omega (arith, length-append ms (m ∷ []))
 noted_more ms m (note.Passed first count) h = tt
 noted_more ms m (note.PassedAgain k count) h = tt
 noted_more ms m (note.Begin k n) h = omega (arith, length-append ms (m ∷ []))
 noted_more ms m (note.Turned k) h = tt
 noted_more ms m (note.Carry k) h = tt
-noted_more ms m (note.Frame bytes id) h = tt
+noted_more ms m (note.Frame station bytes id) h = tt
 noted_more ms m (note.Relayed bytes k id) h = tt
 noted_more ms m (note.ReadAndCarried bytes k id) h = tt
-noted_more ms m (note.Gap missed) h = tt
-noted_more ms m note.Empty h = tt
-noted_more ms m (note.Ask ask name) h = tt
-noted_more ms m (note.AskOther group name) h = tt
-noted_more ms m (note.AskAll ask) h = tt
-noted_more ms m (note.Command address name) h = tt
+noted_more ms m (note.Gap station missed) h = tt
+noted_more ms m (note.Empty station) h = tt
+noted_more ms m (note.Ask station ask name) h = tt
+noted_more ms m (note.AskOther station group name) h = tt
+noted_more ms m (note.AskAll station ask) h = tt
+noted_more ms m (note.Command station address name) h = tt
 noted_more ms m (note.Leave k) h = tt
 noted_more ms m (note.Inject bytes id) h = tt
 

@@ -1,5 +1,5 @@
 -- How the journal keeps events: a fault memory is told by the number of its stored copy, a run of units that pass over a frame
--- by one note, one unit's frames by one, and a carry and a reading next to each other by one note.
+-- by one note, one unit's frames by one, and a carry and a reading by station 0 next to each other by one note.
 use Rattle.std.specs.Prelude.{◌≡◌, ℕ, zero, suc, ◌+◌, ◌-◌, ◌<◌, ◌^◌, min, List, [], ◌∷◌, ◌++◌, Option, None, Some, length, reverse, slice_index_or, slice_set, option_to_list, unwrap_or}
 use Rattle.std.specs.List.{All}
 use Rattle.can_frame.specs.FrameValue.{frame}
@@ -62,22 +62,22 @@ passed_again k (suc n) older = Hear k (latest k (passed_again k n older)) NotAsk
 
 -- the event that a note tells, where it tells one alone
 abbrev pub event_of : List MemoryValue → Note → Option Event
-event_of memories (note.Join address name) = Some (Join name address)
+event_of memories (note.Join address seat name) = Some (Join seat name address)
 event_of memories (note.Hear answered k n) = Some (Hear k (memory_at memories n) answered)
 event_of memories (note.Passed first count) = None
 event_of memories (note.PassedAgain k count) = None
 event_of memories (note.Begin k n) = Some (Begin k (memory_at memories n))
 event_of memories (note.Turned k) = Some (Turned k)
 event_of memories (note.Carry k) = Some (Carry k)
-event_of memories (note.Frame bytes id) = Some (Read (reading.Frame (frame id bytes)))
+event_of memories (note.Frame station bytes id) = Some (Read station (reading.Frame (frame id bytes)))
 event_of memories (note.Relayed bytes k id) = None
 event_of memories (note.ReadAndCarried bytes k id) = None
-event_of memories (note.Gap missed) = Some (Read (reading.Gap missed))
-event_of memories note.Empty = Some (Read reading.Empty)
-event_of memories (note.Ask ask name) = Some (Ordered (Ask name (ask_of ask)))
-event_of memories (note.AskOther group name) = Some (Ordered (Ask name (asked.Other group)))
-event_of memories (note.AskAll ask) = Some (Ordered (AskAll ask))
-event_of memories (note.Command address name) = Some (Ordered (Command name address))
+event_of memories (note.Gap station missed) = Some (Read station (reading.Gap missed))
+event_of memories (note.Empty station) = Some (Read station reading.Empty)
+event_of memories (note.Ask station ask name) = Some (Ordered station (Ask name (ask_of ask)))
+event_of memories (note.AskOther station group name) = Some (Ordered station (Ask name (asked.Other group)))
+event_of memories (note.AskAll station ask) = Some (Ordered station (AskAll ask))
+event_of memories (note.Command station address name) = Some (Ordered station (Command name address))
 event_of memories (note.Leave k) = Some (Leave k)
 event_of memories (note.Inject bytes id) = Some (Inject (frame id bytes))
 
@@ -85,8 +85,8 @@ event_of memories (note.Inject bytes id) = Some (Inject (frame id bytes))
 abbrev pub with_note : List MemoryValue → Note → List Event → List Event
 with_note memories (note.Passed first count) older = passed_over first count older
 with_note memories (note.PassedAgain k count) older = passed_again k count older
-with_note memories (note.Relayed bytes k id) older = Read (reading.Frame (frame id bytes)) ∷ Carry k ∷ older
-with_note memories (note.ReadAndCarried bytes k id) older = Carry k ∷ Read (reading.Frame (frame id bytes)) ∷ older
+with_note memories (note.Relayed bytes k id) older = Read 0 (reading.Frame (frame id bytes)) ∷ Carry k ∷ older
+with_note memories (note.ReadAndCarried bytes k id) older = Carry k ∷ Read 0 (reading.Frame (frame id bytes)) ∷ older
 with_note memories n older = option_to_list (event_of memories n) ++ older
 
 -- the events that notes tell, both the newest first
@@ -116,18 +116,18 @@ IsNoted many (note.Hear answered k n) = n < many
 IsNoted many (note.Passed first count) = Unit {0}
 IsNoted many (note.PassedAgain k count) = Unit {0}
 IsNoted many (note.Begin k n) = n < many
-IsNoted many (note.Join address name) = Unit {0}
+IsNoted many (note.Join address seat name) = Unit {0}
 IsNoted many (note.Turned k) = Unit {0}
 IsNoted many (note.Carry k) = Unit {0}
-IsNoted many (note.Frame bytes id) = Unit {0}
+IsNoted many (note.Frame station bytes id) = Unit {0}
 IsNoted many (note.Relayed bytes k id) = Unit {0}
 IsNoted many (note.ReadAndCarried bytes k id) = Unit {0}
-IsNoted many (note.Gap missed) = Unit {0}
-IsNoted many note.Empty = Unit {0}
-IsNoted many (note.Ask ask name) = Unit {0}
-IsNoted many (note.AskOther group name) = Unit {0}
-IsNoted many (note.AskAll ask) = Unit {0}
-IsNoted many (note.Command address name) = Unit {0}
+IsNoted many (note.Gap station missed) = Unit {0}
+IsNoted many (note.Empty station) = Unit {0}
+IsNoted many (note.Ask station ask name) = Unit {0}
+IsNoted many (note.AskOther station group name) = Unit {0}
+IsNoted many (note.AskAll station ask) = Unit {0}
+IsNoted many (note.Command station address name) = Unit {0}
 IsNoted many (note.Leave k) = Unit {0}
 IsNoted many (note.Inject bytes id) = Unit {0}
 
@@ -149,18 +149,18 @@ told_by (note.Hear answered k n) = Some (k, n)
 told_by (note.Begin k n) = Some (k, n)
 told_by (note.Passed first count) = None
 told_by (note.PassedAgain k count) = None
-told_by (note.Join address name) = None
+told_by (note.Join address seat name) = None
 told_by (note.Turned k) = None
 told_by (note.Carry k) = None
-told_by (note.Frame bytes id) = None
+told_by (note.Frame station bytes id) = None
 told_by (note.Relayed bytes k id) = None
 told_by (note.ReadAndCarried bytes k id) = None
-told_by (note.Gap missed) = None
-told_by note.Empty = None
-told_by (note.Ask ask name) = None
-told_by (note.AskOther group name) = None
-told_by (note.AskAll ask) = None
-told_by (note.Command address name) = None
+told_by (note.Gap station missed) = None
+told_by (note.Empty station) = None
+told_by (note.Ask station ask name) = None
+told_by (note.AskOther station group name) = None
+told_by (note.AskAll station ask) = None
+told_by (note.Command station address name) = None
 told_by (note.Leave k) = None
 told_by (note.Inject bytes id) = None
 

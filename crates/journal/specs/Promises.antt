@@ -5,7 +5,7 @@ use Rattle.dm_messages.specs.declared.shown.Shown.{Shown}
 use Rattle.bus_model.specs.Traffic.{Tag, Item, claimed_by}
 use Rattle.journal.specs.State.{State}
 use Rattle.journal.specs.Worlds.{items_of}
-use Rattle.journal.specs.Journal.{GarageValue, AllFit, listed_of}
+use Rattle.journal.specs.Journal.{GarageValue, AllFit, listed_at}
 
 -- its settings fit, and each event of its journal fits what came before; so every law of journals holds of it
 abbrev pub IsLawful : GarageValue → Type 0
@@ -15,9 +15,9 @@ IsLawful g = AllFit g.settings g.journal
 abbrev pub IsPrefix : List Shown → List Shown → Type 0
 IsPrefix before after = (more : List Shown) × (after ≡ before ++ more)
 
--- under each NAME and kind, what was listed stays, and new entries come behind it
+-- at each station, under each NAME and kind, what was listed stays, and new entries come behind it
 pub record KeepsLists (old new : GarageValue) : Type 0 where
-  pub grows : (n : ℕ) (k : Kind) → IsPrefix (listed_of old n k) (listed_of new n k)
+  pub grows : (y n : ℕ) (k : Kind) → IsPrefix (listed_at old y n k) (listed_at new y n k)
 
 -- the frames carried, newest first, each with its seat's number and NAME and the message that it is a part of
 abbrev pub wire_of : State → List Item

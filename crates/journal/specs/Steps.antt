@@ -40,7 +40,7 @@ use Rattle.station_table.specs.declared.error.StationError.{StationError}
 use Rattle.journal.specs.declared.order.Order.{Order}
 use Rattle.journal.specs.declared.order.Order.TheVariants.{Ask, AskAll, Command}
 use Rattle.station_table.specs.declared.reaction.Reaction.{Reaction}
-use Rattle.journal.specs.State.{State, new_unit, unit_at}
+use Rattle.journal.specs.State.{State, StationState, new_unit, path_at, station_at, table_at, unit_at}
 use Rattle.journal.specs.declared.event.Event.{Event}
 use Rattle.journal.specs.declared.event.Event.TheVariants.{Join, Hear, Begin, Turned, Carry, Read, Ordered, Leave, Inject}
 
@@ -95,7 +95,7 @@ after_hearing k memory h node s =
     let session_number = session_message_after (unit_at s k).session_message (length s.begun) h.begun in
     record s {
       traffic = put_all k (map (tagged (length s.begun) (begins_session h.begun) session_number) h.put) (withdrawn_by k h.withdraw (heard_more k 1 s.traffic));
-      units = slice_set s.units (k - 1) (record { node = node; session_message = session_number });
+      units = slice_set s.units (k - length s.stations) (record { node = node; session_message = session_number });
       begun = begun_after s.begun k (seat_at s.traffic k).name memory h.begun;
     }
 
@@ -120,7 +120,7 @@ unfoldable pub after_begin_of : Option ℕ → ℕ → MemoryValue → State →
 after_begin_of None k memory s = s
 after_begin_of (Some source) k memory s = after_starting k memory (begins (unit_at s k).node.session Dm1 memory source) s
 
--- ---- the station
+-- ---- the stations
 
 abbrev pub message_numbered : ℕ → List Message → Option Message
 message_numbered n [] = None
@@ -143,14 +143,19 @@ abbrev pub with_received : List Reception → Option Item → List Reception
 with_received path None = path
 with_received path (Some e) = Received e ∷ path
 
-abbrev pub path_after : Reading → State → List Reception
-path_after (reading.Frame f) s = with_received s.path (option_map (item_of s) (slice_get (not_yet_read s.traffic) 0))
-path_after (reading.Gap n) s = Missed (map (item_of s) (reverse (take n (not_yet_read s.traffic)))) ∷ s.path
-path_after reading.Empty s = s.path
+-- what a station has of the wire after a reading
+abbrev pub path_after : ℕ → Reading → State → List Reception
+path_after y (reading.Frame f) s = with_received (path_at s y) (option_map (item_of s) (slice_get (not_yet_read s.traffic y) 0))
+path_after y (reading.Gap n) s = Missed (map (item_of s) (reverse (take n (not_yet_read s.traffic y)))) ∷ path_at s y
+path_after y reading.Empty s = path_at s y
 
--- what the station withdraws and queues
-abbrev pub reacted : Reaction → Traffic → Traffic
-reacted r t = put_all 0 (map untagged r.put) (if r.withdraw then withdrawn 0 which.All t else t)
+-- what a station withdraws and queues
+abbrev pub reacted : ℕ → Reaction → Traffic → Traffic
+reacted y r t = put_all y (map untagged r.put) (if r.withdraw then withdrawn y which.All t else t)
+
+-- the station on this seat is so; where no station has the seat, nothing changes
+abbrev pub with_station : ℕ → StationState → List StationState → List StationState
+with_station y v stations = slice_set stations y v
 
 -- ---- the events
 
@@ -165,40 +170,39 @@ unfoldable pub after_carry_of : Option QueuedFrame → ℕ → State → State
 after_carry_of None k s = s
 after_carry_of (Some q) k s = record s {
   traffic = carried_from k q s.traffic;
-  path = if k == 0 then Own (item_of s (carried_frame k q)) ∷ s.path else s.path;
+  stations = with_station k (record (station_at s k) { path = Own (item_of s (carried_frame k q)) ∷ path_at s k }) s.stations;
 }
 
-unfoldable pub after_read : Reading → State → State
-after_read r s = record s {
-  traffic = reacted (station_reaction s.station r) (taken r s.traffic);
-  station = after_reading s.station r;
-  path = path_after r s;
+unfoldable pub after_read : ℕ → Reading → State → State
+after_read y r s = record s {
+  traffic = reacted y (station_reaction (table_at s y) r) (taken y r s.traffic);
+  stations = with_station y (record { table = after_reading (table_at s y) r; path = path_after y r s }) s.stations;
 }
 
 unfoldable pub after_leave : ℕ → State → State
 after_leave k s = record s { traffic = left k s.traffic }
 
--- what the station answers to an order, memory aside: what it queues, or why it refuses
+-- what a station answers to an order, memory aside: what it queues, or why it refuses
 abbrev pub order_answer : StationValue → Order → Result Reaction StationError
 order_answer s (Ask name ask) = ask_answer s name ask
 order_answer s (AskAll ask) = ask_all_answer s ask
 order_answer s (Command name address) = command_answer s name address
 
-unfoldable pub after_order_of : Result Reaction StationError → State → State
-after_order_of (Err e) s = s
-after_order_of (Ok r) s = record s { traffic = reacted r s.traffic }
+unfoldable pub after_order_of : ℕ → Result Reaction StationError → State → State
+after_order_of y (Err e) s = s
+after_order_of y (Ok r) s = record s { traffic = reacted y r s.traffic }
 
 -- a frame from outside
 unfoldable pub after_inject : FrameValue → State → State
 after_inject f s = record s { traffic = injected f s.traffic }
 
 abbrev pub after : Event → State → State
-after (Join name address) s = after_join name address s
+after (Join seat name address) s = after_join name address s
 after (Hear k memory answered) s = after_hear_of (next_for s k) k memory answered s
 after (Begin k memory) s = after_begin_of (unit_at s k).node.claimer.held k memory s
 after (Turned k) s = s
 after (Carry k) s = after_carry_of (slice_get (seat_at s.traffic k).queue 0) k s
-after (Read r) s = after_read r s
-after (Ordered order) s = after_order_of (order_answer s.station order) s
+after (Read y r) s = after_read y r s
+after (Ordered y order) s = after_order_of y (order_answer (table_at s y) order) s
 after (Leave k) s = after_leave k s
 after (Inject frame) s = after_inject frame s

@@ -7,8 +7,9 @@ use node_core::Answer;
 /// One event of the system, as contracts see it. What a unit chose is recorded with it. `Journal` keeps it in a note.
 #[derive(Drop)]
 pub enum Event {
-    /// A unit of this NAME got the next seat and claims this address.
+    /// A unit of this NAME got this seat, the next one, and claims this address.
     Join {
+        seat: u32,
         name: Name,
         address: u8,
     },
@@ -31,12 +32,14 @@ pub enum Event {
     Carry {
         seat: u32,
     },
-    /// The station took this reading.
+    /// The station with this number took this reading.
     Read {
+        station: u32,
         reading: Reading,
     },
-    /// The station queued what it was told to send.
+    /// The station with this number queued what it was told to send.
     Ordered {
+        station: u32,
         order: Order,
     },
     /// A unit went.

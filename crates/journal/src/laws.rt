@@ -1,4 +1,4 @@
-ghost use Rattle.std.specs.Prelude.{◌≡◌, ◌≤◌, ℕ, List, reverse};
+ghost use Rattle.std.specs.Prelude.{◌≡◌, ◌<◌, ◌≤◌, ℕ, List, length, reverse};
 ghost use Rattle.can_frame.specs.declared.address.TheConstants.{GREATEST_ADDRESS};
 ghost use Rattle.dm_messages.specs.declared.kind.Kind.{Kind};
 ghost use Rattle.bus_model.specs.Expected.{expected};
@@ -7,10 +7,10 @@ ghost use Rattle.station_table.specs.KeptValue.{entries_under};
 ghost use Rattle.station_table.specs.StandsFor.{StandsFor};
 ghost use Rattle.bus_model.specs.Marks.{IsMarkedBy};
 ghost use Rattle.journal.specs.Fits.{Fits};
-ghost use Rattle.journal.specs.Journal.{AllFit, GarageValue, injected_of, readings_of, state_after, state_of};
+ghost use Rattle.journal.specs.Journal.{AllFit, GarageValue, injected_of, readings_at, state_after, state_of};
 ghost use Rattle.journal.specs.Promises.{IsLawful, wire_of};
-ghost use Rattle.journal.specs.State.{Settings, State};
-ghost use Rattle.journal.specs.Worlds.{station_of, world_of};
+ghost use Rattle.journal.specs.State.{Settings, State, path_at, setting_at, table_at};
+ghost use Rattle.journal.specs.Worlds.{station_of_at, stations_of, world_of};
 ghost use Rattle.journal.specs.declared.event.Event.{Event};
 ghost use Rattle.journal.specs.declared.event.Event.TheVariants.{Ordered};
 ghost use Rattle.journal.specs.declared.order.Order.TheVariants.{Command};
@@ -18,33 +18,36 @@ ghost use Rattle.journal.specs.declared.order.Order.TheVariants.{Command};
 /// A journal is a run of the law's machine: the state that a journal leads to, whose every event fits what came before and
 /// into which no frame came from outside, is a world that the machine reaches.
 pub fn journal_is_a_run()
-    ensures { (settings : Settings) (journal : List Event) → AllFit settings journal → injected_of journal ≡ 0 → (seats : List Seat) × (steps : List Step) × Run (start (station_of settings)) steps (world_of settings (state_after settings journal) seats) }
+    ensures { (settings : Settings) (journal : List Event) → AllFit settings journal → injected_of journal ≡ 0 → (seats : List Seat) × (steps : List Step) × Run (start (stations_of settings)) steps (world_of settings (state_after settings journal) seats) }
 {}
 
-/// The station's tables say what was heard of the readings in the journal, whoever sent the frames.
+/// The tables of each station say what was heard of its readings in the journal, whoever sent the frames.
 pub fn station_stands_for_its_readings()
-    ensures { (settings : Settings) (journal : List Event) → AllFit settings journal → StandsFor (station_of settings) settings.grant (state_after settings journal).station (readings_of journal) }
+    ensures { (settings : Settings) (journal : List Event) → AllFit settings journal → (y : ℕ) → y < length settings.stations
+        → StandsFor (station_of_at settings y) (setting_at settings y).grant (table_at (state_after settings journal) y) (readings_at y journal) }
 {}
 
-/// The headline: of every journal without frames from outside, under each NAME and kind, the station's entries are the views of the fault memories with
-/// which units of that NAME began messages whose frames were all read on a clear path, in the order begun.
+/// The headline: of every journal without frames from outside, at each station, under each NAME and kind, its entries are the views of the
+/// fault memories with which units of that NAME began messages, to all or to that station, whose frames it read all on a clear path, in the
+/// order begun.
 pub fn shown_is_expected()
-    ensures { (settings : Settings) (journal : List Event) → AllFit settings journal → injected_of journal ≡ 0 → (n : ℕ) (k : Kind) → entries_under (state_after settings journal).station.rows n k ≡ reverse (expected n k (state_after settings journal).begun (state_after settings journal).path) }
+    ensures { (settings : Settings) (journal : List Event) → AllFit settings journal → injected_of journal ≡ 0 → (y : ℕ) → y < length settings.stations → (n : ℕ) (k : Kind)
+        → entries_under (table_at (state_after settings journal) y).rows n k ≡ reverse (expected (station_of_at settings y) n k (state_after settings journal).begun (path_at (state_after settings journal) y)) }
 {}
 
-/// No message of a unit that came to its end was unreadable, where no frame came from outside.
+/// No message of a unit that came to its end was unreadable at a station, where no frame came from outside.
 pub fn nothing_stays_unread()
-    ensures { (settings : Settings) (journal : List Event) → AllFit settings journal → injected_of journal ≡ 0 → (state_after settings journal).station.unread ≡ 0 }
+    ensures { (settings : Settings) (journal : List Event) → AllFit settings journal → injected_of journal ≡ 0 → (y : ℕ) → y < length settings.stations → (table_at (state_after settings journal) y).unread ≡ 0 }
 {}
 
-/// The station's path is the wire as the readings in the journal mark it: of the frames that are not the station's own, in
+/// The path of each station is the wire as its readings in the journal mark it: of the frames that are not the station's own, in
 /// order, a frame marks the next one as received and a gap of n the next n as missed; later ones have no mark. For every
 /// garage into which no frame came from outside.
 pub fn path_is_marked()
-    ensures { (g : GarageValue) → IsLawful g → injected_of g.journal ≡ 0 → IsMarkedBy (readings_of g.journal) (wire_of (state_of g)) (state_of g).path }
+    ensures { (g : GarageValue) → IsLawful g → injected_of g.journal ≡ 0 → (y : ℕ) → y < length g.settings.stations → IsMarkedBy y (readings_at y g.journal) (wire_of (state_of g)) (path_at (state_of g) y) }
 {}
 
 /// A command that fits is to an address that can be held, 0 to 253.
 pub fn commanded_addresses_can_be_held()
-    ensures { (s : State) (name address : ℕ) → Fits s (Ordered (Command name address)) → address ≤ GREATEST_ADDRESS }
+    ensures { (s : State) (y name address : ℕ) → Fits s (Ordered y (Command name address)) → address ≤ GREATEST_ADDRESS }
 {}

@@ -98,7 +98,7 @@ impl FrameBytes {
     }
 }
 
-/// What the station can ask for but a group that has no name of its own (`Ask::Other`).
+/// What a station can ask for but a group that has no name of its own (`Ask::Other`).
 #[derive(Drop)]
 pub(crate) enum ShortAsk {
     /// The active codes.
@@ -118,9 +118,10 @@ pub(crate) enum ShortAsk {
 /// What the journal keeps, in 16 bytes: an event, whose fault memory is told by the number of its copy, two events, or a run of them.
 #[derive(Drop)]
 pub(crate) enum Note {
-    /// A unit joined.
+    /// A unit joined, and got this seat.
     Join {
         address: u8,
+        seat: u32,
         name: SplitName,
     },
     /// A unit heard its next frame.
@@ -154,18 +155,19 @@ pub(crate) enum Note {
     Carry {
         seat: u32,
     },
-    /// The station read a frame.
+    /// The station with this number read a frame.
     Frame {
+        station: u8,
         bytes: FrameBytes,
         id: Id,
     },
-    /// The first frame of a seat's queue was carried, and then the station read this frame.
+    /// The first frame of a seat's queue was carried, and then station 0 read this frame.
     Relayed {
         bytes: FrameBytes,
         seat: u16,
         id: Id,
     },
-    /// The station read this frame, and then the first frame of a seat's queue was carried.
+    /// Station 0 read this frame, and then the first frame of a seat's queue was carried.
     ReadAndCarried {
         bytes: FrameBytes,
         seat: u16,
@@ -173,26 +175,33 @@ pub(crate) enum Note {
     },
     /// The station missed this many frames.
     Gap {
+        station: u8,
         missed: u32,
     },
     /// The station found nothing to read.
-    Empty,
+    Empty {
+        station: u8,
+    },
     /// The station asked the unit of a NAME.
     Ask {
+        station: u8,
         ask: ShortAsk,
         name: SplitName,
     },
     /// The station asked the unit of a NAME for a group that has no name of its own (`Ask::Other`).
     AskOther {
+        station: u8,
         group: Pgn,
         name: SplitName,
     },
     /// The station asked all.
     AskAll {
+        station: u8,
         ask: Ask,
     },
     /// The station commanded the unit of a NAME to hold an address.
     Command {
+        station: u8,
         address: u8,
         name: SplitName,
     },
@@ -208,9 +217,9 @@ pub(crate) enum Note {
 }
 
 impl Note {
-    /// The station asked the unit of this NAME.
-    pub(crate) fn ask(name: Name, ask: Ask) -> Note
-        ensures event { (memories : List MemoryValue) → event_of memories result ≡ Some (Ordered (order.Ask name ask)) }
+    /// The station with this number asked the unit of this NAME.
+    pub(crate) fn ask(station: u8, name: Name, ask: Ask) -> Note
+        ensures event { (memories : List MemoryValue) → event_of memories result ≡ Some (Ordered station (order.Ask name ask)) }
         ensures untold { told_by result ≡ None }
     {
         let name = SplitName::of(name);
@@ -221,9 +230,15 @@ impl Note {
             Ask::Dm6 => ShortAsk::Dm6,
             Ask::Dm11 => ShortAsk::Dm11,
             Ask::Claim => ShortAsk::Claim,
-            Ask::Other(group) => return Note::AskOther { group, name },
+            Ask::Other(group) => {
+                return Note::AskOther {
+                    station,
+                    group,
+                    name,
+                };
+            }
         };
-        Note::Ask { ask, name }
+        Note::Ask { station, ask, name }
     }
 }
 

@@ -22,7 +22,7 @@ const NO_COPY: u32 = u32::MAX;
 
 /// The journal: all events, the oldest first, each in a note of 16 bytes. Some that stand next to each other share a note: a run of
 /// units that pass over their next frames, in the order of their seats; one unit that passes over several frames; the carry of a frame
-/// and a reading of one, from a seat below 2^16.
+/// and a reading of one by station 0, from a seat below 2^16.
 ///
 /// What a unit's fault memory was at an event is kept once, as long as it stays the same: the event has the number of a stored
 /// copy. Contracts see the events themselves (`Event`), the stored copies, and how many more events there is room for.
@@ -177,13 +177,14 @@ impl Journal {
         }
     }
 
-    /// A unit of this NAME got the next seat and claims this address.
-    pub fn note_join(&mut self, name: Name, address: u8)
+    /// A unit of this NAME got this seat and claims this address.
+    pub fn note_join(&mut self, seat: u32, name: Name, address: u8)
         requires { 0 < self.old.room }
-        ensures { Gains self.old (event.Join name address) self.new }
+        ensures { Gains self.old (event.Join seat name address) self.new }
     {
         self.push(Note::Join {
             address,
+            seat,
             name: SplitName::of(name),
         });
     }
@@ -257,39 +258,49 @@ impl Journal {
         self.events += 1;
     }
 
-    /// The station took this reading.
+    /// The station with this number took this reading.
     #[inline]
-    pub fn note_read(&mut self, reading: Reading)
+    pub fn note_read(&mut self, station: u8, reading: Reading)
         requires { 0 < self.old.room }
-        ensures { Gains self.old (event.Read reading) self.new }
+        ensures { Gains self.old (event.Read station reading) self.new }
     {
         match &reading {
-            Reading::Frame(frame) => self.note_frame(frame),
-            Reading::Gap(missed) => self.push(Note::Gap { missed: *missed }),
-            Reading::Empty => self.push(Note::Empty),
+            Reading::Frame(frame) => self.note_frame(station, frame),
+            Reading::Gap(missed) => self.push(Note::Gap {
+                station,
+                missed: *missed,
+            }),
+            Reading::Empty => self.push(Note::Empty { station }),
         }
     }
 
     /// The station read this frame.
     #[inline]
-    fn note_frame(&mut self, frame: &Frame)
+    fn note_frame(&mut self, station: u8, frame: &Frame)
         requires { 0 < self.old.room }
-        ensures { Gains self.old (event.Read (reading.Frame frame.now)) self.new }
+        ensures { Gains self.old (event.Read station (reading.Frame frame.now)) self.new }
     {
         let bytes = FrameBytes::of(frame.bytes());
-        store_frame(&mut self.notes, &mut self.passing, bytes, frame.id());
+        store_frame(
+            &mut self.notes,
+            &mut self.passing,
+            station,
+            bytes,
+            frame.id(),
+        );
         self.events += 1;
     }
 
-    /// The station queued what it was told to send.
-    pub fn note_order(&mut self, order: Order)
+    /// The station with this number queued what it was told to send.
+    pub fn note_order(&mut self, station: u8, order: Order)
         requires { 0 < self.old.room }
-        ensures { Gains self.old (event.Ordered order) self.new }
+        ensures { Gains self.old (event.Ordered station order) self.new }
     {
         match order {
-            Order::Ask { name, ask } => self.push(Note::ask(name, ask)),
-            Order::AskAll { ask } => self.push(Note::AskAll { ask }),
+            Order::Ask { name, ask } => self.push(Note::ask(station, name, ask)),
+            Order::AskAll { ask } => self.push(Note::AskAll { station, ask }),
             Order::Command { name, address } => self.push(Note::Command {
+                station,
                 address,
                 name: SplitName::of(name),
             }),

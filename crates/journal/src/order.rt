@@ -1,7 +1,7 @@
 use name_field::Name;
 use station_table::Ask;
 
-/// What the station is told to send.
+/// What a station is told to send.
 #[derive(Clone, Copy, Debug, PartialEq, Eq)]
 pub enum Order {
     /// A request to the address that is known of this NAME.

@@ -1,11 +1,13 @@
-ghost use Rattle.std.specs.Prelude.{◌≡◌, ℕ, ◌↔◌, true, reverse};
+ghost use Rattle.std.specs.Prelude.{◌≡◌, ◌<◌, ℕ, ◌↔◌, true, length, reverse};
 ghost use Rattle.dm_messages.specs.declared.kind.Kind.{Kind};
 ghost use Rattle.bus_model.specs.ClearPath.{IsOnClearPath, NoneMissed};
 ghost use Rattle.bus_model.specs.Expected.{is_clear};
 ghost use Rattle.bus_model.specs.LawfulTraffic.{IsLawfulTraffic};
 ghost use Rattle.bus_model.specs.Messages.{Message, IsAmong};
 ghost use Rattle.bus_model.specs.Whole.{received_whole};
-ghost use Rattle.journal.specs.Journal.{GarageValue, Adds, injected_of, shown_of, state_of};
+ghost use Rattle.journal.specs.Journal.{GarageValue, Adds, injected_of, shown_at, state_of};
+ghost use Rattle.journal.specs.State.{path_at};
+ghost use Rattle.journal.specs.Worlds.{station_of_at};
 ghost use Rattle.journal.specs.declared.event.Event.{Event};
 ghost use Rattle.journal.specs.Promises.{IsFromOwner, IsLawful, KeepsLists, wire_of};
 
@@ -20,18 +22,20 @@ pub fn who_sends_holds_the_address()
     ensures { (g : GarageValue) → IsLawful g → injected_of g.journal ≡ 0 → (i : ℕ) → IsFromOwner (state_of g) i }
 {}
 
-/// Quiet addresses: where nothing was missed, the entries to be shown are the views of all messages whose last part was
-/// read, in the order begun; so in particular where each address is claimed under one NAME only.
+/// Quiet addresses: where a station missed nothing, the entries that it is to show are the views of all messages, to all or to it, whose
+/// last part it read, in the order begun; so in particular where each address is claimed under one NAME only.
 pub fn nothing_missed_shows_all()
-    ensures { (g : GarageValue) → IsLawful g → injected_of g.journal ≡ 0 → NoneMissed (state_of g).path → (n : ℕ) (k : Kind) → shown_of g n k ≡ reverse (received_whole n k (state_of g).begun (state_of g).path) }
+    ensures { (g : GarageValue) → IsLawful g → injected_of g.journal ≡ 0 → (y : ℕ) → y < length g.settings.stations → NoneMissed (path_at (state_of g) y) → (n : ℕ) (k : Kind)
+        → shown_at g y n k ≡ reverse (received_whole (station_of_at g.settings y) n k (state_of g).begun (path_at (state_of g) y)) }
 {}
 
-/// Clear path: for the messages begun, the walk back along what was read is the clear path said by looking back.
+/// Clear path: for the messages begun, the walk back along what a station read is the clear path said by looking back.
 pub fn clear_path_looks_back()
-    ensures { (g : GarageValue) → IsLawful g → injected_of g.journal ≡ 0 → (m : Message) → IsAmong m (state_of g).begun → (is_clear m (state_of g).path ≡ true) ↔ IsOnClearPath m (state_of g).path }
+    ensures { (g : GarageValue) → IsLawful g → injected_of g.journal ≡ 0 → (y : ℕ) → y < length g.settings.stations → (m : Message) → IsAmong m (state_of g).begun
+        → (is_clear (station_of_at g.settings y) m (path_at (state_of g) y) ≡ true) ↔ IsOnClearPath (station_of_at g.settings y) m (path_at (state_of g) y) }
 {}
 
-/// A list only grows: whatever happens next, frames from outside too, each list of entries keeps its entries, and new ones
+/// A list only grows: whatever happens next, frames from outside too, each list of entries of each station keeps its entries, and new ones
 /// come behind them.
 pub fn lists_only_grow()
     ensures { (old new : GarageValue) (e : Event) → Adds old e new → KeepsLists old new }

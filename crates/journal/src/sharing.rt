@@ -11,7 +11,7 @@ use crate::note::{FrameBytes, Note};
 use crate::passing::{Passing, store};
 use can_frame::Id;
 
-/// Stores the carry of a frame from this seat, for whose note there is a place: in the note of the reading right before it, where
+/// Stores the carry of a frame from this seat, for whose note there is a place: in the note of station 0's reading right before it, where
 /// there is one that is stored alone and the seat's number has a place in a note of both; else in a note of its own.
 pub(crate) fn store_carry(notes: &mut Vec<Note>, run: &mut Passing, seat: u32)
     requires few { run.old.next - run.old.first < 2 ^ 32 }
@@ -28,24 +28,30 @@ pub(crate) fn store_carry(notes: &mut Vec<Note>, run: &mut Passing, seat: u32)
     }
 }
 
-/// Stores the reading of a frame, for whose note there is a place: in the note of the carry right before it, where there is one that
-/// is stored alone and its seat's number has a place in a note of both; else in a note of its own.
-pub(crate) fn store_frame(notes: &mut Vec<Note>, run: &mut Passing, bytes: FrameBytes, id: Id)
+/// Stores the reading of a frame by a station, for whose note there is a place: in the note of the carry right before it, where there is
+/// one that is stored alone, its seat's number has a place in a note of both, and the station is station 0; else in a note of its own.
+pub(crate) fn store_frame(
+    notes: &mut Vec<Note>,
+    run: &mut Passing,
+    station: u8,
+    bytes: FrameBytes,
+    id: Id,
+)
     requires few { run.old.next - run.old.first < 2 ^ 32 }
     requires place { places_of run.old (vec_len notes.old) < vec_capacity notes.old }
-    ensures events { (memories : List MemoryValue) → events_of memories (newest_first run.new notes.new.items) ≡ with_note memories (note.Frame bytes id) (events_of memories (newest_first run.old notes.old.items)) }
+    ensures events { (memories : List MemoryValue) → events_of memories (newest_first run.new notes.new.items) ≡ with_note memories (note.Frame station bytes id) (events_of memories (newest_first run.old notes.old.items)) }
     ensures noted { (many : ℕ) → All (IsNoted many) notes.old.items → All (IsNoted many) notes.new.items }
     ensures none { run.new.first ≡ run.new.next }
     ensures places { vec_len notes.new ≤ places_of run.old (vec_len notes.old) + 1 }
     ensures capacity { vec_capacity notes.new ≡ vec_capacity notes.old }
 {
-    match with_frame(notes.as_slice(), run, &bytes, id) {
+    match with_frame(notes.as_slice(), run, station, &bytes, id) {
         Some(both) => overwrite_last(notes, both),
-        None => store(notes, run, Note::Frame { bytes, id }),
+        None => store(notes, run, Note::Frame { station, bytes, id }),
     }
 }
 
-/// The note of the reading that is told last, and of a carry from this seat after it, where there is such a note.
+/// The note of the reading by station 0 that is told last, and of a carry from this seat after it, where there is such a note.
 #[inline]
 fn with_carry(notes: &[Note], run: &Passing, seat: u32) -> Option<Note>
     ensures none { OnSome result (run.now.first ≡ run.now.next) }
@@ -53,9 +59,12 @@ fn with_carry(notes: &[Note], run: &Passing, seat: u32) -> Option<Note>
     ensures events { IfSome result (λ n. TellsOver run.now notes.now (event.Carry seat) n) }
     ensures noted { IfSome result (λ n. (many : ℕ) → IsNoted many n) }
 {
-    let Note::Frame { bytes, id } = newest(notes, run)? else {
+    let Note::Frame { station, bytes, id } = newest(notes, run)? else {
         return None;
     };
+    if *station != 0 {
+        return None;
+    }
     let seat = u16::try_from(seat).ok()?;
     Some(Note::ReadAndCarried {
         bytes: bytes.copy(),
@@ -64,14 +73,24 @@ fn with_carry(notes: &[Note], run: &Passing, seat: u32) -> Option<Note>
     })
 }
 
-/// The note of the carry that is told last, and of the reading of a frame of these bytes after it, where there is such a note.
+/// The note of the carry that is told last, and of the reading of a frame of these bytes after it by this station, where there is such a
+/// note.
 #[inline]
-fn with_frame(notes: &[Note], run: &Passing, bytes: &FrameBytes, id: Id) -> Option<Note>
+fn with_frame(
+    notes: &[Note],
+    run: &Passing,
+    station: u8,
+    bytes: &FrameBytes,
+    id: Id,
+) -> Option<Note>
     ensures none { OnSome result (run.now.first ≡ run.now.next) }
     ensures some { OnSome result (0 < length notes.now) }
-    ensures events { IfSome result (λ n. TellsOver run.now notes.now (event.Read (reading.Frame (frame id bytes.now))) n) }
+    ensures events { IfSome result (λ n. TellsOver run.now notes.now (event.Read station (reading.Frame (frame id bytes.now))) n) }
     ensures noted { IfSome result (λ n. (many : ℕ) → IsNoted many n) }
 {
+    if station != 0 {
+        return None;
+    }
     let Note::Carry { seat } = newest(notes, run)? else {
         return None;
     };

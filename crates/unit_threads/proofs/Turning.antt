@@ -1,5 +1,5 @@
 -- A turn and a reading, event by event.
-use Rattle.std.proofs.Common.{◌≡◌, ◌⊎◌, inl, inr, ℕ, zero, suc, ◌+◌, ◌<◌, ◌&&◌, Bool, true, false, not, List, [], ◌∷◌, Option, Some, None, Result, Ok, Err, OnErr, IsNone, IsSome, is_some, length, get_or, set, arith, refl, sym, ap, subst, ◌∙◌}
+use Rattle.std.proofs.Common.{◌≡◌, ◌⊎◌, inl, inr, ℕ, zero, suc, ◌+◌, ◌<◌, ◌≤◌, ◌&&◌, Bool, true, false, not, List, [], ◌∷◌, Option, Some, None, Result, Ok, Err, OnErr, IsNone, IsSome, is_some, length, get_or, set, arith, refl, sym, ap, subst, ◌∙◌}
 use Rattle.std.specs.Prelude.{if◌then◌else◌, slice_get}
 use Rattle.std.proofs.lemmas.List.{length-set}
 use Rattle.std.proofs.lemmas.List.Elements.{All-cons, All-nil}
@@ -44,8 +44,8 @@ hears_more X k j a b c memory memory' answers unit unit' heard.Nothing e g h = g
 
 -- one more reading taken, if there was one
 pub reads_more : (a b c : GarageValue) (r : Reading) → GrowsBy IsRead a b → Reads b r c → GrowsBy IsRead a c
-reads_more a b c (reading.Frame f) g h = grows_more IsRead a b c (Read (reading.Frame f)) g tt h.adds
-reads_more a b c (reading.Gap n) g h = grows_more IsRead a b c (Read (reading.Gap n)) g tt h.adds
+reads_more a b c (reading.Frame f) g h = grows_more IsRead a b c (Read 0 (reading.Frame f)) g tt h.adds
+reads_more a b c (reading.Gap n) g h = grows_more IsRead a b c (Read 0 (reading.Gap n)) g tt h.adds
 reads_more a b c reading.Empty g h = grown_same IsRead a b c g h.1
 
 -- ---- beginning
@@ -115,14 +115,16 @@ same_name (x ∷ xs) (suc k) zero y e = refl
 same_name (x ∷ xs) (suc k) (suc j) y e = same_name xs k j y e
 
 record SameSeats (t u : Traffic) : Type 0 where
+  windows : u.windows ≡ t.windows
   seats : length u.seats ≡ length t.seats
   live : (j : ℕ) → (seat_at u j).live ≡ (seat_at t j).live
   name : (j : ℕ) → (seat_at u j).name ≡ (seat_at t j).name
 
 same_carry : (o : Option QueuedFrame) (k : ℕ) (s : State) → SameSeats s.traffic (after_carry_of o k s).traffic
 unfolding after_carry_of
-same_carry None k s = record { seats = refl; live = λ j. refl; name = λ j. refl }
+same_carry None k s = record { windows = refl; seats = refl; live = λ j. refl; name = λ j. refl }
 same_carry (Some q) k s = record {
+  windows = refl;
   seats = length-set s.traffic.seats k (sending (seat_at s.traffic k));
   live = λ j. set_live s.traffic.seats k j (sending (seat_at s.traffic k)) refl;
   name = λ j. same_name s.traffic.seats k j (sending (seat_at s.traffic k)) refl;
@@ -142,7 +144,7 @@ seated_still k g j name events s =
     let long = same.seats in
     let within = s.unit.1 in
     record {
-      unit = (s.unit.0, omega (arith, long, within), same.live j ∙ s.unit.2);
+      unit = (subst (λ (l : List ℕ). length l ≤ j) (sym same.windows) s.unit.0, omega (arith, long, within), same.live j ∙ s.unit.2);
       named = same.name j ∙ s.named;
       counted = ap (λ (t : Tally). t.events) (same_tally k j g) ∙ s.counted;
     }

@@ -30,7 +30,7 @@ IsCarry (Carry k) = Unit {0}
 IsCarry _ = ⊥
 
 abbrev pub IsRead : Event → Type 0
-IsRead (Read r) = Unit {0}
+IsRead (Read y r) = Unit {0}
 IsRead _ = ⊥
 
 -- the seat has heard the whole wire
@@ -39,7 +39,7 @@ HasHeardAll k g = next_for (state_of g) k ≡ None
 
 -- the station has nothing left to read
 abbrev pub HasReadAll : GarageValue → Type 0
-HasReadAll g = next_reading (state_of g).traffic ≡ Empty
+HasReadAll g = next_reading (state_of g).traffic 0 ≡ Empty
 
 -- a DM1 of the memory begins where the unit wants one, its seat holds an address and has no session of a DM1 open
 abbrev pub begun_by : ℕ → Bool → MemoryValue → GarageValue → GarageValue

@@ -47,8 +47,8 @@ impl Bus {
     /// The station's next reading, which stays: a gap where more frames are unread than the window has room for, else
     /// the oldest unread frame, or that there is none. The station's own frames are no readings.
     pub fn tap_peek(&self) -> Reading
-        ensures reading { result ≡ next_reading self.now.traffic }
-        ensures others { All (λ c. c.seat ≢ Some 0) (not_yet_read self.now.traffic) }
+        ensures reading { result ≡ next_reading self.now.traffic 0 }
+        ensures others { All (λ c. c.seat ≢ Some 0) (not_yet_read self.now.traffic 0) }
         ensures sound { IsSound self.now.traffic }
     {
         self.tap.peek()
@@ -56,14 +56,14 @@ impl Bus {
 
     /// Whether the station has nothing to read.
     pub fn is_tap_empty(&self) -> bool
-        ensures { MatchBool result (next_reading self.now.traffic ≡ Reading.Empty) (next_reading self.now.traffic ≢ Reading.Empty) }
+        ensures { MatchBool result (next_reading self.now.traffic 0 ≡ Reading.Empty) (next_reading self.now.traffic 0 ≢ Reading.Empty) }
     {
         self.tap.is_empty()
     }
 
     /// Passes over the station's next reading, which `tap_peek` gives, and over the frames of a gap.
     pub fn tap_pass(&mut self)
-        ensures traffic { self.new.traffic ≡ reading_taken (next_reading self.old.traffic) self.old.traffic }
+        ensures traffic { self.new.traffic ≡ reading_taken 0 (next_reading self.old.traffic 0) self.old.traffic }
         ensures spares { KeepsSpares self.old self.new }
     {
         let passed = self.tap.pass();
@@ -73,9 +73,9 @@ impl Bus {
 
     /// Takes the station's next reading. The frames of a gap are passed over.
     pub fn tap_next(&mut self) -> Reading
-        ensures reading { result ≡ next_reading self.old.traffic }
-        ensures others { All (λ c. c.seat ≢ Some 0) (not_yet_read self.old.traffic) }
-        ensures traffic { self.new.traffic ≡ reading_taken result self.old.traffic }
+        ensures reading { result ≡ next_reading self.old.traffic 0 }
+        ensures others { All (λ c. c.seat ≢ Some 0) (not_yet_read self.old.traffic 0) }
+        ensures traffic { self.new.traffic ≡ reading_taken 0 result self.old.traffic }
         ensures spares { KeepsSpares self.old self.new }
     {
         let reading = self.tap_peek();

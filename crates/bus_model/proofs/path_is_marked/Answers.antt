@@ -1,8 +1,11 @@
-use Rattle.bus_model.specs.Machine.{start}
-use Rattle.bus_model.proofs.Marks.{path_marked}
+use Rattle.bus_model.specs.Machine.{names_of, new_stations, start}
 use Rattle.bus_model.proofs.Whose.{numbers_run, numbers_start}
+use Rattle.bus_model.proofs.Marks.{path_marked}
 use Rattle.bus_model.proofs.Worlds.{law_run, law_start}
 use Rattle.bus_model.proofs.path_is_marked.Goals as goal
 
 pub returns : goal.returns
-returns c = λ r fit events w run. path_marked w (law_run (start r) events w (law_start r fit) run) (numbers_run (start r) events w (law_start r fit) (numbers_start r) run)
+returns c = λ rs fit events w run y s at.
+    let st = names_of (new_stations 0 rs) in
+    let numbers = numbers_run st (start rs) events w (law_start rs fit) (numbers_start st rs) run in
+    path_marked st w y s (law_run st (start rs) events w (law_start rs fit) run) numbers at

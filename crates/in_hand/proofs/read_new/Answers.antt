@@ -5,7 +5,7 @@ use Rattle.in_hand.proofs.read_new.Goals as goal
 
 pub overflow_sub-result : goal.overflow_sub-result
 overflow_sub-result c =
-    let more = c.read.ensures.lists.grows c.args.name c.args.kind in
+    let more = c.read.ensures.lists.grows 0 c.args.name c.args.kind in
     let before = ap length c.shown-before.ensures.heard in
     let after = ap length c.shown-after.ensures.heard in
     let long = ap length more.1 ∙ length-append (listed_of c.args.garage.now c.args.name c.args.kind) more.0 in
@@ -13,7 +13,7 @@ overflow_sub-result c =
 
 pub returns-clause-ok : goal.returns-clause-ok
 returns-clause-ok c =
-    let more = c.read.ensures.lists.grows c.args.name c.args.kind in
+    let more = c.read.ensures.lists.grows 0 c.args.name c.args.kind in
     let before = ap length c.shown-before.ensures.heard in
     let after = ap length c.shown-after.ensures.heard in
     let long = ap length more.1 ∙ length-append (listed_of c.args.garage.now c.args.name c.args.kind) more.0 in

@@ -13,7 +13,7 @@ loop-i-preserved g c =
     let n = c.loop-i.i in
     let x = c.index-units-i.result in
     let here : IsSeated c.args.self.now x.seat ((goal.Unit-dyn g (x.unit.vtable, x.unit.value)).name_of x.unit.value) x.events =
-    subst (λ m. IsSeated c.args.self.now x.seat m x.events) c.name.ensures (c.is_seated.ensures.0 c.if-not-is_seated.false) in (
+    subst (λ m. IsSeated c.args.self.now x.seat m x.events) c.name.ensures (c.is_seated.ensures.seated.0 c.if-not-is_seated.false) in (
       λ i p l e.
           elim (same_or_not i n) [
             | inl same ↦
@@ -48,7 +48,7 @@ returns-then-parked-seat_before g c seated =
     let within = c.loop-i-test.true in
     let at : slice_get units n ≡ Some x = slice_get-get_or units n x within ∙ ap Some (sym c.index-units-i.is) in
     elim (same_or_not n 0) [
-      | inl none ↦ (let first = c.seat_before.ensures.first none in let seat = (seated.each n x at).unit.0 in absurd (omega arith))
+      | inl none ↦ (let first = c.seat_before.ensures.first none in let seat = c.is_seated.ensures.low c.if-not-is_seated.false in absurd (omega arith))
       | inr some ↦
           let k : ℕ = n - 1 in
           let next : n ≡ suc k = omega arith in

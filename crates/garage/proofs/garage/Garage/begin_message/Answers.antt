@@ -4,7 +4,7 @@ use Rattle.std.specs.Vec.{with_item}
 use Rattle.fault_memory.specs.Memory.{IsLawfulMemory}
 use Rattle.bus_ledger.specs.BusValue.{Traffic, seat_at}
 use Rattle.bus_ledger.specs.Newcomers.{live_units}
-use Rattle.journal.specs.State.{State, UnitState, unit_at}
+use Rattle.journal.specs.State.{State, UnitState, unit_at, table_at}
 use Rattle.journal.specs.Steps.{put_all, tagged}
 use Rattle.journal.specs.Journal.{one_more}
 use Rattle.journal.specs.Notes.{memory_at}
@@ -13,8 +13,8 @@ use Rattle.journal.specs.declared.event.Event.TheVariants.{Begin}
 use Rattle.garage.specs.declared.garage.Place.{Place}
 use Rattle.garage.proofs.BeginLemmas.{begins_inside}
 use Rattle.garage.proofs.Traffics.{some_live, puts, keeps_refl}
-use Rattle.garage.proofs.InHand.{station_lives}
-use Rattle.garage.proofs.Standing.{state, begin_did, begin_fits, begins_of, joins_begin, place_few, place_within, unit_now, bus_unit, unit_is, units_same, place_tally, stands_more, tallies_one, fresh_one}
+use Rattle.garage.proofs.InHand.{bus_window, station_lives}
+use Rattle.garage.proofs.Standing.{one_window, state, begin_did, begin_fits, begins_of, joins_begin, place_few, place_within, unit_now, bus_unit, unit_is, units_same, place_tally, stands_more, tallies_one, fresh_one}
 use Rattle.garage.proofs.garage.Garage.begin_message.Goals as goal
 
 pub overflow_add-place : goal.overflow_add-place
@@ -30,7 +30,7 @@ queue_outs-requires-clause-few g c =
     let a = c.self.inside in
     let stands = c.self.invariant in
     let ub = bus_unit a c.args.seat stands (unit_now a c.args.self.now c.args.seat c.self.view_is c.requires.unit) in
-    let one = some_live a.bus.traffic c.args.seat (station_lives a stands) ub in
+    let one = some_live a.bus.traffic c.args.seat (bus_window a stands) (station_lives a stands) ub in
     let q = stands.queued c.args.seat in
     let same = ap (λ (t : Traffic). (seat_at t c.args.seat).queued) c.make_ready.ensures.traffic in
     let few = c.requires.few in
@@ -50,6 +50,7 @@ invariant_of-self-2 g c =
     let s = state a in
     let x = c.index_mut-place.result.now in
     let u = unit_now a c.args.self.now seat c.self.view_is c.requires.unit in
+    let one_is = one_window a stands in
     let low = u.0 in
     let h = place_within a seat stands u in
     let memory = memory_at c.make_ready.new.journal.memories c.in_ok-memory.memory in
@@ -83,7 +84,7 @@ invariant_of-self-2 g c =
       traffic = now ∙ (ap (λ (i : ℕ). put_all seat (map (tagged i false x.session_message) put) t) number
           ∙ (ap (λ (l : ℕ). put_all seat (map (tagged (length s.begun) false l) put) t) last
           ∙ (ap (put_all seat (map (tagged (length s.begun) false (unit_at s seat).session_message) put)) stands.traffic ∙ sym (ap (λ (v : State). v.traffic) is))));
-      station = stands.station ∙ sym (ap (λ (v : State). v.station) is);
+      station = stands.station ∙ sym (ap (λ (v : State). table_at v 0) is);
       units = units_same a.places.items k x p h c.index_mut-place.ensures.value refl ∙ (stands.units ∙ sym (ap (λ (v : State). v.units) is));
       begun = (let e : a.begun + 1 ≡ suc (length s.begun) = omega arith in e) ∙ sym (ap (λ (v : State). length v.begun) is);
       injected = omega arith;

@@ -10,7 +10,7 @@ use Rattle.bus_ledger.proofs.Sounds.{offer_says}
 use Rattle.journal.specs.State.{State}
 use Rattle.journal.specs.declared.event.Event.{Event}
 use Rattle.journal.specs.declared.event.Event.TheVariants.{Carry}
-use Rattle.garage.proofs.Standing.{state, joins_carry, stands_more, tallies_still, fresh_still, carry_is, sent_queued, sent_units}
+use Rattle.garage.proofs.Standing.{carry_table, state, joins_carry, stands_more, tallies_still, fresh_still, carry_is, sent_queued, sent_units}
 use Rattle.garage.proofs.CarryLemmas.{uncarried_full}
 use Rattle.garage.proofs.Lists.{lists_pushed}
 use Rattle.garage.proofs.garage.Garage.carry.Goals as goal
@@ -39,7 +39,7 @@ invariant_of-self-2 c =
       journal = c.note_carry.ensures.items ∙ ap (λ (l : List Event). l ++ Carry k ∷ []) c.make_room.ensures.items;
       fits = (q, next);
       traffic = now ∙ (ap (carried_from k q) stands.traffic ∙ sym (ap (λ (s : State). s.traffic) is));
-      station = stands.station ∙ sym (ap (λ (s : State). s.station) is);
+      station = stands.station ∙ sym (carry_table k (state a));
       units = stands.units ∙ sym (ap (λ (s : State). s.units) is);
       begun = stands.begun ∙ sym (ap (λ (s : State). length s.begun) is);
       injected = omega arith;

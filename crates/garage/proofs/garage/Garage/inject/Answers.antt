@@ -3,7 +3,7 @@ use Rattle.std.proofs.lemmas.List.{length-reverse, length_push}
 use Rattle.bus_ledger.specs.BusValue.{Traffic, seat_at}
 use Rattle.bus_ledger.specs.Changes.{injected, stray_frame}
 use Rattle.bus_ledger.specs.Newcomers.{live_units}
-use Rattle.journal.specs.State.{State}
+use Rattle.journal.specs.State.{State, table_at}
 use Rattle.journal.specs.declared.event.Event.{Event}
 use Rattle.journal.specs.declared.event.Event.TheVariants.{Inject}
 use Rattle.garage.proofs.Standing.{state, fresh_still, inject_is, injected_few, joins_inject, stands_more, tallies_still}
@@ -33,7 +33,7 @@ invariant_of-self-2 c =
       journal = c.note_inject.ensures.items ∙ ap (λ (l : List Event). l ++ Inject f ∷ []) c.make_room.ensures.items;
       fits = tt;
       traffic = now ∙ (ap (injected f) stands.traffic ∙ sym (ap (λ (s : State). s.traffic) is));
-      station = stands.station ∙ sym (ap (λ (s : State). s.station) is);
+      station = stands.station ∙ sym (ap (λ (s : State). table_at s 0) is);
       units = stands.units ∙ sym (ap (λ (s : State). s.units) is);
       begun = stands.begun ∙ sym (ap (λ (s : State). length s.begun) is);
       injected = refl;

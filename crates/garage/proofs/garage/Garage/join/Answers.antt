@@ -2,7 +2,7 @@ use Rattle.std.proofs.Common.{ℕ, suc, ◌≡◌, arith, refl, ap, ◌∙◌, s
 use Rattle.std.proofs.lemmas.List.{length_push, map_push}
 use Rattle.bus_ledger.specs.BusValue.{Traffic, seat_at}
 use Rattle.bus_ledger.specs.Newcomers.{live_units}
-use Rattle.journal.specs.State.{State, UnitState, new_unit}
+use Rattle.journal.specs.State.{State, UnitState, new_unit, table_at}
 use Rattle.journal.specs.Journal.{GarageValue, state_of, tally_of}
 use Rattle.journal.specs.declared.event.Event.{Event}
 use Rattle.garage.specs.Inside.{unit_of, place_at}
@@ -16,7 +16,7 @@ use Rattle.journal.specs.Steps.{untagged}
 use Rattle.journal.specs.declared.event.Event.TheVariants.{Join}
 use Rattle.bus_ledger.specs.Newcomers.{join_refusal}
 use Rattle.garage.proofs.Traffics.{PutsOn, puts, keeps_refl, joined_units, joined_queued}
-use Rattle.garage.proofs.InHand.{station_lives}
+use Rattle.garage.proofs.InHand.{bus_window, station_lives}
 use Rattle.garage.proofs.Standing.{state, join_is, joins_join, stands_more, tallies_push, fresh_join, added, seated_join}
 use Rattle.garage.proofs.Lists.{lists_added}
 use Rattle.garage.proofs.garage.Garage.join.Goals as goal
@@ -30,13 +30,14 @@ invariant_of-self-2 c =
     let t = a.bus.traffic in
     let k = length t.seats in
     let did = c.in_ok-seat.ensures.ok in
+    let seat = c.in_ok-seat.seat in
     let small : c.args.name < 2 ^ 64 = subst (λ (n : ℕ). n < 2 ^ 64) (ap (λ (n : NodeValue). n.claimer.name) c.new-node.ensures) c.start-claim.ensures.name_fits in
     let claim = c.start-claim.result in
     let claims = c.start-claim.ensures.frame ∙ ap (λ (n : NodeValue). claim_frame_value n.claimer.name n.claimer.held) c.new-node.ensures in
     let now = c.queue_frames.ensures ∙ (ap (λ (s : ℕ). queued s (untagged claim) c.join.new.self.traffic) did.0 ∙ ap (queued k (untagged claim)) did.2) in
-    let is = join_is name want (state a) in
+    let is = join_is seat name want (state a) in
     let put : PutsOn 1 (with_newcomer name t) (queued k (untagged claim) (with_newcomer name t)) = puts k (untagged claim ∷ []) (with_newcomer name t) (with_newcomer name t) (keeps_refl (with_newcomer name t)) in
-    let more = joined_units t name (station_lives a stands) in
+    let more = joined_units t name (bus_window a stands) (station_lives a stands) in
     let lives = ap live_units now ∙ put.units in
     let wires = ap (λ (u : Traffic). length u.wire) now ∙ ap length put.wire in
     let many = ap (λ (u : Traffic). length u.seats) now in
@@ -49,21 +50,21 @@ invariant_of-self-2 c =
     let fits = ok.0 in
     let room = ok.1 in
     let n = c.note_join.ensures.room in
-    stands_more a _ (Join name want) stands (record {
+    stands_more a _ (Join seat name want) stands (record {
       settings = refl;
-      journal = c.note_join.ensures.items ∙ ap (λ (l : List Event). l ++ Join name want ∷ []) c.make_room.ensures.items;
-      fits = (ap (λ (u : Traffic). join_refusal name u) (sym stands.traffic) ∙ did.1, small, c.requires);
+      journal = c.note_join.ensures.items ∙ ap (λ (l : List Event). l ++ Join seat name want ∷ []) c.make_room.ensures.items;
+      fits = (did.0 ∙ ap (λ (u : Traffic). length u.seats) stands.traffic, ap (λ (u : Traffic). join_refusal name u) (sym stands.traffic) ∙ did.1, small, c.requires);
       traffic = now ∙ (ap (λ (f : FrameValue). queued k (untagged f) (with_newcomer name t)) claims
           ∙ (ap (λ (u : Traffic). queued (length u.seats) (untagged (claim_frame_value name (Some want))) (with_newcomer name u)) stands.traffic ∙ sym (ap (λ (v : State). v.traffic) is)));
-      station = stands.station ∙ sym (ap (λ (v : State). v.station) is);
+      station = stands.station ∙ sym (ap (λ (v : State). table_at v 0) is);
       units = ap (map unit_of) items ∙ (map_push unit_of a.places.items p ∙ (ap (λ (u : UnitState). map unit_of a.places.items ++ u ∷ []) (ap (λ (x : NodeValue). record { node = x; session_message = 0 }) c.new-node.ensures)
           ∙ (ap (λ (us : List UnitState). us ++ new_unit name want ∷ []) stands.units ∙ sym (ap (λ (v : State). v.units) is))));
       begun = stands.begun ∙ sym (ap (λ (v : State). length v.begun) is);
       injected = omega arith;
-      joined = joins_join name want (reverse a.journal.items) ∙ (let j = stands.joined in omega arith);
-      tallies = subst (λ (xs : List Place). (j : ℕ) → j < length xs → (place_at xs j).tally ≡ tally_of (suc j) (Join name want ∷ reverse a.journal.items)) (sym items)
-          (tallies_push a.places.items (reverse a.journal.items) p name want stands.tallies stands.joined refl (stands.fresh (suc (length a.places.items)) (omega arith)));
-      fresh = λ j l. fresh_join (reverse a.journal.items) name want (length a.places.items) stands.fresh stands.joined j (omega arith);
+      joined = joins_join seat name want (reverse a.journal.items) ∙ (let j = stands.joined in omega arith);
+      tallies = subst (λ (xs : List Place). (j : ℕ) → j < length xs → (place_at xs j).tally ≡ tally_of (suc j) (Join seat name want ∷ reverse a.journal.items)) (sym items)
+          (tallies_push a.places.items (reverse a.journal.items) p seat name want stands.tallies (let d = did.0 in let x = stands.seats in omega arith) refl (stands.fresh (suc (length a.places.items)) (omega arith)));
+      fresh = λ j l. fresh_join (reverse a.journal.items) seat name want (length a.places.items) stands.fresh (let d = did.0 in let x = stands.seats in omega arith) j (omega arith);
       seats = (let x = stands.seats in omega arith);
       live = (let x = stands.live in omega arith);
       within = (let w = stands.within in omega arith);
@@ -82,11 +83,11 @@ returns-clause-ok c =
     let did = c.in_ok-seat.ensures.ok in
     let small : c.args.name < 2 ^ 64 = subst (λ (n : ℕ). n < 2 ^ 64) (ap (λ (n : NodeValue). n.claimer.name) c.new-node.ensures) c.start-claim.ensures.name_fits in
     let at : c.in_ok-seat.seat ≡ length (state a).traffic.seats = did.0 ∙ ap (λ (u : Traffic). length u.seats) stands.traffic in
-    let journal = c.note_join.ensures.items ∙ ap (λ (l : List Event). l ++ Join c.args.name c.args.want ∷ []) c.make_room.ensures.items in (
+    let journal = c.note_join.ensures.items ∙ ap (λ (l : List Event). l ++ Join c.in_ok-seat.seat c.args.name c.args.want ∷ []) c.make_room.ensures.items in (
       at ∙ ap (λ (v : GarageValue). length (state_of v).traffic.seats) c.self.view_is,
-      added a b c.args.self.now (Join c.args.name c.args.want) c.self.view_is refl journal (ap (λ (u : Traffic). join_refusal c.args.name u) (sym stands.traffic) ∙ did.1, small, c.requires),
+      added a b c.args.self.now (Join c.in_ok-seat.seat c.args.name c.args.want) c.self.view_is refl journal (at, ap (λ (u : Traffic). join_refusal c.args.name u) (sym stands.traffic) ∙ did.1, small, c.requires),
       seated_join a b c.args.name c.args.want c.in_ok-seat.seat stands refl journal at,
     )
 
 pub returns-clause-lists : goal.returns-clause-lists
-returns-clause-lists c = let did = returns-clause-ok c in lists_added c.self.inside c.args.self.now _ (Join c.args.name c.args.want) c.self.view_is c.self.invariant did.1
+returns-clause-lists c = let did = returns-clause-ok c in lists_added c.self.inside c.args.self.now _ (Join c.in_ok-seat.seat c.args.name c.args.want) c.self.view_is c.self.invariant did.1

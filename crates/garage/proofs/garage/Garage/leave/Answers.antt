@@ -3,13 +3,13 @@ use Rattle.std.proofs.lemmas.List.{length-set}
 use Rattle.bus_ledger.specs.BusValue.{Traffic, seat_at}
 use Rattle.bus_ledger.specs.Changes.{left}
 use Rattle.bus_ledger.specs.Newcomers.{live_units}
-use Rattle.journal.specs.State.{State}
+use Rattle.journal.specs.State.{State, table_at}
 use Rattle.journal.specs.Journal.{one_more}
 use Rattle.journal.specs.declared.event.Event.TheVariants.{Leave}
 use Rattle.journal.specs.declared.tally.Tally.{Tally}
 use Rattle.garage.proofs.Traffics.{some_live, live_left}
-use Rattle.garage.proofs.InHand.{station_lives}
-use Rattle.garage.proofs.Standing.{place_few, place_within, unit_now, units_same, joins_leave, place_tally, stands_more, tallies_one, fresh_one, bus_unit, leave_is, left_queued}
+use Rattle.garage.proofs.InHand.{bus_window, station_lives}
+use Rattle.garage.proofs.Standing.{one_window, place_few, place_within, unit_now, units_same, joins_leave, place_tally, stands_more, tallies_one, fresh_one, bus_unit, leave_is, left_queued}
 use Rattle.garage.proofs.Lists.{lists_pushed}
 use Rattle.garage.proofs.garage.Garage.leave.Goals as goal
 
@@ -33,14 +33,14 @@ pub overflow_sub-self : goal.overflow_sub-self
 overflow_sub-self c =
     let a = c.self.inside in
     let u = bus_unit a c.args.seat c.self.invariant (unit_now a c.args.self.now c.args.seat c.self.view_is c.requires) in
-    let s = some_live a.bus.traffic c.args.seat (station_lives a c.self.invariant) u in
+    let s = some_live a.bus.traffic c.args.seat (bus_window a c.self.invariant) (station_lives a c.self.invariant) u in
     let l = c.self.invariant.live in omega arith
 
 pub note_leave-requires : goal.note_leave-requires
 note_leave-requires c =
     let a = c.self.inside in
     let u = bus_unit a c.args.seat c.self.invariant (unit_now a c.args.self.now c.args.seat c.self.view_is c.requires) in
-    let s = some_live a.bus.traffic c.args.seat (station_lives a c.self.invariant) u in
+    let s = some_live a.bus.traffic c.args.seat (bus_window a c.self.invariant) (station_lives a c.self.invariant) u in
     let l = c.self.invariant.live in let r = c.self.invariant.room in omega arith
 
 pub invariant_of-self : goal.invariant_of-self
@@ -50,11 +50,12 @@ invariant_of-self c =
     let x = c.index_mut-place.result.now in
     let u = unit_now a c.args.self.now c.args.seat c.self.view_is c.requires in
     let ub = bus_unit a c.args.seat stands u in
+    let one_is = one_window a stands in
     let low = u.0 in
     let h = place_within a c.args.seat stands u in
     let k = c.args.seat - 1 in
-    let gone = live_left a.bus.traffic c.args.seat (station_lives a c.self.invariant) ub in
-    let one = some_live a.bus.traffic c.args.seat (station_lives a c.self.invariant) ub in
+    let gone = live_left a.bus.traffic c.args.seat (bus_window a c.self.invariant) (station_lives a c.self.invariant) ub in
+    let one = some_live a.bus.traffic c.args.seat (bus_window a c.self.invariant) (station_lives a c.self.invariant) ub in
     let lives = ap live_units c.leave.ensures.traffic in
     let wires = ap (λ (t : Traffic). length t.wire) c.leave.ensures.traffic in
     let many = ap (λ (t : Traffic). length t.seats) c.leave.ensures.traffic in
@@ -64,7 +65,7 @@ invariant_of-self c =
       journal = c.note_leave.ensures.items;
       fits = u;
       traffic = c.leave.ensures.traffic ∙ (ap (left c.args.seat) stands.traffic ∙ sym (ap (λ (s : State). s.traffic) (leave_is c.args.seat _)));
-      station = stands.station ∙ sym (ap (λ (s : State). s.station) (leave_is c.args.seat _));
+      station = stands.station ∙ sym (ap (λ (s : State). table_at s 0) (leave_is c.args.seat _));
       units = units_same a.places.items k x _ h c.index_mut-place.ensures.value refl ∙ (stands.units ∙ sym (ap (λ (s : State). s.units) (leave_is c.args.seat _)));
       begun = stands.begun ∙ sym (ap (λ (s : State). length s.begun) (leave_is c.args.seat _));
       injected = omega arith;

@@ -8,7 +8,7 @@ use Rattle.node_core.specs.NodeValue.{NodeValue}
 use Rattle.node_core.specs.Reaction.{reaction, node_after, question}
 use Rattle.unit_trait.specs.declared.question.Question.{Question}
 use Rattle.node_core.specs.Deed.{heard_of}
-use Rattle.journal.specs.State.{State, UnitState, unit_at}
+use Rattle.journal.specs.State.{State, UnitState, unit_at, table_at}
 use Rattle.journal.specs.Steps.{put_all, tagged, begins_session, session_message_after, withdrawn_by, next_for}
 use Rattle.journal.specs.Journal.{Adds, GarageValue, state_of, one_more}
 use Rattle.journal.specs.Notes.{memory_at}
@@ -20,8 +20,8 @@ use Rattle.garage.specs.Answers.{count_with_begun}
 use Rattle.garage.specs.declared.garage.Garage.TheInside.{Inside}
 use Rattle.garage.specs.declared.garage.Place.{Place}
 use Rattle.garage.proofs.Traffics.{some_live, puts, keeps_heard, keeps_withdrawn_by, keeps_then}
-use Rattle.garage.proofs.InHand.{station_lives}
-use Rattle.garage.proofs.Standing.{state, added, place_few, place_within, unit_now, bus_unit, unit_is, hear_did, begun_length, begun_few, next_within, is_answered, joins_hear, place_tally, stands_more, tallies_one, fresh_one, hears_of, still, same_place}
+use Rattle.garage.proofs.InHand.{bus_window, station_lives}
+use Rattle.garage.proofs.Standing.{one_station, one_window, state, added, place_few, place_within, unit_now, bus_unit, unit_is, hear_did, begun_length, begun_few, next_within, is_answered, joins_hear, place_tally, stands_more, tallies_one, fresh_one, hears_of, still, same_place}
 use Rattle.garage.proofs.Lent.{on_err}
 use Rattle.garage.proofs.Passing.{memory_unasked, told_hearing, told_inside}
 use Rattle.garage.proofs.garage.Garage.react_to.Goals as goal
@@ -65,7 +65,7 @@ do_heard-requires-clause-few g c =
     let a = c.self.inside in
     let stands = c.self.invariant in
     let ub = bus_unit a c.args.seat stands (unit_now a c.args.self.now c.args.seat c.self.view_is c.requires.unit) in
-    let one = some_live a.bus.traffic c.args.seat (station_lives a stands) ub in
+    let one = some_live a.bus.traffic c.args.seat (bus_window a stands) (station_lives a stands) ub in
     let q = stands.queued c.args.seat in
     let same = ap (λ (t : Traffic). (seat_at t c.args.seat).queued) c.make_ready.ensures.traffic in
     let few = c.in_ok-heard.ensures.few in
@@ -86,6 +86,7 @@ invariant_of-self-2 g c =
     let x = c.index_mut-place.result.now in
     let u = unit_now a c.args.self.now seat c.self.view_is c.requires.unit in
     let ub = bus_unit a seat stands u in
+    let one_is = one_window a stands in
     let low = u.0 in
     let h = place_within a seat stands u in
     let f = c.args.frame in
@@ -131,9 +132,10 @@ invariant_of-self-2 g c =
           ∙ (ap (λ (l : ℕ). put_all seat (map (tagged (length s.begun) (begins_session heard.begun) l) heard.put) (withdrawn_by seat heard.withdraw (heard_more seat 1 t))) last_is
           ∙ (ap (λ (b : Traffic). put_all seat (map (tagged (length s.begun) (begins_session heard.begun) (session_message_after (unit_at s seat).session_message (length s.begun) heard.begun)) heard.put) (withdrawn_by seat heard.withdraw (heard_more seat 1 b))) stands.traffic
           ∙ sym (ap (λ (v : State). v.traffic) is)))));
-      station = stands.station ∙ sym (ap (λ (v : State). v.station) is);
+      station = stands.station ∙ sym (ap (λ (v : State). table_at v 0) is);
       units = map-set unit_of a.places.items k p ∙ (ap (λ (l : ℕ). set (map unit_of a.places.items) k (record { node = node'; session_message = l })) last_is
-          ∙ (ap (λ (us : List UnitState). set us k (record { node = node'; session_message = session_message_after (unit_at s seat).session_message (length s.begun) heard.begun })) stands.units ∙ sym (ap (λ (v : State). v.units) is)));
+          ∙ (ap (λ (us : List UnitState). set us k (record { node = node'; session_message = session_message_after (unit_at s seat).session_message (length s.begun) heard.begun })) stands.units
+          ∙ (ap (λ (n : ℕ). set s.units (seat - n) (record { node = node'; session_message = session_message_after (unit_at s seat).session_message (length s.begun) heard.begun })) (sym (one_station a stands)) ∙ sym (ap (λ (v : State). v.units) is))));
       begun = counted ∙ (ap (λ (n : ℕ). count_with_begun n heard.begun) number ∙ (sym (begun_length s.begun seat (seat_at s.traffic seat).name memory heard.begun) ∙ sym (ap (λ (v : State). length v.begun) is)));
       injected = omega arith;
       joined = joins_hear seat memory heard.answer _ ∙ (stands.joined ∙ sym (length-set a.places.items k p));

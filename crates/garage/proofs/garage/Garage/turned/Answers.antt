@@ -4,7 +4,7 @@ use Rattle.journal.specs.Journal.{one_more}
 use Rattle.journal.specs.declared.event.Event.{Event}
 use Rattle.journal.specs.declared.event.Event.TheVariants.{Turned}
 use Rattle.journal.specs.declared.tally.Tally.{Tally}
-use Rattle.garage.proofs.Standing.{place_few, place_within, unit_now, units_same, joins_turned, place_tally, stands_more, tallies_one, fresh_one}
+use Rattle.garage.proofs.Standing.{one_window, place_few, place_within, unit_now, units_same, joins_turned, place_tally, stands_more, tallies_one, fresh_one}
 use Rattle.garage.proofs.garage.Garage.turned.Goals as goal
 
 pub overflow_add-place : goal.overflow_add-place
@@ -29,6 +29,7 @@ invariant_of-self-2 c =
     let stands = c.self.invariant in
     let x = c.index_mut-place.result.now in
     let u = unit_now a c.args.self.now c.args.seat c.self.view_is c.requires in
+    let one_is = one_window a stands in
     let low = u.0 in
     let h = place_within a c.args.seat stands u in
     let k = c.args.seat - 1 in

@@ -13,7 +13,7 @@ store_frame-requires-clause-few c = run_few c.self.inside c.self.invariant (omeg
 pub invariant_of-self : goal.invariant_of-self
 invariant_of-self c =
     let a = c.self.inside in
-    let n = note.Frame c.of-bytes.result c.id.result in
+    let n = note.Frame c.args.station c.of-bytes.result c.id.result in
     let k : Inside = record a { notes = c.store_frame.new.notes; passing = c.store_frame.new.run } in
     let e = c.store_frame.ensures in
     let stores : Stores a k n = record { events = e.events; noted = e.noted; none = e.none; places = e.places; capacity = e.capacity } in
@@ -22,8 +22,8 @@ invariant_of-self c =
 pub returns : goal.returns
 returns c =
     let a = c.self.inside in
-    let n = note.Frame c.of-bytes.result c.id.result in
+    let n = note.Frame c.args.station c.of-bytes.result c.id.result in
     let k : Inside = record a { notes = c.store_frame.new.notes; passing = c.store_frame.new.run } in
     let e = c.store_frame.ensures in
     let stores : Stores a k n = record { events = e.events; noted = e.noted; none = e.none; places = e.places; capacity = e.capacity } in
-    gains_stored a k c.args.self.now n (event.Read (reading.Frame c.args.frame.now)) c.self.view_is stores c.requires refl (rw (c.of-bytes.ensures ∙ c.bytes.ensures.value, c.id.ensures) refl)
+    gains_stored a k c.args.self.now n (event.Read c.args.station (reading.Frame c.args.frame.now)) c.self.view_is stores c.requires refl (rw (c.of-bytes.ensures ∙ c.bytes.ensures.value, c.id.ensures) refl)

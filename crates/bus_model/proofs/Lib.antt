@@ -26,3 +26,4 @@ pub mod Whose
 pub mod Marks
 pub mod Rows
 pub mod Names
+pub mod Only

@@ -6,7 +6,7 @@ use Rattle.dm_messages.specs.declared.kind.Kind.TheVariants.{Dm2}
 use Rattle.parameter_group.specs.Group.{group_of}
 use Rattle.transport.specs.Messages.{control_frame}
 use Rattle.transport.specs.declared.control.Control.TheVariants.{Cts}
-use Rattle.bus_model.specs.Example.{ShowsAtSecondAlone, faulty_memory, two_stations}
+use Rattle.bus_model.specs.Example.{ContestsAddress, ShowsAtSecondAlone, faulty_memory, two_at_one_address, two_stations}
 use Rattle.bus_model.specs.Heard.{address_heard}
 use Rattle.bus_model.specs.Machine.{Ask, Begins, Carry, Carry_station, Event, Sends, Hear, Join, Nothing, Read, Run, World, start}
 use Rattle.bus_model.specs.Messages.{IsProper, frame_of_part, last_part_of, payload_sent, way_of}
@@ -31,3 +31,12 @@ another_address e = absurd (omega (arith, e))
 pub at_second_run : (w : World) × Run (start two_stations) at_second w × ShowsAtSecondAlone w
 unfolding group_of way_of payload_sent frame_of_part last_part_of address_heard
 at_second_run = (_, (_, ((refl, λ x s h. cc h.0), small_5, zero_holds, refl), (_, (_, _, [], (refl, refl), refl, refl, refl), (_, (_, _, [], refl, refl, tt, refl), (_, (_, _, [], refl, refl, tt, refl), (_, (_, _, [], refl, refl, refl, refl), (_, (_, _, [], (refl, refl), refl, (record { uncontested = refl; uncut = refl }), refl), (_, (_, _, [], refl, refl, tt, refl), (_, (_, _, [], refl, refl, refl, refl), (_, (_, _, [], refl, refl, tt, refl), (_, (_, _, [], (refl, refl), refl, (record { uncontested = refl; uncut = refl }), refl), (_, (_, refl, (λ l. refl, tt), refl), (_, (_, _, [], refl, refl, refl, refl), (_, (_, _, [], refl, refl, tt, refl), (_, (_, _, [], (refl, refl), refl, ((record { uncontested = refl; uncut = refl }), refl, proper_session _ _ _, tt, (refl, another_address, refl)), refl), (_, (_, _, [], (refl, refl), refl, refl, refl), (_, (_, _, [], refl, refl, tt, refl), (_, (_, _, [], refl, refl, (tt, tt), refl), (_, (_, _, [], refl, refl, refl, refl), (_, (_, _, [], refl, refl, tt, refl), (_, (_, _, [], (refl, refl), refl, ((record { uncontested = refl; uncut = refl }), (_, refl, two_of_two)), refl), (_, (_, _, (_ ∷ []), (refl, refl), refl, refl, refl), (_, (_, _, [], refl, refl, tt, refl), (_, (_, _, [], refl, refl, tt, refl), (_, (_, _, [], (refl, refl), refl, refl, refl), (_, (_, _, [], refl, refl, tt, refl), (_, (_, _, [], refl, refl, tt, refl), refl)))))))))))))))))))))))))), record { one = _; two = _; first = refl; second = refl; nothing = refl; session = refl })
+
+-- ---- two stations at one address
+
+abbrev pub contest : List Event
+contest = Carry_station 0 ∷ Read 1 [] ∷ Carry_station 1 ∷ Read 0 [] ∷ []
+
+pub contest_run : (w : World) × Run (start two_at_one_address) contest w × ContestsAddress w
+unfolding group_of address_heard
+contest_run = (_, (_, (_, _, [], refl, refl, refl, refl), (_, (_, _, [], refl, refl, tt, refl), (_, (_, _, [], refl, refl, refl, refl), (_, (_, _, [], refl, refl, tt, refl), refl)))), record { one = _; two = _; first = refl; second = refl; kept = refl; lost = refl })

@@ -1,11 +1,11 @@
--- What three runs of the machine show: with one station an entry in each way, none for a message with a gap inside, and one after a
--- takeover; with two a session that one of them asked for.
-use Rattle.std.specs.Prelude.{◌≡◌, List, [], ◌∷◌, length}
+-- What four runs of the machine show: with one station an entry in each way, none for a message with a gap inside, and one after a
+-- takeover; with two a session that one of them asked for, and who holds an address that both claimed.
+use Rattle.std.specs.Prelude.{◌≡◌, List, [], ◌∷◌, None, Some, length}
 use Rattle.trouble_code.specs.Code.{code}
 use Rattle.fault_memory.specs.Memory.{MemoryValue, new_memory}
 use Rattle.dm_messages.specs.declared.kind.Kind.TheVariants.{Dm1, Dm2}
 use Rattle.dm_messages.specs.View.{view}
-use Rattle.bus_model.specs.Heard.{StationSettings, entries_heard}
+use Rattle.bus_model.specs.Heard.{StationSettings, address_heard, entries_heard}
 use Rattle.bus_model.specs.Expected.{readings}
 use Rattle.bus_model.specs.Machine.{IsAt, Station, World}
 
@@ -19,6 +19,10 @@ one_station = example_settings ∷ []
 
 abbrev pub two_stations : List StationSettings
 two_stations = example_settings ∷ record { name = 2; address = 250 } ∷ []
+
+-- both claim one address
+abbrev pub two_at_one_address : List StationSettings
+two_at_one_address = record { name = 1; address = 249 } ∷ record { name = 2; address = 249 } ∷ []
 
 -- two active codes and two previous ones, so each of its views takes two packets
 abbrev pub faulty_memory : MemoryValue
@@ -48,3 +52,12 @@ pub record ShowsAtSecondAlone (w : World) : Type 0 where
   pub second : IsAt w 1 two
   pub nothing : entries_heard one.settings 5 Dm2 (readings one.path) ≡ []
   pub session : entries_heard two.settings 5 Dm2 (readings two.path) ≡ view Dm2 faulty_memory ∷ []
+
+-- of two stations that claimed 249 the one of the lower NAME holds it, and the other holds none
+pub record ContestsAddress (w : World) : Type 0 where
+  pub one : Station
+  pub two : Station
+  pub first : IsAt w 0 one
+  pub second : IsAt w 1 two
+  pub kept : address_heard one.settings (readings one.path) ≡ Some 249
+  pub lost : address_heard two.settings (readings two.path) ≡ None

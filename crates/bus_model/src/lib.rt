@@ -1,21 +1,21 @@
 //! The law of the stations' lists: what they must be, and that they are, over every list of events.
 #![tactic(auto)]
 
-ghost use Rattle.std.specs.Prelude.{◌≡◌, ℕ, ◌+◌, List, length, slice_get, ◌∷◌, ◌++◌, ◌↔◌, Some, IsSome, true};
+ghost use Rattle.std.specs.Prelude.{◌≡◌, ℕ, ◌+◌, List, [], length, slice_get, ◌∷◌, ◌++◌, ◌↔◌, Some, IsSome, true};
 ghost use Rattle.dm_messages.specs.declared.kind.Kind.{Kind};
 ghost use Rattle.dm_messages.specs.declared.shown.Shown.{Shown};
 ghost use Rattle.bus_model.specs.Messages.{Message, IsAmong};
 ghost use Rattle.bus_model.specs.Traffic.{Tag, Item, claimed_by};
 ghost use Rattle.bus_model.specs.LawfulTraffic.{IsLawfulTraffic};
 ghost use Rattle.can_frame.specs.declared.reading.Reading.{Reading};
-ghost use Rattle.bus_model.specs.Heard.{StationSettings, Entry, AckHeard, ack_in_row, address_known, counted, ended, entries_heard, is_unreadable, missed_count, names_heard, owner_heard, row_heard, unread_count};
+ghost use Rattle.bus_model.specs.Heard.{StationSettings, Entry, AckHeard, ack_in_row, address_heard, address_known, counted, ended, entries_heard, is_unreadable, missed_count, names_heard, owner_heard, row_heard, unread_count};
 ghost use Rattle.bus_model.specs.RowsLookBack.{AreNames, IsKnownAt, IsLastAnswer, WasNamed, gap_of, moments};
 ghost use Rattle.std.specs.List.{count_by, sum_by};
 ghost use Rattle.bus_model.specs.LookBack.{IsOwner, EndsMessage};
-ghost use Rattle.bus_model.specs.Expected.{expected, readings, is_clear};
+ghost use Rattle.bus_model.specs.Expected.{Reception, Received, expected, is_clear, is_for, readings};
 ghost use Rattle.bus_model.specs.ClearPath.{IsOnClearPath, NoneMissed};
 ghost use Rattle.bus_model.specs.Whole.{received_whole};
-ghost use Rattle.bus_model.specs.Example.{one_station, two_stations, ShowsEachWay, ShowsAfterTakeover, ShowsAtSecondAlone};
+ghost use Rattle.bus_model.specs.Example.{one_station, two_at_one_address, two_stations, ContestsAddress, ShowsEachWay, ShowsAfterTakeover, ShowsAtSecondAlone};
 ghost use Rattle.bus_model.specs.Machine.{World, Seat, Station, IsAt, Event, AreFit, IsFit, Step, Run, start};
 ghost use Rattle.bus_model.specs.Marks.{IsMarkedBy};
 ghost use Rattle.bus_model.specs.Whose.{IsFromItsSeat};
@@ -77,6 +77,13 @@ pub fn clear_path_looks_back()
         → (is_clear s.settings m s.path ≡ true) ↔ IsOnClearPath s.settings m s.path }
 {}
 
+/// Where there is one station, each message of which it receives the first frame goes to all, or to the address that it then holds. So of
+/// such a station a clear path need not ask for that.
+pub fn meant_for_the_only_station()
+    ensures { (settings : StationSettings) → IsFit settings → (events : List Event) (w : World) → Run (start (settings ∷ [])) events w → (y : ℕ) (s : Station) → IsAt w y s → (after before : List Reception) (e : Item) (t : Tag)
+        → s.path ≡ after ++ Received e ∷ before → e.tag ≡ Some t → t.part ≡ 0 → is_for (address_heard s.settings (readings before)) t.message ≡ true }
+{}
+
 /// Look-back form of an owner: over any list of readings it is the NAME in the address's last claim, with no gap since.
 pub fn owner_looks_back()
     ensures { (a n : ℕ) (readings : List Reading) → (owner_heard a readings ≡ Some n) ↔ IsOwner a n readings }
@@ -110,9 +117,11 @@ pub fn counts_look_back()
 
 /// The machine is not empty: one run shows an entry by a single frame, one by a broadcast of two packets and one by a
 /// session; another shows none for a message with a gap inside, and one after a takeover of the address. In a third, with two stations, a
-/// session that the second asked for is shown there, and not at the first.
+/// session that the second asked for is shown there, and not at the first. In a fourth two stations contest an address, and the one of
+/// the lower NAME keeps it.
 pub fn machine_is_not_empty()
     ensures each_way { (events : List Event) × (w : World) × Run (start one_station) events w × ShowsEachWay w }
     ensures after_takeover { (events : List Event) × (w : World) × Run (start one_station) events w × ShowsAfterTakeover w }
     ensures at_second_alone { (events : List Event) × (w : World) × Run (start two_stations) events w × ShowsAtSecondAlone w }
+    ensures contested { (events : List Event) × (w : World) × Run (start two_at_one_address) events w × ContestsAddress w }
 {}

@@ -67,7 +67,7 @@ impl Desk {
         Ok(())
     }
 
-    /// Runs rounds, so many at most: each unit hears all that it has not heard, the station reads all, and one frame is carried.
+    /// Runs rounds, so many at most: each unit hears all that it has not heard, the stations read all, and one frame is carried.
     pub fn round(&mut self, garage: &mut Garage, most: u32) -> Result<Rounds, GarageError> {
         garage.round(self.alloc, &mut self.units, most)
     }

@@ -9,8 +9,9 @@ use crate::kinds::Simulated;
 use crate::listener::{Answers, Listener};
 use crate::refusal::Refusal;
 use crate::workshop::Workshop;
-use garage::{Garage, GarageError};
-use script_line::{Command, read_command};
+use garage::{Garage, GarageError, Setting};
+use name_field::NameError;
+use script_line::{Command, Line, StationWords, read_line};
 use std::alloc::Global;
 use std::io::{BufWriter, Read, Write};
 use std::str::Lines;
@@ -52,13 +53,16 @@ pub fn answer_lines<L: Listener>(alloc: Global, text: &str, listener: &mut L) ->
         if listener.passes(line) {
             continue;
         }
-        let command = read_command(line);
-        let answered = match &command {
+        let read = read_line(line);
+        let answered = match &read {
             Some(
-                Command::Join {
-                    name: Ok(name),
-                    address,
-                    kind,
+                Line {
+                    command: Command::Join {
+                        name: Ok(name),
+                        address,
+                        kind,
+                    },
+                    ..
                 },
             ) => {
                 // Only here, where the workshop is owned, may a unit of a kind become one of any kind.
@@ -68,7 +72,7 @@ pub fn answer_lines<L: Listener>(alloc: Global, text: &str, listener: &mut L) ->
                 };
                 listener.put(joined)
             }
-            Some(command) => workshop.answer(command, listener),
+            Some(line) => workshop.answer(line, listener),
             None => listener.put(Err(Refusal::BadLine)),
         };
         heard = listener.hear(line, true, answered);
@@ -111,8 +115,8 @@ fn answer_before<L: Listener>(
     line: &str,
     listener: &mut L,
 ) -> Result<Option<Workshop>, Unwritten> {
-    let made = match read_command(line) {
-        Some(command) => garage_of(alloc, command),
+    let made = match read_line(line) {
+        Some(read) => garage_of(alloc, read.command),
         None => Err(Refusal::BadLine),
     };
     match made {
@@ -146,6 +150,31 @@ fn garage_of(alloc: Global, command: Command) -> Result<Garage, Refusal> {
             let name = name?;
             Ok(Garage::new(alloc, name, address, window, grant, limit)?)
         }
+        Command::Garage2 {
+            first,
+            second,
+            limit,
+        } => {
+            let first = setting_of(first)?;
+            let second = setting_of(second)?;
+            Ok(Garage::with_two(alloc, first, second, limit)?)
+        }
         _ => Err(Refusal::BadLine),
     }
+}
+
+/// How words want a station opened.
+fn setting_of(words: StationWords) -> Result<Setting, NameError> {
+    let StationWords {
+        name,
+        address,
+        window,
+        grant,
+    } = words;
+    Ok(Setting {
+        name: name?,
+        address,
+        window,
+        grant,
+    })
 }

@@ -5,7 +5,7 @@ ghost use Rattle.bench.specs.Input.{input_limit};
 use crate::fault::Fault;
 use crate::input::{read_input, text_of};
 use crate::kinds::Simulated;
-use garage::{Garage, GarageError, Snapshot};
+use garage::{Garage, GarageError, Setting};
 use journal::Tally;
 use std::alloc::Global;
 use std::io;
@@ -14,7 +14,7 @@ use std::sync::Wait;
 use std::thread::Threads;
 use unit_threads::{Ended, Gate, Ran, run};
 use unit_trait::Unit;
-use vehicle::{Station, UnitLine, Vehicle, read_vehicle};
+use vehicle::{Second, Station, UnitLine, Vehicle, read_vehicle};
 
 /// More units than this a run cannot number. No input of the greatest size has so many.
 const MOST_UNITS: usize = 4_294_967_295;
@@ -26,8 +26,8 @@ impl Gate for Open {
     fn before_turn<R: Wait>(&self, _rt: &R, _unit: u32, _turn: u32) {}
 }
 
-/// Reads a vehicle and runs each of its units in a thread of its own, while the station reads in this one. Then it writes
-/// how each unit ended, a line each, and the station's report where that is wanted.
+/// Reads a vehicle and runs each of its units in a thread of its own, while the stations read in this one. Then it writes
+/// how each unit ended, a line each, and where that is wanted the report of each station.
 ///
 /// The whole input is read first. It returns only if the threads do.
 ///
@@ -35,7 +35,7 @@ impl Gate for Open {
 /// - `Read`: a read failed.
 /// - `InputTooLong`, `NotUtf8`, `Vehicle`: the input is refused, looked at in this order; nothing was written.
 /// - `Write`: a line could not be written.
-/// - `Memory`: memory was refused outside of a unit's thread and of the station's readings.
+/// - `Memory`: memory was refused outside of a unit's thread and of the stations' readings.
 pub fn threads<R: Threads + Wait + Sync, I: Read, W: Write>(
     rt: &R,
     alloc: Global,
@@ -49,7 +49,7 @@ pub fn threads<R: Threads + Wait + Sync, I: Read, W: Write>(
     ensures too_long { result ≡ Err Fault.InputTooLong → IfSome (I.remaining reader.old) (λ bytes. input_limit < length bytes) }
 {
     let vehicle = vehicle_of(alloc, reader)?;
-    let garage = garage_of(alloc, vehicle.station)?;
+    let garage = garage_of(alloc, vehicle.station, vehicle.second)?;
     let units = vehicle.units.as_slice();
     let (garage, ran) = run_units(rt, alloc, garage, units, turns, reads)?;
     write_run(alloc, writer, &garage, ran.ended.as_slice(), report)
@@ -69,8 +69,8 @@ fn vehicle_of<I: Read>(alloc: Global, reader: &mut I) -> Result<Vehicle, Fault>
     Ok(vehicle)
 }
 
-/// The garage of a vehicle's station.
-fn garage_of(alloc: Global, station: Station) -> Result<Garage, Fault>
+/// The garage of a vehicle's station, and of a second one where there is one.
+fn garage_of(alloc: Global, station: Station, second: Option<Second>) -> Result<Garage, Fault>
     ensures { IfErr result (λ fault. (fault ≡ Fault.Memory) ⊎ (fault ≡ Fault.Vehicle)) }
 {
     let Station {
@@ -80,10 +80,38 @@ fn garage_of(alloc: Global, station: Station) -> Result<Garage, Fault>
         grant,
         limit,
     } = station;
-    match Garage::new(alloc, name, address, window, grant, limit) {
+    let opened = match second {
+        None => Garage::new(alloc, name, address, window, grant, limit),
+        Some(second) => {
+            let first = Setting {
+                name,
+                address,
+                window,
+                grant,
+            };
+            Garage::with_two(alloc, first, setting_of(second), limit)
+        }
+    };
+    match opened {
         Ok(garage) => Ok(garage),
         Err(GarageError::OutOfMemory) => Err(Fault::Memory),
         Err(_) => Err(Fault::Vehicle),
+    }
+}
+
+/// How a second station is opened.
+fn setting_of(second: Second) -> Setting {
+    let Second {
+        name,
+        address,
+        window,
+        grant,
+    } = second;
+    Setting {
+        name,
+        address,
+        window,
+        grant,
     }
 }
 
@@ -108,7 +136,7 @@ fn run_units<R: Threads + Wait + Sync>(
     Ok((garage, ran?))
 }
 
-/// Writes how each unit ended, and the station's report where that is wanted.
+/// Writes how each unit ended, and where that is wanted the report of each station.
 fn write_run<W: Write>(
     alloc: Global,
     writer: &mut W,
@@ -122,13 +150,10 @@ fn write_run<W: Write>(
         return Err(Fault::Memory);
     };
     write_ends(&mut writer, garage, ended)?;
-    if !report {
-        return flush(&mut writer);
+    if report {
+        write_reports(alloc, &mut writer, garage)?;
     }
-    let Ok(snapshot) = garage.snapshot(alloc) else {
-        return Err(Fault::Memory);
-    };
-    write_report(&mut writer, &snapshot)
+    flush(&mut writer)
 }
 
 /// Writes a line for the end of each unit.
@@ -164,14 +189,19 @@ fn write_end<W: Write>(
     )
 }
 
-/// Writes what the station knows, and all that is still to be written.
-fn write_report<W: Write>(writer: &mut W, snapshot: &Snapshot) -> Result<(), Fault>
-    ensures { IfErr result (λ fault. fault ≡ Fault.Write) }
+/// Writes what each station knows, in their order.
+fn write_reports<W: Write>(alloc: Global, writer: &mut W, garage: &Garage) -> Result<(), Fault>
+    ensures { IfErr result (λ fault. (fault ≡ Fault.Write) ⊎ (fault ≡ Fault.Memory)) }
 {
-    if report::write(snapshot, writer).is_err() {
-        return Err(Fault::Write);
+    for station in 0..garage.stations() {
+        let Ok(snapshot) = garage.snapshot_at(alloc, station) else {
+            return Err(Fault::Memory);
+        };
+        if report::write(&snapshot, writer).is_err() {
+            return Err(Fault::Write);
+        }
     }
-    flush(writer)
+    Ok(())
 }
 
 /// Writes all that is still to be written.

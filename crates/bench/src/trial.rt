@@ -9,7 +9,7 @@ use crate::refusal::Refusal;
 use crate::workshop::Workshop;
 use candump_line::{Time, write_line};
 use command_line::LogWords;
-use script_line::{Words, is_silent, read_number, reason};
+use script_line::{Line, Words, is_silent, read_line, read_number, reason};
 use std::alloc::Global;
 use std::io;
 use std::io::Write;
@@ -170,10 +170,12 @@ fn write_bad_line<W: Write>(writer: &mut W, line: &str, has_garage: bool) -> io:
     if let Some(why) = reason(line) {
         return writeln!(writer, "{why}");
     }
-    if has_garage {
-        writeln!(writer, "there is a garage already")
-    } else {
-        writeln!(writer, "no garage yet: it comes first")
+    if !has_garage {
+        return writeln!(writer, "no garage yet: it comes first");
+    }
+    match read_line(line) {
+        Some(Line { station, .. }) if station > 0 => writeln!(writer, "no station {station}"),
+        _ => writeln!(writer, "there is a garage already"),
     }
 }
 

@@ -1,3 +1,5 @@
+ghost use Rattle.std.specs.Prelude.{◌<◌, length};
+
 use crate::answer::{Answer, End, Unwritten};
 use crate::desk::Desk;
 use crate::listener::Listener;
@@ -6,7 +8,7 @@ use crate::task::Task;
 use bus_ledger::Carried;
 use can_frame::{Frame, PgnTooLarge, Reading};
 use garage::{Garage, GarageError};
-use script_line::{Asked, Command, Receiver};
+use script_line::{Asked, Command, Line, Receiver};
 use station_table::Ask;
 use std::alloc::Global;
 use unit_trait::Unit;
@@ -62,30 +64,39 @@ impl Workshop {
         self.garage.wire_frame(index)
     }
 
-    /// Carries a command out, and answers it.
-    pub fn answer<L: Listener>(
-        &mut self,
-        command: &Command,
-        listener: &mut L,
-    ) -> Result<(), Unwritten> {
+    /// Carries the command of a line out, and answers it. One of a station that is not there is refused, and nothing is done.
+    pub fn answer<L: Listener>(&mut self, line: &Line, listener: &mut L) -> Result<(), Unwritten> {
+        let Line { station, command } = line;
+        if *station >= self.garage.stations() {
+            return listener.put(Err(Refusal::BadLine));
+        }
         match command {
-            Command::Shown { name: Ok(_), .. } | Command::Report => self.tell(command, listener),
-            command => listener.put(self.carry_out(command)),
+            Command::Shown { name: Ok(_), .. } | Command::Report => {
+                self.tell(*station, command, listener)
+            }
+            command => listener.put(self.carry_out(*station, command)),
         }
     }
 
-    /// Writes what the station shows of a NAME, or its report.
+    /// Writes what a station shows of a NAME, or its report.
     #[inline(never)]
-    fn tell<L: Listener>(&self, command: &Command, listener: &mut L) -> Result<(), Unwritten> {
+    fn tell<L: Listener>(
+        &self,
+        station: u32,
+        command: &Command,
+        listener: &mut L,
+    ) -> Result<(), Unwritten>
+        requires { station < length self.now.garage.settings.stations }
+    {
         if let Command::Shown {
             name: Ok(name),
             kind,
         } = command
         {
-            report::write_shown(self.garage.shown(*name, *kind), listener)?;
+            report::write_shown(self.garage.shown_at(station, *name, *kind), listener)?;
             return Ok(());
         }
-        match self.garage.snapshot(self.alloc) {
+        match self.garage.snapshot_at(self.alloc, station) {
             Ok(snapshot) => {
                 report::write(&snapshot, listener)?;
                 Ok(())
@@ -94,24 +105,28 @@ impl Workshop {
         }
     }
 
-    fn carry_out(&mut self, command: &Command) -> Result<Answer, Refusal> {
+    /// Carries a command out; one of a station has this station do it.
+    fn carry_out(&mut self, station: u32, command: &Command) -> Result<Answer, Refusal>
+        requires { station < length self.old.garage.settings.stations }
+    {
         match command {
             Command::Carry { most } => self.carry(*most),
-            Command::Read { most } => Ok(Answer::Read(self.read(*most)?)),
+            Command::Read { most } => Ok(Answer::Read(self.read(station, *most)?)),
             Command::Round { count } => Ok(self.round(*count)?),
-            Command::Ask { receiver, asked } => self.ask(*receiver, *asked),
+            Command::Ask { receiver, asked } => self.ask(station, *receiver, *asked),
             Command::Command { name, address } => {
-                self.garage.command(self.alloc, (*name)?, *address)?;
+                self.garage
+                    .command_at(self.alloc, station, (*name)?, *address)?;
                 Ok(Answer::Done)
             }
-            Command::Row { name } => Ok(Answer::Row(self.garage.row((*name)?))),
+            Command::Row { name } => Ok(Answer::Row(self.garage.row_at(station, (*name)?))),
             Command::Counts { seat } => match self.garage.counts(*seat) {
                 Some(counts) => Ok(Answer::Counts(counts)),
                 None => Err(Refusal::NoSeat),
             },
             Command::Stats => Ok(Answer::Stats {
-                missed: self.garage.missed(),
-                unread: self.garage.unread(),
+                missed: self.garage.missed_at(station),
+                unread: self.garage.unread_at(station),
             }),
             Command::Inject { frame } => {
                 self.garage.inject((*frame)?)?;
@@ -130,13 +145,16 @@ impl Workshop {
         }
     }
 
-    /// Has the station ask a unit, or all.
-    fn ask(&mut self, receiver: Receiver, asked: Asked) -> Result<Answer, Refusal> {
+    /// Has a station ask a unit, or all.
+    fn ask(&mut self, station: u32, receiver: Receiver, asked: Asked) -> Result<Answer, Refusal>
+        requires { station < length self.old.garage.settings.stations }
+    {
         match receiver {
-            Receiver::All => self.garage.ask_all(self.alloc, ask_of(asked)?)?,
+            Receiver::All => self.garage.ask_all_at(self.alloc, station, ask_of(asked)?)?,
             Receiver::Unit { name } => {
                 let name = name?;
-                self.garage.ask(self.alloc, name, ask_of(asked)?)?;
+                self.garage
+                    .ask_at(self.alloc, station, name, ask_of(asked)?)?;
             }
         }
         Ok(Answer::Done)
@@ -162,10 +180,13 @@ impl Workshop {
         Ok(end_of(Some(self.garage.carry()?)))
     }
 
-    /// Has the station read until nothing is unread, at most so often; tells how often.
-    fn read(&mut self, most: u32) -> Result<u32, GarageError> {
+    /// Has a station read until nothing is unread, at most so often; tells how often.
+    #[tactic(auto, using(crate::proofs::Stations::still_there))]
+    fn read(&mut self, station: u32, most: u32) -> Result<u32, GarageError>
+        requires { station < length self.old.garage.settings.stations }
+    {
         for count in 0..most {
-            match self.garage.read(self.alloc)? {
+            match self.garage.read_at(self.alloc, station)? {
                 Reading::Empty => return Ok(count),
                 Reading::Frame(_) | Reading::Gap(_) => {}
             }

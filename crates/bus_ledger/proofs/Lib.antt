@@ -1,10 +1,12 @@
 pub mod Numbers
 pub mod Queues
 pub mod Windows
+pub mod Taps
 pub mod Seats
 pub mod Live
 pub mod Offering
 pub mod Sounds
 pub mod Names
 pub mod Kept
+pub mod Opening
 pub mod Ledgers

@@ -1,5 +1,5 @@
 -- What a change of one seat does to the value of a bus.
-use Rattle.std.proofs.Common.{ℕ, suc, zero, ◌≡◌, ◌≢◌, ◌+◌, ◌<◌, ◌≤◌, List, [], ◌∷◌, map, length, get_or, set, drop, Bool, true, false, Some, Result, Ok, Err, OnOk, IfErr, refl, sym, ap, ◌∙◌, subst, arith, inl, inr, ◌-◌, nat_lt, if◌then◌else◌, length-append}
+use Rattle.std.proofs.Common.{ℕ, suc, zero, ◌≡◌, ◌≢◌, ◌+◌, ◌<◌, ◌≤◌, ◌^◌, List, [], ◌∷◌, map, length, get_or, set, drop, Bool, true, false, Some, Result, Ok, Err, OnOk, IfErr, refl, sym, ap, ◌∙◌, subst, arith, inl, inr, ◌-◌, nat_lt, if◌then◌else◌, length-append}
 use Rattle.std.proofs.lemmas.List.{map-set, length-set, length-drop, length-map, get_or_read, get_or-set_same, get_or-set_other, set-get_or, drop-drop}
 use Rattle.std.proofs.lemmas.List.Elements.{All-drop}
 use Rattle.std.specs.List.{All}
@@ -15,12 +15,13 @@ use Rattle.bus_ledger.specs.Ledger.{IsBalanced, IsSound}
 use Rattle.bus_ledger.specs.Reception.{not_yet_read, first_reading, next_reading, passes, window_at}
 use Rattle.can_frame.specs.declared.reading.Reading.{Reading}
 use Rattle.can_frame.specs.declared.reading.Reading.TheVariants.{Frame, Gap, Empty}
-use Rattle.bus_ledger.specs.Inside.{seat_of, spare_of, traffic_of, bus_value_of, live_numbers, IsKept}
+use Rattle.bus_ledger.specs.Inside.{seat_of, spare_of, traffic_of, tap_at, bus_value_of, live_numbers, IsKept}
 use Rattle.bus_ledger.specs.declared.bus.Bus.TheInside.{Inside}
 use Rattle.bus_ledger.specs.declared.traffic.CarriedFrame.{CarriedFrame}
-use Rattle.bus_ledger.specs.Window.{WindowValue, window_of, rest_of}
+use Rattle.bus_ledger.specs.Window.{WindowValue, no_window, size_of, window_in, window_of, reading_of, rest_of}
 use Rattle.bus_ledger.proofs.Numbers.{same_or_not}
-use Rattle.bus_ledger.proofs.Windows.{window_set, window_rest, rest_size}
+use Rattle.bus_ledger.proofs.Windows.{window_reading, window_set, window_rest, rest_size}
+use Rattle.bus_ledger.proofs.Taps.{set_sizes, stations_are, station_within, tap_is}
 use Rattle.bus_ledger.proofs.Live.{live_set}
 use Rattle.bus_ledger.proofs.Sounds.{live_within}
 use Rattle.bus_ledger.proofs.Queues.{kept_fewer}
@@ -40,6 +41,7 @@ pub sound_set : (t : Traffic) (k : ℕ) (y : SeatValue) → IsSound t → k < le
     → (IsStation t k → y.live ≡ true) → (IsBalanced t.wire k (seat_at t k) → IsBalanced t.wire k y) → IsSound (with_seat t k y)
 sound_set t k y s in' live balanced = record {
   some = s.some;
+  few = s.few;
   stations = λ i h. elim (same_or_not i k) [
     | inl e ↦ let here : i < length t.seats = omega arith in rw (← e, get_or-set_same) (live (subst (IsStation t) e h))
     | inr n ↦ rw get_or-set_other (s.stations i h)
@@ -56,7 +58,7 @@ sound_set t k y s in' live balanced = record {
 
 -- a bus in whose list of seats one is replaced
 abbrev pub placed : Inside → ℕ → SeatBook → Inside
-placed a k y = record { wire = a.wire; seats = with_item a.seats k y; live = a.live; tap = a.tap }
+placed a k y = record { wire = a.wire; seats = with_item a.seats k y; live = a.live; taps = a.taps }
 
 pub within : (a : Inside) (v : BusValue) (k : ℕ) → bus_value_of a ≡ v → k < length v.traffic.seats → k < length a.seats.items
 within a v k is h =
@@ -76,7 +78,7 @@ spare_is a v k x is in' read =
 
 pub placed_traffic : (a : Inside) (v : BusValue) (k : ℕ) (y : SeatBook) (s : SeatValue) → bus_value_of a ≡ v → y.seat ≡ s → traffic_of (placed a k y) ≡ with_seat v.traffic k s
 placed_traffic a v k y s is e =
-    ap (λ (l : List SeatValue). let t : Traffic = record { wire = a.wire.items; seats = l; windows = a.tap.size ∷ [] } in t) (map-set seat_of a.seats.items k y)
+    ap (λ (l : List SeatValue). let t : Traffic = record { wire = a.wire.items; seats = l; windows = map size_of a.taps.items } in t) (map-set seat_of a.seats.items k y)
     ∙ (ap (λ (z : SeatValue). with_seat (traffic_of a) k z) e ∙ ap (λ (b : BusValue). with_seat b.traffic k s) is)
 
 -- a seat replaced by itself
@@ -110,7 +112,7 @@ placed_sound : (a : Inside) (k : ℕ) (x y : SeatBook) → IsKept a → k < leng
 placed_sound a k x y kept in' read live balanced =
     let s = seat_is a (bus_value_of a) k x refl in' read in
     let in'' : k < length (map seat_of a.seats.items) = rw length-map in' in
-    subst (λ (l : List SeatValue). IsSound (record { wire = a.wire.items; seats = l; windows = a.tap.size ∷ [] })) (sym (map-set seat_of a.seats.items k y))
+    subst (λ (l : List SeatValue). IsSound (record { wire = a.wire.items; seats = l; windows = map size_of a.taps.items })) (sym (map-set seat_of a.seats.items k y))
     (sound_set (traffic_of a) k y.seat kept.sound in''
     (λ station. live ∙ (ap (λ (b : SeatValue). b.live) s ∙ kept.sound.stations k station))
     (λ b. balanced (subst (λ (v : SeatValue). IsBalanced a.wire.items k v) (sym s) b)))
@@ -120,17 +122,17 @@ placed_live : (a : Inside) (k : ℕ) (x y : SeatBook) → IsKept a → k < lengt
 placed_live a k x y kept in' read live =
     kept.live ∙ sym (live_set 0 a.seats.items k y (live ∙ ap (λ (b : SeatBook). b.seat.live) (get_or_read a.seats.items k x in' read no_book)))
 
--- a bus stays in order where one seat is replaced by one as live, which is balanced; the station's has heard as much
+-- a bus stays in order where one seat is replaced by one as live, which is balanced; a station's has heard as much
 pub placed_kept : (a : Inside) (k : ℕ) (x y : SeatBook) → IsKept a → k < length a.seats.items → x ≡ get_or a.seats.items k x
-    → y.seat.live ≡ x.seat.live → (k ≡ 0 → y.seat.heard ≡ x.seat.heard) → (IsBalanced a.wire.items k x.seat → IsBalanced a.wire.items k y.seat) → IsKept (placed a k y)
+    → y.seat.live ≡ x.seat.live → (IsStation (traffic_of a) k → y.seat.heard ≡ x.seat.heard) → (IsBalanced a.wire.items k x.seat → IsBalanced a.wire.items k y.seat) → IsKept (placed a k y)
 placed_kept a k x y kept in' read live heard balanced =
     let s = seat_is a (bus_value_of a) k x refl in' read in
     let in'' : k < length (map seat_of a.seats.items) = rw length-map in' in
-    let same : k ≡ 0 → y.seat.heard ≡ (seat_at (traffic_of a) 0).heard =
-    λ z. heard z ∙ (ap (λ (b : SeatValue). b.heard) s ∙ ap (λ (n : ℕ). (seat_at (traffic_of a) n).heard) z) in
+    let same : (i : ℕ) → IsStation (traffic_of a) i → k ≡ i → y.seat.heard ≡ (seat_at (traffic_of a) i).heard =
+    λ i h z. heard (subst (IsStation (traffic_of a)) (sym z) h) ∙ (ap (λ (b : SeatValue). b.heard) s ∙ ap (λ (n : ℕ). (seat_at (traffic_of a) n).heard) z) in
     record {
       sound = placed_sound a k x y kept in' read live balanced;
-      tap = kept.tap ∙ sym (ap (λ (t : Traffic). window_of t 0) (placed_traffic a (bus_value_of a) k y y.seat refl refl) ∙ window_set 0 (traffic_of a) k y.seat in'' same);
+      taps = λ i h. kept.taps i h ∙ sym (ap (λ (t : Traffic). window_of t i) (placed_traffic a (bus_value_of a) k y y.seat refl refl) ∙ window_set i (traffic_of a) k y.seat in'' (same i (let n = stations_are a (bus_value_of a) refl in omega arith)));
       live = placed_live a k x y kept in' read live;
       few_seats = rw (length-set a.seats.items k y) kept.few_seats;
       few_frames = kept.few_frames;
@@ -156,8 +158,9 @@ pub changed_spares : (a : Inside) (v : BusValue) (k : ℕ) (x y : SeatBook) → 
 changed_spares a v k x y is h read grows = placed_spares a v k x y is (within a v k is h) read grows
 
 pub changed_kept : (a : Inside) (v : BusValue) (k : ℕ) (x y : SeatBook) → bus_value_of a ≡ v → IsKept a → k < length v.traffic.seats → x ≡ get_or a.seats.items k x
-    → y.seat.live ≡ x.seat.live → (k ≡ 0 → y.seat.heard ≡ x.seat.heard) → (IsBalanced a.wire.items k x.seat → IsBalanced a.wire.items k y.seat) → IsKept (placed a k y)
-changed_kept a v k x y is kept h read live heard balanced = placed_kept a k x y kept (within a v k is h) read live heard balanced
+    → y.seat.live ≡ x.seat.live → (IsStation v.traffic k → y.seat.heard ≡ x.seat.heard) → (IsBalanced a.wire.items k x.seat → IsBalanced a.wire.items k y.seat) → IsKept (placed a k y)
+changed_kept a v k x y is kept h read live heard balanced =
+    placed_kept a k x y kept (within a v k is h) read live (λ st. heard (subst (λ (b : BusValue). IsStation b.traffic k) is st)) balanced
 
 pub hear_kept : (a : Inside) (v : BusValue) (k n : ℕ) (x y : SeatBook) → bus_value_of a ≡ v → IsKept a → k < length v.traffic.seats → x ≡ get_or a.seats.items k x
     → y.seat ≡ hearing n x.seat → length v.traffic.windows ≤ k → (seat_at v.traffic k).heard + n ≤ length v.traffic.wire → IsKept (placed a k y)
@@ -165,7 +168,6 @@ hear_kept a v k n x y is kept h read e unit bound =
     let s = seat_is a v k x is (within a v k is h) read in
     let wire : a.wire.items ≡ v.traffic.wire = ap (λ (b : BusValue). b.traffic.wire) is in
     let bound' : x.seat.heard + n ≤ length a.wire.items = rw (wire, s) bound in
-    let one : 1 ≡ length v.traffic.windows = ap (λ (b : BusValue). length b.traffic.windows) is in
     changed_kept a v k x y is kept h read (ap (λ (z : SeatValue). z.live) e) (λ z. absurd (omega arith))
     (λ b. subst (λ (z : SeatValue). IsBalanced a.wire.items k z) (sym e) (balanced_hearing a.wire.items k n x.seat bound' b))
 
@@ -270,39 +272,75 @@ passes_within t y s given =
     let r = reading_within (length (not_yet_read t y)) (window_at t y) (not_yet_read t y) refl in
     omega arith
 
--- a bus of which the station has taken a reading
-abbrev pub tapped : Inside → SeatBook → WindowValue → Inside
-tapped a y w = record { wire = a.wire; seats = with_item a.seats 0 y; live = a.live; tap = w }
+-- a bus of which a station has taken a reading
+abbrev pub tapped : Inside → ℕ → SeatBook → WindowValue → Inside
+tapped a s y w = record { wire = a.wire; seats = with_item a.seats s y; live = a.live; taps = with_item a.taps s w }
 
-pub tapped_traffic : (a : Inside) (v : BusValue) (n : ℕ) (x y : SeatBook) (w : WindowValue) → bus_value_of a ≡ v → IsKept a → x ≡ get_or a.seats.items 0 x → w ≡ rest_of a.tap
-    → y.seat ≡ hearing n x.seat → traffic_of (tapped a y w) ≡ heard_more 0 n v.traffic
-tapped_traffic a v n x y w is kept read rest e =
-    let sound : IsSound v.traffic = subst (λ (b : BusValue). IsSound b.traffic) is kept.sound in
-    let size : w.size ≡ a.tap.size = ap (λ (z : WindowValue). z.size) rest ∙ rest_size a.tap in
-    ap (λ (m : ℕ). let t : Traffic = record { wire = a.wire.items; seats = map seat_of (set a.seats.items 0 y); windows = m ∷ [] } in t) size
-    ∙ changed_traffic (hearing n) a v 0 x y is (station_given v.traffic 0 sound sound.some) read e
+-- the window that was read of
+pub read_tap : (a : Inside) (s : ℕ) (u : WindowValue) → s < length a.taps.items → u ≡ get_or a.taps.items s u → u ≡ tap_at a s
+read_tap a s u h read = get_or_read a.taps.items s u h read no_window
 
-pub read_kept : (a : Inside) (v : BusValue) (n : ℕ) (x y : SeatBook) (w : WindowValue) → bus_value_of a ≡ v → IsKept a → x ≡ get_or a.seats.items 0 x → n ≡ passes (next_reading v.traffic 0) → w ≡ rest_of a.tap
-    → y.seat ≡ hearing n x.seat → IsKept (tapped a y w)
-read_kept a v n x y w is kept read passed rest e =
+tapped_sizes : (a : Inside) (s : ℕ) (u w : WindowValue) → s < length a.taps.items → u ≡ get_or a.taps.items s u → w ≡ rest_of u → map size_of (set a.taps.items s w) ≡ map size_of a.taps.items
+tapped_sizes a s u w h read rest =
+    set_sizes a.taps.items s w (ap (λ (z : WindowValue). z.size) rest ∙ (rest_size u ∙ ap (λ (z : WindowValue). z.size) (read_tap a s u h read)))
+
+pub tapped_traffic : (a : Inside) (v : BusValue) (s n : ℕ) (x y : SeatBook) (u w : WindowValue) → bus_value_of a ≡ v → IsKept a → IsStation v.traffic s → x ≡ get_or a.seats.items s x → u ≡ get_or a.taps.items s u → w ≡ rest_of u
+    → y.seat ≡ hearing n x.seat → traffic_of (tapped a s y w) ≡ heard_more s n v.traffic
+tapped_traffic a v s n x y u w is kept st read first rest e =
     let sound : IsSound v.traffic = subst (λ (b : BusValue). IsSound b.traffic) is kept.sound in
-    let given = station_given v.traffic 0 sound sound.some in
-    let within_wire = passes_within v.traffic 0 sound sound.some in
-    let s = seat_is a v 0 x is (within a v 0 is given) read in
+    let sizes = tapped_sizes a s u w (station_within a v s is st) first rest in
+    ap (λ (m : List ℕ). let t : Traffic = record { wire = a.wire.items; seats = map seat_of (set a.seats.items s y); windows = m } in t) sizes
+    ∙ changed_traffic (hearing n) a v s x y is (station_given v.traffic s sound st) read e
+
+pub read_kept : (a : Inside) (v : BusValue) (s n : ℕ) (x y : SeatBook) (u w : WindowValue) → bus_value_of a ≡ v → IsKept a → IsStation v.traffic s → x ≡ get_or a.seats.items s x → n ≡ passes (next_reading v.traffic s)
+    → u ≡ get_or a.taps.items s u → w ≡ rest_of u → y.seat ≡ hearing n x.seat → IsKept (tapped a s y w)
+read_kept a v s n x y u w is kept st read passed first rest e =
+    let sound : IsSound v.traffic = subst (λ (b : BusValue). IsSound b.traffic) is kept.sound in
+    let given = station_given v.traffic s sound st in
+    let within_wire = passes_within v.traffic s sound st in
+    let q = seat_is a v s x is (within a v s is given) read in
     let wire : a.wire.items ≡ v.traffic.wire = ap (λ (b : BusValue). b.traffic.wire) is in
-    let bound : x.seat.heard + n ≤ length a.wire.items = rw (wire, s) (omega arith) in
-    let size : w.size ≡ a.tap.size = ap (λ (z : WindowValue). z.size) rest ∙ rest_size a.tap in
-    let in' = within a v 0 is given in
+    let bound : x.seat.heard + n ≤ length a.wire.items = rw (wire, q) (omega arith) in
+    let here = station_within a v s is st in
+    let sizes = tapped_sizes a s u w here first rest in
+    let in' = within a v s is given in
     let live : y.seat.live ≡ x.seat.live = ap (λ (z : SeatValue). z.live) e in
-    let placed_is = placed_sound a 0 x y kept in' read live (λ b. subst (λ (z : SeatValue). IsBalanced a.wire.items 0 z) (sym e) (balanced_hearing a.wire.items 0 n x.seat bound b)) in
-    let before : a.tap ≡ window_of v.traffic 0 = kept.tap ∙ ap (λ (b : BusValue). window_of b.traffic 0) is in
-    let now = tapped_traffic a v n x y w is kept read rest e in
-    let after : w ≡ window_of (traffic_of (tapped a y w)) 0 =
-    rest ∙ (ap rest_of before ∙ (window_rest v.traffic 0 given ∙ (ap (λ (m : ℕ). window_of (heard_more 0 m v.traffic) 0) (sym passed) ∙ ap (λ (t : Traffic). window_of t 0) (sym now)))) in
+    let placed_is = placed_sound a s x y kept in' read live (λ b. subst (λ (z : SeatValue). IsBalanced a.wire.items s z) (sym e) (balanced_hearing a.wire.items s n x.seat bound b)) in
+    let now = tapped_traffic a v s n x y u w is kept st read first rest e in
+    let own : w ≡ window_of (heard_more s n v.traffic) s =
+    rest ∙ (ap rest_of (read_tap a s u here first ∙ tap_is a v s is kept st) ∙ (window_rest v.traffic s given ∙ ap (λ (m : ℕ). window_of (heard_more s m v.traffic) s) (sym passed))) in
     record {
-      sound = subst (λ (m : ℕ). IsSound (record { wire = a.wire.items; seats = map seat_of (set a.seats.items 0 y); windows = m ∷ [] })) (sym size) placed_is;
-      tap = after;
-      live = placed_live a 0 x y kept in' read live;
-      few_seats = rw (length-set a.seats.items 0 y) kept.few_seats;
+      sound = subst (λ (m : List ℕ). IsSound (record { wire = a.wire.items; seats = map seat_of (set a.seats.items s y); windows = m })) (sym sizes) placed_is;
+      taps = λ i h.
+          let h' : i < length a.taps.items = (let l = length-set a.taps.items s w in omega arith) in
+          elim (same_or_not i s) [
+            | inl z ↦ ap (window_in (set a.taps.items s w)) z ∙ (get_or-set_same a.taps.items s w no_window here ∙ (own ∙ (ap (λ (t : Traffic). window_of t s) (sym now) ∙ ap (window_of (traffic_of (tapped a s y w))) (sym z))))
+            | inr z ↦ get_or-set_other a.taps.items s i w no_window z ∙ (kept.taps i h' ∙ (ap (λ (b : BusValue). window_of b.traffic i) is
+                ∙ (sym (window_set i v.traffic s (hearing n (seat_at v.traffic s)) given (λ c. absurd (z (sym c)))) ∙ ap (λ (t : Traffic). window_of t i) (sym now))))
+          ];
+      live = placed_live a s x y kept in' read live;
+      few_seats = rw (length-set a.seats.items s y) kept.few_seats;
       few_frames = kept.few_frames;
     }
+
+-- a station's seat was given
+pub pass_seat : (a : Inside) (v : BusValue) (s : ℕ) → bus_value_of a ≡ v → IsKept a → IsStation v.traffic s → s < length a.seats.items
+pass_seat a v s is kept st = within a v s is (station_given v.traffic s (subst (λ (b : BusValue). IsSound b.traffic) is kept.sound) st)
+
+-- what its window and its seat say of the reading that is passed over
+pub pass_count : (a : Inside) (v : BusValue) (s n : ℕ) (u : WindowValue) → bus_value_of a ≡ v → IsKept a → IsStation v.traffic s → u ≡ get_or a.taps.items s u → n ≡ passes (reading_of u) → n ≡ passes (next_reading v.traffic s)
+pass_count a v s n u is kept st first count =
+    count ∙ ap passes (ap reading_of (read_tap a s u (station_within a v s is st) first ∙ tap_is a v s is kept st) ∙ window_reading v.traffic s)
+
+pub pass_few : (a : Inside) (v : BusValue) (s n : ℕ) (x : SeatBook) → bus_value_of a ≡ v → IsKept a → IsStation v.traffic s → x ≡ get_or a.seats.items s x → n ≡ passes (next_reading v.traffic s) → x.seat.heard + n < 2 ^ 32
+pass_few a v s n x is kept st read count =
+    let sound : IsSound v.traffic = subst (λ (b : BusValue). IsSound b.traffic) is kept.sound in
+    let q = ap (λ (z : SeatValue). z.heard) (seat_is a v s x is (pass_seat a v s is kept st) read) in
+    let within_wire = passes_within v.traffic s sound st in
+    let wire : length a.wire.items ≡ length v.traffic.wire = ap (λ (b : BusValue). length b.traffic.wire) is in
+    let few = kept.few_frames in
+    omega arith
+
+-- no seat has less room
+pub tapped_spares : (a : Inside) (v : BusValue) (s : ℕ) (x y : SeatBook) (w : WindowValue) → bus_value_of a ≡ v → IsKept a → IsStation v.traffic s → x ≡ get_or a.seats.items s x → x.spare ≤ y.spare → KeepsSpares v (bus_value_of (tapped a s y w))
+tapped_spares a v s x y w is kept st read grows = placed_spares a v s x y is (pass_seat a v s is kept st) read grows

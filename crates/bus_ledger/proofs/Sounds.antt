@@ -80,6 +80,7 @@ sound_carried t k q s in' o =
     let y = sending (seat_at t k) in
     record {
       some = s.some;
+      few = s.few;
       stations = λ y h. elim (same_or_not y k) [
         | inl e ↦ let here : y < length t.seats = omega arith in rw (← e, get_or-set_same) (s.stations y h)
         | inr n ↦ rw get_or-set_other (s.stations y h)
@@ -112,7 +113,7 @@ count_none k (c ∷ cs) all =
     let none : cond {A = ℕ} (is_from k c) 1 0 ≡ 0 = (let t : is_seat k c.seat ≡ false = given_other k c.seat first in rw t refl) in
     omega arith
 
-balanced_newcomer : (wire : List CarriedFrame) (k name : ℕ) → All (λ c. IsGiven k c.seat) wire → IsBalanced wire k (newcomer name (length wire))
+pub balanced_newcomer : (wire : List CarriedFrame) (k name : ℕ) → All (λ c. IsGiven k c.seat) wire → IsBalanced wire k (newcomer name (length wire))
 balanced_newcomer wire k name all = record {
   ledger = refl;
   carried = sym (count_none k wire all);
@@ -135,6 +136,7 @@ sound_joined t name s =
     let longer = length_push t.seats y in
     record {
       some = s.some;
+      few = s.few;
       stations = λ y given. station_stays t name y s given;
       windows = s.windows;
       senders = All-weaker (λ (c : CarriedFrame). IsGiven (length t.seats) c.seat) (λ (c : CarriedFrame). IsGiven (length (t.seats ++ y ∷ [])) c.seat) (λ c h. given_more (length t.seats) (length (t.seats ++ y ∷ [])) c.seat (omega arith) h) t.wire s.senders;
@@ -163,6 +165,7 @@ balanced_stray wire k f s b =
 pub sound_injected : (t : Traffic) (f : FrameValue) → IsSound t → IsSound (injected f t)
 sound_injected t f s = record {
   some = s.some;
+  few = s.few;
   stations = s.stations;
   windows = s.windows;
   senders = All-push (λ (c : CarriedFrame). IsGiven (length t.seats) c.seat) t.wire (stray_frame f) s.senders tt;

@@ -1,9 +1,11 @@
 -- What each call changes.
-use Rattle.std.specs.Prelude.{ℕ, ◌+◌, ◌-◌, Bool, true, false, not, List, [], ◌∷◌, ◌++◌, drop, length, map, Option, slice_set}
+use Rattle.std.specs.Prelude.{ℕ, ◌+◌, ◌-◌, ◌<◌, ◌≤◌, Bool, true, false, not, List, [], ◌∷◌, ◌++◌, drop, length, map, Option, slice_set}
 use Rattle.std.specs.List.{filter}
 use Rattle.std.specs.Prelude.{Some, None}
 use Rattle.can_frame.specs.FrameValue.{FrameValue}
 use Rattle.transport.specs.Runs.{NumberedFrame}
+use Rattle.bus_ledger.specs.declared.bus.TheConstants.{MOST_UNREAD}
+use Rattle.bus_ledger.specs.declared.traffic.StationSeat.{StationSeat}
 use Rattle.bus_ledger.specs.declared.traffic.Tag.{Tag}
 use Rattle.bus_ledger.specs.declared.traffic.QueuedFrame.{QueuedFrame}
 use Rattle.bus_ledger.specs.declared.traffic.CarriedFrame.{CarriedFrame}
@@ -18,10 +20,9 @@ queued_frame frame tag = record { frame = frame; tag = tag }
 abbrev pub newcomer : ℕ → ℕ → SeatValue
 newcomer name heard = record { name = name; live = true; heard = heard; queue = []; queued = 0; carried = 0; withdrawn = 0 }
 
--- a station's NAME, and how many unread frames its window holds
-pub record StationSeat : Type 0 where
-  pub name : ℕ
-  pub window : ℕ
+-- how many unread frames a station's window may hold
+abbrev pub HasWindow : ℕ → Type 0
+HasWindow window = (0 < window) × (window ≤ MOST_UNREAD)
 
 abbrev pub seat_of_station : StationSeat → SeatValue
 seat_of_station s = newcomer s.name 0

@@ -1,10 +1,11 @@
 -- What becomes of every frame.
 use Rattle.std.specs.Prelude.{ℕ, ◌≡◌, ◌≢◌, ◌+◌, ◌<◌, ◌≤◌, Bool, false, true, ◌==◌, List, [], drop, length, Option, Some, None}
 use Rattle.std.specs.List.{All, count_by}
-use Rattle.bus_ledger.specs.declared.bus.TheConstants.{MOST_UNREAD}
+use Rattle.bus_ledger.specs.declared.bus.TheConstants.{MOST_STATIONS}
 use Rattle.bus_ledger.specs.declared.traffic.Counts.{Counts}
 use Rattle.bus_ledger.specs.declared.traffic.CarriedFrame.{CarriedFrame}
 use Rattle.bus_ledger.specs.BusValue.{IsStation, SeatValue, Traffic, seat_at}
+use Rattle.bus_ledger.specs.Changes.{HasWindow}
 use Rattle.bus_ledger.specs.Reception.{window_at}
 
 abbrev pub counts_of : SeatValue → Counts
@@ -34,7 +35,8 @@ pub record IsBalanced (wire : List CarriedFrame) (k : ℕ) (s : SeatValue) : Typ
 -- what holds of every bus
 pub record IsSound (t : Traffic) : Type 0 where
   pub some : 0 < length t.windows
+  pub few : length t.windows ≤ MOST_STATIONS
   pub stations : (y : ℕ) → IsStation t y → (seat_at t y).live ≡ true
-  pub windows : (y : ℕ) → IsStation t y → (0 < window_at t y) × (window_at t y ≤ MOST_UNREAD)
+  pub windows : (y : ℕ) → IsStation t y → HasWindow (window_at t y)
   pub senders : All (λ c. IsGiven (length t.seats) c.seat) t.wire
   pub seats : (k : ℕ) → k < length t.seats → IsBalanced t.wire k (seat_at t k)

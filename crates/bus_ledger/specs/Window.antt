@@ -1,5 +1,5 @@
 -- A station's window: a ring of the latest unread frames.
-use Rattle.std.specs.Prelude.{ℕ, ◌+◌, ◌-◌, ◌==◌, nat_lt, List, [], ◌∷◌, ◌++◌, drop, length, map, if◌then◌else◌}
+use Rattle.std.specs.Prelude.{ℕ, ◌+◌, ◌-◌, ◌<◌, ◌^◌, ◌==◌, nat_lt, List, [], ◌∷◌, ◌++◌, drop, length, map, slice_index_or, if◌then◌else◌}
 use Rattle.circular_buffer.specs.Buffer.{keep_last}
 use Rattle.can_frame.specs.FrameValue.{FrameValue}
 use Rattle.can_frame.specs.declared.reading.Reading.{Reading}
@@ -16,6 +16,20 @@ pub record WindowValue : Type 0 where
 
 abbrev pub window : ℕ → List FrameValue → ℕ → WindowValue
 window size not_yet_read missed = record { size = size; unread = not_yet_read; missed = missed }
+
+-- what stands at a number of no station
+abbrev pub no_window : WindowValue
+no_window = window 0 [] 0
+
+abbrev pub window_in : List WindowValue → ℕ → WindowValue
+window_in ws y = slice_index_or ws y no_window
+
+abbrev pub size_of : WindowValue → ℕ
+size_of w = w.size
+
+-- each can count one frame more as missed
+abbrev pub AllMayMiss : List WindowValue → Type 0
+AllMayMiss ws = (y : ℕ) → y < length ws → (window_in ws y).missed < 2 ^ 32 - 1
 
 -- one frame more; the oldest goes out of a full window, and counts as missed
 abbrev pub pushed : FrameValue → WindowValue → WindowValue

@@ -9,28 +9,31 @@ use crate::traffic::Counts;
 use crate::wire_frame::WireFrame;
 use can_frame::Frame;
 use name_field::Name;
-use std::alloc::{AllocFailed, Global};
 use std::marker::Model;
 
 mod carrying;
+mod opening;
 mod queueing;
 mod readings;
 
 /// The largest window of unread frames.
 pub const MOST_UNREAD: u32 = 4096;
 
-/// How many units may be live beside the station.
+/// How many stations a bus has at most.
+pub const MOST_STATIONS: usize = 8;
+
+/// How many units may be live beside the stations.
 const MOST_UNITS: usize = 64;
 
-/// The wire with all that was carried, the seats with their queues, and the station's window of unread frames.
+/// The wire with all that was carried, the seats with their queues, and each station's window of unread frames.
 #[derive(Drop)]
 pub struct Bus {
     wire: Vec<WireFrame>,
     seats: Vec<Seat>,
     // the numbers of the live seats, in order
     live: Vec<u32>,
-    // the unread frames of the other seats, as far as the window holds them
-    tap: Tap,
+    // for each station the unread frames of the other seats, as far as its window holds them
+    taps: Vec<Tap>,
 }
 
 impl Model for Bus {
@@ -54,29 +57,6 @@ impl Bus {
     ghost use Rattle.bus_ledger.specs.Changes.{kept, left, new_traffic, with_newcomer};
     ghost use Rattle.bus_ledger.specs.Ledger.{IsSound, counts_of, is_from};
     ghost use Rattle.bus_ledger.specs.Newcomers.{join_refusal};
-
-    /// A bus with the station alone, on seat 0, whose window has room for `window` unread frames, 1 to 4,096; their memory
-    /// is taken here. The station's queue has room for one frame.
-    ///
-    /// Refused where there is no memory.
-    pub fn new(alloc: Global, station: Name, window: u32) -> Result<Bus, BusError>
-        requires { (0 < window) × (window ≤ MOST_UNREAD) }
-        ensures ok { IfOk result (λ b. b.traffic ≡ new_traffic (record { name = station; window = window } ∷ [])) }
-        ensures err { IfErr result (λ e. e ≡ BusError.OutOfMemory) }
-        ensures room { IfOk result (λ b. 1 ≤ spare_at b 0) }
-    {
-        let mut seats = Vec::with_capacity(alloc, 1)?;
-        let mut live = Vec::with_capacity(alloc, 1)?;
-        seats.push_reserved(Seat::new(alloc, station, 0)?);
-        live.push_reserved(0);
-        let tap = Tap::new(alloc, window)?;
-        Ok(Bus {
-            wire: Vec::new(alloc),
-            seats,
-            live,
-            tap,
-        })
-    }
 
     /// Gives the next seat to a unit of this NAME, and answers its number. All that was carried so far counts as heard.
     /// Its queue has room for one frame.
@@ -110,18 +90,18 @@ impl Bus {
         if is_name_among(self.seats.as_slice(), self.live.as_slice(), name) {
             return Err(BusError::NameInUse);
         }
-        if self.live.len() > MOST_UNITS {
+        if self.live.len() >= self.taps.len() + MOST_UNITS {
             return Err(BusError::TooManySeats);
         }
         Ok(())
     }
 
-    /// The NAME of the unit on a live seat; nothing for the station's seat, and for one that was never given or is gone.
+    /// The NAME of the unit on a live seat; nothing for a station's seat, and for one that was never given or is gone.
     pub fn unit_name(&self, seat: u32) -> Option<Name>
         ensures { SomeIff result (IsUnit self.now.traffic seat) (seat_at self.now.traffic seat).name }
     {
         let place = self.seats.get(seat as usize)?;
-        if seat == 0 || !place.is_live() {
+        if (seat as usize) < self.taps.len() || !place.is_live() {
             return None;
         }
         Some(place.name())
@@ -153,6 +133,15 @@ impl Bus {
     {
         let place = self.seats.get(seat as usize)?;
         Some(place.counts())
+    }
+
+    /// How many stations there are, 1 to 8: they have the seats below this number.
+    #[inline]
+    pub fn stations(&self) -> u32
+        ensures count { result ≡ length self.now.traffic.windows }
+        ensures sound { IsSound self.now.traffic }
+    {
+        self.taps.len() as u32
     }
 
     /// How many frames were carried.

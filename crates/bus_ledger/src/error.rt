@@ -9,7 +9,7 @@ pub enum BusError {
     /// There was no memory.
     #[error("OutOfMemory")]
     OutOfMemory,
-    /// A live seat, the station's included, has this NAME.
+    /// A live seat, a station's included, has this NAME.
     #[error("NameInUse")]
     NameInUse,
     /// 64 units are live.

@@ -1,6 +1,6 @@
-//! The bus of one vehicle in one process: the wire, the seats on it with their queues, and the station's window.
+//! The bus of one vehicle in one process: the wire, the seats on it with their queues, and the stations' windows.
 //!
-//! Seat 0 is the station. Units get the seats 1, 2, 3, .. in order of joining, and a number is not used again. A seat
+//! Stations have the first seats, from 0 on. Units get the seats behind them in order of joining, and a number is not used again. A seat
 //! hears the frames of the others one at a time, in order; its own frames count as heard by it at once. The frame that
 //! is carried next is the one with the lowest identifier among the first frames of the seats that have heard the whole
 //! wire, as on a CAN bus (SAE J1939-21).
@@ -15,6 +15,6 @@ mod tap;
 mod traffic;
 mod wire_frame;
 
-pub use bus::{Bus, MOST_UNREAD};
+pub use bus::{Bus, MOST_STATIONS, MOST_UNREAD};
 pub use error::BusError;
-pub use traffic::{Carried, CarriedFrame, Counts, QueuedFrame, Tag, Which};
+pub use traffic::{Carried, CarriedFrame, Counts, QueuedFrame, StationSeat, Tag, Which};

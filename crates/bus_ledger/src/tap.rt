@@ -1,7 +1,7 @@
-ghost use Rattle.std.specs.Prelude.{◌≡◌, ◌≢◌, ◌-◌, ◌<◌, ◌^◌, [], IfOk};
+ghost use Rattle.std.specs.Prelude.{◌≡◌, ◌≢◌, ◌-◌, ◌<◌, ◌^◌, ℕ, [], length, IfOk};
 ghost use Rattle.std.specs.Bool.{MatchBool};
 ghost use Rattle.bus_ledger.specs.Reception.{passes};
-ghost use Rattle.bus_ledger.specs.Window.{window, pushed, taken_in, reading_of, rest_of};
+ghost use Rattle.bus_ledger.specs.Window.{AllMayMiss, window, window_in, pushed, taken_in, reading_of, rest_of};
 
 use can_frame::{Frame, Reading};
 use circular_buffer::HeapCircularBuffer;
@@ -37,16 +37,6 @@ impl Tap {
             ring: HeapCircularBuffer::with_capacity(alloc, size as usize)?,
             missed: 0,
         })
-    }
-
-    /// A frame was carried from a seat. The own frame of station 0 is no reading of it; any other comes in.
-    pub(crate) fn take_in(&mut self, seat: u32, frame: Frame)
-        requires { self.old.missed < 2 ^ 32 - 1 }
-        ensures { self.new ≡ taken_in 0 seat frame self.old }
-    {
-        if seat != 0 {
-            self.push(frame);
-        }
     }
 
     /// A frame comes in, and where the ring is full the oldest one goes out of it, and counts as missed.
@@ -98,5 +88,28 @@ impl Tap {
             Some(_) => 1,
             None => 0,
         }
+    }
+}
+
+/// A frame was carried from a seat. It comes in at each station; but a station's own frame is no reading of it.
+pub(crate) fn take_in(taps: &mut [Tap], seat: u32, frame: Frame)
+    requires few { length taps.old < 2 ^ 32 }
+    requires room { AllMayMiss taps.old }
+    ensures { (y : ℕ) → y < length taps.old → window_in taps.new y ≡ taken_in y seat frame (window_in taps.old y) }
+{
+    for (station, tap) in taps.iter_mut().enumerate() {
+        if station as u32 != seat {
+            tap.push(frame);
+        }
+    }
+}
+
+/// A frame was put on the wire from outside. It comes in at each station.
+pub(crate) fn push(taps: &mut [Tap], frame: Frame)
+    requires { AllMayMiss taps.old }
+    ensures { (y : ℕ) → y < length taps.old → window_in taps.new y ≡ pushed frame (window_in taps.old y) }
+{
+    for tap in taps.iter_mut() {
+        tap.push(frame);
     }
 }

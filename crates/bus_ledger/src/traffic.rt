@@ -2,6 +2,7 @@ ghost use Rattle.std.specs.Prelude.{◌≡◌};
 ghost use Rattle.bus_ledger.specs.Changes.{is_in_session};
 
 use can_frame::Frame;
+use name_field::Name;
 
 /// Which part of which message a frame is. It travels beside the frame, not in it.
 #[derive(Clone, Copy, Debug, PartialEq, Eq)]
@@ -12,6 +13,15 @@ pub struct Tag {
     pub part: u16,
     /// Whether the message goes to one address, in a session.
     pub session: bool,
+}
+
+/// A station as the bus knows it.
+#[derive(Clone, Copy, Debug, PartialEq, Eq)]
+pub struct StationSeat {
+    /// Its NAME.
+    pub name: Name,
+    /// How many unread frames its window has room for, 1 to 4,096.
+    pub window: u32,
 }
 
 /// A frame that waits in a queue.

@@ -11,6 +11,8 @@ const LINES: &str = "\
 Commands, one a line; an empty line, and one that begins with #, has no answer:
 
   garage NAME ADDRESS WINDOW GRANT LIMIT   the bus and its station; comes first, and once
+  garage2 NAME ADDRESS WINDOW GRANT NAME ADDRESS WINDOW GRANT LIMIT
+                                           the same with two stations, 0 and 1, of their own NAMEs
   join NAME ADDRESS KIND                   a unit; KIND is plain, guarded or flicker SPN FMI
   leave SEAT                               the unit is taken off the bus
   set SEAT SPN FMI [N]                     N codes become active
@@ -27,7 +29,9 @@ Commands, one a line; an empty line, and one that begins with #, has no answer:
   shown NAME dm1|dm2|dm6, row NAME, stats  what the station shows and knows
   counts SEAT, frame I                     a seat's frames; a frame of the wire
   inject IIIIIIII [BB ..], injected        a frame from outside; how many there were
-  report                                   a line for each NAME";
+  report                                   a line for each NAME
+  at S COMMAND                             the same of station S, where COMMAND is read, ask, command, shown,
+                                           row, stats or report; without it they are of station 0";
 
 /// The subcommand `script`.
 pub(crate) fn command<'a>(alloc: Global) -> Command<'a>

@@ -22,6 +22,12 @@ A vehicle file:
   grant = 16                    # packets asked for at once, 1 to 255
   limit = 100000                # events that the journal may hold, 1 to 16777216
 
+  [second]                      # a second station with a NAME of its own, if there is one
+  name = \"0000000000000002\"     # its keys as above; the limit is that of both
+  address = 250
+  window = 64
+  grant = 16
+
   [[unit]]                      # a control unit, as many as there are
   name = \"00000000000000A0\"
   address = 0

@@ -35,7 +35,7 @@ begins_at (Some source) session memory st b put is unclaimed did = (source, b, r
 
 -- so the unit on that seat begins, as callers see the garage
 pub begins_with : (a : Inside) (v : GarageValue) (seat : ℕ) (x : Place) (memory : MemoryValue) (st : Started) (b : Begun) (put : List Out) → garage_value_of a ≡ v → Stands a
-    → seat - 1 < length a.places.items → x ≡ get_or a.places.items (seat - 1) x → st ≡ started.Begun b put
+    → seat - a.stations < length a.places.items → x ≡ get_or a.places.items (seat - a.stations) x → st ≡ started.Begun b put
     → ((◌≡◌ {A = Result Started NodeError} (Ok st) (Err Unclaimed)) ↔ IsNone x.node.claimer.held) → IfSome x.node.claimer.held (λ source. st ≡ begins x.node.session Dm1 memory source)
     → BeginsWith (unit_at (state_of v) seat).node memory put
 begins_with a v seat x memory st b put is stands h read began unclaimed did =

@@ -13,6 +13,7 @@ use Rattle.unit_trait.specs.declared.question.Question.{Question}
 use Rattle.dm_messages.specs.declared.shown.Shown.{Shown}
 use Rattle.journal.specs.Journal.{GarageValue, Adds, listed_at, memory_told, state_of, tally_of}
 use Rattle.journal.specs.Promises.{KeepsLists}
+use Rattle.journal.specs.State.{Settings}
 use Rattle.journal.specs.declared.event.Event.{Event}
 use Rattle.journal.specs.declared.event.Event.TheVariants.{Hear, Carry, Read}
 use Rattle.journal.specs.declared.tally.Tally.{Tally}
@@ -45,9 +46,9 @@ memory_of_other : (k j : ℕ) (memory : MemoryValue) (answered : _) (es : List E
 unfolding memory_told
 memory_of_other k j memory answered es n = (let t : nat_eq j k ≡ false = ne_eqb j k (λ e. n (sym e)) in rw t refl)
 
-memory_read : (k : ℕ) (r : Reading) (es : List Event) → memory_told k (Read 0 r ∷ es) ≡ memory_told k es
+memory_read : (y k : ℕ) (r : Reading) (es : List Event) → memory_told k (Read y r ∷ es) ≡ memory_told k es
 unfolding memory_told
-memory_read k r es = refl
+memory_read y k r es = refl
 
 memory_carried : (k j : ℕ) (es : List Event) → memory_told k (Carry j ∷ es) ≡ memory_told k es
 unfolding memory_told
@@ -61,10 +62,10 @@ heard_untouched k g j memory answers unit (heard.Frame f) g' memory' unit' h n t
     (tally_more k (Hear j memory h.1.0) g.journal ∙ rw t refl) (memory_of_other k j memory h.1.0 g.journal n)
 heard_untouched k g j memory answers unit heard.Nothing g' memory' unit' h n there = untouched_same k g g' h.1
 
-pub read_untouched : (k : ℕ) (g g' : GarageValue) (r : Reading) → Reads g r g' → k < length (state_of g).traffic.seats → IsUntouched k g g'
-read_untouched k g g' reading.Empty h there = untouched_same k g g' h.1
-read_untouched k g g' (reading.Frame f) h there = untouched_by k g g' (Read 0 (reading.Frame f)) h (unit_read k g g' (reading.Frame f) h there) (tally_more k (Read 0 (reading.Frame f)) g.journal) (memory_read k (reading.Frame f) g.journal)
-read_untouched k g g' (reading.Gap n) h there = untouched_by k g g' (Read 0 (reading.Gap n)) h (unit_read k g g' (reading.Gap n) h there) (tally_more k (Read 0 (reading.Gap n)) g.journal) (memory_read k (reading.Gap n) g.journal)
+pub read_untouched : (y k : ℕ) (g g' : GarageValue) (r : Reading) → Reads y g r g' → k < length (state_of g).traffic.seats → IsUntouched k g g'
+read_untouched y k g g' reading.Empty h there = untouched_same k g g' h.1
+read_untouched y k g g' (reading.Frame f) h there = untouched_by k g g' (Read y (reading.Frame f)) h (unit_read y k g g' (reading.Frame f) h there) (tally_more k (Read y (reading.Frame f)) g.journal) (memory_read y k (reading.Frame f) g.journal)
+read_untouched y k g g' (reading.Gap n) h there = untouched_by k g g' (Read y (reading.Gap n)) h (unit_read y k g g' (reading.Gap n) h there) (tally_more k (Read y (reading.Gap n)) g.journal) (memory_read y k (reading.Gap n) g.journal)
 
 pub carried_untouched : (k : ℕ) (g g' : GarageValue) (c : Carried) → AddsCarry g c g' → k < length (state_of g).traffic.seats → IsUntouched k g g'
 carried_untouched k g g' (carried.Frame j f) h there = untouched_by k g g' (Carry j) h.1 (unit_carried k j g g' h.1 there) (tally_more k (Carry j) g.journal) (memory_carried k j g.journal)
@@ -245,6 +246,19 @@ unfolding LeadTo
 leads_both es a b c [] h h' = (es, subst (λ (v : GarageValue). LeadTo es a v) (sym h') h)
 leads_both es a b c (f ∷ fs) h h' = (let r = leads_both es a b h'.0 fs h h'.1 in (f ∷ r.0, (h'.0, r.1, h'.2, h'.3)))
 
+leads_settings : (es : List Event) (old new : GarageValue) → LeadTo es old new → new.settings ≡ old.settings
+unfolding LeadTo
+leads_settings [] old new h = ap (λ (g : GarageValue). g.settings) h
+leads_settings (e ∷ es) old new h = ap (λ (g : GarageValue). g.settings) h.2.adds ∙ leads_settings es old h.0 h.1
+
+-- the settings stay
+pub comes_settings : (old new : GarageValue) → Comes old new → new.settings ≡ old.settings
+comes_settings old new h = leads_settings h.0 old new h.1
+
+-- so a station that was there still is
+pub station_still : (y : ℕ) (old new : GarageValue) → Comes old new → y < length old.settings.stations → y < length new.settings.stations
+station_still y old new h l = subst (λ (r : Settings). y < length r.stations) (sym (comes_settings old new h)) l
+
 pub comes_both : (a b c : GarageValue) → Comes a b → Comes b c → Comes a c
 comes_both a b c h h' = leads_both h.0 a b c h'.0 h.1 h'.1
 
@@ -253,10 +267,10 @@ pub comes_heard : {X : Type 0} (g : GarageValue) (k : ℕ) (memory : MemoryValue
 comes_heard g k memory answers unit (heard.Frame f) g' memory' unit' h = comes_one g g' (Hear k memory h.1.0) h.1.1 tt
 comes_heard g k memory answers unit heard.Nothing g' memory' unit' h = comes_same g g' h.1
 
-pub comes_read : (g g' : GarageValue) (r : Reading) → Reads g r g' → Comes g g'
-comes_read g g' reading.Empty h = comes_same g g' h.1
-comes_read g g' (reading.Frame f) h = comes_one g g' (Read 0 (reading.Frame f)) h tt
-comes_read g g' (reading.Gap n) h = comes_one g g' (Read 0 (reading.Gap n)) h tt
+pub comes_read : (y : ℕ) (g g' : GarageValue) (r : Reading) → Reads y g r g' → Comes g g'
+comes_read y g g' reading.Empty h = comes_same g g' h.1
+comes_read y g g' (reading.Frame f) h = comes_one g g' (Read y (reading.Frame f)) h tt
+comes_read y g g' (reading.Gap n) h = comes_one g g' (Read y (reading.Gap n)) h tt
 
 pub comes_carried : (g g' : GarageValue) (c : Carried) → AddsCarry g c g' → Comes g g'
 comes_carried g g' (carried.Frame j f) h = comes_one g g' (Carry j) h.1 tt

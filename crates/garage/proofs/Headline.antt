@@ -1,5 +1,5 @@
--- What a garage answers of its station is what the law says of its journal.
-use Rattle.std.proofs.Common.{◌≡◌, ℕ, true, List, Option, reverse, sym, ap, ◌∙◌, subst, arith}
+-- What a garage answers of its stations is what the law says of its journal.
+use Rattle.std.proofs.Common.{◌≡◌, ◌<◌, ℕ, true, List, Option, get_or, length, reverse, sym, ap, ◌∙◌, subst, arith}
 use Rattle.std.specs.Option.{option_map}
 use Rattle.std.specs.Prelude.{◌↔◌}
 use Rattle.dm_messages.specs.declared.kind.Kind.{Kind}
@@ -15,53 +15,100 @@ use Rattle.station_table.specs.StandsFor.{StandsFor, row_of, row_heard_as}
 use Rattle.station_table.specs.StationValue.{StationValue}
 use Rattle.station_table.specs.declared.row.Row.{Row}
 use Rattle.station_table.proofs.Queries.{row_as_heard}
-use Rattle.journal.specs.Journal.{injected_of, readings_of, shown_of, state_of}
+use Rattle.journal.specs.Journal.{GarageValue, injected_of, readings_at, shown_at, state_of}
 use Rattle.journal.specs.Promises.{IsFromOwner, wire_of}
-use Rattle.journal.specs.State.{path_at, table_at}
-use Rattle.journal.specs.Worlds.{station_of}
+use Rattle.journal.specs.State.{path_at, setting_at, table_at}
+use Rattle.journal.specs.Worlds.{station_of_at}
 use Rattle.journal.proofs.Lifted.{from_owner, lawful_wire, looks_back, quiet}
 use Rattle.journal.proofs.Headline.{exact, readable, station}
 use Rattle.garage.specs.Inside.{settings_of, garage_value_of, Stands}
 use Rattle.garage.specs.declared.garage.Garage.TheInside.{Inside}
+use Rattle.garage.specs.declared.garage.Post.{Post}
+use Rattle.garage.proofs.Standing.{lawful_now, post_table, settings_are, station_below}
 
--- its tables stand for the readings in the journal
-pub tables : (a : Inside) → Stands a → StandsFor (station_of (settings_of a)) a.grant (table_at (state_of (garage_value_of a)) 0) (readings_of (reverse a.journal.items))
-tables a stands = station (settings_of a) (reverse a.journal.items) stands.fits 0 (omega arith)
+-- a station's tables stand for its readings in the journal
+pub tables : (a : Inside) (y : ℕ) → Stands a → y < a.stations → StandsFor (station_of_at (settings_of a) y) (setting_at (settings_of a) y).grant (table_at (state_of (garage_value_of a)) y) (readings_at y (reverse a.journal.items))
+tables a y stands h = station (settings_of a) (reverse a.journal.items) stands.fits y (within a y stands h)
+  where
+    within : (a : Inside) (y : ℕ) → Stands a → y < a.stations → y < length (settings_of a).stations
+    within a y stands h = (let n = settings_are a stands in omega arith)
 
-pub shown_expected : (a : Inside) (n : ℕ) (k : Kind) (l : List Shown) → l ≡ entries_under a.station.rows n k → Stands a → injected_of (reverse a.journal.items) ≡ 0 → l ≡ shown_of (garage_value_of a) n k
-shown_expected a n k l e stands none =
-    e ∙ (ap (λ (s : StationValue). entries_under s.rows n k) stands.station ∙ exact (settings_of a) (reverse a.journal.items) stands.fits none 0 (omega arith) n k)
+-- what is asked of the station on a post, at what callers see
+pub shown_expected : (a : Inside) (v : GarageValue) (y n : ℕ) (k : Kind) (x : Post) (l : List Shown) → garage_value_of a ≡ v → Stands a → y < length v.settings.stations → x ≡ get_or a.posts.items y x → l ≡ entries_under x.station.rows n k
+    → injected_of v.journal ≡ 0 → l ≡ shown_at v y n k
+shown_expected a v y n k x l is stands h read e none =
+    let below = station_below a v y is stands h in
+    let table = post_table a y x stands below read in
+    let h' : y < length (settings_of a).stations = subst (λ (g : GarageValue). y < length g.settings.stations) (sym is) h in
+    let none' : injected_of (reverse a.journal.items) ≡ 0 = ap (λ (g : GarageValue). injected_of g.journal) is ∙ none in
+    e ∙ (ap (λ (s : StationValue). entries_under s.rows n k) table ∙ (exact (settings_of a) (reverse a.journal.items) stands.fits none' y h' n k ∙ ap (λ (g : GarageValue). shown_at g y n k) is))
 
-pub shown_heard : (a : Inside) (n : ℕ) (k : Kind) (l : List Shown) → l ≡ entries_under a.station.rows n k → Stands a
-    → l ≡ reverse (entries_heard (station_of (settings_of a)) n k (readings_of (reverse a.journal.items)))
-shown_heard a n k l e stands = e ∙ (ap (λ (s : StationValue). entries_under s.rows n k) stands.station ∙ (tables a stands).entries n k)
+pub shown_heard : (a : Inside) (v : GarageValue) (y n : ℕ) (k : Kind) (x : Post) (l : List Shown) → garage_value_of a ≡ v → Stands a → y < length v.settings.stations → x ≡ get_or a.posts.items y x → l ≡ entries_under x.station.rows n k
+    → l ≡ reverse (entries_heard (station_of_at v.settings y) n k (readings_at y v.journal))
+shown_heard a v y n k x l is stands h read e =
+    let below = station_below a v y is stands h in
+    e ∙ (ap (λ (s : StationValue). entries_under s.rows n k) (post_table a y x stands below read)
+    ∙ ((tables a y stands below).entries n k ∙ ap (λ (g : GarageValue). reverse (entries_heard (station_of_at g.settings y) n k (readings_at y g.journal))) is))
 
-pub missed_heard : (a : Inside) (n : ℕ) → n ≡ a.station.missed → Stands a → n ≡ missed_count (readings_of (reverse a.journal.items))
-missed_heard a n e stands = e ∙ (ap (λ (s : StationValue). s.missed) stands.station ∙ (tables a stands).missed)
+pub shown_kept : (a : Inside) (v : GarageValue) (y n : ℕ) (k : Kind) (x : Post) (l : List Shown) → garage_value_of a ≡ v → Stands a → y < length v.settings.stations → x ≡ get_or a.posts.items y x → l ≡ entries_under x.station.rows n k
+    → l ≡ entries_under (table_at (state_of v) y).rows n k
+shown_kept a v y n k x l is stands h read e =
+    e ∙ (ap (λ (s : StationValue). entries_under s.rows n k) (post_table a y x stands (station_below a v y is stands h) read) ∙ ap (λ (g : GarageValue). entries_under (table_at (state_of g) y).rows n k) is)
 
-pub none_unread : (a : Inside) (n : ℕ) → n ≡ a.station.unread → Stands a → injected_of (reverse a.journal.items) ≡ 0 → n ≡ 0
-none_unread a n e stands none = e ∙ (ap (λ (s : StationValue). s.unread) stands.station ∙ readable (settings_of a) (reverse a.journal.items) stands.fits none 0 (omega arith))
+pub shown_quiet : (a : Inside) (v : GarageValue) (y n : ℕ) (k : Kind) (x : Post) (l : List Shown) → garage_value_of a ≡ v → Stands a → y < length v.settings.stations → x ≡ get_or a.posts.items y x → l ≡ entries_under x.station.rows n k
+    → injected_of v.journal ≡ 0 → NoneMissed (path_at (state_of v) y) → l ≡ reverse (received_whole (station_of_at v.settings y) n k (state_of v).begun (path_at (state_of v) y))
+shown_quiet a v y n k x l is stands h read e none whole =
+    shown_expected a v y n k x l is stands h read e none ∙ quiet v (lawful_now a v is stands) none y h whole n k
 
-pub row_known_heard : (a : Inside) (n : ℕ) (o : Option Row) → o ≡ row_of a.station.owners n (kept_under a.station.rows n) → Stands a
-    → option_map row_heard_as o ≡ row_heard (station_of (settings_of a)) n (readings_of (reverse a.journal.items))
-row_known_heard a n o e stands =
-    row_as_heard (station_of (settings_of a)) a.grant (table_at (state_of (garage_value_of a)) 0) (readings_of (reverse a.journal.items)) n o
-    (e ∙ ap (λ (s : StationValue). row_of s.owners n (kept_under s.rows n)) stands.station) (tables a stands)
+pub path_looks_back : (a : Inside) (v : GarageValue) (y : ℕ) (m : Message) → garage_value_of a ≡ v → Stands a → y < length v.settings.stations → injected_of v.journal ≡ 0 → IsAmong m (state_of v).begun
+    → (is_clear (station_of_at v.settings y) m (path_at (state_of v) y) ≡ true) ↔ IsOnClearPath (station_of_at v.settings y) m (path_at (state_of v) y)
+path_looks_back a v y m is stands h none among = looks_back v (lawful_now a v is stands) none y h m among
 
--- as the garage keeps them
-pub kept_tables : (a : Inside) → Stands a → StandsFor (station_of (settings_of a)) a.grant a.station (readings_of (reverse a.journal.items))
-kept_tables a stands = subst (λ (s : StationValue). StandsFor (station_of (settings_of a)) a.grant s (readings_of (reverse a.journal.items))) (sym stands.station) (tables a stands)
+pub missed_heard : (a : Inside) (v : GarageValue) (y n : ℕ) (x : Post) → garage_value_of a ≡ v → Stands a → y < length v.settings.stations → x ≡ get_or a.posts.items y x → n ≡ x.station.missed → n ≡ missed_count (readings_at y v.journal)
+missed_heard a v y n x is stands h read e =
+    let below = station_below a v y is stands h in
+    e ∙ (ap (λ (s : StationValue). s.missed) (post_table a y x stands below read) ∙ ((tables a y stands below).missed ∙ ap (λ (g : GarageValue). missed_count (readings_at y g.journal)) is))
 
-pub shown_quiet : (a : Inside) (n : ℕ) (k : Kind) (l : List Shown) → l ≡ entries_under a.station.rows n k → Stands a → injected_of (reverse a.journal.items) ≡ 0 → NoneMissed (path_at (state_of (garage_value_of a)) 0)
-    → l ≡ reverse (received_whole (station_of (settings_of a)) n k (state_of (garage_value_of a)).begun (path_at (state_of (garage_value_of a)) 0))
-shown_quiet a n k l e stands none whole = shown_expected a n k l e stands none ∙ quiet (garage_value_of a) stands.fits none 0 (omega arith) whole n k
+pub missed_kept : (a : Inside) (v : GarageValue) (y n : ℕ) (x : Post) → garage_value_of a ≡ v → Stands a → y < length v.settings.stations → x ≡ get_or a.posts.items y x → n ≡ x.station.missed → n ≡ (table_at (state_of v) y).missed
+missed_kept a v y n x is stands h read e =
+    e ∙ (ap (λ (s : StationValue). s.missed) (post_table a y x stands (station_below a v y is stands h) read) ∙ ap (λ (g : GarageValue). (table_at (state_of g) y).missed) is)
 
-pub path_looks_back : (a : Inside) (m : Message) → Stands a → injected_of (reverse a.journal.items) ≡ 0 → IsAmong m (state_of (garage_value_of a)).begun
-    → (is_clear (station_of (settings_of a)) m (path_at (state_of (garage_value_of a)) 0) ≡ true) ↔ IsOnClearPath (station_of (settings_of a)) m (path_at (state_of (garage_value_of a)) 0)
-path_looks_back a m stands none among = looks_back (garage_value_of a) stands.fits none 0 (omega arith) m among
+pub none_unread : (a : Inside) (v : GarageValue) (y n : ℕ) (x : Post) → garage_value_of a ≡ v → Stands a → y < length v.settings.stations → x ≡ get_or a.posts.items y x → n ≡ x.station.unread → injected_of v.journal ≡ 0 → n ≡ 0
+none_unread a v y n x is stands h read e none =
+    let h' : y < length (settings_of a).stations = subst (λ (g : GarageValue). y < length g.settings.stations) (sym is) h in
+    let none' : injected_of (reverse a.journal.items) ≡ 0 = ap (λ (g : GarageValue). injected_of g.journal) is ∙ none in
+    e ∙ (ap (λ (s : StationValue). s.unread) (post_table a y x stands (station_below a v y is stands h) read) ∙ readable (settings_of a) (reverse a.journal.items) stands.fits none' y h')
 
-pub unread_heard : (a : Inside) (n : ℕ) → n ≡ a.station.unread → Stands a → n ≡ unread_count (station_of (settings_of a)) (readings_of (reverse a.journal.items))
-unread_heard a n e stands = e ∙ (ap (λ (s : StationValue). s.unread) stands.station ∙ (tables a stands).unread)
+pub unread_heard : (a : Inside) (v : GarageValue) (y n : ℕ) (x : Post) → garage_value_of a ≡ v → Stands a → y < length v.settings.stations → x ≡ get_or a.posts.items y x → n ≡ x.station.unread → n ≡ unread_count (station_of_at v.settings y) (readings_at y v.journal)
+unread_heard a v y n x is stands h read e =
+    let below = station_below a v y is stands h in
+    e ∙ (ap (λ (s : StationValue). s.unread) (post_table a y x stands below read) ∙ ((tables a y stands below).unread ∙ ap (λ (g : GarageValue). unread_count (station_of_at g.settings y) (readings_at y g.journal)) is))
+
+pub unread_kept : (a : Inside) (v : GarageValue) (y n : ℕ) (x : Post) → garage_value_of a ≡ v → Stands a → y < length v.settings.stations → x ≡ get_or a.posts.items y x → n ≡ x.station.unread → n ≡ (table_at (state_of v) y).unread
+unread_kept a v y n x is stands h read e =
+    e ∙ (ap (λ (s : StationValue). s.unread) (post_table a y x stands (station_below a v y is stands h) read) ∙ ap (λ (g : GarageValue). (table_at (state_of g) y).unread) is)
+
+pub row_known_heard : (a : Inside) (v : GarageValue) (y n : ℕ) (x : Post) (o : Option Row) → garage_value_of a ≡ v → Stands a → y < length v.settings.stations → x ≡ get_or a.posts.items y x
+    → o ≡ row_of x.station.owners n (kept_under x.station.rows n) → option_map row_heard_as o ≡ row_heard (station_of_at v.settings y) n (readings_at y v.journal)
+row_known_heard a v y n x o is stands h read e =
+    let below = station_below a v y is stands h in
+    row_as_heard (station_of_at (settings_of a) y) (setting_at (settings_of a) y).grant (table_at (state_of (garage_value_of a)) y) (readings_at y (reverse a.journal.items)) n o
+    (e ∙ ap (λ (s : StationValue). row_of s.owners n (kept_under s.rows n)) (post_table a y x stands below read)) (tables a y stands below)
+    ∙ ap (λ (g : GarageValue). row_heard (station_of_at g.settings y) n (readings_at y g.journal)) is
+
+pub row_kept : (a : Inside) (v : GarageValue) (y n : ℕ) (x : Post) (o : Option Row) → garage_value_of a ≡ v → Stands a → y < length v.settings.stations → x ≡ get_or a.posts.items y x
+    → o ≡ row_of x.station.owners n (kept_under x.station.rows n) → o ≡ row_of (table_at (state_of v) y).owners n (kept_under (table_at (state_of v) y).rows n)
+row_kept a v y n x o is stands h read e =
+    e ∙ (ap (λ (s : StationValue). row_of s.owners n (kept_under s.rows n)) (post_table a y x stands (station_below a v y is stands h) read)
+    ∙ ap (λ (g : GarageValue). row_of (table_at (state_of g) y).owners n (kept_under (table_at (state_of g) y).rows n)) is)
+
+-- the tables of a station on its post
+pub kept_tables : (a : Inside) (v : GarageValue) (y : ℕ) (x : Post) → garage_value_of a ≡ v → Stands a → y < length v.settings.stations → x ≡ get_or a.posts.items y x
+    → StandsFor (station_of_at v.settings y) (setting_at v.settings y).grant x.station (readings_at y v.journal)
+kept_tables a v y x is stands h read =
+    let below = station_below a v y is stands h in
+    subst (λ (g : GarageValue). StandsFor (station_of_at g.settings y) (setting_at g.settings y).grant x.station (readings_at y g.journal)) is
+    (subst (λ (s : StationValue). StandsFor (station_of_at (settings_of a) y) (setting_at (settings_of a) y).grant s (readings_at y (reverse a.journal.items))) (sym (post_table a y x stands below read)) (tables a y stands below))
 
 pub wire_lawful : (a : Inside) → Stands a → injected_of (reverse a.journal.items) ≡ 0 → IsLawfulTraffic (state_of (garage_value_of a)).begun (wire_of (state_of (garage_value_of a)))
 wire_lawful a stands none = lawful_wire (garage_value_of a) stands.fits none

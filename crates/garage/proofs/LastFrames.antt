@@ -69,7 +69,7 @@ last_for a seat stands e =
 
 -- after that this is still what the last frame tells
 pub settled_last : (a : Inside) (v w : GarageValue) (seat : ℕ) (m : MemoryValue) (f : FrameValue) (x : Place) (node' : NodeValue) (p : Sifted) → garage_value_of a ≡ v → Stands a → IsUnit (state a).traffic seat
-    → x ≡ get_or a.places.items (seat - 1) x → next_for (state a) seat ≡ Some f → IsHeardQuietly x.node f node' → Adds v (Hear seat m NotAsked) w → IsLastSifted p v → IsLastSifted p w
+    → x ≡ get_or a.places.items (seat - a.stations) x → next_for (state a) seat ≡ Some f → IsHeardQuietly x.node f node' → Adds v (Hear seat m NotAsked) w → IsLastSifted p v → IsLastSifted p w
 unfolding state_after
 settled_last a v w seat m f x node' p is stands u read next quiet adds last =
     let s = state_of v in

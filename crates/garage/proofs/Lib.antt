@@ -1,3 +1,5 @@
+pub mod Posting
+pub mod Posts
 pub mod Standing
 pub mod Traffics
 mod Passing

@@ -140,29 +140,29 @@ pub not_an_address : station.NotAnAddress ≢ station.OutOfMemory
 not_an_address e = absurd cc
 
 -- what the state becomes
-pub ordered_is : (o : Order) (s : State) (r : Reaction) → order_answer (table_at s 0) o ≡ Ok r → after (Ordered 0 o) s ≡ record s { traffic = reacted 0 r s.traffic }
+pub ordered_is : (y : ℕ) (o : Order) (s : State) (r : Reaction) → order_answer (table_at s y) o ≡ Ok r → after (Ordered y o) s ≡ record s { traffic = reacted y r s.traffic }
 unfolding after_order_of
-ordered_is o s r e = rw e refl
+ordered_is y o s r e = rw e refl
 
-pub joins_ordered : (o : Order) (es : List Event) → joins (Ordered 0 o ∷ es) ≡ joins es
+pub joins_ordered : (y : ℕ) (o : Order) (es : List Event) → joins (Ordered y o ∷ es) ≡ joins es
 unfolding joins
-joins_ordered o es = refl
+joins_ordered y o es = refl
 
--- what a reaction of the station leaves as it was
+-- what a reaction of a station leaves as it was
 pub record Reacts (r : Reaction) (t u : Traffic) : Type 0 where
   pub seats : length u.seats ≡ length t.seats
   pub wire : length u.wire ≡ length t.wire
   pub units : live_units u ≡ live_units t
   pub queued : (j : ℕ) → (seat_at u j).queued ≤ (seat_at t j).queued + length r.put
 
-pub reacts : (r : Reaction) (t : Traffic) → Reacts r t (reacted 0 r t)
-reacts r t =
-    let kept = keeps_withdrawn_if r.withdraw t in
-    let u : Traffic = if r.withdraw then withdrawn 0 which.All t else t in
+pub reacts : (y : ℕ) (r : Reaction) (t : Traffic) → Reacts r t (reacted y r t)
+reacts y r t =
+    let kept = keeps_withdrawn_if r.withdraw y t in
+    let u : Traffic = if r.withdraw then withdrawn y which.All t else t in
     let qs : List QueuedFrame = map untagged r.put in
     record {
-      seats = put_seats 0 qs u ∙ kept.seats;
-      wire = ap length (put_wire 0 qs u ∙ kept.wire);
-      units = put_units 0 qs u ∙ kept.units;
-      queued = λ j. (let b = put_bound 0 qs u j in let k = kept.queued j in let n = length-map r.put untagged in omega arith);
+      seats = put_seats y qs u ∙ kept.seats;
+      wire = ap length (put_wire y qs u ∙ kept.wire);
+      units = put_units y qs u ∙ kept.units;
+      queued = λ j. (let b = put_bound y qs u j in let k = kept.queued j in let n = length-map r.put untagged in omega arith);
     }

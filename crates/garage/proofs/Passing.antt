@@ -1,5 +1,5 @@
 -- A unit that passes over its next frame.
-use Rattle.std.proofs.Common.{ℕ, suc, ◌≡◌, ◌-◌, ◌+◌, ◌<◌, ◌≤◌, Bool, true, false, nat_eq, eq-eqb, if◌then◌else◌, List, [], ◌∷◌, ◌++◌, length, map, reverse, get_or, set, slice_get, slice_set, Option, None, Some, arith, refl, sym, ap, ◌∙◌, subst}
+use Rattle.std.proofs.Common.{ℕ, ◌≡◌, ◌-◌, ◌+◌, ◌<◌, ◌≤◌, Bool, true, false, nat_eq, eq-eqb, if◌then◌else◌, List, [], ◌∷◌, ◌++◌, length, map, reverse, get_or, set, slice_get, slice_set, Option, None, Some, arith, refl, sym, ap, ◌∙◌, subst}
 use Rattle.std.proofs.lemmas.List.{length-set, map-set}
 use Rattle.std.specs.Option.{option_map}
 use Rattle.can_frame.specs.FrameValue.{FrameValue}
@@ -24,12 +24,13 @@ use Rattle.journal.specs.Journal.{GarageValue, Adds, AllFit, memory_told, one_mo
 use Rattle.journal.specs.declared.event.Event.{Event}
 use Rattle.journal.specs.declared.event.Event.TheVariants.{Join, Hear, Begin, Turned, Carry, Read, Ordered, Leave, Inject}
 use Rattle.garage.specs.Answers.{Hears, Passes}
-use Rattle.garage.specs.Inside.{settings_of, garage_value_of, place_at, unit_of, Stands}
+use Rattle.garage.specs.Inside.{settings_of, garage_value_of, place_at, post_at, unit_of, Stands}
 use Rattle.garage.specs.declared.garage.Garage.TheInside.{Inside}
 use Rattle.garage.specs.declared.garage.Place.{Place}
+use Rattle.garage.specs.declared.garage.Post.{Post}
 use Rattle.garage.specs.declared.steps.HeardOne.TheVariants as heard
 use Rattle.garage.proofs.Traffics.{keeps_heard}
-use Rattle.garage.proofs.Standing.{one_station, one_window, state, added, fresh_one, hear_is, is_answered, joins_hear, next_within, place_tally, place_within, stands_more, tallies_one, unit_is}
+use Rattle.garage.proofs.Standing.{stations_are, windows_are, state, added, fresh_one, hear_is, is_answered, joins_hear, next_within, place_tally, place_within, stands_more, tallies_one, unit_is}
 
 -- the next frame of a seat, as the bus tells it
 pub next_is : (a : Inside) (v : GarageValue) (seat : ℕ) (o : Option FrameValue) → garage_value_of a ≡ v → Stands a
@@ -56,19 +57,24 @@ quiet_fits k memory f s u lawful next unasked = (
 )
 
 -- the unit of a place
-pub place_unit : (a : Inside) (seat : ℕ) (x : Place) → Stands a → IsUnit (state a).traffic seat → x ≡ get_or a.places.items (seat - 1) x → unit_at (state a) seat ≡ unit_of x
+pub place_unit : (a : Inside) (seat : ℕ) (x : Place) → Stands a → IsUnit (state a).traffic seat → x ≡ get_or a.places.items (seat - a.stations) x → unit_at (state a) seat ≡ unit_of x
 place_unit a seat x stands u read = unit_is a seat x stands (place_within a seat stands u) read
+
+-- the stations are as they were
+pub record SamePosts (a b : Inside) : Type 0 where
+  pub posts : b.posts.items ≡ a.posts.items
+  pub stations : b.stations ≡ a.stations
 
 -- a garage stands for its journal after it
 pub quiet_stands : (a b : Inside) (seat : ℕ) (memory : MemoryValue) (f : FrameValue) (x : Place) (node' : NodeValue) → Stands a → IsUnit (state a).traffic seat → IsLawfulMemory memory → next_for (state a) seat ≡ Some f
-    → x ≡ get_or a.places.items (seat - 1) x → IsHeardQuietly x.node f node' → settings_of b ≡ settings_of a → b.journal.items ≡ a.journal.items ++ Hear seat memory NotAsked ∷ [] → b.bus.traffic ≡ heard_more seat 1 a.bus.traffic
-    → b.station ≡ a.station → b.places.items ≡ set a.places.items (seat - 1) (record x { node = node'; tally = one_more x.tally }) → b.begun ≡ a.begun → b.live ≡ a.live → b.injected ≡ a.injected
+    → x ≡ get_or a.places.items (seat - a.stations) x → IsHeardQuietly x.node f node' → settings_of b ≡ settings_of a → b.journal.items ≡ a.journal.items ++ Hear seat memory NotAsked ∷ [] → b.bus.traffic ≡ heard_more seat 1 a.bus.traffic
+    → SamePosts a b → b.places.items ≡ set a.places.items (seat - a.stations) (record x { node = node'; tally = one_more x.tally }) → b.begun ≡ a.begun → b.live ≡ a.live → b.injected ≡ a.injected
     → length a.journal.items + 1 + a.live ≤ a.limit → a.live ≤ b.journal.room → Stands b
-quiet_stands a b seat memory f x node' stands u lawful next read quiet settings journal now station places begun live injected within room =
+quiet_stands a b seat memory f x node' stands u lawful next read quiet settings journal now same_posts places begun live injected within room =
     let s = state a in
-    let k = seat - 1 in
+    let k = seat - a.stations in
     let h = place_within a seat stands u in
-    let one_is = one_window a stands in
+    let one_is = windows_are a stands in
     let low = u.0 in
     let same = place_unit a seat x stands u read in
     let node : x.node ≡ (unit_at s seat).node = sym (ap (λ (w : UnitState). w.node) same) in
@@ -86,16 +92,17 @@ quiet_stands a b seat memory f x node' stands u lawful next read quiet settings 
       journal = journal;
       fits = quiet_fits seat memory f s u lawful next quiet'.unasked;
       traffic = now ∙ (ap (λ (v : Traffic). heard_more seat 1 v) stands.traffic ∙ sym (ap (λ (v : State). v.traffic) is));
-      station = station ∙ (stands.station ∙ sym (ap (λ (v : State). table_at v 0) is));
+      stations = same_posts.stations;
+      posts = λ y l. ap (λ (ps : List Post). (post_at ps y).station) same_posts.posts ∙ (stands.posts y l ∙ sym (ap (λ (v : State). table_at v y) is));
       units = ap (map unit_of) places ∙ (map-set unit_of a.places.items k p ∙ (ap (λ (us : List UnitState). set us k (record (unit_of x) { node = node' })) stands.units
           ∙ (ap (λ (w : UnitState). set s.units k (record w { node = node' })) (sym same)
-          ∙ (ap (λ (n : ℕ). set s.units (seat - n) (record (unit_at s seat) { node = node' })) (sym (one_station a stands)) ∙ sym (ap (λ (v : State). v.units) is)))));
+          ∙ (ap (λ (n : ℕ). set s.units (seat - n) (record (unit_at s seat) { node = node' })) (sym (stations_are a stands)) ∙ sym (ap (λ (v : State). v.units) is)))));
       begun = begun ∙ (stands.begun ∙ sym (ap (λ (v : State). length v.begun) is));
       injected = (let i = injected in omega arith);
       joined = joins_hear seat memory NotAsked _ ∙ (stands.joined ∙ sym long);
-      tallies = subst (λ (xs : List Place). (j : ℕ) → j < length xs → (place_at xs j).tally ≡ tally_of (suc j) (Hear seat memory NotAsked ∷ reverse a.journal.items)) (sym places)
-          (tallies_one a.places.items _ (Hear seat memory NotAsked) k seat p one_more stands.tallies (λ j t'. refl) (omega arith) h (ap one_more (place_tally a k x h read)));
-      fresh = λ j l. fresh_one _ (Hear seat memory NotAsked) seat (length a.places.items) one_more stands.fresh (λ i t'. refl) (omega arith) j (omega arith);
+      tallies = subst (λ (xs : List Place). (j : ℕ) → j < length xs → (place_at xs j).tally ≡ tally_of (a.stations + j) (Hear seat memory NotAsked ∷ reverse a.journal.items)) (sym places)
+          (tallies_one a.stations a.places.items _ (Hear seat memory NotAsked) k seat p one_more stands.tallies (λ j t'. refl) (omega arith) h (ap one_more (place_tally a k x h read)));
+      fresh = λ j l. fresh_one _ (Hear seat memory NotAsked) seat (a.stations + length a.places.items) one_more stands.fresh (λ i t'. refl) (omega arith) j (omega arith);
       seats = (let y = stands.seats in omega arith);
       live = live ∙ (stands.live ∙ sym lives);
       within = omega arith;
@@ -108,7 +115,7 @@ quiet_stands a b seat memory f x node' stands u lawful next read quiet settings 
 
 -- what it comes to, at what callers see
 pub quiet_passes : (a b : Inside) (v : GarageValue) (seat : ℕ) (memory given : MemoryValue) (f : FrameValue) (x : Place) (node' : NodeValue) → garage_value_of a ≡ v → Stands a → settings_of b ≡ settings_of a
-    → b.journal.items ≡ a.journal.items ++ Hear seat memory NotAsked ∷ [] → memory ≡ given → IsUnit (state a).traffic seat → IsLawfulMemory memory → next_for (state a) seat ≡ Some f → x ≡ get_or a.places.items (seat - 1) x
+    → b.journal.items ≡ a.journal.items ++ Hear seat memory NotAsked ∷ [] → memory ≡ given → IsUnit (state a).traffic seat → IsLawfulMemory memory → next_for (state a) seat ≡ Some f → x ≡ get_or a.places.items (seat - a.stations) x
     → IsHeardQuietly x.node f node' → Passes v seat given f (garage_value_of b)
 quiet_passes a b v seat memory given f x node' is stands settings journal mem u lawful next read quiet =
     let same = place_unit a seat x stands u read in

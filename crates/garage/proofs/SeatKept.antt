@@ -110,23 +110,23 @@ unfolding after_begin_of
 keeps_begin None k memory s h = keeps_itself k s.traffic
 keeps_begin (Some source) k memory s h = keeps_starting k memory (begins (unit_at s k).node.session Dm1 memory source) s h
 
--- the station's reaction
-keeps_withdrawn_if : (b : Bool) (k : ℕ) (t : Traffic) → k < length t.seats → KeepsSeat k t (if b then withdrawn 0 which.All t else t)
-keeps_withdrawn_if true k t h = keeps_withdrawn k 0 which.All t h
-keeps_withdrawn_if false k t h = keeps_itself k t
+-- a station's reaction
+keeps_withdrawn_if : (b : Bool) (y k : ℕ) (t : Traffic) → k < length t.seats → KeepsSeat k t (if b then withdrawn y which.All t else t)
+keeps_withdrawn_if true y k t h = keeps_withdrawn k y which.All t h
+keeps_withdrawn_if false y k t h = keeps_itself k t
 
-keeps_reacted : (k : ℕ) (r : Reaction) (t : Traffic) → k < length t.seats → KeepsSeat k t (reacted 0 r t)
-keeps_reacted k r t h =
-    let u : Traffic = if r.withdraw then withdrawn 0 which.All t else t in
-    let one = keeps_withdrawn_if r.withdraw k t h in
-    keeps_both k t u (reacted 0 r t) one (keeps_put k 0 (map untagged r.put) u (still_there k t u one h))
+keeps_reacted : (y k : ℕ) (r : Reaction) (t : Traffic) → k < length t.seats → KeepsSeat k t (reacted y r t)
+keeps_reacted y k r t h =
+    let u : Traffic = if r.withdraw then withdrawn y which.All t else t in
+    let one = keeps_withdrawn_if r.withdraw y k t h in
+    keeps_both k t u (reacted y r t) one (keeps_put k y (map untagged r.put) u (still_there k t u one h))
 
-keeps_read : (k : ℕ) (r : Reading) (s : State) → k < length s.traffic.seats → KeepsSeat k s.traffic (after_read 0 r s).traffic
+keeps_read : (y k : ℕ) (r : Reading) (s : State) → k < length s.traffic.seats → KeepsSeat k s.traffic (after_read y r s).traffic
 unfolding after_read
-keeps_read k r s h =
+keeps_read y k r s h =
     let t = s.traffic in
-    let one = keeps_changed k 0 t (hearing (passes r) (seat_at t 0)) h refl refl in
-    keeps_both k t (reading_taken 0 r t) (after_read 0 r s).traffic one (keeps_reacted k (station_reaction (table_at s 0) r) (reading_taken 0 r t) (still_there k t (reading_taken 0 r t) one h))
+    let one = keeps_changed k y t (hearing (passes r) (seat_at t y)) h refl refl in
+    keeps_both k t (reading_taken y r t) (after_read y r s).traffic one (keeps_reacted y k (station_reaction (table_at s y) r) (reading_taken y r t) (still_there k t (reading_taken y r t) one h))
 
 keeps_carried : (o : Option QueuedFrame) (k j : ℕ) (s : State) → k < length s.traffic.seats → KeepsSeat k s.traffic (after_carry_of o j s).traffic
 unfolding after_carry_of
@@ -152,9 +152,9 @@ pub unit_hears : {X : Type 0} (g : GarageValue) (k : ℕ) (memory : MemoryValue)
 unit_hears g k memory answers unit h g' memory' unit' hears there = seat_hears k g k memory answers unit h g' memory' unit' hears there
 
 -- so it does where the station reads, and where a frame is carried
-pub unit_read : (k : ℕ) (g g' : GarageValue) (r : Reading) → Adds g (Read 0 r) g' → k < length (state_of g).traffic.seats → KeepsUnit k g g'
+pub unit_read : (y k : ℕ) (g g' : GarageValue) (r : Reading) → Adds g (Read y r) g' → k < length (state_of g).traffic.seats → KeepsUnit k g g'
 unfolding state_after
-unit_read k g g' r h there = by_event k g g' (with_event (Read 0 r) g) h.adds (keeps_read k r (state_of g) there)
+unit_read y k g g' r h there = by_event k g g' (with_event (Read y r) g) h.adds (keeps_read y k r (state_of g) there)
 
 pub unit_carried : (k j : ℕ) (g g' : GarageValue) → Adds g (Carry j) g' → k < length (state_of g).traffic.seats → KeepsUnit k g g'
 unfolding state_after

@@ -1,7 +1,7 @@
 -- A garage that stands for its journal stands for it with one event more.
-use Rattle.std.proofs.Common.{ℕ, suc, zero, ◌≡◌, ◌+◌, ◌-◌, ◌*◌, ◌<◌, ◌≤◌, List, [], ◌∷◌, ◌++◌, map, reverse, length, get_or, set, Bool, true, false, cond, ◌==◌, nat_eq, eq-eqb, Option, Some, None, slice_get, refl, sym, ap, ◌∙◌, subst, arith, inl, inr, if◌then◌else◌}
+use Rattle.std.proofs.Common.{ℕ, suc, zero, ◌≡◌, ◌+◌, ◌-◌, ◌*◌, ◌<◌, ◌≤◌, List, [], ◌∷◌, ◌++◌, map, reverse, length, get_or, set, Bool, ◌≢◌, true, false, cond, ◌==◌, nat_eq, eq-eqb, Option, Some, None, slice_get, refl, sym, ap, ◌∙◌, subst, arith, inl, inr, if◌then◌else◌}
 use Rattle.std.proofs.lemmas.Bool.{ne_eqb}
-use Rattle.std.proofs.lemmas.List.{reverse-append, length-reverse, length-set, length_push, map-set, get_or_read, get_or-set_same, get_or-set_other, set-get_or}
+use Rattle.std.proofs.lemmas.List.{reverse-append, length-map, length-reverse, length-set, length_push, map-set, get_or_read, get_or-set_same, get_or-set_other, set-get_or}
 use Rattle.bus_ledger.specs.BusValue.{SeatValue, Traffic, nobody, seat_at, IsStation, IsUnit}
 use Rattle.bus_ledger.specs.Newcomers.{live_units}
 use Rattle.bus_ledger.specs.Changes.{leaving, left, sending, carried_from, carried_frame, queued, with_newcomer, injected}
@@ -13,7 +13,7 @@ use Rattle.std.proofs.lemmas.List.Sums.{sum_by-set}
 use Rattle.fault_memory.specs.Memory.{MemoryValue, IsLawfulMemory}
 use Rattle.can_frame.specs.declared.reading.Reading.{Reading}
 use Rattle.journal.proofs.Readings.{stationed}
-use Rattle.journal.proofs.Station.{carry_same, read_own}
+use Rattle.journal.proofs.Station.{carry_same, read_other, read_own}
 use Rattle.journal.specs.State.{Settings, State, StationState, UnitState, path_at, station_at, table_at, unit_at}
 use Rattle.journal.specs.Steps.{after, after_leave, after_carry_of, item_of, reacted, after_read, path_after, after_join, after_inject, untagged, with_station}
 use Rattle.bus_ledger.specs.Reception.{reading_taken}
@@ -49,8 +49,9 @@ use Rattle.journal.specs.Journal.{GarageValue, state_after, state_of, AllFit, in
 use Rattle.journal.specs.declared.event.Event.{Event}
 use Rattle.journal.specs.declared.event.Event.TheVariants.{Join, Hear, Begin, Turned, Carry, Read, Ordered, Leave, Inject}
 use Rattle.journal.specs.declared.tally.Tally.{Tally}
-use Rattle.garage.specs.Inside.{settings_of, garage_value_of, unit_of, no_place, no_tally, place_at, Stands}
+use Rattle.garage.specs.Inside.{settings_of, garage_value_of, unit_of, no_place, no_post, no_tally, place_at, post_at, post_setting, Stands}
 use Rattle.garage.specs.declared.garage.Place.{Place}
+use Rattle.garage.specs.declared.garage.Post.{Post}
 use Rattle.garage.specs.declared.garage.Garage.TheInside.{Inside}
 use Rattle.garage.proofs.Traffics.{within_or_past, IsLive-queued, joined_live, joined_name}
 
@@ -102,43 +103,47 @@ tally_few k (e ∷ es) = few_event k (length es) e (tally_of k es) (tally_few k 
 -- the counts of a place that was read
 pub place_few : (a : Inside) (k : ℕ) (x : Place) → Stands a → k < length a.places.items → x ≡ get_or a.places.items k x → IsFewTally (length a.journal.items) x.tally
 place_few a k x stands h read =
-    let t : x.tally ≡ tally_of (suc k) (reverse a.journal.items) = ap (λ (p : Place). p.tally) (get_or_read a.places.items k x h read no_place) ∙ stands.tallies k h in
-    subst (λ (n : ℕ). IsFewTally n x.tally) (length-reverse a.journal.items) (subst (λ (u : Tally). IsFewTally (length (reverse a.journal.items)) u) (sym t) (tally_few (suc k) (reverse a.journal.items)))
+    let t : x.tally ≡ tally_of (a.stations + k) (reverse a.journal.items) = ap (λ (p : Place). p.tally) (get_or_read a.places.items k x h read no_place) ∙ stands.tallies k h in
+    subst (λ (n : ℕ). IsFewTally n x.tally) (length-reverse a.journal.items) (subst (λ (u : Tally). IsFewTally (length (reverse a.journal.items)) u) (sym t) (tally_few (a.stations + k) (reverse a.journal.items)))
 
--- it has one station, with a window
-pub one_station : (a : Inside) → Stands a → length (state a).stations ≡ 1
-one_station a stands = (stationed (settings_of a) (reverse a.journal.items) stands.fits).count
+-- as many settings as stations
+pub settings_are : (a : Inside) → Stands a → length (settings_of a).stations ≡ a.stations
+settings_are a stands = length-map a.posts.items post_setting ∙ sym stands.stations
 
-pub one_window : (a : Inside) → Stands a → length (state a).traffic.windows ≡ 1
-one_window a stands = (stationed (settings_of a) (reverse a.journal.items) stands.fits).windows
+-- it has its stations, each with a window
+pub stations_are : (a : Inside) → Stands a → length (state a).stations ≡ a.stations
+stations_are a stands = (stationed (settings_of a) (reverse a.journal.items) stands.fits).count ∙ settings_are a stands
 
--- the seats of units are one more than the places
-pub place_within : (a : Inside) (k : ℕ) → Stands a → IsUnit (state a).traffic k → k - 1 < length a.places.items
+pub windows_are : (a : Inside) → Stands a → length (state a).traffic.windows ≡ a.stations
+windows_are a stands = (stationed (settings_of a) (reverse a.journal.items) stands.fits).windows ∙ settings_are a stands
+
+-- the places of units are behind those of the stations
+pub place_within : (a : Inside) (k : ℕ) → Stands a → IsUnit (state a).traffic k → k - a.stations < length a.places.items
 place_within a k stands u =
     let n : length a.bus.traffic.seats ≡ length (state a).traffic.seats = ap (λ (t : Traffic). length t.seats) stands.traffic in
     let s = stands.seats in
-    let one = one_window a stands in
+    let w = windows_are a stands in
     let low = u.0 in
     let high = u.1 in
     omega arith
 
 -- one place whose tally changes with one event of its seat
-pub tallies_one : (xs : List Place) (es : List Event) (e : Event) (k seat : ℕ) (p : Place) (f : Tally → Tally)
-    → ((j : ℕ) → j < length xs → (place_at xs j).tally ≡ tally_of (suc j) es)
+pub tallies_one : (base : ℕ) (xs : List Place) (es : List Event) (e : Event) (k seat : ℕ) (p : Place) (f : Tally → Tally)
+    → ((j : ℕ) → j < length xs → (place_at xs j).tally ≡ tally_of (base + j) es)
     → ((j : ℕ) (t : Tally) → tallied j e t ≡ (if seat == j then f t else t))
-    → seat ≡ suc k → k < length xs → p.tally ≡ f (place_at xs k).tally
-    → (j : ℕ) → j < length (set xs k p) → (place_at (set xs k p) j).tally ≡ tally_of (suc j) (e ∷ es)
-tallies_one xs es e k seat p f old rule at h is j l =
+    → seat ≡ base + k → k < length xs → p.tally ≡ f (place_at xs k).tally
+    → (j : ℕ) → j < length (set xs k p) → (place_at (set xs k p) j).tally ≡ tally_of (base + j) (e ∷ es)
+tallies_one base xs es e k seat p f old rule at h is j l =
     let l' : j < length xs = omega (arith, length-set xs k p) in
-    let more = tally_more (suc j) e es ∙ rule (suc j) (tally_of (suc j) es) in
+    let more = tally_more (base + j) e es ∙ rule (base + j) (tally_of (base + j) es) in
     elim (same_or_not j k) [
       | inl same ↦
-          let t : nat_eq seat (suc j) ≡ true = eq-eqb seat (suc j) (omega arith) in
+          let t : nat_eq seat (base + j) ≡ true = eq-eqb seat (base + j) (omega arith) in
           let here : (place_at (set xs k p) j).tally ≡ p.tally = ap (λ (i : ℕ). (place_at (set xs k p) i).tally) same ∙ ap (λ (q : Place). q.tally) (get_or-set_same xs k p no_place h) in
-          let there : f (place_at xs k).tally ≡ f (tally_of (suc j) es) = ap f (ap (λ (i : ℕ). (place_at xs i).tally) (sym same) ∙ old j l') in
+          let there : f (place_at xs k).tally ≡ f (tally_of (base + j) es) = ap f (ap (λ (i : ℕ). (place_at xs i).tally) (sym same) ∙ old j l') in
           here ∙ (is ∙ (there ∙ sym (more ∙ rw t refl)))
       | inr n ↦
-          let t : nat_eq seat (suc j) ≡ false = ne_eqb seat (suc j) (λ e. n (omega arith)) in
+          let t : nat_eq seat (base + j) ≡ false = ne_eqb seat (base + j) (λ e. n (omega arith)) in
           ap (λ (q : Place). q.tally) (get_or-set_other xs k j p no_place n) ∙ (old j l' ∙ sym (more ∙ rw t refl))
     ]
 
@@ -184,14 +189,15 @@ pub record More (a b : Inside) (e : Event) : Type 0 where
   pub journal : b.journal.items ≡ a.journal.items ++ e ∷ []
   pub fits : Fits (state a) e
   pub traffic : b.bus.traffic ≡ (after e (state a)).traffic
-  pub station : b.station ≡ table_at (after e (state a)) 0
+  pub stations : b.stations ≡ a.stations
+  pub posts : (y : ℕ) → y < a.stations → (post_at b.posts.items y).station ≡ table_at (after e (state a)) y
   pub units : map unit_of b.places.items ≡ (after e (state a)).units
   pub begun : b.begun ≡ length (after e (state a)).begun
   pub injected : b.injected ≡ a.injected + from_outside e
   pub joined : joins (e ∷ reverse a.journal.items) ≡ length b.places.items
-  pub tallies : (k : ℕ) → k < length b.places.items → (place_at b.places.items k).tally ≡ tally_of (suc k) (e ∷ reverse a.journal.items)
-  pub fresh : (k : ℕ) → length b.places.items < k → tally_of k (e ∷ reverse a.journal.items) ≡ no_tally
-  pub seats : length b.bus.traffic.seats ≡ length b.places.items + 1
+  pub tallies : (k : ℕ) → k < length b.places.items → (place_at b.places.items k).tally ≡ tally_of (a.stations + k) (e ∷ reverse a.journal.items)
+  pub fresh : (k : ℕ) → a.stations + length b.places.items ≤ k → tally_of k (e ∷ reverse a.journal.items) ≡ no_tally
+  pub seats : length b.bus.traffic.seats ≡ length b.places.items + a.stations
   pub live : b.live ≡ live_units b.bus.traffic
   pub within : length a.journal.items + 1 + b.live ≤ b.limit
   pub room : b.live ≤ b.journal.room
@@ -199,6 +205,10 @@ pub record More (a b : Inside) (e : Event) : Type 0 where
   pub queued : (k : ℕ) → (seat_at b.bus.traffic k).queued ≤ 256 * (length a.journal.items + 1) + 1
   pub messages : b.begun ≤ length a.journal.items + 1
   pub places : length b.places.items ≤ length a.journal.items + 1
+
+-- as many posts as settings
+pub same_many : (a b : Inside) → settings_of b ≡ settings_of a → length b.posts.items ≡ length a.posts.items
+same_many a b e = sym (length-map b.posts.items post_setting) ∙ (ap (λ (r : Settings). length r.stations) e ∙ length-map a.posts.items post_setting)
 
 pub stands_more : (a b : Inside) (e : Event) → Stands a → More a b e → Stands b
 stands_more a b e stands m =
@@ -208,18 +218,22 @@ stands_more a b e stands m =
     ap (λ (es : List Event). state_after (settings_of b) es) history
     ∙ (ap (λ (r : Settings). state_after r (e ∷ reverse a.journal.items)) m.settings ∙ state_more (settings_of a) e (reverse a.journal.items)) in
     let limit : b.limit ≡ a.limit = ap (λ (r : Settings). r.limit) m.settings in
+    let many = same_many a b m.settings in
     record {
       few = (let f = stands.few in omega arith);
       traffic = m.traffic ∙ ap (λ (s : State). s.traffic) (sym is);
-      station = m.station ∙ ap (λ (s : State). table_at s 0) (sym is);
+      stations = (let one = m.stations in let two = stands.stations in let three = many in omega arith);
+      some = (let one = m.stations in let two = stands.some in omega arith);
+      eight = (let one = m.stations in let two = stands.eight in omega arith);
+      posts = λ y h. m.posts y (let one = m.stations in omega arith) ∙ ap (λ (s : State). table_at s y) (sym is);
       units = m.units ∙ ap (λ (s : State). s.units) (sym is);
       begun = m.begun ∙ ap (λ (s : State). length s.begun) (sym is);
       fits = subst (λ (r : Settings). AllFit r (reverse b.journal.items)) (sym m.settings) (subst (λ (es : List Event). AllFit (settings_of a) es) (sym history) (fit_more (settings_of a) e (reverse a.journal.items) m.fits stands.fits));
       injected = (let more = injected_more e (reverse a.journal.items) in let same = ap injected_of history in let old = stands.injected in let now = m.injected in omega arith);
       joined = ap joins history ∙ m.joined;
-      tallies = λ k h. m.tallies k h ∙ ap (λ (es : List Event). tally_of (suc k) es) (sym history);
-      fresh = λ k h. ap (λ (es : List Event). tally_of k es) history ∙ m.fresh k h;
-      seats = m.seats;
+      tallies = λ k h. m.tallies k h ∙ (ap (λ (es : List Event). tally_of (a.stations + k) es) (sym history) ∙ ap (λ (n : ℕ). tally_of (n + k) (reverse b.journal.items)) (sym m.stations));
+      fresh = λ k h. ap (λ (es : List Event). tally_of k es) history ∙ m.fresh k (let one = m.stations in omega arith);
+      seats = m.seats ∙ ap (λ (n : ℕ). length b.places.items + n) (sym m.stations);
       live = m.live;
       within = (let w = m.within in omega arith);
       room = m.room;
@@ -254,9 +268,9 @@ pub joins_carry : (k : ℕ) (es : List Event) → joins (Carry k ∷ es) ≡ joi
 unfolding joins
 joins_carry k es = refl
 
-pub joins_read : (r : Reading) (es : List Event) → joins (Read 0 r ∷ es) ≡ joins es
+pub joins_read : (y : ℕ) (r : Reading) (es : List Event) → joins (Read y r ∷ es) ≡ joins es
 unfolding joins
-joins_read r es = refl
+joins_read y r es = refl
 
 pub joins_leave : (k : ℕ) (es : List Event) → joins (Leave k ∷ es) ≡ joins es
 unfolding joins
@@ -309,16 +323,16 @@ pub carry_is : (k : ℕ) (q : QueuedFrame) (s : State) → slice_get (seat_at s.
 unfolding after_carry_of
 carry_is k q s e = rw e refl
 
-pub tallies_still : (xs : List Place) (es : List Event) (e : Event) → ((j : ℕ) → j < length xs → (place_at xs j).tally ≡ tally_of (suc j) es)
-    → ((j : ℕ) (t : Tally) → tallied j e t ≡ t) → (j : ℕ) → j < length xs → (place_at xs j).tally ≡ tally_of (suc j) (e ∷ es)
-tallies_still xs es e old rule j h = old j h ∙ sym (tally_more (suc j) e es ∙ rule (suc j) (tally_of (suc j) es))
+pub tallies_still : (base : ℕ) (xs : List Place) (es : List Event) (e : Event) → ((j : ℕ) → j < length xs → (place_at xs j).tally ≡ tally_of (base + j) es)
+    → ((j : ℕ) (t : Tally) → tallied j e t ≡ t) → (j : ℕ) → j < length xs → (place_at xs j).tally ≡ tally_of (base + j) (e ∷ es)
+tallies_still base xs es e old rule j h = old j h ∙ sym (tally_more (base + j) e es ∙ rule (base + j) (tally_of (base + j) es))
 
-pub read_is : (r : Reading) (s : State) → after (Read 0 r) s ≡ record s {
-  traffic = reacted 0 (station_reaction (table_at s 0) r) (reading_taken 0 r s.traffic);
-  stations = with_station 0 (record { table = station_after (table_at s 0) r; path = path_after 0 r s }) s.stations;
+pub read_is : (y : ℕ) (r : Reading) (s : State) → after (Read y r) s ≡ record s {
+  traffic = reacted y (station_reaction (table_at s y) r) (reading_taken y r s.traffic);
+  stations = with_station y (record { table = station_after (table_at s y) r; path = path_after y r s }) s.stations;
 }
 unfolding after_read
-read_is r s = refl
+read_is y r s = refl
 
 pub join_is : (seat name address : ℕ) (s : State) → after (Join seat name address) s ≡ record s {
   traffic = queued (length s.traffic.seats) (untagged (claim_frame_value name (Some address))) (with_newcomer name s.traffic);
@@ -335,16 +349,30 @@ pub joins_inject : (f : FrameValue) (es : List Event) → joins (Inject f ∷ es
 unfolding joins
 joins_inject f es = refl
 
--- the station's tables after its reading, and after a carry
-pub read_table : (a : Inside) (r : Reading) → Stands a → table_at (after (Read 0 r) (state a)) 0 ≡ station_after (table_at (state a) 0) r
-read_table a r stands = (let one = one_station a stands in ap (λ (v : StationState). v.table) (read_own 0 r (state a) (omega arith)))
+-- a station's tables after its reading, those of the others, and all after a carry
+pub read_table : (a : Inside) (y : ℕ) (r : Reading) → Stands a → y < a.stations → table_at (after (Read y r) (state a)) y ≡ station_after (table_at (state a) y) r
+read_table a y r stands h = (let n = stations_are a stands in ap (λ (v : StationState). v.table) (read_own y r (state a) (omega arith)))
 
-pub carry_table : (k : ℕ) (s : State) → table_at (after (Carry k) s) 0 ≡ table_at s 0
-carry_table k s = (carry_same (slice_get (seat_at s.traffic k).queue 0) k s).table 0
+pub other_table : (a : Inside) (y j : ℕ) (r : Reading) → j ≢ y → table_at (after (Read y r) (state a)) j ≡ table_at (state a) j
+other_table a y j r n = ap (λ (v : StationState). v.table) (read_other y r (state a) j n)
 
--- the station is one of the bus
-pub station_zero : (a : Inside) → Stands a → IsStation (state a).traffic 0
-station_zero a stands = (let one = one_window a stands in omega arith)
+pub carry_table : (k y : ℕ) (s : State) → table_at (after (Carry k) s) y ≡ table_at s y
+carry_table k y s = (carry_same (slice_get (seat_at s.traffic k).queue 0) k s).table y
+
+-- a station is one of the bus
+pub station_there : (a : Inside) (y : ℕ) → Stands a → y < a.stations → IsStation (state a).traffic y
+station_there a y stands h = (let w = windows_are a stands in omega arith)
+
+-- a number below that of the stations, at what callers see
+pub station_below : (a : Inside) (v : GarageValue) (y : ℕ) → garage_value_of a ≡ v → Stands a → y < length v.settings.stations → y < a.stations
+station_below a v y is stands h = (let n = settings_are a stands in let e = ap (λ (g : GarageValue). length g.settings.stations) is in omega arith)
+
+-- a post that was read
+pub post_is : (a : Inside) (y : ℕ) (x : Post) → Stands a → y < a.stations → x ≡ get_or a.posts.items y x → x ≡ post_at a.posts.items y
+post_is a y x stands h read = get_or_read a.posts.items y x (let n = stands.stations in omega arith) read no_post
+
+pub post_table : (a : Inside) (y : ℕ) (x : Post) → Stands a → y < a.stations → x ≡ get_or a.posts.items y x → x.station ≡ table_at (state a) y
+post_table a y x stands h read = ap (λ (p : Post). p.station) (post_is a y x stands h read) ∙ stands.posts y h
 
 -- a call that added this event
 pub added : (a b : Inside) (v : GarageValue) (e : Event) → garage_value_of a ≡ v → settings_of b ≡ settings_of a → b.journal.items ≡ a.journal.items ++ e ∷ [] → Fits (state a) e → Adds v e (garage_value_of b)
@@ -357,9 +385,9 @@ added a b v e is settings journal fits = record {
 }
 
 -- a garage stays as it stood where nothing that counts has changed
-pub still : (a b : Inside) → Stands a → settings_of b ≡ settings_of a → b.bus.traffic ≡ a.bus.traffic → b.station ≡ a.station → b.places.items ≡ a.places.items → b.begun ≡ a.begun → b.live ≡ a.live
+pub still : (a b : Inside) → Stands a → settings_of b ≡ settings_of a → b.bus.traffic ≡ a.bus.traffic → b.posts.items ≡ a.posts.items → b.stations ≡ a.stations → b.places.items ≡ a.places.items → b.begun ≡ a.begun → b.live ≡ a.live
     → b.injected ≡ a.injected → b.journal.items ≡ a.journal.items → b.live ≤ b.journal.room → Stands b
-still a b stands settings traffic station places begun live injected journal room =
+still a b stands settings traffic posts stations places begun live injected journal room =
     let same : state b ≡ state a = (let v : garage_value_of b ≡ garage_value_of a = cc in ap state_of v) in
     let limit : b.limit ≡ a.limit = ap (λ (r : Settings). r.limit) settings in
     let n : length b.journal.items ≡ length a.journal.items = ap length journal in
@@ -367,13 +395,16 @@ still a b stands settings traffic station places begun live injected journal roo
     record {
       few = (let f = stands.few in omega arith);
       traffic = traffic ∙ (stands.traffic ∙ ap (λ (s : State). s.traffic) (sym same));
-      station = station ∙ (stands.station ∙ ap (λ (s : State). table_at s 0) (sym same));
+      stations = stations ∙ (stands.stations ∙ ap length (sym posts));
+      some = (let s = stands.some in omega arith);
+      eight = (let s = stands.eight in omega arith);
+      posts = λ y h. ap (λ (ps : List Post). (post_at ps y).station) posts ∙ (stands.posts y (omega arith) ∙ ap (λ (s : State). table_at s y) (sym same));
       units = ap (map unit_of) places ∙ (stands.units ∙ ap (λ (s : State). s.units) (sym same));
       begun = begun ∙ (stands.begun ∙ ap (λ (s : State). length s.begun) (sym same));
       fits = subst (λ (r : Settings). AllFit r (reverse b.journal.items)) (sym settings) (subst (λ (es : List Event). AllFit (settings_of a) (reverse es)) (sym journal) stands.fits);
       injected = injected ∙ (stands.injected ∙ ap (λ (es : List Event). injected_of (reverse es)) (sym journal));
       joined = ap (λ (es : List Event). joins (reverse es)) journal ∙ (stands.joined ∙ sym m);
-      tallies = λ k h. ap (λ (xs : List Place). (place_at xs k).tally) places ∙ (stands.tallies k (omega arith) ∙ ap (λ (es : List Event). tally_of (suc k) (reverse es)) (sym journal));
+      tallies = λ k h. ap (λ (xs : List Place). (place_at xs k).tally) places ∙ (stands.tallies k (omega arith) ∙ (ap (λ (es : List Event). tally_of (a.stations + k) (reverse es)) (sym journal) ∙ ap (λ (n : ℕ). tally_of (n + k) (reverse b.journal.items)) (sym stations)));
       fresh = λ k h. ap (λ (es : List Event). tally_of k (reverse es)) journal ∙ stands.fresh k (omega arith);
       seats = (let s = stands.seats in let t = ap (λ (t : Traffic). length t.seats) traffic in omega arith);
       live = live ∙ (stands.live ∙ ap live_units (sym traffic));
@@ -391,34 +422,34 @@ unit_in (x ∷ xs) zero = refl
 unit_in (x ∷ xs) (suc k) = unit_in xs k
 
 -- the unit on a seat is that of its place
-pub unit_is : (a : Inside) (seat : ℕ) (x : Place) → Stands a → seat - 1 < length a.places.items → x ≡ get_or a.places.items (seat - 1) x → unit_at (state a) seat ≡ unit_of x
+pub unit_is : (a : Inside) (seat : ℕ) (x : Place) → Stands a → seat - a.stations < length a.places.items → x ≡ get_or a.places.items (seat - a.stations) x → unit_at (state a) seat ≡ unit_of x
 unit_is a seat x stands h read =
-    ap (λ (n : ℕ). get_or (state a).units (seat - n) (new_unit 0 0)) (one_station a stands)
-    ∙ (ap (λ (us : List UnitState). get_or us (seat - 1) (new_unit 0 0)) (sym stands.units)
-    ∙ (unit_in a.places.items (seat - 1) ∙ ap unit_of (sym (get_or_read a.places.items (seat - 1) x h read no_place))))
+    ap (λ (n : ℕ). get_or (state a).units (seat - n) (new_unit 0 0)) (stations_are a stands)
+    ∙ (ap (λ (us : List UnitState). get_or us (seat - a.stations) (new_unit 0 0)) (sym stands.units)
+    ∙ (unit_in a.places.items (seat - a.stations) ∙ ap unit_of (sym (get_or_read a.places.items (seat - a.stations) x h read no_place))))
 
 pub place_tally : (a : Inside) (k : ℕ) (x : Place) → k < length a.places.items → x ≡ get_or a.places.items k x → x.tally ≡ (place_at a.places.items k).tally
 place_tally a k x h read = ap (λ (p : Place). p.tally) (get_or_read a.places.items k x h read no_place)
 
 -- the same at what callers see: a unit's seat has its place, which keeps what the unit keeps
-pub seat_low : (a : Inside) (v : GarageValue) (seat : ℕ) → garage_value_of a ≡ v → Stands a → IsUnit (state_of v).traffic seat → 1 ≤ seat
-seat_low a v seat is stands u = (let one = one_window a stands in let low = (unit_now a v seat is u).0 in omega arith)
+pub seat_low : (a : Inside) (v : GarageValue) (seat : ℕ) → garage_value_of a ≡ v → Stands a → IsUnit (state_of v).traffic seat → a.stations ≤ seat
+seat_low a v seat is stands u = (let one = windows_are a stands in let low = (unit_now a v seat is u).0 in omega arith)
 
 pub bus_low : (a : Inside) (seat : ℕ) → Stands a → IsUnit a.bus.traffic seat → 1 ≤ seat
-bus_low a seat stands u = (let one = ap (λ (t : Traffic). length t.windows) stands.traffic ∙ one_window a stands in let low = u.0 in omega arith)
+bus_low a seat stands u = (let one = ap (λ (t : Traffic). length t.windows) stands.traffic ∙ windows_are a stands in let some = stands.some in let low = u.0 in omega arith)
 
-pub seat_placed : (a : Inside) (v : GarageValue) (seat : ℕ) → garage_value_of a ≡ v → Stands a → IsUnit (state_of v).traffic seat → seat - 1 < length a.places.items
+pub seat_placed : (a : Inside) (v : GarageValue) (seat : ℕ) → garage_value_of a ≡ v → Stands a → IsUnit (state_of v).traffic seat → seat - a.stations < length a.places.items
 seat_placed a v seat is stands u = place_within a seat stands (unit_now a v seat is u)
 
-pub place_told : (a : Inside) (v : GarageValue) (seat : ℕ) (x : Place) → garage_value_of a ≡ v → Stands a → IsUnit (state_of v).traffic seat → x ≡ get_or a.places.items (seat - 1) x → x.tally.events ≡ (tally_of seat v.journal).events
+pub place_told : (a : Inside) (v : GarageValue) (seat : ℕ) (x : Place) → garage_value_of a ≡ v → Stands a → IsUnit (state_of v).traffic seat → x ≡ get_or a.places.items (seat - a.stations) x → x.tally.events ≡ (tally_of seat v.journal).events
 place_told a v seat x is stands u read =
     let h = seat_placed a v seat is stands u in
     let low = seat_low a v seat is stands u in
-    let own : suc (seat - 1) ≡ seat = omega arith in
-    ap (λ (t : Tally). t.events) (place_tally a (seat - 1) x h read ∙ stands.tallies (seat - 1) h)
+    let own : a.stations + (seat - a.stations) ≡ seat = omega arith in
+    ap (λ (t : Tally). t.events) (place_tally a (seat - a.stations) x h read ∙ stands.tallies (seat - a.stations) h)
     ∙ (ap (λ (j : ℕ). (tally_of j (reverse a.journal.items)).events) own ∙ ap (λ (g : GarageValue). (tally_of seat g.journal).events) is)
 
-pub place_node : (a : Inside) (v : GarageValue) (seat : ℕ) (x : Place) → garage_value_of a ≡ v → Stands a → IsUnit (state_of v).traffic seat → x ≡ get_or a.places.items (seat - 1) x → (unit_at (state_of v) seat).node ≡ x.node
+pub place_node : (a : Inside) (v : GarageValue) (seat : ℕ) (x : Place) → garage_value_of a ≡ v → Stands a → IsUnit (state_of v).traffic seat → x ≡ get_or a.places.items (seat - a.stations) x → (unit_at (state_of v) seat).node ≡ x.node
 place_node a v seat x is stands u read =
     ap (λ (g : GarageValue). (unit_at (state_of g) seat).node) (sym is)
     ∙ ap (λ (n : UnitState). n.node) (unit_is a seat x stands (seat_placed a v seat is stands u) read)
@@ -455,34 +486,34 @@ next_within (x ∷ xs) zero f e = omega arith
 next_within (x ∷ xs) (suc i) f e = let r = next_within xs i f e in omega arith
 
 -- a seat that was never given has no events
-pub fresh_one : (es : List Event) (e : Event) (seat n : ℕ) (f : Tally → Tally) → ((k : ℕ) → n < k → tally_of k es ≡ no_tally)
-    → ((j : ℕ) (t : Tally) → tallied j e t ≡ (if seat == j then f t else t)) → seat ≤ n → (k : ℕ) → n < k → tally_of k (e ∷ es) ≡ no_tally
+pub fresh_one : (es : List Event) (e : Event) (seat n : ℕ) (f : Tally → Tally) → ((k : ℕ) → n ≤ k → tally_of k es ≡ no_tally)
+    → ((j : ℕ) (t : Tally) → tallied j e t ≡ (if seat == j then f t else t)) → seat < n → (k : ℕ) → n ≤ k → tally_of k (e ∷ es) ≡ no_tally
 fresh_one es e seat n f old rule low k h =
     let t : nat_eq seat k ≡ false = ne_eqb seat k (λ d. omega arith) in
     tally_more k e es ∙ (rule k (tally_of k es) ∙ rw t (old k h))
 
-pub fresh_still : (es : List Event) (e : Event) (n : ℕ) → ((k : ℕ) → n < k → tally_of k es ≡ no_tally) → ((j : ℕ) (t : Tally) → tallied j e t ≡ t) → (k : ℕ) → n < k → tally_of k (e ∷ es) ≡ no_tally
+pub fresh_still : (es : List Event) (e : Event) (n : ℕ) → ((k : ℕ) → n ≤ k → tally_of k es ≡ no_tally) → ((j : ℕ) (t : Tally) → tallied j e t ≡ t) → (k : ℕ) → n ≤ k → tally_of k (e ∷ es) ≡ no_tally
 fresh_still es e n old rule k h = tally_more k e es ∙ (rule k (tally_of k es) ∙ old k h)
 
-pub fresh_join : (es : List Event) (seat name address n : ℕ) → ((k : ℕ) → n < k → tally_of k es ≡ no_tally) → seat ≡ n + 1 → (k : ℕ) → n + 1 < k → tally_of k (Join seat name address ∷ es) ≡ no_tally
+pub fresh_join : (es : List Event) (seat name address n : ℕ) → ((k : ℕ) → n ≤ k → tally_of k es ≡ no_tally) → seat ≡ n → (k : ℕ) → n + 1 ≤ k → tally_of k (Join seat name address ∷ es) ≡ no_tally
 fresh_join es seat name address n old is k h =
     let t : nat_eq seat k ≡ false = ne_eqb seat k (λ d. omega arith) in
     tally_more k (Join seat name address) es ∙ rw t (old k (omega arith))
 
 -- a place for a unit that joins
-pub tallies_push : (xs : List Place) (es : List Event) (p : Place) (seat name address : ℕ) → ((j : ℕ) → j < length xs → (place_at xs j).tally ≡ tally_of (suc j) es) → seat ≡ suc (length xs)
-    → p.tally ≡ record { joined = 1; turned = 0; left = 0; events = 1 } → tally_of (suc (length xs)) es ≡ no_tally
-    → (j : ℕ) → j < length (xs ++ p ∷ []) → (place_at (xs ++ p ∷ []) j).tally ≡ tally_of (suc j) (Join seat name address ∷ es)
-tallies_push xs es p seat name address old n is none j l =
-    let more = tally_more (suc j) (Join seat name address) es in
+pub tallies_push : (base : ℕ) (xs : List Place) (es : List Event) (p : Place) (seat name address : ℕ) → ((j : ℕ) → j < length xs → (place_at xs j).tally ≡ tally_of (base + j) es) → seat ≡ base + length xs
+    → p.tally ≡ record { joined = 1; turned = 0; left = 0; events = 1 } → tally_of (base + length xs) es ≡ no_tally
+    → (j : ℕ) → j < length (xs ++ p ∷ []) → (place_at (xs ++ p ∷ []) j).tally ≡ tally_of (base + j) (Join seat name address ∷ es)
+tallies_push base xs es p seat name address old n is none j l =
+    let more = tally_more (base + j) (Join seat name address) es in
     elim (same_or_not j (length xs)) [
       | inl e ↦
-          let t : nat_eq seat (suc j) ≡ true = eq-eqb seat (suc j) (omega arith) in
-          let z : tally_of (suc j) es ≡ no_tally = ap (λ (i : ℕ). tally_of (suc i) es) e ∙ none in
+          let t : nat_eq seat (base + j) ≡ true = eq-eqb seat (base + j) (omega arith) in
+          let z : tally_of (base + j) es ≡ no_tally = ap (λ (i : ℕ). tally_of (base + i) es) e ∙ none in
           let here : (place_at (xs ++ p ∷ []) j).tally ≡ p.tally = ap (λ (q : Place). q.tally) (get_or_push xs p no_place j (sym e)) in
           here ∙ (is ∙ sym (more ∙ rw (t, z) refl))
       | inr e ↦
-          let t : nat_eq seat (suc j) ≡ false = ne_eqb seat (suc j) (λ d. e (omega arith)) in
+          let t : nat_eq seat (base + j) ≡ false = ne_eqb seat (base + j) (λ d. e (omega arith)) in
           let l' : j < length xs = omega (arith, length_push xs p) in
           let there : (place_at (xs ++ p ∷ []) j).tally ≡ (place_at xs j).tally = ap (λ (q : Place). q.tally) (get_or_append_left xs (p ∷ []) no_place j l') in
           there ∙ (old j l' ∙ sym (more ∙ rw t refl))
@@ -522,7 +553,7 @@ seated_join a b name want k stands settings journal at =
     let l = IsLive-queued (with_newcomer name t) n n q (joined_live t name) in
     let many : length a.bus.traffic.seats ≡ n = ap (λ (u : Traffic). length u.seats) stands.traffic in
     let seats = stands.seats in
-    let one = one_window a stands in
+    let one = windows_are a stands in
     let u : IsUnit (queued n q (with_newcomer name t)) n = (omega arith, l.0, l.1) in
     let history : reverse b.journal.items ≡ Join k name want ∷ reverse a.journal.items = ap reverse journal ∙ newest a.journal.items (Join k name want) in
     let last : nat_eq k k ≡ true = eq-eqb k k refl in
@@ -554,3 +585,7 @@ pub begins_of : (a b : Inside) (v : GarageValue) (seat : ℕ) (memory given : Me
     → memory ≡ given → Fits (state a) (Begin seat memory) → Adds v (Begin seat given) (garage_value_of b)
 begins_of a b v seat memory given is settings journal mem fits =
     subst (λ (m : MemoryValue). Adds v (Begin seat m) (garage_value_of b)) mem (added a b v (Begin seat memory) is settings journal fits)
+
+-- a garage is lawful
+pub lawful_now : (a : Inside) (v : GarageValue) → garage_value_of a ≡ v → Stands a → AllFit v.settings v.journal
+lawful_now a v is stands = subst (λ (g : GarageValue). AllFit g.settings g.journal) is stands.fits

@@ -21,9 +21,9 @@ use Rattle.garage.specs.declared.garage.Place.{Place}
 use Rattle.garage.specs.declared.steps.HeardOne.TheVariants as heard
 use Rattle.garage.proofs.Crew.{comes_both, comes_heard, crew_heard, heard_untouched}
 use Rattle.garage.proofs.LastFrames.{heard_so, last_for, settled_last}
-use Rattle.garage.proofs.Passing.{hears_quietly, quiet_passes, quiet_stands, told_hearing, told_inside}
+use Rattle.garage.proofs.Passing.{SamePosts, hears_quietly, quiet_passes, quiet_stands, told_hearing, told_inside}
 use Rattle.garage.proofs.SeatKept.{hearing_counted, still_seated, unit_hears}
-use Rattle.garage.proofs.Standing.{one_window, place_tally, place_within, state}
+use Rattle.garage.proofs.Standing.{windows_are, place_tally, place_within, state}
 
 -- how far such a sweep has come: all stands, and there is room for this many units more
 pub record Sweeps {P : Type 0} (sitting : P → Sitting) (before : GarageValue) (sifted : Sifted) (a : Inside) (units : List P) (marks : List Bool) (left : ℕ) : Type 0 where
@@ -47,24 +47,24 @@ swept_by sitting before sifted a units marks left fewer less so = record {
 }
 
 -- what stands at a seat counts the events that the journal tells of it
-counts_of : (a : Inside) (seat n : ℕ) (x : Place) → Stands a → IsUnit (state a).traffic seat → x ≡ get_or a.places.items (seat - 1) x → (tally_of seat (garage_value_of a).journal).events ≡ n → x.tally.events ≡ n
+counts_of : (a : Inside) (seat n : ℕ) (x : Place) → Stands a → IsUnit (state a).traffic seat → x ≡ get_or a.places.items (seat - a.stations) x → (tally_of seat (garage_value_of a).journal).events ≡ n → x.tally.events ≡ n
 counts_of a seat n x stands u read counted =
-    let k = seat - 1 in
-    let one_is = one_window a stands in
+    let k = seat - a.stations in
+    let one_is = windows_are a stands in
     let low = u.0 in
     let h = place_within a seat stands u in
-    let own : suc k ≡ seat = omega arith in
-    let told : x.tally ≡ tally_of (suc k) (reverse a.journal.items) = place_tally a k x h read ∙ stands.tallies k h in
+    let own : a.stations + k ≡ seat = omega arith in
+    let told : x.tally ≡ tally_of (a.stations + k) (reverse a.journal.items) = place_tally a k x h read ∙ stands.tallies k h in
     ap (λ (t : Tally). t.events) told ∙ (ap (λ (j : ℕ). (tally_of j (reverse a.journal.items)).events) own ∙ counted)
 
 -- a unit that settles the frame
 pub swept : {P : Type 0} (sitting : P → Sitting) (before : GarageValue) (sifted : Sifted) (a b : Inside) (units : List P) (marks : List Bool) (left i : ℕ) (p p' : P) (x : Place) (node' : NodeValue)
     → Sweeps sitting before sifted a units marks (suc left) → slice_get units i ≡ Some p → slice_get marks i ≡ Some true → (seat_at a.bus.traffic (sitting p).seat).heard + 1 ≡ length a.bus.traffic.wire
-    → x ≡ get_or a.places.items ((sitting p).seat - 1) x → Settles sifted x.node node' → sitting p' ≡ record (sitting p) { events = x.tally.events + 1 }
+    → x ≡ get_or a.places.items ((sitting p).seat - a.stations) x → Settles sifted x.node node' → sitting p' ≡ record (sitting p) { events = x.tally.events + 1 }
     → settings_of b ≡ settings_of a → b.journal.items ≡ a.journal.items ++ Hear (sitting p).seat (sitting p).memory NotAsked ∷ [] → b.bus.traffic ≡ heard_more (sitting p).seat 1 a.bus.traffic
-    → b.station ≡ a.station → b.places.items ≡ set a.places.items ((sitting p).seat - 1) (record x { node = node'; tally = one_more x.tally }) → b.begun ≡ a.begun → b.live ≡ a.live → b.injected ≡ a.injected
+    → SamePosts a b → b.places.items ≡ set a.places.items ((sitting p).seat - a.stations) (record x { node = node'; tally = one_more x.tally }) → b.begun ≡ a.begun → b.live ≡ a.live → b.injected ≡ a.injected
     → a.journal.room ≤ b.journal.room + 1 → Sweeps sitting before sifted b (set units i p') marks left
-swept {P} sitting before sifted a b units marks left i p p' x node' so at marked one read settles same settings journal now station places begun live injected rooms =
+swept {P} sitting before sifted a b units marks left i p p' x node' so at marked one read settles same settings journal now posts places begun live injected rooms =
     let v = garage_value_of a in
     let w = garage_value_of b in
     let seat = (sitting p).seat in
@@ -91,7 +91,7 @@ swept {P} sitting before sifted a b units marks left i p p' x node' so at marked
     let limit : b.limit ≡ a.limit = ap (λ (r : Settings). r.limit) settings in
     let more : length b.journal.items ≡ length a.journal.items + 1 = ap length journal ∙ length-append a.journal.items (Hear seat m NotAsked ∷ []) in
     record {
-      stands = quiet_stands a b seat m f x node' stands u told.1 behind.next read quiet settings journal now station places begun live injected few ready;
+      stands = quiet_stands a b seat m f x node' stands u told.1 behind.next read quiet settings journal now posts places begun live injected few ready;
       crew = crew_heard sitting v w units marks marks i p p' true so.crew at (ap (λ (s : Sitting). s.seat) same) (subst (λ (s : Sitting). Sits w s) (sym same) sits)
           (λ t. ap (λ (s : Sitting). memory_told s.seat w.journal) same ∙ (told_hearing v w seat m NotAsked passes.adds ∙ ap (λ (s : Sitting). Some s.memory) (sym same)))
           (λ k n l. heard_untouched k v seat m answers 0 (heard.Frame f) w m 0 hears n l) (λ j n t. t) (λ t. refl);

@@ -2,7 +2,7 @@
 use Rattle.std.proofs.Common.{ℕ, suc, zero, ◌≡◌, ◌≢◌, ◌+◌, ◌-◌, ◌<◌, ◌≤◌, List, [], ◌∷◌, ◌++◌, map, length, get_or, set, take, Bool, true, false, cond, refl, sym, ap, ◌∙◌, subst, arith, ◌⊎◌, inl, inr, if◌then◌else◌}
 use Rattle.std.specs.List.{count_by}
 use Rattle.std.proofs.lemmas.List.{length-set, length-map, length_push, get_or-set_same, get_or-set_other, take_more, map-append, set_past, get_or_push}
-use Rattle.std.proofs.lemmas.List.Sums.{sum_by-set, sum_by_push}
+use Rattle.std.proofs.lemmas.List.Sums.{sum_by-cons, sum_by-set, sum_by_push}
 use Rattle.bus_ledger.specs.BusValue.{SeatValue, Traffic, nobody, seat_at, IsLive, IsUnit}
 use Rattle.bus_ledger.specs.Changes.{newcomer, with_newcomer, queueing, queued, leaving, left, with_seat, hearing, heard_more, withdrawn}
 use Rattle.bus_ledger.specs.Reception.{reading_taken, passes}
@@ -77,19 +77,32 @@ count_left xs k h live =
     let one : weight (get_or xs k nobody) ≡ 1 = rw live refl in
     omega arith
 
--- beside the station a unit is live
-pub some_live : (t : Traffic) (k : ℕ) → length t.windows ≡ 1 → (seat_at t 0).live ≡ true → IsUnit t k → 1 ≤ live_units t
-some_live t k one station u =
-    let l = count_left t.seats k u.1 u.2 in
-    let n : 0 ≢ k = (λ e. let z = u.0 in omega arith) in
-    let there : 0 < length (set t.seats k (leaving (seat_at t k))) = (let z = u.1 in omega (arith, length-set t.seats k (leaving (seat_at t k)))) in
-    let o = count_live (set t.seats k (leaving (seat_at t k))) 0 there (ap (λ (s : SeatValue). s.live) (get_or-set_other t.seats k 0 (leaving (seat_at t k)) nobody n) ∙ station) in
+-- where the first so many are live, at least so many are
+pub count_first : (xs : List SeatValue) (n : ℕ) → ((y : ℕ) → y < n → (get_or xs y nobody).live ≡ true) → n ≤ count_by (λ (s : SeatValue). s.live) xs
+count_first xs zero h = omega arith
+count_first [] (suc n) h = absurd (let e : false ≡ true = h 0 (omega arith) in cc)
+count_first (x ∷ xs) (suc n) h =
+    let first : weight x ≡ 1 = (let e : x.live ≡ true = h 0 (omega arith) in rw e refl) in
+    let rest = count_first xs n (λ y l. h (suc y) (omega arith)) in
+    let step = sum_by-cons weight x xs in
     omega arith
 
-pub live_left : (t : Traffic) (k : ℕ) → length t.windows ≡ 1 → (seat_at t 0).live ≡ true → IsUnit t k → live_units (left k t) + 1 ≡ live_units t
-live_left t k one station u =
+-- all stations' seats are live
+abbrev pub StationsLive : Traffic → Type 0
+StationsLive t = (y : ℕ) → y < length t.windows → (seat_at t y).live ≡ true
+
+-- beside the stations a unit is live
+pub some_live : (t : Traffic) (k : ℕ) → StationsLive t → IsUnit t k → 1 ≤ live_units t
+some_live t k stations u =
     let l = count_left t.seats k u.1 u.2 in
-    let o = some_live t k one station u in
+    let o = count_first (set t.seats k (leaving (seat_at t k))) (length t.windows)
+    (λ y h. let n : y ≢ k = (λ e. let z = u.0 in omega arith) in ap (λ (s : SeatValue). s.live) (get_or-set_other t.seats k y (leaving (seat_at t k)) nobody n) ∙ stations y h) in
+    omega arith
+
+pub live_left : (t : Traffic) (k : ℕ) → StationsLive t → IsUnit t k → live_units (left k t) + 1 ≡ live_units t
+live_left t k stations u =
+    let l = count_left t.seats k u.1 u.2 in
+    let o = some_live t k stations u in
     omega arith
 
 -- the next element of a list was queued
@@ -160,12 +173,12 @@ keeps_withdrawn_by k withdraw.Keep t = keeps_refl t
 keeps_withdrawn_by k withdraw.Session t = keeps_withdrawn t k which.Session
 keeps_withdrawn_by k withdraw.All t = keeps_withdrawn t k which.All
 
-pub keeps_withdrawn_if : (b : Bool) (t : Traffic) → Keeps t (if b then withdrawn 0 which.All t else t)
-keeps_withdrawn_if true t = keeps_withdrawn t 0 which.All
-keeps_withdrawn_if false t = keeps_refl t
+pub keeps_withdrawn_if : (b : Bool) (y : ℕ) (t : Traffic) → Keeps t (if b then withdrawn y which.All t else t)
+keeps_withdrawn_if true y t = keeps_withdrawn t y which.All
+keeps_withdrawn_if false y t = keeps_refl t
 
-pub keeps_read : (r : Reading) (t : Traffic) → Keeps t (reading_taken 0 r t)
-keeps_read r t = keeps_heard t 0 (passes r)
+pub keeps_read : (y : ℕ) (r : Reading) (t : Traffic) → Keeps t (reading_taken y r t)
+keeps_read y r t = keeps_heard t y (passes r)
 
 pub live_kept : (t u : Traffic) (k : ℕ) → Keeps t u → IsLive t k → IsLive u k
 live_kept t u k keeps l = (rw keeps.seats l.0, keeps.live k ∙ l.1)
@@ -212,25 +225,25 @@ puts k qs t v keeps = record {
   queued = λ j. (let b = put_bound k qs v j in let q = keeps.queued j in omega arith);
 }
 
-pub puts_reacted : (r : Reaction) (t v : Traffic) → Keeps t v → PutsOn (length r.put) t (reacted 0 r v)
-puts_reacted r t v keeps =
-    subst (λ (n : ℕ). PutsOn n t (reacted 0 r v)) (length-map r.put untagged) (puts 0 (map untagged r.put) t _ (keeps_then t v _ keeps (keeps_withdrawn_if r.withdraw v)))
+pub puts_reacted : (y : ℕ) (r : Reaction) (t v : Traffic) → Keeps t v → PutsOn (length r.put) t (reacted y r v)
+puts_reacted y r t v keeps =
+    subst (λ (n : ℕ). PutsOn n t (reacted y r v)) (length-map r.put untagged) (puts y (map untagged r.put) t _ (keeps_then t v _ keeps (keeps_withdrawn_if r.withdraw y v)))
 
--- the station's seat was given and is not gone
-pub station_live : (t : Traffic) → (seat_at t 0).live ≡ true → IsLive t 0
-station_live t live = (given t.seats 0 live, live)
+-- a station's seat was given and is not gone
+pub station_live : (t : Traffic) (y : ℕ) → (seat_at t y).live ≡ true → IsLive t y
+station_live t y live = (given t.seats y live, live)
 
-pub live_read : (t : Traffic) (r : Reading) → IsLive t 0 → IsLive (reading_taken 0 r t) 0
-live_read t r h = (
-  omega (arith, length-set t.seats 0 (hearing (passes r) (seat_at t 0))),
-  ap (λ (s : SeatValue). s.live) (get_or-set_same t.seats 0 (hearing (passes r) (seat_at t 0)) nobody h.0) ∙ h.1,
+pub live_read : (t : Traffic) (y : ℕ) (r : Reading) → IsLive t y → IsLive (reading_taken y r t) y
+live_read t y r h = (
+  omega (arith, length-set t.seats y (hearing (passes r) (seat_at t y)), h.0),
+  ap (λ (s : SeatValue). s.live) (get_or-set_same t.seats y (hearing (passes r) (seat_at t y)) nobody h.0) ∙ h.1,
 )
 
 -- one unit more is live
-pub joined_units : (t : Traffic) (name : ℕ) → length t.windows ≡ 1 → (seat_at t 0).live ≡ true → live_units (with_newcomer name t) ≡ live_units t + 1
-joined_units t name one station =
+pub joined_units : (t : Traffic) (name : ℕ) → StationsLive t → live_units (with_newcomer name t) ≡ live_units t + 1
+joined_units t name stations =
     let s = sum_by_push weight t.seats (newcomer name (length t.wire)) in
-    let some = count_live t.seats 0 (given t.seats 0 station) station in
+    let some = count_first t.seats (length t.windows) stations in
     omega arith
 
 joined_at : (xs : List SeatValue) (y : SeatValue) (j : ℕ) → y.queued ≡ 0 → (get_or (xs ++ y ∷ []) j nobody).queued ≤ (get_or xs j nobody).queued

@@ -51,10 +51,10 @@ abbrev pub Begins : GarageValue → ℕ → MemoryValue → Begin → GarageValu
 Begins old k memory begin.Begun new = Adds old (event.Begin k memory) new
 Begins old k memory begin.Held new = (is_open (unit_at (state_of old) k).node.session Dm1 ≡ true) × (new ≡ old)
 
--- the next reading was taken; or there is none
-abbrev pub Reads : GarageValue → Reading → GarageValue → Type 0
-Reads old reading.Empty new = (next_reading (state_of old).traffic 0 ≡ reading.Empty) × (new ≡ old)
-Reads old r new = Adds old (event.Read 0 r) new
+-- a station took its next reading; or there is none
+abbrev pub Reads : ℕ → GarageValue → Reading → GarageValue → Type 0
+Reads y old reading.Empty new = (next_reading (state_of old).traffic y ≡ reading.Empty) × (new ≡ old)
+Reads y old r new = Adds old (event.Read y r) new
 
 -- a unit's count of its own events after hearing: one more where a frame was heard
 abbrev pub counted_hearing : ℕ → HeardOne → ℕ

@@ -1,17 +1,38 @@
 -- How the fields of a garage stand for its journal.
-use Rattle.std.specs.Prelude.{ℕ, suc, ◌≡◌, ◌+◌, ◌*◌, ◌<◌, ◌≤◌, ◌^◌, List, map, reverse, length, slice_index_or}
+use Rattle.std.specs.Prelude.{ℕ, ◌≡◌, ◌+◌, ◌*◌, ◌<◌, ◌≤◌, ◌^◌, List, map, reverse, length, slice_index_or}
 use Rattle.bus_ledger.specs.BusValue.{seat_at}
 use Rattle.bus_ledger.specs.Newcomers.{live_units}
-use Rattle.journal.specs.State.{Settings, UnitState, table_at}
-use Rattle.garage.specs.Opening.{with_one}
+use Rattle.journal.specs.State.{Settings, StationSetting, UnitState, table_at}
+use Rattle.bus_ledger.specs.declared.bus.TheConstants.{MOST_STATIONS}
+use Rattle.station_table.specs.Steps.{new_station}
+use Rattle.garage.specs.Opening.{nothing_set, setting_in, setting_value}
+use Rattle.garage.specs.declared.opening.Setting.{Setting}
+use Rattle.garage.specs.declared.garage.Post.{Post}
 use Rattle.journal.specs.Journal.{GarageValue, state_of, AllFit, injected_of, joins, tally_of}
 use Rattle.journal.specs.declared.tally.Tally.{Tally}
 use Rattle.node_core.specs.NodeValue.{new_node}
 use Rattle.garage.specs.declared.garage.Place.{Place}
 use Rattle.garage.specs.declared.garage.Garage.TheInside.{Inside}
 
+-- how a station was opened
+abbrev pub post_setting : Post → StationSetting
+post_setting p = setting_value p.setting
+
+-- what stands at the number of no station
+abbrev pub no_post : Post
+no_post = record { setting = nothing_set; station = new_station 0 0 0 }
+
+abbrev pub post_at : List Post → ℕ → Post
+post_at posts y = slice_index_or posts y no_post
+
+-- the posts of new stations with these settings
+abbrev pub ArePostsOf : List Post → List Setting → ℕ → Type 0
+ArePostsOf posts settings n =
+    (length posts ≡ n)
+    × ((y : ℕ) → y < n → post_at posts y ≡ record { setting = setting_in settings y; station = new_station (setting_in settings y).name (setting_in settings y).address (setting_in settings y).grant })
+
 abbrev pub settings_of : Inside → Settings
-settings_of g = with_one (record { name = g.name; address = g.address; window = g.window; grant = g.grant }) g.limit
+settings_of g = record { stations = map post_setting g.posts.items; limit = g.limit }
 
 abbrev pub garage_value_of : Inside → GarageValue
 garage_value_of g = record { settings = settings_of g; journal = reverse g.journal.items }
@@ -32,15 +53,18 @@ place_at places k = slice_index_or places k no_place
 pub record Stands (g : Inside) : Type 0 where
   pub few : g.limit ≤ 2 ^ 24
   pub traffic : g.bus.traffic ≡ (state_of (garage_value_of g)).traffic
-  pub station : g.station ≡ (table_at (state_of (garage_value_of g)) 0)
+  pub stations : g.stations ≡ length g.posts.items
+  pub some : 0 < g.stations
+  pub eight : g.stations ≤ MOST_STATIONS
+  pub posts : (y : ℕ) → y < g.stations → (post_at g.posts.items y).station ≡ table_at (state_of (garage_value_of g)) y
   pub units : map unit_of g.places.items ≡ (state_of (garage_value_of g)).units
   pub begun : g.begun ≡ length (state_of (garage_value_of g)).begun
   pub fits : AllFit (settings_of g) (reverse g.journal.items)
   pub injected : g.injected ≡ injected_of (reverse g.journal.items)
   pub joined : joins (reverse g.journal.items) ≡ length g.places.items
-  pub tallies : (k : ℕ) → k < length g.places.items → (place_at g.places.items k).tally ≡ tally_of (suc k) (reverse g.journal.items)
-  pub fresh : (k : ℕ) → length g.places.items < k → tally_of k (reverse g.journal.items) ≡ no_tally
-  pub seats : length g.bus.traffic.seats ≡ length g.places.items + 1
+  pub tallies : (k : ℕ) → k < length g.places.items → (place_at g.places.items k).tally ≡ tally_of (g.stations + k) (reverse g.journal.items)
+  pub fresh : (k : ℕ) → g.stations + length g.places.items ≤ k → tally_of k (reverse g.journal.items) ≡ no_tally
+  pub seats : length g.bus.traffic.seats ≡ length g.places.items + g.stations
   pub live : g.live ≡ live_units g.bus.traffic
   pub within : length g.journal.items + g.live ≤ g.limit
   pub room : g.live ≤ g.journal.room

@@ -4,8 +4,8 @@ use Rattle.std.specs.Option.{option_map}
 use Rattle.dm_messages.specs.declared.kind.Kind.TheVariants.{Dm1, Dm2, Dm6}
 use Rattle.dm_messages.specs.declared.shown.Shown.{Shown}
 use Rattle.bus_model.specs.Heard.{row_heard, address_in_row}
-use Rattle.journal.specs.Journal.{GarageValue, readings_of, listed_of}
-use Rattle.journal.specs.Worlds.{station_of}
+use Rattle.journal.specs.Journal.{GarageValue, listed_at, readings_at}
+use Rattle.journal.specs.Worlds.{station_of_at}
 use Rattle.garage.specs.declared.snapshot.Newest.{Newest}
 use Rattle.garage.specs.declared.snapshot.RowLine.{RowLine}
 
@@ -17,13 +17,17 @@ told entry = record { lamps = entry.lamps; codes = length entry.codes }
 abbrev pub newest_of : List Shown → Option Newest
 newest_of entries = option_map told (slice_get entries (length entries - 1))
 
--- the address that was heard of the NAME, the entries that the station lists under it, and the newest of its DM1 entries
-abbrev pub line_of : GarageValue → ℕ → RowLine
-line_of g name = record {
+-- the address that a station heard of the NAME, the entries that it lists under it, and the newest of its DM1 entries
+abbrev pub line_at : GarageValue → ℕ → ℕ → RowLine
+line_at g y name = record {
   name = name;
-  address = address_in_row (row_heard (station_of g.settings) name (readings_of g.journal));
-  dm1 = length (listed_of g name Dm1);
-  dm2 = length (listed_of g name Dm2);
-  dm6 = length (listed_of g name Dm6);
-  newest = newest_of (listed_of g name Dm1);
+  address = address_in_row (row_heard (station_of_at g.settings y) name (readings_at y g.journal));
+  dm1 = length (listed_at g y name Dm1);
+  dm2 = length (listed_at g y name Dm2);
+  dm6 = length (listed_at g y name Dm6);
+  newest = newest_of (listed_at g y name Dm1);
 }
+
+-- at station 0
+abbrev pub line_of : GarageValue → ℕ → RowLine
+line_of g name = line_at g 0 name

@@ -21,7 +21,7 @@ pub enum GarageError {
     /// The station holds no address.
     #[error("NotHeld")]
     NotHeld,
-    /// A live seat, the station's included, has this NAME.
+    /// A live seat, a station's included, has this NAME.
     #[error("NameInUse")]
     NameInUse,
     /// 64 units are live.

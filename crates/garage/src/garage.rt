@@ -1,9 +1,9 @@
 ghost use Rattle.std.specs.Prelude.{◌≡◌};
 
-use bus_ledger::{Bus, Counts};
+use crate::opening::Setting;
+use bus_ledger::{Bus, Counts, MOST_STATIONS};
 use can_frame::Frame;
 use journal::{Journal, Tally};
-use name_field::Name;
 use node_core::Node;
 use station_table::Station;
 use std::marker::Model;
@@ -19,18 +19,27 @@ pub(crate) struct Place {
     pub(crate) tally: Tally,
 }
 
-/// The bus of one vehicle with its units and its station, and the journal of all that happened on it.
+/// A station: how it was opened, and what it knows.
+#[derive(Drop)]
+pub(crate) struct Post {
+    pub(crate) setting: Setting,
+    pub(crate) station: Station,
+}
+
+/// The bus of one vehicle with its units and its stations, and the journal of all that happened on it.
+///
+/// Stations have numbers from 0 on. Calls whose names end in `_at` take a station's number, which is to be below `stations()`; those
+/// of the same names without it speak of station 0.
 ///
 /// Contracts see its settings and its journal; all else follows from these (`journal`).
 #[derive(Drop)]
 pub struct Garage {
-    pub(crate) name: Name,
-    pub(crate) address: u8,
-    pub(crate) window: u32,
-    pub(crate) grant: u8,
     pub(crate) limit: u32,
     pub(crate) bus: Bus,
-    pub(crate) station: Station,
+    // the stations, on the first seats, and how many they are
+    pub(crate) posts: Vec<Post>,
+    pub(crate) stations: u32,
+    // the units, on the seats behind them
     pub(crate) places: Vec<Place>,
     pub(crate) begun: u32,
     pub(crate) live: u32,
@@ -52,7 +61,7 @@ impl Model for Garage {
 }
 
 impl Garage {
-    ghost use Rattle.std.specs.Prelude.{◌≡◌, ◌+◌, length, slice_get, false, IfSome};
+    ghost use Rattle.std.specs.Prelude.{◌≡◌, ◌<◌, ◌≤◌, ◌+◌, length, slice_get, false, IfSome};
     ghost use Rattle.std.specs.List.{count_by};
     ghost use Rattle.std.specs.Option.{option_map};
     ghost use Rattle.bus_ledger.specs.BusValue.{seat_at};
@@ -61,6 +70,16 @@ impl Garage {
     ghost use Rattle.bus_model.specs.LawfulTraffic.{IsLawfulTraffic};
     ghost use Rattle.journal.specs.Journal.{injected_of, state_of};
     ghost use Rattle.journal.specs.Promises.{IsFromOwner, IsLawful, wire_of};
+
+    /// How many stations there are, 1 to 8. They have the seats below this number, and units those from it on.
+    #[inline]
+    pub fn stations(&self) -> u32
+        ensures count { result ≡ length self.now.settings.stations }
+        ensures some { 0 < length self.now.settings.stations }
+        ensures few { length self.now.settings.stations ≤ MOST_STATIONS }
+    {
+        self.stations
+    }
 
     /// What became of the frames that a seat queued; nothing where the seat was never given.
     ///

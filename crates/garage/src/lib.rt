@@ -1,4 +1,4 @@
-//! The bus of one vehicle with its units and its station, and the journal of all that happens on it.
+//! The bus of one vehicle with its units and its stations, and the journal of all that happens on it.
 #![tactic(auto)]
 
 mod carrying;
@@ -20,9 +20,10 @@ mod sifting;
 mod snapshot;
 mod steps;
 
-pub use bus_ledger::{Carried, Counts};
+pub use bus_ledger::{Carried, Counts, MOST_STATIONS};
 pub use error::GarageError;
 pub use garage::{Garage, MOST_EVENTS};
+pub use opening::Setting;
 pub use plug::{Parked, Plug};
 pub use rounds::Rounds;
 pub use snapshot::{Newest, RowLine, Snapshot};

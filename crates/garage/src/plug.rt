@@ -110,7 +110,7 @@ fn name_in(unit: &Box<dyn Unit>) -> Name
 impl Garage {
     /// Gives a boxed unit a seat, and queues its claim of the address that it wants.
     ///
-    /// Refused, in this order: `NotAnAddress` above 253, `NameInUse` where a live seat has the NAME, the station's included,
+    /// Refused, in this order: `NotAnAddress` above 253, `NameInUse` where a live seat has the NAME, a station's included,
     /// `TooManySeats` where 64 units are live, `BookFull`, `OutOfMemory`. Then nothing changed, and the box comes back.
     pub fn mount(
         &mut self,
@@ -161,7 +161,7 @@ impl Garage {
         ensures count { result ≡ (tally_of seat self.now.journal).events }
         ensures lawful { IsLawful self.now }
     {
-        self.places[seat as usize - 1].tally.events
+        self.places[(seat - self.stations) as usize].tally.events
     }
 
     /// Puts a unit into its seat.

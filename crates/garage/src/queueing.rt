@@ -111,25 +111,25 @@ pub(crate) fn withdraw_by(bus: &mut Bus, seat: u32, withdraw: Withdraw)
     }
 }
 
-/// Withdraws and queues what the station withdraws and queues. The room is there.
-pub(crate) fn react(bus: &mut Bus, reaction: &Reaction)
-    requires live { IsLive bus.old.traffic 0 }
-    requires spare { length reaction.now.put ≤ spare_at bus.old 0 }
-    requires few { (seat_at bus.old.traffic 0).queued + length reaction.now.put < 2 ^ 32 }
-    ensures { bus.new.traffic ≡ reacted 0 reaction.now bus.old.traffic }
+/// Withdraws and queues what a station withdraws and queues. The room is there.
+pub(crate) fn react(bus: &mut Bus, station: u32, reaction: &Reaction)
+    requires live { IsLive bus.old.traffic station }
+    requires spare { length reaction.now.put ≤ spare_at bus.old station }
+    requires few { (seat_at bus.old.traffic station).queued + length reaction.now.put < 2 ^ 32 }
+    ensures { bus.new.traffic ≡ reacted station reaction.now bus.old.traffic }
 {
-    withdraw_if(bus, reaction.withdraw);
-    queue_frames(bus, 0, reaction.put.as_slice());
+    withdraw_if(bus, station, reaction.withdraw);
+    queue_frames(bus, station, reaction.put.as_slice());
 }
 
-/// Withdraws the station's queue, or not.
-fn withdraw_if(bus: &mut Bus, withdraw: bool)
-    requires { IsLive bus.old.traffic 0 }
-    ensures traffic { bus.new.traffic ≡ (if withdraw then withdrawn 0 All bus.old.traffic else bus.old.traffic) }
-    ensures spare { spare_at bus.old 0 ≤ spare_at bus.new 0 }
+/// Withdraws a station's queue, or not.
+fn withdraw_if(bus: &mut Bus, station: u32, withdraw: bool)
+    requires { IsLive bus.old.traffic station }
+    ensures traffic { bus.new.traffic ≡ (if withdraw then withdrawn station All bus.old.traffic else bus.old.traffic) }
+    ensures spare { spare_at bus.old station ≤ spare_at bus.new station }
 {
     if withdraw {
-        let _ = bus.withdraw(0, Which::All);
+        let _ = bus.withdraw(station, Which::All);
     }
 }
 

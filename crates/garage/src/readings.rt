@@ -13,17 +13,14 @@ use crate::room::make_room;
 use can_frame::Reading;
 use std::alloc::Global;
 
-/// The most frames that the station puts at a reading: its claim and a request.
+/// The most frames that a station puts at a reading: its claim and a request.
 const MOST_ANSWERS: usize = 2;
 
 impl Garage {
-    /// The station takes its next reading; there is no event where it is empty.
-    ///
-    /// Refused, where there is a reading, where the journal has no room, then where there is no memory; then nothing changed.
+    /// Station 0 takes its next reading, as `read_at` says.
     #[inline]
-    #[tactic(auto, using(crate::proofs::Lists::lists_same, crate::proofs::Lists::few_events))]
     pub fn read(&mut self, alloc: Global) -> Result<Reading, GarageError>
-        ensures ok { IfOk result (λ r. Reads self.old r self.new) }
+        ensures ok { IfOk result (λ r. Reads 0 self.old r self.new) }
         // Readings end by this count.
         ensures few { length self.old.journal < 2 ^ 32 }
         ensures empty { (result ≡ Ok Reading.Empty) ↔ (next_reading (state_of self.old).traffic 0 ≡ Reading.Empty) }
@@ -32,11 +29,31 @@ impl Garage {
         ensures err { OnErr result (self.new ≡ self.old) }
         ensures lists { KeepsLists self.old self.new }
     {
-        if self.bus.is_tap_empty() {
+        let _ = self.stations();
+        self.read_at(alloc, 0)
+    }
+
+    /// A station takes its next reading; there is no event where it is empty.
+    ///
+    /// Refused, where there is a reading, where the journal has no room, then where there is no memory; then nothing changed.
+    #[inline]
+    #[tactic(auto, using(crate::proofs::Lists::lists_same, crate::proofs::Lists::few_events))]
+    pub fn read_at(&mut self, alloc: Global, station: u32) -> Result<Reading, GarageError>
+        requires { station < length self.old.settings.stations }
+        ensures ok { IfOk result (λ r. Reads station self.old r self.new) }
+        // Readings end by this count.
+        ensures few { length self.old.journal < 2 ^ 32 }
+        ensures empty { (result ≡ Ok Reading.Empty) ↔ (next_reading (state_of self.old).traffic station ≡ Reading.Empty) }
+        ensures full { IsErrOf result GarageError.BookFull ↔ ((next_reading (state_of self.old).traffic station ≢ Reading.Empty) × IsFull self.old) }
+        ensures only { IfErr result IsWant }
+        ensures err { OnErr result (self.new ≡ self.old) }
+        ensures lists { KeepsLists self.old self.new }
+    {
+        if self.bus.is_tap_empty_at(station) {
             return Ok(Reading::Empty);
         }
-        let reading = self.bus.tap_peek();
-        self.take_reading(alloc, &reading)?;
+        let reading = self.bus.tap_peek_at(station);
+        self.take_reading(alloc, station, &reading)?;
         Ok(reading)
     }
 
@@ -45,21 +62,28 @@ impl Garage {
     /// Refused where the journal has no room, then where there is no memory; then nothing changed.
     #[inline(never)]
     #[tactic(auto, using(crate::proofs::Lists::lists_same, crate::proofs::Lists::lists_added))]
-    fn take_reading(&mut self, alloc: Global, reading: &Reading) -> Result<(), GarageError>
-        requires next { reading.now ≡ next_reading (state_of self.old).traffic 0 }
+    fn take_reading(
+        &mut self,
+        alloc: Global,
+        station: u32,
+        reading: &Reading,
+    ) -> Result<(), GarageError>
+        requires station { station < length self.old.settings.stations }
+        requires next { reading.now ≡ next_reading (state_of self.old).traffic station }
         requires some { reading.now ≢ Reading.Empty }
-        ensures ok { OnOk result (Reads self.old reading.now self.new) }
+        ensures ok { OnOk result (Reads station self.old reading.now self.new) }
         ensures full { IsErrOf result GarageError.BookFull ↔ IsFull self.old }
         ensures only { IfErr result IsWant }
         ensures err { OnErr result (self.new ≡ self.old) }
         ensures lists { KeepsLists self.old self.new }
     {
         make_room(&mut self.journal, self.live + 1, self.limit)?;
-        self.bus.reserve(0, MOST_ANSWERS)?;
-        let reaction = self.station.take(alloc, *reading)?;
-        self.bus.tap_pass();
-        react(&mut self.bus, &reaction);
-        self.journal.note_read(0, *reading);
+        self.bus.reserve(station, MOST_ANSWERS)?;
+        let post = &mut self.posts[station as usize];
+        let reaction = post.station.take(alloc, *reading)?;
+        self.bus.tap_pass_at(station);
+        react(&mut self.bus, station, &reaction);
+        self.journal.note_read(station as u8, *reading);
         Ok(())
     }
 }

@@ -28,7 +28,24 @@ pub(crate) fn has_room(journal: &Journal, count: u32, limit: u32) -> bool
 /// Makes room for `count` more events, where the limit allows them.
 ///
 /// Refused first where it does not, then where there is no memory; then the journal is as it was.
+#[inline(always)]
 pub(crate) fn make_room(journal: &mut Journal, count: u32, limit: u32) -> Result<(), GarageError>
+    requires { limit ≤ 2 ^ 24 }
+    ensures items { journal.new.items ≡ journal.old.items }
+    ensures grows { journal.old.room ≤ journal.new.room }
+    ensures ok { OnOk result ((length journal.old.items + count ≤ limit) × (count ≤ journal.new.room)) }
+    ensures full { IsErrOf result GarageError.BookFull ↔ (limit < length journal.old.items + count) }
+    ensures err { IfErr result (λ e. (e ≡ GarageError.BookFull) ⊎ ((e ≡ GarageError.OutOfMemory) × (length journal.old.items + count ≤ limit))) }
+{
+    if has_room(journal, count, limit) {
+        return Ok(());
+    }
+    make_more_room(journal, count, limit)
+}
+
+/// Makes room as `make_room` does, where it may be that there is none yet.
+#[inline(never)]
+fn make_more_room(journal: &mut Journal, count: u32, limit: u32) -> Result<(), GarageError>
     requires { limit ≤ 2 ^ 24 }
     ensures items { journal.new.items ≡ journal.old.items }
     ensures grows { journal.old.room ≤ journal.new.room }

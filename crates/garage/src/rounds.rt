@@ -26,7 +26,7 @@ pub struct Rounds {
 
 impl Garage {
     /// Runs rounds with these units, so many at most. In a round each unit in turn takes its seat and hears all that it has not heard,
-    /// the station reads all, and one frame is carried. It ends early where none can be; at the end all hear and read once more.
+    /// the stations read all, and one frame is carried. It ends early where none can be; at the end all hear and read once more.
     ///
     /// That is what plugs, `read` and `carry` do, and costs less: seats are looked up once, and a memory that cannot have changed since
     /// its unit's latest event is not compared.
@@ -103,7 +103,7 @@ impl Garage {
         })
     }
 
-    /// Each unit in turn hears all that it has not heard, and the station reads all.
+    /// Each unit in turn hears all that it has not heard, and the stations read all.
     fn listen(
         &mut self,
         alloc: Global,
@@ -154,14 +154,27 @@ impl Garage {
         Ok(())
     }
 
-    /// The station reads all.
+    /// Each station in turn reads all.
     fn read_rest(&mut self, alloc: Global) -> Result<(), GarageError>
         ensures untouched { AreUntouched self.old self.new }
         ensures comes { Comes self.old self.new }
         ensures only { IfErr result IsWant }
     {
+        for station in 0..self.stations() {
+            self.read_rest_at(alloc, station)?;
+        }
+        Ok(())
+    }
+
+    /// A station reads all.
+    fn read_rest_at(&mut self, alloc: Global, station: u32) -> Result<(), GarageError>
+        requires { station < length self.old.settings.stations }
+        ensures untouched { AreUntouched self.old self.new }
+        ensures comes { Comes self.old self.new }
+        ensures only { IfErr result IsWant }
+    {
         for _ in 0..u32::MAX {
-            match self.read(alloc)? {
+            match self.read_at(alloc, station)? {
                 Reading::Empty => break,
                 Reading::Frame(_) | Reading::Gap(_) => {}
             }

@@ -62,7 +62,7 @@ impl Garage {
         ensures lists { KeepsLists self.old self.new }
     {
         let _ = self.bus.leave(seat);
-        let place = &mut self.places[seat as usize - 1];
+        let place = &mut self.places[(seat - self.stations) as usize];
         place.tally.left += 1;
         place.tally.events += 1;
         self.live -= 1;

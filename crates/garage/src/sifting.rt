@@ -118,7 +118,7 @@ impl Garage {
             if !is_told {
                 return i;
             }
-            let own = &mut self.places[number as usize - 1];
+            let own = &mut self.places[(number - self.stations) as usize];
             own.tally.events += 1;
             units[i].events = own.tally.events;
             self.bus.mark_heard(number);
@@ -157,7 +157,7 @@ impl Garage {
             if !is_marked(marks, i) {
                 return i;
             }
-            let place = &mut self.places[seat as usize - 1];
+            let place = &mut self.places[(seat - self.stations) as usize];
             if !place.node.settle(sifted) {
                 return i;
             }
@@ -259,6 +259,7 @@ impl Garage {
 
     /// The unit on the seat settles the last frame of the wire, where that is the only one that it has not heard, and there is room in
     /// the journal or memory for it; answers whether that is so. Else nothing changes.
+    #[tactic(auto, using(crate::proofs::Standing::seat_low, crate::proofs::Standing::seat_placed))]
     fn settle_anew(&mut self, seat: u32, sifted: &Sifted, unit: &dyn Unit) -> bool
         requires unit { IsUnit (state_of self.old).traffic seat }
         requires last { IsLastSifted sifted.now self.old }
@@ -273,7 +274,7 @@ impl Garage {
         else {
             return false;
         };
-        let place = &mut self.places[seat as usize - 1];
+        let place = &mut self.places[(seat - self.stations) as usize];
         if !place.node.settle(sifted) {
             return false;
         }

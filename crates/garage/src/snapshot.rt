@@ -17,7 +17,7 @@ pub struct Newest {
     pub codes: usize,
 }
 
-/// What the station knows of a NAME, in one line.
+/// What a station knows of a NAME, in one line.
 #[derive(Clone, Copy, Debug, PartialEq, Eq)]
 pub struct RowLine {
     /// The NAME.
@@ -34,7 +34,7 @@ pub struct RowLine {
     pub newest: Option<Newest>,
 }
 
-/// What the station knows: a line for each NAME, in the order of the NAMEs' first claims.
+/// What a station knows: a line for each NAME, in the order of the NAMEs' first claims.
 #[derive(Debug, Drop)]
 pub struct Snapshot {
     /// The lines.
@@ -48,14 +48,11 @@ pub struct Snapshot {
 impl Garage {
     ghost use Rattle.std.specs.Prelude.{◌≡◌, ◌<◌, IfOk, IfErr, length, map, slice_get};
     ghost use Rattle.bus_model.specs.Heard.{missed_count, names_heard, row_heard, unread_count, address_in_row};
-    ghost use Rattle.journal.specs.Worlds.{station_of};
-    ghost use Rattle.journal.specs.Journal.{injected_of, readings_of};
-    ghost use Rattle.garage.specs.Snapshots.{line_of};
+    ghost use Rattle.journal.specs.Worlds.{station_of, station_of_at};
+    ghost use Rattle.journal.specs.Journal.{injected_of, readings_at, readings_of};
+    ghost use Rattle.garage.specs.Snapshots.{line_at, line_of};
 
-    /// What the station knows now, of every NAME that it read a claim of. Its lines hold what `row` and `shown` answer.
-    ///
-    /// Refused only where there is no memory.
-    #[tactic(auto, using(crate::proofs::Lines::line_more, crate::proofs::Lines::name_is_there))]
+    /// What station 0 knows now, as `snapshot_at` says.
     pub fn snapshot(&self, alloc: Global) -> Result<Snapshot, GarageError>
         ensures rows { IfOk result (λ s. s.rows.items ≡ map (line_of self.now) (names_heard (readings_of self.now.journal))) }
         ensures missed { IfOk result (λ s. s.missed ≡ missed_count (readings_of self.now.journal)) }
@@ -63,49 +60,69 @@ impl Garage {
         ensures none { injected_of self.now.journal ≡ 0 → IfOk result (λ s. s.unread ≡ 0) }
         ensures err { IfErr result (λ e. e ≡ GarageError.OutOfMemory) }
     {
+        let _ = self.stations();
+        self.snapshot_at(alloc, 0)
+    }
+
+    /// What a station knows now, of every NAME that it read a claim of, those of other stations too. Its lines hold what `row_at` and
+    /// `shown_at` answer.
+    ///
+    /// Refused only where there is no memory.
+    #[tactic(auto, using(crate::proofs::Lines::line_more, crate::proofs::Lines::name_is_there))]
+    pub fn snapshot_at(&self, alloc: Global, station: u32) -> Result<Snapshot, GarageError>
+        requires { station < length self.now.settings.stations }
+        ensures rows { IfOk result (λ s. s.rows.items ≡ map (line_at self.now station) (names_heard (readings_at station self.now.journal))) }
+        ensures missed { IfOk result (λ s. s.missed ≡ missed_count (readings_at station self.now.journal)) }
+        ensures unread { IfOk result (λ s. s.unread ≡ unread_count (station_of_at self.now.settings station) (readings_at station self.now.journal)) }
+        ensures none { injected_of self.now.journal ≡ 0 → IfOk result (λ s. s.unread ≡ 0) }
+        ensures err { IfErr result (λ e. e ≡ GarageError.OutOfMemory) }
+    {
         let mut rows = Vec::new(alloc);
-        for place in 0..self.names() {
-            if let Some(name) = self.name_at(place) {
-                let entries = self.shown(name, Kind::Dm1);
+        for place in 0..self.names_at(station) {
+            if let Some(name) = self.name_at(station, place) {
+                let entries = self.shown_at(station, name, Kind::Dm1);
                 rows.push(RowLine {
                     name,
-                    address: self.address_of(name),
+                    address: self.address_at(station, name),
                     dm1: entries.len(),
-                    dm2: self.shown(name, Kind::Dm2).len(),
-                    dm6: self.shown(name, Kind::Dm6).len(),
+                    dm2: self.shown_at(station, name, Kind::Dm2).len(),
+                    dm6: self.shown_at(station, name, Kind::Dm6).len(),
                     newest: newest_among(entries),
                 })?;
             }
         }
         Ok(Snapshot {
             rows,
-            missed: self.missed(),
-            unread: self.unread(),
+            missed: self.missed_at(station),
+            unread: self.unread_at(station),
         })
     }
 
-    /// How many NAMEs the station read a claim of.
+    /// How many NAMEs a station read a claim of.
     #[tactic(auto, using(crate::proofs::Lines::names_heard_of))]
-    fn names(&self) -> usize
-        ensures { result ≡ length (names_heard (readings_of self.now.journal)) }
+    fn names_at(&self, station: u32) -> usize
+        requires { station < length self.now.settings.stations }
+        ensures { result ≡ length (names_heard (readings_at station self.now.journal)) }
     {
-        self.station.names()
+        self.posts[station as usize].station.names()
     }
 
     /// The NAME at a place, counted from 0, in the order of the first claims.
     #[tactic(auto, using(crate::proofs::Lines::name_heard_at))]
-    fn name_at(&self, place: usize) -> Option<Name>
-        ensures { result ≡ slice_get (names_heard (readings_of self.now.journal)) place }
+    fn name_at(&self, station: u32, place: usize) -> Option<Name>
+        requires { station < length self.now.settings.stations }
+        ensures { result ≡ slice_get (names_heard (readings_at station self.now.journal)) place }
     {
-        self.station.name_at(place)
+        self.posts[station as usize].station.name_at(place)
     }
 
-    /// The address that a NAME holds, where one is known.
+    /// The address that a NAME holds, where the station knows one.
     #[tactic(auto, using(crate::proofs::Lines::row_address_heard, crate::proofs::Lines::no_address))]
-    fn address_of(&self, name: Name) -> Option<u8>
-        ensures { result ≡ address_in_row (row_heard (station_of self.now.settings) name (readings_of self.now.journal)) }
+    fn address_at(&self, station: u32, name: Name) -> Option<u8>
+        requires { station < length self.now.settings.stations }
+        ensures { result ≡ address_in_row (row_heard (station_of_at self.now.settings station) name (readings_at station self.now.journal)) }
     {
-        match self.row(name) {
+        match self.row_at(station, name) {
             Some(row) => row.address,
             None => None,
         }

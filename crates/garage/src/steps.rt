@@ -104,7 +104,7 @@ impl Garage {
     {
         let memory = ready_to_note(&mut self.journal, self.live + 1, self.limit, seat, unit)?;
         let sifted = Sifted::of(frame);
-        let place = &mut self.places[seat as usize - 1];
+        let place = &mut self.places[(seat - self.stations) as usize];
         if !place.node.settle(&sifted) {
             return Ok(false);
         }
@@ -129,7 +129,7 @@ impl Garage {
             return false;
         }
         let sifted = Sifted::of(frame);
-        let place = &mut self.places[seat as usize - 1];
+        let place = &mut self.places[(seat - self.stations) as usize];
         if !place.node.settle(&sifted) {
             return false;
         }
@@ -172,7 +172,7 @@ impl Garage {
             &*unit,
             told,
         )?;
-        let place = &mut self.places[seat as usize - 1];
+        let place = &mut self.places[(seat - self.stations) as usize];
         let heard = place.node.hear(alloc, &frame, &mut *unit)?;
         place.session_message = last_session(place.session_message, self.begun, heard.begun);
         place.tally.events += 1;
@@ -208,7 +208,7 @@ impl Garage {
         ensures only { IfErr result IsBeginRefusal }
         ensures err { OnErr result (self.new ≡ self.old) }
     {
-        let place = &self.places[seat as usize - 1];
+        let place = &self.places[(seat - self.stations) as usize];
         let started = match place.node.begin(alloc, Kind::Dm1, unit) {
             Ok(started) => started,
             Err(NodeError::OutOfMemory) => {
@@ -246,7 +246,7 @@ impl Garage {
             unit,
             false,
         )?;
-        let place = &mut self.places[seat as usize - 1];
+        let place = &mut self.places[(seat - self.stations) as usize];
         place.tally.events += 1;
         let numbering = Numbering {
             begun: self.begun,
@@ -271,7 +271,7 @@ impl Garage {
         ensures err { OnErr result (self.new ≡ self.old) }
     {
         make_room(&mut self.journal, self.live + 1, self.limit)?;
-        let place = &mut self.places[seat as usize - 1];
+        let place = &mut self.places[(seat - self.stations) as usize];
         place.tally.turned += 1;
         place.tally.events += 1;
         self.journal.note_turned(seat);

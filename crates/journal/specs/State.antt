@@ -2,7 +2,8 @@
 use Rattle.std.specs.Prelude.{ℕ, suc, List, [], ◌∷◌, map, None, Some, ◌-◌, length, slice_index_or}
 use Rattle.address_claim.specs.Frames.{claim_frame_value}
 use Rattle.bus_ledger.specs.BusValue.{Traffic}
-use Rattle.bus_ledger.specs.Changes.{StationSeat, new_traffic, queued, queued_frame}
+use Rattle.bus_ledger.specs.Changes.{new_traffic, queued, queued_frame}
+use Rattle.bus_ledger.specs.declared.traffic.StationSeat.{StationSeat}
 use Rattle.bus_model.specs.Messages.{Message}
 use Rattle.bus_model.specs.Expected.{Reception}
 use Rattle.node_core.specs.NodeValue.{NodeValue, new_node}

@@ -1,4 +1,4 @@
-use Rattle.std.specs.Prelude.{ℕ, ◌<◌, List}
+use Rattle.std.specs.Prelude.{ℕ, ◌≡◌, ◌^◌, ◌<◌, List}
 use Rattle.std.specs.Str.Parse.{IsNumeral, digits_value}
 
 -- a word of decimal digits alone
@@ -12,3 +12,7 @@ decimal_value word = digits_value 10 word
 -- a word of decimal digits whose number is below a limit
 abbrev pub IsNumberBelow : ℕ → List ℕ → Type 0
 IsNumberBelow limit word = IsDecimal word × (decimal_value word < limit)
+
+-- a word of decimal digits whose number, below 2^32, is n
+abbrev pub SpellsNumber : List ℕ → ℕ → Type 0
+SpellsNumber word n = IsNumberBelow (2 ^ 32) word × (n ≡ decimal_value word)

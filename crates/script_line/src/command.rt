@@ -1,3 +1,6 @@
+ghost use Rattle.std.specs.Prelude.{◌≡◌};
+ghost use Rattle.script_line.specs.Station.{is_of_station};
+
 use can_frame::{Frame, FrameError, Pgn, PgnTooLarge};
 use dm_messages::Kind;
 use name_field::{Name, NameError};
@@ -61,6 +64,29 @@ pub enum Asked {
     Other { pgn: Result<Pgn, PgnTooLarge> },
 }
 
+/// What words tell of one of two stations: `NAME ADDRESS WINDOW GRANT`.
+#[derive(Clone, Copy, Debug, PartialEq, Eq)]
+pub struct StationWords {
+    /// Its NAME.
+    pub name: NameWord,
+    /// The address that it claims.
+    pub address: u8,
+    /// How many frames it may leave unread before it misses one.
+    pub window: u32,
+    /// How many packets of a session it asks for at once.
+    pub grant: u8,
+}
+
+/// A line of a script that has an answer: a command, and the station that it is of.
+#[derive(Clone, Copy, Debug, PartialEq, Eq)]
+pub struct Line {
+    /// The number of the station, from 0: `at S` before the command names it; 0 where the line does not. Whether there is a
+    /// station of that number is not known here.
+    pub station: u32,
+    /// The command.
+    pub command: Command,
+}
+
 /// A command of a script.
 #[derive(Clone, Copy, Debug, PartialEq, Eq)]
 pub enum Command {
@@ -70,6 +96,12 @@ pub enum Command {
         address: u8,
         window: u32,
         grant: u8,
+        limit: u32,
+    },
+    /// `garage2 NAME ADDRESS WINDOW GRANT NAME ADDRESS WINDOW GRANT LIMIT`: two stations, and the limit of their garage.
+    Garage2 {
+        first: StationWords,
+        second: StationWords,
         limit: u32,
     },
     /// `join NAME ADDRESS KIND`
@@ -161,4 +193,19 @@ pub enum Command {
     Injected,
     /// `report`
     Report,
+}
+
+impl Command {
+    /// Whether it is a command of a station, so that a line may name the station before it: `read`, `ask`, `command`, `shown`,
+    /// `row`, `stats` and `report`.
+    pub fn is_of_station(&self) -> bool
+        ensures { result ≡ is_of_station self.now }
+    {
+        match self {
+            Command::Read { .. } | Command::Ask { .. } | Command::Command { .. } => true,
+            Command::Shown { .. } | Command::Row { .. } => true,
+            Command::Stats | Command::Report => true,
+            _ => false,
+        }
+    }
 }

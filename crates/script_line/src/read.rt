@@ -1,7 +1,11 @@
-ghost use Rattle.std.specs.Prelude.{◌↔◌, IsTrue};
-ghost use Rattle.script_line.specs.Line.{IsSilent};
+ghost use Rattle.std.specs.Prelude.{◌≡◌, ◌↔◌, IsTrue, IfSome, true};
+ghost use Rattle.script_line.specs.Line.{IsSilent, first_word};
+ghost use Rattle.script_line.specs.Numbers.{SpellsNumber};
+ghost use Rattle.script_line.specs.Station.{NamesStation, is_of_station, station_word};
 
-use crate::command::{Asked, CodeChange, Command, NameWord, Receiver, UnitKind};
+use crate::command::{
+    Asked, CodeChange, Command, Line, NameWord, Receiver, StationWords, UnitKind,
+};
 use crate::frames::read_frame;
 use crate::numbers::{read_lamps, read_number, read_small_number};
 use crate::words::Words;
@@ -19,19 +23,47 @@ pub fn is_silent(line: &str) -> bool
     }
 }
 
-/// The command that a line spells, or `None`: an unknown word, a missing or an extra one, or a number out of its range.
-pub fn read_command(line: &str) -> Option<Command> {
+/// The line that words spell: a command, and before it `at` and the number of a station where it is one of a station. `None`
+/// for an unknown word, a missing or an extra one, a number out of its range, or `at` before any other command.
+pub fn read_line(line: &str) -> Option<Line>
+    ensures station { IfSome result (λ read. NamesStation line.now → SpellsNumber (station_word line.now) read.station) }
+    ensures of_station { IfSome result (λ read. NamesStation line.now → is_of_station read.command ≡ true) }
+    ensures first { IfSome result (λ read. ¬ NamesStation line.now → read.station ≡ 0) }
+{
     let mut words = Words::of(line);
-    let command = read_words(&mut words)?;
+    let keyword = words.next_word()?;
+    // To compare a `str` is a call, and no command has two characters.
+    let read = if keyword.len() == 2 && keyword == "at" {
+        read_at(&mut words)?
+    } else {
+        Line {
+            station: 0,
+            command: read_command(keyword, &mut words)?,
+        }
+    };
     match words.next_word() {
-        None => Some(command),
+        None => Some(read),
         Some(_) => None,
     }
 }
 
-/// The commands of which scripts have most stand first, and are told by their bytes: to compare a `str` is a call.
-fn read_words(words: &mut Words<'_>) -> Option<Command> {
-    let keyword = words.next_word()?;
+/// The number of a station and a command of it, which stand behind `at`.
+#[inline(never)]
+fn read_at(words: &mut Words<'_>) -> Option<Line>
+    ensures station { IfSome result (λ read. SpellsNumber (first_word words.old.rest.now) read.station) }
+    ensures of_station { IfSome result (λ read. is_of_station read.command ≡ true) }
+{
+    let station = next_number(words)?;
+    let command = read_command(words.next_word()?, words)?;
+    if !command.is_of_station() {
+        return None;
+    }
+    Some(Line { station, command })
+}
+
+/// The command of a first word and those behind it, which may be followed by others. The commands of which scripts have most
+/// stand first, and are told by their bytes: to compare a `str` is a call.
+fn read_command(keyword: &str, words: &mut Words<'_>) -> Option<Command> {
     match keyword.as_bytes() {
         [b'h', b'e', b'a', b'r'] => Some(Command::Hear {
             seat: next_number(words)?,
@@ -61,6 +93,7 @@ fn read_words(words: &mut Words<'_>) -> Option<Command> {
 fn read_of_garage(keyword: &str, words: &mut Words<'_>) -> Option<Command> {
     match keyword {
         "garage" => read_garage(words),
+        "garage2" => read_two_stations(words),
         "join" => read_join(words),
         "ask" => read_ask(words),
         "shown" => read_shown(words),
@@ -102,11 +135,20 @@ fn read_of_seat(keyword: &str, words: &mut Words<'_>) -> Option<Command> {
 }
 
 fn read_garage(words: &mut Words<'_>) -> Option<Command> {
+    let station = next_station(words)?;
     Some(Command::Garage {
-        name: next_name(words)?,
-        address: next_small_number(words)?,
-        window: next_number(words)?,
-        grant: next_small_number(words)?,
+        name: station.name,
+        address: station.address,
+        window: station.window,
+        grant: station.grant,
+        limit: next_number(words)?,
+    })
+}
+
+fn read_two_stations(words: &mut Words<'_>) -> Option<Command> {
+    Some(Command::Garage2 {
+        first: next_station(words)?,
+        second: next_station(words)?,
         limit: next_number(words)?,
     })
 }
@@ -173,11 +215,22 @@ fn next_unit_kind(words: &mut Words<'_>) -> Option<UnitKind> {
     }
 }
 
+fn next_station(words: &mut Words<'_>) -> Option<StationWords> {
+    Some(StationWords {
+        name: next_name(words)?,
+        address: next_small_number(words)?,
+        window: next_number(words)?,
+        grant: next_small_number(words)?,
+    })
+}
+
 fn next_name(words: &mut Words<'_>) -> Option<NameWord> {
     Some(Name::read_hex(words.next_word()?))
 }
 
-fn next_number(words: &mut Words<'_>) -> Option<u32> {
+fn next_number(words: &mut Words<'_>) -> Option<u32>
+    ensures { IfSome result (SpellsNumber (first_word words.old.rest.now)) }
+{
     read_number(words.next_word()?)
 }
 

@@ -64,6 +64,10 @@ pub enum LineReason<'a> {
         word: &'a str,
         wanted: Wanted,
     },
+    /// It names a station before this word, with which no command of a station begins.
+    NoStation {
+        word: &'a str,
+    },
     /// It goes on with this word behind its command.
     Behind {
         word: &'a str,
@@ -81,6 +85,10 @@ impl fmt::Display for LineReason<'_> {
                 word,
                 wanted,
             } => write!(f, "{place}: '{word}' is {wanted}"),
+            LineReason::NoStation { word } => write!(
+                f,
+                "'{word}' takes no station: read, ask, command, shown, row, stats and report do"
+            ),
             LineReason::Behind { word } => write!(f, "'{word}' stands behind the command"),
         }
     }
@@ -93,6 +101,12 @@ const NAME: Place = ("NAME", Wanted::Name);
 
 const ADDRESS: Place = ("ADDRESS", Wanted::Small);
 
+const WINDOW: Place = ("WINDOW", Wanted::Number);
+
+const GRANT: Place = ("GRANT", Wanted::Small);
+
+const LIMIT: Place = ("LIMIT", Wanted::Number);
+
 const SEAT: Place = ("SEAT", Wanted::Number);
 
 const SPN: Place = ("SPN", Wanted::Number);
@@ -104,12 +118,17 @@ const COUNT: Place = ("N", Wanted::Count);
 /// The places of a command behind its first word.
 fn places_of(word: &str) -> Option<&'static [Place]> {
     match word {
-        "garage" => Some(&[
+        "garage" => Some(&[NAME, ADDRESS, WINDOW, GRANT, LIMIT]),
+        "garage2" => Some(&[
             NAME,
             ADDRESS,
-            ("WINDOW", Wanted::Number),
-            ("GRANT", Wanted::Small),
-            ("LIMIT", Wanted::Number),
+            WINDOW,
+            GRANT,
+            ("second NAME", Wanted::Name),
+            ("second ADDRESS", Wanted::Small),
+            ("second WINDOW", Wanted::Number),
+            ("second GRANT", Wanted::Small),
+            LIMIT,
         ]),
         "join" => Some(&[NAME, ADDRESS, ("KIND", Wanted::Kind)]),
         "set" | "heal" | "pend" | "unpend" => Some(&[SEAT, SPN, FMI, COUNT]),
@@ -129,17 +148,47 @@ fn places_of(word: &str) -> Option<&'static [Place]> {
     }
 }
 
+/// Whether a line may name a station before this first word of a command.
+fn takes_station(word: &str) -> bool {
+    match word {
+        "read" | "ask" | "command" | "shown" | "row" | "stats" | "report" => true,
+        _ => false,
+    }
+}
+
 /// Why a line is no command; none where it is one.
 pub fn reason(line: &str) -> Option<LineReason<'_>> {
     let mut words = Words::of(line);
     let Some(first) = words.next_word() else {
         return Some(LineReason::Blank);
     };
+    if first == "at" {
+        return unfit_at_station(&mut words);
+    }
+    unfit_behind(first, &mut words)
+}
+
+/// Why the words behind `at` are no station's number and a command of it; none where they are.
+fn unfit_at_station<'a>(words: &mut Words<'a>) -> Option<LineReason<'a>> {
+    if let Some(reason) = unfit_number(words, "S", Wanted::Number) {
+        return Some(reason);
+    }
+    let Some(first) = words.next_word() else {
+        return Some(LineReason::Missing { place: "COMMAND" });
+    };
+    if first == "at" || (places_of(first).is_some() && !takes_station(first)) {
+        return Some(LineReason::NoStation { word: first });
+    }
+    unfit_behind(first, words)
+}
+
+/// Why no command begins with this word, or why those behind it do not fit; none where they make a command.
+fn unfit_behind<'a>(first: &'a str, words: &mut Words<'a>) -> Option<LineReason<'a>> {
     let Some(places) = places_of(first) else {
         return Some(LineReason::Unknown { word: first });
     };
     for place in places {
-        if let Some(reason) = unfit_at(&mut words, *place) {
+        if let Some(reason) = unfit_at(words, *place) {
             return Some(reason);
         }
     }

@@ -9,7 +9,9 @@ pub struct Words<'a> {
 
 impl<'a> Words<'a> {
     /// The words of a line: what stands between its spaces.
-    pub fn of(line: &'a str) -> Words<'a> {
+    pub fn of(line: &'a str) -> Words<'a>
+        ensures { result.rest.now ≡ line.now }
+    {
         Words { rest: line }
     }
 

@@ -1,2 +1,3 @@
 mod Turning
 mod Comparing
+pub mod Reading

@@ -3,8 +3,6 @@ use Rattle.std.proofs.Common.{◌≡◌, ◌⊎◌, inl, inr, ℕ, zero, suc, �
 use Rattle.std.specs.Prelude.{if◌then◌else◌, slice_get}
 use Rattle.std.proofs.lemmas.List.{length-set}
 use Rattle.std.proofs.lemmas.List.Elements.{All-cons, All-nil}
-use Rattle.can_frame.specs.declared.reading.Reading.{Reading}
-use Rattle.can_frame.specs.declared.reading.Reading.TheVariants as reading
 use Rattle.can_frame.specs.FrameValue.{FrameValue}
 use Rattle.fault_memory.specs.Memory.{MemoryValue}
 use Rattle.bus_ledger.specs.BusValue.{SeatValue, Traffic, nobody, seat_at}
@@ -17,20 +15,20 @@ use Rattle.journal.specs.State.{State}
 use Rattle.journal.specs.Steps.{after_carry_of}
 use Rattle.journal.specs.Journal.{Adds, GarageValue, IsSeated, state_after, state_of, tally_of, with_event}
 use Rattle.journal.specs.declared.event.Event.{Event}
-use Rattle.journal.specs.declared.event.Event.TheVariants.{Hear, Begin, Turned, Carry, Read, Leave}
+use Rattle.journal.specs.declared.event.Event.TheVariants.{Hear, Begin, Turned, Carry, Leave}
 use Rattle.journal.specs.declared.tally.Tally.{Tally}
-use Rattle.garage.specs.Answers.{Hears, Reads}
+use Rattle.garage.specs.Answers.{Hears}
 use Rattle.garage.specs.Carrying.{AddsCarry}
 use Rattle.garage.specs.Causes.{held_at, has_open_dm1}
 use Rattle.garage.specs.declared.steps.HeardOne.{HeardOne}
 use Rattle.garage.specs.declared.steps.HeardOne.TheVariants as heard
 use Rattle.garage.proofs.Traffics.{set_live}
-use Rattle.unit_threads.specs.Turns.{CannotCarry, CarriesAll, CarriesSome, GrowsBy, HasHeardAll, HasReadAll, IsCarry, IsHearOf, IsOneRead, IsOneTurn, IsPartOfRead, IsPartOfTurn, IsRead, IsTurnInSeat, KeepsSeats, LeavesAfterSome, LeftTurn, begun_by}
+use Rattle.unit_threads.specs.Turns.{CannotCarry, CarriesAll, CarriesSome, GrowsBy, HasHeardAll, IsCarry, IsHearOf, IsOneTurn, IsPartOfTurn, IsTurnInSeat, KeepsSeats, LeavesAfterSome, LeftTurn, begun_by}
 
 abbrev pub grows_none : (P : Event → Type 0) (g : GarageValue) → GrowsBy P g g
 grows_none P g = record { events = []; kind = All-nil P; added = refl }
 
-abbrev grows_more : (P : Event → Type 0) (a b c : GarageValue) (e : Event) → GrowsBy P a b → P e → c ≡ with_event e b → GrowsBy P a c
+abbrev pub grows_more : (P : Event → Type 0) (a b c : GarageValue) (e : Event) → GrowsBy P a b → P e → c ≡ with_event e b → GrowsBy P a c
 grows_more P a b c e g p h = record { events = e ∷ g.events; kind = All-cons P e g.events p g.kind; added = h ∙ ap (with_event e) g.added }
 
 abbrev pub grown_same : (P : Event → Type 0) (a b c : GarageValue) → GrowsBy P a b → c ≡ b → GrowsBy P a c
@@ -41,12 +39,6 @@ pub hears_more : (X : Type 0) (k j : ℕ) (a b c : GarageValue) (memory memory' 
     → j ≡ k → GrowsBy (IsHearOf k) a b → Hears b j memory answers unit h c memory' unit' → GrowsBy (IsHearOf k) a c
 hears_more X k j a b c memory memory' answers unit unit' (heard.Frame f) e g h = grows_more (IsHearOf k) a b c (Hear j memory h.1.0) g e h.1.1.adds
 hears_more X k j a b c memory memory' answers unit unit' heard.Nothing e g h = grown_same (IsHearOf k) a b c g h.1
-
--- one more reading taken, if there was one
-pub reads_more : (a b c : GarageValue) (r : Reading) → GrowsBy IsRead a b → Reads b r c → GrowsBy IsRead a c
-reads_more a b c (reading.Frame f) g h = grows_more IsRead a b c (Read 0 (reading.Frame f)) g tt h.adds
-reads_more a b c (reading.Gap n) g h = grows_more IsRead a b c (Read 0 (reading.Gap n)) g tt h.adds
-reads_more a b c reading.Empty g h = grown_same IsRead a b c g h.1
 
 -- ---- beginning
 
@@ -221,11 +213,3 @@ one_turn_of k wants memory a b c turn carries = record { turned = b; turn = turn
 
 pub leaves_after_some : (k : ℕ) (a b c : GarageValue) → CarriesSome a b → c ≡ with_event (Leave k) b → LeavesAfterSome k a c
 leaves_after_some k a b c carries e = record { last = b; carries = carries; left = e }
-
--- ---- a whole reading, and one that was cut short
-
-pub one_read_of : (a b c : GarageValue) → GrowsBy IsRead a b → HasReadAll b → CarriesAll b c → IsOneRead a c
-one_read_of a b c reads all carries = record { read = b; reads = reads; all = all; carries = carries }
-
-pub part_of_read : (a b c : GarageValue) → GrowsBy IsRead a b → HasReadAll b → CarriesSome b c → IsPartOfRead a c
-part_of_read a b c reads all carries = inr (record { read = b; reads = reads; all = all; carries = carries })

@@ -1,7 +1,6 @@
 -- What is told of the end of a unit's thread.
-use Rattle.std.specs.Prelude.{ℕ, ◌≡◌, ◌≢◌, ◌⊎◌, ◌<◌, ◌≤◌, List, Option, Some, None, length, slice_index_or}
-use Rattle.journal.specs.Journal.{joins, tally_of}
-use Rattle.journal.specs.declared.event.Event.{Event}
+use Rattle.std.specs.Prelude.{ℕ, ◌≡◌, ◌≢◌, ◌⊎◌, ◌+◌, ◌<◌, ◌≤◌, List, Option, Some, None, length, slice_index_or}
+use Rattle.journal.specs.Journal.{GarageValue, joins, tally_of}
 use Rattle.journal.specs.declared.tally.Tally.{Tally}
 use Rattle.garage.specs.Calls.{IsWant}
 use Rattle.garage.specs.Opening.{no_events}
@@ -22,9 +21,9 @@ abbrev pub IsMountRefusal : GarageError → Type 0
 IsMountRefusal e = (e ≡ NotAnAddress) ⊎ IsJoinRefusal e
 
 -- what the garage tells of a seat: its counts in the journal, none where no unit got that number
-pub record IsToldOf (k : ℕ) (journal : List Event) (t : Tally) : Type 0 where
-  pub given : 0 < k → k ≤ joins journal → t ≡ tally_of k journal
-  pub never : ((k ≡ 0) ⊎ (joins journal < k)) → t ≡ no_events
+pub record IsToldOf (k : ℕ) (g : GarageValue) (t : Tally) : Type 0 where
+  pub given : length g.settings.stations ≤ k → k < length g.settings.stations + joins g.journal → t ≡ tally_of k g.journal
+  pub never : ((k < length g.settings.stations) ⊎ (length g.settings.stations + joins g.journal ≤ k)) → t ≡ no_events
 
 -- a seat that ended without a refusal: it joined, had all its turns and left, and these are its events
 abbrev pub IsWhole : ℕ → Tally → ℕ → Type 0
@@ -47,13 +46,13 @@ IsUnseated None = ⊥
 IsUnseated (Some reason.NoThread) = Unit {0}
 IsUnseated (Some (reason.Garage e)) = IsMountRefusal e
 
-abbrev pub AgreesWith : ℕ → List Event → Option ℕ → ℕ → Option EndReason → Type 0
-AgreesWith turns journal (Some k) events refusal = (t : Tally) × IsToldOf k journal t × AgreesAt turns t events refusal
-AgreesWith turns journal None events refusal = (events ≡ 0) × IsUnseated refusal
+abbrev pub AgreesWith : ℕ → GarageValue → Option ℕ → ℕ → Option EndReason → Type 0
+AgreesWith turns g (Some k) events refusal = (t : Tally) × IsToldOf k g t × AgreesAt turns t events refusal
+AgreesWith turns g None events refusal = (events ≡ 0) × IsUnseated refusal
 
--- what is told of an end is what the journal says
-pub record Agrees (turns : ℕ) (journal : List Event) (e : Ended) : Type 0 where
-  pub agrees : AgreesWith turns journal e.seat e.events e.refusal
+-- what is told of an end is what the journal of the garage says
+pub record Agrees (turns : ℕ) (g : GarageValue) (e : Ended) : Type 0 where
+  pub agrees : AgreesWith turns g e.seat e.events e.refusal
 
 -- an end with the seat that the comparison refused
 abbrev pub IsStrangerAt : ℕ → Ended → Type 0

@@ -1,5 +1,5 @@
 -- What a turn and a reading add to the journal of a garage.
-use Rattle.std.specs.Prelude.{ℕ, ◌≡◌, ◌⊎◌, ◌<◌, ◌≤◌, ◌&&◌, Bool, not, List, ◌++◌, None, All, is_some, length, if◌then◌else◌}
+use Rattle.std.specs.Prelude.{ℕ, suc, zero, ◌≡◌, ◌≢◌, ◌⊎◌, ◌<◌, ◌≤◌, ◌&&◌, Bool, not, List, ◌++◌, None, All, is_some, length, if◌then◌else◌}
 use Rattle.can_frame.specs.declared.reading.Reading.TheVariants.{Empty}
 use Rattle.fault_memory.specs.Memory.{MemoryValue}
 use Rattle.bus_ledger.specs.Carrying.{IsIdle, IsWaiting}
@@ -29,17 +29,32 @@ abbrev pub IsCarry : Event → Type 0
 IsCarry (Carry k) = Unit {0}
 IsCarry _ = ⊥
 
-abbrev pub IsRead : Event → Type 0
-IsRead (Read y r) = Unit {0}
-IsRead _ = ⊥
+-- the station with this number read
+abbrev pub IsReadOf : ℕ → Event → Type 0
+IsReadOf y (Read j r) = j ≡ y
+IsReadOf y _ = ⊥
 
 -- the seat has heard the whole wire
 abbrev pub HasHeardAll : ℕ → GarageValue → Type 0
 HasHeardAll k g = next_for (state_of g) k ≡ None
 
--- the station has nothing left to read
-abbrev pub HasReadAll : GarageValue → Type 0
-HasReadAll g = next_reading (state_of g).traffic 0 ≡ Empty
+-- a station has nothing left to read
+abbrev pub HasReadAll : ℕ → GarageValue → Type 0
+HasReadAll y g = next_reading (state_of g).traffic y ≡ Empty
+
+-- the first n stations have nothing left to read
+abbrev pub HaveReadAll : ℕ → GarageValue → Type 0
+HaveReadAll n g = (y : ℕ) → y < n → HasReadAll y g
+
+-- the first n stations read, one after another
+abbrev pub ReadInTurn : ℕ → GarageValue → GarageValue → Type 0
+ReadInTurn zero old new = new ≡ old
+ReadInTurn (suc n) old new = (before : GarageValue) × ReadInTurn n old before × GrowsBy (IsReadOf n) before new
+
+-- what the other stations read next is as it was, and so are the settings
+pub record LeavesOthers (y : ℕ) (old new : GarageValue) : Type 0 where
+  pub settings : new.settings ≡ old.settings
+  pub next : (j : ℕ) → j ≢ y → next_reading (state_of new).traffic j ≡ next_reading (state_of old).traffic j
 
 -- a DM1 of the memory begins where the unit wants one, its seat holds an address and has no session of a DM1 open
 abbrev pub begun_by : ℕ → Bool → MemoryValue → GarageValue → GarageValue
@@ -106,23 +121,27 @@ pub record LeavesAfterSome (k : ℕ) (old new : GarageValue) : Type 0 where
   pub carries : CarriesSome old last
   pub left : new ≡ with_event (Leave k) last
 
--- the station read until nothing was unread, then carrying
+-- each station read until nothing was unread, in order of their numbers, then carrying
 pub record IsOneRead (old new : GarageValue) : Type 0 where
   pub read : GarageValue
-  pub reads : GrowsBy IsRead old read
-  pub all : HasReadAll read
+  pub reads : ReadInTurn (length old.settings.stations) old read
+  pub all : HaveReadAll (length old.settings.stations) read
   pub carries : CarriesAll read new
 
 -- all was read, but fewer than eight frames carried
 pub record IsReadCarrying (old new : GarageValue) : Type 0 where
   pub read : GarageValue
-  pub reads : GrowsBy IsRead old read
-  pub all : HasReadAll read
+  pub reads : ReadInTurn (length old.settings.stations) old read
+  pub all : HaveReadAll (length old.settings.stations) read
   pub carries : CarriesSome read new
+
+-- some stations read in turn
+abbrev pub IsPartOfReading : GarageValue → GarageValue → Type 0
+IsPartOfReading old new = (n : ℕ) × (n ≤ length old.settings.stations) × ReadInTurn n old new
 
 -- a reading as far as it came
 abbrev pub IsPartOfRead : GarageValue → GarageValue → Type 0
-IsPartOfRead old new = GrowsBy IsRead old new ⊎ IsReadCarrying old new
+IsPartOfRead old new = IsPartOfReading old new ⊎ IsReadCarrying old new
 
 -- who was seated still is
 pub record KeepsSeats (old new : GarageValue) : Type 0 where

@@ -12,7 +12,7 @@ use journal::Tally;
 #[tactic(auto, using(crate::proofs::Comparing::all_agree, crate::proofs::Comparing::all_apart))]
 pub(crate) fn compared_ends(garage: &Garage, turns: u32, mut ended: Vec<Ended>) -> Vec<Ended>
     ensures len { vec_len result ≡ vec_len ended }
-    ensures agree { All (Agrees turns garage.now.journal) result.items }
+    ensures agree { All (Agrees turns garage.now) result.items }
     ensures apart { HaveOwnSeats result.items }
 {
     check_all(garage, turns, ended.as_mut_slice());
@@ -22,7 +22,7 @@ pub(crate) fn compared_ends(garage: &Garage, turns: u32, mut ended: Vec<Ended>) 
 /// Compares each end in its place.
 fn check_all(garage: &Garage, turns: u32, ended: &mut [Ended])
     ensures len { length ended.new ≡ length ended.old }
-    ensures agree { All (Agrees turns garage.now.journal) ended.new }
+    ensures agree { All (Agrees turns garage.now) ended.new }
     ensures apart { HaveOwnSeats ended.new }
 {
     for i in 0..ended.len() {
@@ -39,7 +39,7 @@ fn check_all(garage: &Garage, turns: u32, ended: &mut [Ended])
 /// What is told of an end, once its seat is compared with the journal.
 #[tactic(auto, using(crate::proofs::Comparing::agrees_seated, crate::proofs::Comparing::agrees_unseated))]
 fn checked(garage: &Garage, turns: u32, end: Ended) -> Ended
-    ensures { Agrees turns garage.now.journal result }
+    ensures { Agrees turns garage.now result }
 {
     let Some(seat) = end.seat else {
         return Ended {
@@ -59,7 +59,7 @@ fn checked(garage: &Garage, turns: u32, end: Ended) -> Ended
 /// The end of a seat that does not agree with the journal.
 #[tactic(auto, using(crate::proofs::Comparing::agrees_stranger))]
 fn stranger(garage: &Garage, turns: u32, seat: u32) -> Ended
-    ensures agree { Agrees turns garage.now.journal result }
+    ensures agree { Agrees turns garage.now result }
     ensures told { IsStrangerAt seat result }
 {
     Ended {

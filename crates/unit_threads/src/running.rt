@@ -24,12 +24,12 @@ pub trait Gate: Sync {
 pub struct Ran {
     /// How each unit's thread ended, in the order of the units.
     pub ended: Vec<Ended>,
-    /// Why the station's readings ended early: `BookFull` or `OutOfMemory`; none where they did not.
+    /// Why the stations' readings ended early: `BookFull` or `OutOfMemory`; none where they did not.
     pub station: Option<GarageError>,
 }
 
 /// Runs each unit, given with the address that it wants, in a thread of its own: it joins, has so many turns (`one_turn`) and
-/// leaves. Meanwhile the caller's thread has the station read so often (`one_read`).
+/// leaves. Meanwhile the caller's thread has the stations read so often (`one_read`).
 ///
 /// The garage comes back as the threads left it, each seat's counts agree with what is told of it, and no seat is told of
 /// twice. A unit whose thread cannot be started is let go (`NoThread`); a lock of this toolchain is never poisoned, since a
@@ -49,7 +49,7 @@ pub fn run<R: Threads + Wait + Sync, G: Gate>(
     requires { vec_len units < 2 ^ 32 }
     ensures none { IfErr result.1 (λ _. result.0 ≡ garage) }
     ensures all { IfOk result.1 (λ r. vec_len r.ended ≡ vec_len units) }
-    ensures agree { IfOk result.1 (λ r. All (Agrees turns result.0.journal) r.ended.items) }
+    ensures agree { IfOk result.1 (λ r. All (Agrees turns result.0) r.ended.items) }
     ensures apart { IfOk result.1 (λ r. HaveOwnSeats r.ended.items) }
     ensures station { IfOk result.1 (λ r. IfSome r.station IsWant) }
 {
@@ -167,7 +167,7 @@ fn refused_at(seat: u32, error: GarageError) -> Ended {
     }
 }
 
-/// The station's readings. The first refusal ends them.
+/// The stations' readings. The first refusal ends them.
 fn read_often<R: Wait>(
     rt: &R,
     alloc: Global,

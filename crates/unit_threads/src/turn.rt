@@ -1,6 +1,6 @@
-ghost use Rattle.std.specs.Prelude.{◌≡◌, ◌⊎◌, ◌↔◌, ◌<◌, ◌≤◌, ℕ, Err, None, IfErr, IfOk, IsErr, MatchResult, OnErr, OnOk};
+ghost use Rattle.std.specs.Prelude.{◌≡◌, ◌⊎◌, ◌↔◌, ◌<◌, ◌≤◌, ℕ, length, Err, None, IfErr, IfOk, IsErr, MatchResult, OnErr, OnOk};
 ghost use Rattle.journal.specs.Journal.{IsSeated};
-ghost use Rattle.unit_threads.specs.Turns.{CarriesAll, CarriesSome, GrowsBy, HasHeardAll, HasReadAll, IsHearOf, IsOneRead, IsOneTurn, IsPartOfRead, IsPartOfTurn, IsRead, IsTurnInSeat, KeepsSeats, LeavesAfterSome, LeftTurn, begun_by};
+ghost use Rattle.unit_threads.specs.Turns.{CarriesAll, CarriesSome, GrowsBy, HasHeardAll, HasReadAll, HaveReadAll, IsHearOf, IsOneRead, IsOneTurn, IsPartOfRead, IsPartOfReading, IsPartOfTurn, IsReadOf, IsTurnInSeat, KeepsSeats, LeavesAfterSome, LeavesOthers, LeftTurn, ReadInTurn, begun_by};
 ghost use Rattle.garage.specs.Calls.{IsWant};
 
 use can_frame::Reading;
@@ -36,28 +36,42 @@ pub fn one_turn(alloc: Global, garage: &mut Garage, parked: Parked) -> Result<Pa
     }
 }
 
-/// The station reads until nothing is unread; then up to eight frames are carried.
+/// Each station in turn reads until nothing is unread; then up to eight frames are carried.
 ///
 /// # Errors
 /// - `BookFull`, `OutOfMemory`: a step was refused. What was done before stays.
-#[tactic(auto, using(crate::proofs::Turning::one_read_of, crate::proofs::Turning::part_of_read))]
+#[tactic(auto, using(crate::proofs::Reading::one_read_of, crate::proofs::Reading::part_of_read, crate::proofs::Reading::cut_short))]
 pub fn one_read(alloc: Global, garage: &mut Garage) -> Result<(), GarageError>
     ensures ok { OnOk result (IsOneRead garage.old garage.new) }
     ensures err { IfErr result (λ e. IsWant e × IsPartOfRead garage.old garage.new) }
 {
-    read_all(alloc, garage)?;
+    read_each(alloc, garage)?;
     carry_some(garage)
 }
 
-/// Takes readings until there is none.
-#[tactic(auto, using(crate::proofs::Turning::reads_more, crate::proofs::Turning::grows_none, crate::proofs::Turning::grown_same))]
-fn read_all(alloc: Global, garage: &mut Garage) -> Result<(), GarageError>
-    ensures reads { GrowsBy IsRead garage.old garage.new }
-    ensures all { OnOk result (HasReadAll garage.new) }
+/// Each station in turn reads until nothing is unread.
+fn read_each(alloc: Global, garage: &mut Garage) -> Result<(), GarageError>
+    ensures reads { OnOk result (ReadInTurn (length garage.old.settings.stations) garage.old garage.new) }
+    ensures all { OnOk result (HaveReadAll (length garage.old.settings.stations) garage.new) }
+    ensures err { IfErr result (λ e. IsWant e × IsPartOfReading garage.old garage.new) }
+{
+    for station in 0..garage.stations() {
+        read_all(alloc, garage, station)?;
+    }
+    Ok(())
+}
+
+/// A station takes readings until there is none.
+#[tactic(auto, using(crate::proofs::Reading::reads_more, crate::proofs::Turning::grows_none, crate::proofs::Turning::grown_same))]
+fn read_all(alloc: Global, garage: &mut Garage, station: u32) -> Result<(), GarageError>
+    requires { station < length garage.old.settings.stations }
+    ensures reads { GrowsBy (IsReadOf station) garage.old garage.new }
+    ensures all { OnOk result (HasReadAll station garage.new) }
+    ensures others { LeavesOthers station garage.old garage.new }
     ensures want { IfErr result IsWant }
 {
     loop {
-        match garage.read(alloc)? {
+        match garage.read_at(alloc, station)? {
             Reading::Empty => return Ok(()),
             Reading::Frame(_) | Reading::Gap(_) => {}
         }

@@ -1,9 +1,10 @@
 -- Which vehicle a TOML document describes.
-use Rattle.std.specs.Prelude.{ℕ, ℤ, pos, ◌≡◌, ◌≤◌, List, [], ◌∷◌, Option, Some, None, codes, option_and_then}
+use Rattle.std.specs.Prelude.{ℕ, ℤ, pos, ◌≡◌, ◌≢◌, ◌≤◌, List, [], ◌∷◌, Option, Some, None, codes, option_and_then, IfSome}
+use Rattle.std.specs.List.{IsAmong}
 use Rattle.can_frame.specs.declared.address.TheConstants.{GREATEST_ADDRESS}
 use Rattle.name_field.specs.NameText.{IsNameText}
 use Rattle.hex_text.specs.Hex.{hex_value}
-use Rattle.toml.specs.Data.{Data, Items, no_items, item, get, as_integer, as_str, as_array}
+use Rattle.toml.specs.Data.{Data, Items, no_items, item, Members, no_members, member, get, as_integer, as_str, as_array, as_table}
 use Rattle.script_line.specs.declared.command.UnitKind.{UnitKind}
 use Rattle.script_line.specs.declared.command.UnitKind.TheVariants.{Plain, Guarded, Flicker}
 use Rattle.trouble_code.specs.declared.dtc.TheConstants.{GREATEST_SPN, GREATEST_FMI}
@@ -11,6 +12,7 @@ use Rattle.bus_ledger.specs.declared.bus.TheConstants.{MOST_UNREAD}
 use Rattle.garage.specs.declared.garage.TheConstants.{MOST_EVENTS}
 use Rattle.vehicle.specs.declared.read.TheConstants.{MOST_GRANTED}
 use Rattle.vehicle.specs.declared.Station.{Station}
+use Rattle.vehicle.specs.declared.Second.{Second}
 use Rattle.vehicle.specs.declared.UnitLine.{UnitLine}
 use Rattle.vehicle.specs.declared.Vehicle.{Vehicle}
 
@@ -30,13 +32,36 @@ HasNumber d key n least most = (number_at key d ≡ Some (pos n)) × (least ≤ 
 abbrev pub HasName : Data → ℕ → Type 0
 HasName d name = (text : List ℕ) × (text_at (codes "name") d ≡ Some text) × IsNameText text × (name ≡ hex_value text)
 
--- the station's NAME, and four numbers in their ranges
+-- each key of the members is one of these
+abbrev pub AreAmong : List (List ℕ) → Members → Type 0
+AreAmong keys no_members = Unit {0}
+AreAmong keys (member key d ms) = IsAmong keys key × AreAmong keys ms
+
+-- a table, and each of its keys is one of these
+abbrev pub HasOnly : List (List ℕ) → Data → Type 0
+HasOnly keys d = (ms : Members) × (as_table d ≡ Some ms) × AreAmong keys ms
+
+-- the station's NAME, and four numbers in their ranges; nothing else
 pub record HoldsStation (d : Data) (s : Station) : Type 0 where
+  pub only : HasOnly (codes "name" ∷ codes "address" ∷ codes "window" ∷ codes "grant" ∷ codes "limit" ∷ []) d
   pub name : HasName d s.name
   pub address : HasNumber d (codes "address") s.address 0 GREATEST_ADDRESS
   pub window : HasNumber d (codes "window") s.window 1 MOST_UNREAD
   pub grant : HasNumber d (codes "grant") s.grant 1 MOST_GRANTED
   pub limit : HasNumber d (codes "limit") s.limit 1 MOST_EVENTS
+
+-- the second station's NAME, and three numbers in their ranges; nothing else
+pub record HoldsSecond (d : Data) (s : Second) : Type 0 where
+  pub only : HasOnly (codes "name" ∷ codes "address" ∷ codes "window" ∷ codes "grant" ∷ []) d
+  pub name : HasName d s.name
+  pub address : HasNumber d (codes "address") s.address 0 GREATEST_ADDRESS
+  pub window : HasNumber d (codes "window") s.window 1 MOST_UNREAD
+  pub grant : HasNumber d (codes "grant") s.grant 1 MOST_GRANTED
+
+-- the second station at the key "second": there is one exactly where there is such a key
+abbrev pub HoldsSecondAt : Option Data → Option Second → Type 0
+HoldsSecondAt None second = second ≡ None
+HoldsSecondAt (Some d) second = (s : Second) × (second ≡ Some s) × HoldsSecond d s
 
 -- the word at the key "kind", and a flicker's two numbers
 abbrev pub HoldsKind : Data → UnitKind → Type 0
@@ -45,8 +70,14 @@ HoldsKind d Guarded = text_at (codes "kind") d ≡ Some (codes "guarded")
 HoldsKind d (Flicker spn fmi) = (text_at (codes "kind") d ≡ Some (codes "flicker"))
     × HasNumber d (codes "spn") spn 0 GREATEST_SPN × HasNumber d (codes "fmi") fmi 0 GREATEST_FMI
 
--- a unit's NAME, its address and its kind
+-- the keys of a unit of a kind
+abbrev pub keys_of_kind : UnitKind → List (List ℕ)
+keys_of_kind (Flicker spn fmi) = codes "name" ∷ codes "address" ∷ codes "kind" ∷ codes "spn" ∷ codes "fmi" ∷ []
+keys_of_kind _ = codes "name" ∷ codes "address" ∷ codes "kind" ∷ []
+
+-- a unit's NAME, its address and its kind; nothing else
 pub record HoldsUnit (d : Data) (u : UnitLine) : Type 0 where
+  pub only : HasOnly (keys_of_kind u.kind) d
   pub name : HasName d u.name
   pub address : HasNumber d (codes "address") u.address 0 GREATEST_ADDRESS
   pub kind : HoldsKind d u.kind
@@ -63,7 +94,11 @@ abbrev pub HoldsUnitsAt : Option Data → List UnitLine → Type 0
 HoldsUnitsAt None us = us ≡ []
 HoldsUnitsAt (Some d) us = (ds : Items) × (as_array d ≡ Some ds) × HoldsUnits ds us
 
--- the document has the values of the vehicle at its keys
+-- the document has the values of the vehicle at its keys, and nothing else
 pub record HoldsVehicle (d : Data) (v : Vehicle) : Type 0 where
+  pub only : HasOnly (codes "station" ∷ codes "second" ∷ codes "unit" ∷ []) d
   pub station : (s : Data) × (get (codes "station") d ≡ Some s) × HoldsStation s v.station
+  pub second : HoldsSecondAt (get (codes "second") d) v.second
+  -- no two stations have one NAME
+  pub apart : IfSome v.second (λ s. s.name ≢ v.station.name)
   pub units : HoldsUnitsAt (get (codes "unit") d) v.units.items

@@ -1,4 +1,4 @@
-//! A vehicle as a TOML text describes it: its station, and its units in the order of the text.
+//! A vehicle as a TOML text describes it: its station, a second one where there is one, and its units in the order of the text.
 //!
 //! ```toml
 //! [station]
@@ -7,6 +7,12 @@
 //! window = 64                 # 1 to 4096 frames
 //! grant = 16                  # 1 to 255 packets
 //! limit = 100000              # 1 to 16777216 events
+//!
+//! [second]                    # may be left out
+//! name = "0000000000000002"   # another NAME than the station's
+//! address = 250               # 0 to 253
+//! window = 64                 # 1 to 4096 frames
+//! grant = 16                  # 1 to 255 packets
 //!
 //! [[unit]]
 //! name = "00000000000000A0"
@@ -45,6 +51,19 @@ pub struct Station {
     pub limit: u32,
 }
 
+/// A second station of a vehicle. The limit of the journal is that of its bus, so that it has none of its own.
+#[derive(Clone, Copy, Debug, PartialEq, Eq)]
+pub struct Second {
+    /// Its NAME, which is not the first station's.
+    pub name: Name,
+    /// The address that it claims, 0 to 253.
+    pub address: u8,
+    /// How many frames it may leave unread before it misses one, 1 to 4,096.
+    pub window: u32,
+    /// How many packets of a session it asks for at once, 1 to 255.
+    pub grant: u8,
+}
+
 /// A unit of a vehicle.
 #[derive(Clone, Copy, Debug, PartialEq, Eq)]
 pub struct UnitLine {
@@ -61,6 +80,8 @@ pub struct UnitLine {
 pub struct Vehicle {
     /// Its station.
     pub station: Station,
+    /// Its second station, where it has one.
+    pub second: Option<Second>,
     /// Its units, in the order of the text.
     pub units: Vec<UnitLine>,
 }

@@ -6,6 +6,7 @@ ghost use Rattle.bus_ledger.specs.Changes.{injected};
 use crate::bus::Bus;
 use crate::error::BusError;
 use crate::offers::{best_offer, best_seat, is_any_waiting};
+use crate::tap;
 use crate::traffic::{Carried, QueuedFrame};
 use crate::wire_frame::WireFrame;
 use can_frame::Frame;
@@ -28,7 +29,7 @@ impl Bus {
         self.wire.reserve(1)?;
         let place = &mut self.seats[seat as usize];
         let sent = place.send();
-        self.tap.take_in(seat, sent.frame);
+        tap::take_in(self.taps.as_mut_slice(), seat, sent.frame);
         self.wire.push_reserved(WireFrame::sent(seat, &sent));
         Ok(Carried::Frame {
             seat,
@@ -36,7 +37,7 @@ impl Bus {
         })
     }
 
-    /// Puts a frame from outside at the end of the wire at once. Every seat hears it, the station reads it, and it counts as
+    /// Puts a frame from outside at the end of the wire at once. Every seat hears it, each station reads it, and it counts as
     /// no seat's.
     ///
     /// Refused where there is no memory; then nothing changed.
@@ -48,7 +49,7 @@ impl Bus {
     {
         self.wire.reserve(1)?;
         self.wire.push_reserved(WireFrame::stray(frame));
-        self.tap.push(frame);
+        tap::push(self.taps.as_mut_slice(), frame);
         Ok(())
     }
 

@@ -2,7 +2,7 @@ ghost use Rattle.std.specs.Prelude.{◌≡◌, ◌≢◌, ◌<◌, ◌≤◌, �
 ghost use Rattle.std.specs.Bool.{MatchBool};
 ghost use Rattle.std.specs.List.{All};
 ghost use Rattle.std.specs.Option.{option_map};
-ghost use Rattle.bus_ledger.specs.BusValue.{IsUnit, KeepsSpares, seat_at};
+ghost use Rattle.bus_ledger.specs.BusValue.{IsStation, IsUnit, KeepsSpares, seat_at};
 ghost use Rattle.bus_ledger.specs.Changes.{heard_more};
 ghost use Rattle.bus_ledger.specs.Ledger.{IsSound};
 ghost use Rattle.bus_ledger.specs.Reception.{next_reading, not_yet_read, reading_taken};
@@ -44,34 +44,51 @@ impl Bus {
         place.hear(1);
     }
 
-    /// The station's next reading, which stays: a gap where more frames are unread than the window has room for, else
-    /// the oldest unread frame, or that there is none. The station's own frames are no readings.
+    /// The next reading of station 0, as `tap_peek_at` gives it.
+    #[inline]
     pub fn tap_peek(&self) -> Reading
         ensures reading { result ≡ next_reading self.now.traffic 0 }
         ensures others { All (λ c. c.seat ≢ Some 0) (not_yet_read self.now.traffic 0) }
         ensures sound { IsSound self.now.traffic }
     {
-        self.tap.peek()
+        self.taps[0].peek()
     }
 
-    /// Whether the station has nothing to read.
-    pub fn is_tap_empty(&self) -> bool
-        ensures { MatchBool result (next_reading self.now.traffic 0 ≡ Reading.Empty) (next_reading self.now.traffic 0 ≢ Reading.Empty) }
+    /// A station's next reading, which stays: a gap where more frames are unread than its window has room for, else the
+    /// oldest unread frame, or that there is none. The station's own frames are no readings of it; those of another are.
+    #[inline]
+    pub fn tap_peek_at(&self, station: u32) -> Reading
+        requires { IsStation self.now.traffic station }
+        ensures reading { result ≡ next_reading self.now.traffic station }
+        ensures others { All (λ c. c.seat ≢ Some station) (not_yet_read self.now.traffic station) }
+        ensures sound { IsSound self.now.traffic }
     {
-        self.tap.is_empty()
+        self.taps[station as usize].peek()
     }
 
-    /// Passes over the station's next reading, which `tap_peek` gives, and over the frames of a gap.
-    pub fn tap_pass(&mut self)
-        ensures traffic { self.new.traffic ≡ reading_taken 0 (next_reading self.old.traffic 0) self.old.traffic }
+    /// Whether a station has nothing to read.
+    #[inline]
+    pub fn is_tap_empty_at(&self, station: u32) -> bool
+        requires { IsStation self.now.traffic station }
+        ensures { MatchBool result (next_reading self.now.traffic station ≡ Reading.Empty) (next_reading self.now.traffic station ≢ Reading.Empty) }
+    {
+        self.taps[station as usize].is_empty()
+    }
+
+    /// Passes over a station's next reading, which `tap_peek_at` gives, and over the frames of a gap. The readings of the
+    /// other stations stay.
+    pub fn tap_pass_at(&mut self, station: u32)
+        requires { IsStation self.old.traffic station }
+        ensures traffic { self.new.traffic ≡ reading_taken station (next_reading self.old.traffic station) self.old.traffic }
         ensures spares { KeepsSpares self.old self.new }
     {
-        let passed = self.tap.pass();
-        let place = &mut self.seats[0];
+        let tap = &mut self.taps[station as usize];
+        let passed = tap.pass();
+        let place = &mut self.seats[station as usize];
         place.hear(passed);
     }
 
-    /// Takes the station's next reading. The frames of a gap are passed over.
+    /// Takes the next reading of station 0, as `tap_next_at` does.
     pub fn tap_next(&mut self) -> Reading
         ensures reading { result ≡ next_reading self.old.traffic 0 }
         ensures others { All (λ c. c.seat ≢ Some 0) (not_yet_read self.old.traffic 0) }
@@ -79,7 +96,20 @@ impl Bus {
         ensures spares { KeepsSpares self.old self.new }
     {
         let reading = self.tap_peek();
-        self.tap_pass();
+        self.tap_pass_at(0);
+        reading
+    }
+
+    /// Takes a station's next reading. The frames of a gap are passed over.
+    pub fn tap_next_at(&mut self, station: u32) -> Reading
+        requires { IsStation self.old.traffic station }
+        ensures reading { result ≡ next_reading self.old.traffic station }
+        ensures others { All (λ c. c.seat ≢ Some station) (not_yet_read self.old.traffic station) }
+        ensures traffic { self.new.traffic ≡ reading_taken station result self.old.traffic }
+        ensures spares { KeepsSpares self.old self.new }
+    {
+        let reading = self.tap_peek_at(station);
+        self.tap_pass_at(station);
         reading
     }
 }

@@ -6,14 +6,15 @@ use Rattle.garage.proofs.queueing.react.Goals as goal
 pub queue_frames-requires : goal.queue_frames-requires
 queue_frames-requires c =
     let t = c.args.bus.now.traffic in
-    let keeps = keeps_withdrawn_if c.args.reaction.now.withdraw t in
+    let y = c.args.station in
+    let keeps = keeps_withdrawn_if c.args.reaction.now.withdraw y t in
     let now = c.withdraw_if.ensures.traffic in
-    let q = ap (λ (u : Traffic). (seat_at u 0).queued) now in
-    let same = keeps.queued 0 in
+    let q = ap (λ (u : Traffic). (seat_at u y).queued) now in
+    let same = keeps.queued y in
     let few = c.requires.few in
     let put = ap length c.as_slice.ensures in
     record {
-      live = subst (λ (u : Traffic). IsLive u 0) (sym now) (live_kept t _ 0 keeps c.requires.live);
+      live = subst (λ (u : Traffic). IsLive u y) (sym now) (live_kept t _ y keeps c.requires.live);
       spare = (let s = c.requires.spare in let r = c.withdraw_if.ensures.spare in omega arith);
       few = omega arith;
     }

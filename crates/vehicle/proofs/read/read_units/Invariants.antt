@@ -1,5 +1,5 @@
 use Rattle.std.proofs.Common.{take}
-use Rattle.toml.specs.View.{view, items_view}
+use Rattle.toml.specs.View.{items_view}
 use Rattle.vehicle.specs.Holding.{HoldsUnits}
 use Rattle.vehicle.proofs.read.read_units.Given as goal
 

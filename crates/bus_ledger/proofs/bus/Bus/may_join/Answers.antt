@@ -10,8 +10,8 @@ pub returns-then-is_name_among-clause-refusal : goal.returns-then-is_name_among-
 returns-then-is_name_among-clause-refusal c =
     refused_name c.self.inside c.args.self.now c.args.name c.as_slice.result.now c.as_slice-2.result.now c.self.view_is c.self.invariant c.as_slice.ensures.value c.as_slice-2.ensures.value c.if-is_name_among.ensures
 
-pub returns-then-len-gt-MOST_UNITS-clause-refusal : goal.returns-then-len-gt-MOST_UNITS-clause-refusal
-returns-then-len-gt-MOST_UNITS-clause-refusal c =
+pub returns-then-len-clause-refusal : goal.returns-then-len-clause-refusal
+returns-then-len-clause-refusal c =
     refused_many c.self.inside c.args.self.now c.args.name c.as_slice.result.now c.as_slice-2.result.now c.self.view_is c.self.invariant c.as_slice.ensures.value c.as_slice-2.ensures.value c.if-is_name_among.ensures (omega (arith, c.len.ensures, c.as_slice-2.ensures.len))
 
 pub returns-clause-refusal : goal.returns-clause-refusal

@@ -13,8 +13,8 @@ use Rattle.journal.specs.declared.event.Event.TheVariants.{Begin}
 use Rattle.garage.specs.declared.garage.Place.{Place}
 use Rattle.garage.proofs.BeginLemmas.{begins_inside}
 use Rattle.garage.proofs.Traffics.{some_live, puts, keeps_refl}
-use Rattle.garage.proofs.InHand.{bus_window, station_lives}
-use Rattle.garage.proofs.Standing.{one_window, state, begin_did, begin_fits, begins_of, joins_begin, place_few, place_within, unit_now, bus_unit, unit_is, units_same, place_tally, stands_more, tallies_one, fresh_one}
+use Rattle.garage.proofs.InHand.{stations_live}
+use Rattle.garage.proofs.Standing.{windows_are, state, begin_did, begin_fits, begins_of, joins_begin, place_few, place_within, unit_now, bus_unit, unit_is, units_same, place_tally, stands_more, tallies_one, fresh_one}
 use Rattle.garage.proofs.garage.Garage.begin_message.Goals as goal
 
 pub overflow_add-place : goal.overflow_add-place
@@ -22,7 +22,7 @@ overflow_add-place g c =
     let a = c.self.inside in
     let u = unit_now a c.args.self.now c.args.seat c.self.view_is c.requires.unit in
     let h = place_within a c.args.seat c.self.invariant u in
-    let f = place_few a (c.args.seat - 1) c.index_mut-place.result.now c.self.invariant h c.index_mut-place.ensures.value in
+    let f = place_few a (c.args.seat - a.stations) c.index_mut-place.result.now c.self.invariant h c.index_mut-place.ensures.value in
     let w = c.self.invariant.within in let l = c.self.invariant.few in let t = f.events in omega arith
 
 pub queue_outs-requires-clause-few : goal.queue_outs-requires-clause-few
@@ -30,7 +30,7 @@ queue_outs-requires-clause-few g c =
     let a = c.self.inside in
     let stands = c.self.invariant in
     let ub = bus_unit a c.args.seat stands (unit_now a c.args.self.now c.args.seat c.self.view_is c.requires.unit) in
-    let one = some_live a.bus.traffic c.args.seat (bus_window a stands) (station_lives a stands) ub in
+    let one = some_live a.bus.traffic c.args.seat (stations_live a stands) ub in
     let q = stands.queued c.args.seat in
     let same = ap (λ (t : Traffic). (seat_at t c.args.seat).queued) c.make_ready.ensures.traffic in
     let few = c.requires.few in
@@ -45,12 +45,12 @@ invariant_of-self-2 g c =
     let a = c.self.inside in
     let stands = c.self.invariant in
     let seat = c.args.seat in
-    let k = seat - 1 in
+    let k = seat - a.stations in
     let t = a.bus.traffic in
     let s = state a in
     let x = c.index_mut-place.result.now in
     let u = unit_now a c.args.self.now seat c.self.view_is c.requires.unit in
-    let one_is = one_window a stands in
+    let one_is = windows_are a stands in
     let low = u.0 in
     let h = place_within a seat stands u in
     let memory = memory_at c.make_ready.new.journal.memories c.in_ok-memory.memory in
@@ -84,13 +84,14 @@ invariant_of-self-2 g c =
       traffic = now ∙ (ap (λ (i : ℕ). put_all seat (map (tagged i false x.session_message) put) t) number
           ∙ (ap (λ (l : ℕ). put_all seat (map (tagged (length s.begun) false l) put) t) last
           ∙ (ap (put_all seat (map (tagged (length s.begun) false (unit_at s seat).session_message) put)) stands.traffic ∙ sym (ap (λ (v : State). v.traffic) is))));
-      station = stands.station ∙ sym (ap (λ (v : State). table_at v 0) is);
+      stations = refl;
+      posts = λ y h. stands.posts y h ∙ sym (ap (λ (v : State). table_at v y) is);
       units = units_same a.places.items k x p h c.index_mut-place.ensures.value refl ∙ (stands.units ∙ sym (ap (λ (v : State). v.units) is));
       begun = (let e : a.begun + 1 ≡ suc (length s.begun) = omega arith in e) ∙ sym (ap (λ (v : State). length v.begun) is);
       injected = omega arith;
       joined = joins_begin seat memory _ ∙ (stands.joined ∙ sym (length-set a.places.items k p));
-      tallies = tallies_one a.places.items _ (Begin seat memory) k seat p one_more stands.tallies (λ j t'. refl) (omega arith) h (ap one_more (place_tally a k x h c.index_mut-place.ensures.value));
-      fresh = λ j l. fresh_one _ (Begin seat memory) seat (length a.places.items) one_more stands.fresh (λ i t'. refl) (omega arith) j (omega (arith, length-set a.places.items k));
+      tallies = tallies_one a.stations a.places.items _ (Begin seat memory) k seat p one_more stands.tallies (λ j t'. refl) (omega arith) h (ap one_more (place_tally a k x h c.index_mut-place.ensures.value));
+      fresh = λ j l. fresh_one _ (Begin seat memory) seat (a.stations + length a.places.items) one_more stands.fresh (λ i t'. refl) (omega arith) j (omega (arith, length-set a.places.items k));
       seats = (let y = stands.seats in omega (arith, length-set a.places.items k p));
       live = stands.live ∙ sym lives;
       within = (let w = stands.within in omega arith);
@@ -118,14 +119,11 @@ returns-clause-ok g c =
     let node = (unit_at s seat).node in
     let fit = begin_fits seat memory s node begins.0 begins.1 put u lawful refl begins.2 begins.3 in
     begins_of a (record {
-      name = a.name;
-      address = a.address;
-      window = a.window;
-      grant = a.grant;
       limit = a.limit;
       bus = c.queue_outs.new.bus;
-      station = a.station;
-      places = with_item a.places (seat - 1) (record x { tally = one_more x.tally });
+      posts = a.posts;
+      stations = a.stations;
+      places = with_item a.places (seat - a.stations) (record x { tally = one_more x.tally });
       begun = a.begun + 1;
       live = a.live;
       injected = a.injected;

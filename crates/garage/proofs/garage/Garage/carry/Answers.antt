@@ -1,4 +1,4 @@
-use Rattle.std.proofs.Common.{arith, refl, ap, ◌∙◌, sym, subst, List, ◌++◌, ◌∷◌, [], length}
+use Rattle.std.proofs.Common.{◌+◌, arith, refl, ap, ◌∙◌, sym, subst, List, ◌++◌, ◌∷◌, [], length}
 use Rattle.std.proofs.lemmas.List.{length-set, length_push}
 use Rattle.bus_ledger.specs.BusValue.{Traffic, seat_at}
 use Rattle.bus_ledger.specs.Changes.{carried_from, carried_frame}
@@ -39,13 +39,14 @@ invariant_of-self-2 c =
       journal = c.note_carry.ensures.items ∙ ap (λ (l : List Event). l ++ Carry k ∷ []) c.make_room.ensures.items;
       fits = (q, next);
       traffic = now ∙ (ap (carried_from k q) stands.traffic ∙ sym (ap (λ (s : State). s.traffic) is));
-      station = stands.station ∙ sym (carry_table k (state a));
+      stations = refl;
+      posts = λ y h. stands.posts y h ∙ sym (carry_table k y (state a));
       units = stands.units ∙ sym (ap (λ (s : State). s.units) is);
       begun = stands.begun ∙ sym (ap (λ (s : State). length s.begun) is);
       injected = omega arith;
       joined = joins_carry k _ ∙ stands.joined;
-      tallies = tallies_still a.places.items _ (Carry k) stands.tallies (λ j t. refl);
-      fresh = fresh_still _ (Carry k) (length a.places.items) stands.fresh (λ i t. refl);
+      tallies = tallies_still a.stations a.places.items _ (Carry k) stands.tallies (λ j t. refl);
+      fresh = fresh_still _ (Carry k) (a.stations + length a.places.items) stands.fresh (λ i t. refl);
       seats = (let s = stands.seats in omega (arith, length-set before.seats k));
       live = stands.live ∙ sym lives;
       within = (let w = stands.within in omega arith);

@@ -16,7 +16,7 @@ overflow_add-place g c =
     let a = c.self.inside in
     let u = unit_now a c.args.self.now c.args.seat c.self.view_is c.requires.unit in
     let h = place_within a c.args.seat c.self.invariant u in
-    let f = place_few a (c.args.seat - 1) c.index_mut-place.result.now c.self.invariant h c.index_mut-place.ensures.value in
+    let f = place_few a (c.args.seat - a.stations) c.index_mut-place.result.now c.self.invariant h c.index_mut-place.ensures.value in
     let w = c.self.invariant.within in let l = c.self.invariant.few in let t = f.events in omega arith
 
 pub mark_heard-requires-clause-next : goal.mark_heard-requires-clause-next
@@ -35,7 +35,7 @@ invariant_of-self-2 g c =
     let n = c.note_hear.ensures.room in
     quiet_stands a _ seat memory c.args.frame.now c.index_mut-place.result.now c.settle.new.self c.self.invariant (unit_now a c.args.self.now seat c.self.view_is c.requires.unit) lawful
     (next_inside a c.args.self.now seat c.args.frame.now c.self.view_is c.requires.next) c.index_mut-place.ensures.value (settled_quietly c.of-sifted.result c.args.frame.now c.index_mut-place.result.now.node c.settle.new.self c.of-sifted.ensures (c.settle.ensures.settled c.if-not-settle.false))
-    refl (c.note_hear.ensures.items ∙ ap (λ (l : List Event). l ++ Hear seat memory NotAsked ∷ []) c.ready_to_note.ensures.items) c.mark_heard.ensures.traffic refl refl refl refl refl (omega arith) (omega arith)
+    refl (c.note_hear.ensures.items ∙ ap (λ (l : List Event). l ++ Hear seat memory NotAsked ∷ []) c.ready_to_note.ensures.items) c.mark_heard.ensures.traffic (record { posts = refl; stations = refl }) refl refl refl refl (omega arith) (omega arith)
 
 pub returns-clause-quiet : goal.returns-clause-quiet
 returns-clause-quiet g c = λ t.
@@ -45,14 +45,11 @@ returns-clause-quiet g c = λ t.
     let memory = memory_at c.ready_to_note.new.journal.memories c.in_ok-memory.memory in
     let lawful : IsLawfulMemory memory = subst IsLawfulMemory (sym c.in_ok-memory.ensures.memory.value) c.in_ok-memory.ensures.lawful in
     quiet_passes a (record {
-      name = a.name;
-      address = a.address;
-      window = a.window;
-      grant = a.grant;
       limit = a.limit;
       bus = c.mark_heard.new.self;
-      station = a.station;
-      places = with_item a.places (seat - 1) (record x { node = c.settle.new.self; tally = one_more x.tally });
+      posts = a.posts;
+      stations = a.stations;
+      places = with_item a.places (seat - a.stations) (record x { node = c.settle.new.self; tally = one_more x.tally });
       begun = a.begun;
       live = a.live;
       injected = a.injected;

@@ -1,4 +1,4 @@
-use Rattle.std.proofs.Common.{arith, refl, ap, ◌∙◌, sym, List, ◌++◌, ◌∷◌, [], length, reverse}
+use Rattle.std.proofs.Common.{◌+◌, arith, refl, ap, ◌∙◌, sym, List, ◌++◌, ◌∷◌, [], length, reverse}
 use Rattle.std.proofs.lemmas.List.{length-reverse, length_push}
 use Rattle.bus_ledger.specs.BusValue.{Traffic, seat_at}
 use Rattle.bus_ledger.specs.Changes.{injected, stray_frame}
@@ -33,13 +33,14 @@ invariant_of-self-2 c =
       journal = c.note_inject.ensures.items ∙ ap (λ (l : List Event). l ++ Inject f ∷ []) c.make_room.ensures.items;
       fits = tt;
       traffic = now ∙ (ap (injected f) stands.traffic ∙ sym (ap (λ (s : State). s.traffic) is));
-      station = stands.station ∙ sym (ap (λ (s : State). table_at s 0) is);
+      stations = refl;
+      posts = λ y h. stands.posts y h ∙ sym (ap (λ (s : State). table_at s y) is);
       units = stands.units ∙ sym (ap (λ (s : State). s.units) is);
       begun = stands.begun ∙ sym (ap (λ (s : State). length s.begun) is);
       injected = refl;
       joined = joins_inject f _ ∙ stands.joined;
-      tallies = tallies_still a.places.items _ (Inject f) stands.tallies (λ j t. refl);
-      fresh = fresh_still _ (Inject f) (length a.places.items) stands.fresh (λ i t. refl);
+      tallies = tallies_still a.stations a.places.items _ (Inject f) stands.tallies (λ j t. refl);
+      fresh = fresh_still _ (Inject f) (a.stations + length a.places.items) stands.fresh (λ i t. refl);
       seats = (let s = stands.seats in omega arith);
       live = stands.live ∙ sym (ap live_units now);
       within = (let w = stands.within in omega arith);

@@ -1,4 +1,4 @@
-use Rattle.std.proofs.Common.{ℕ, suc, ◌≡◌, arith, refl, ap, ◌∙◌, sym, subst, List, ◌++◌, ◌∷◌, [], ◌+◌, ◌<◌, ◌^◌, length, map, reverse, Some}
+use Rattle.std.proofs.Common.{ℕ, ◌≡◌, arith, refl, ap, ◌∙◌, sym, subst, List, ◌++◌, ◌∷◌, [], ◌+◌, ◌<◌, ◌^◌, length, map, reverse, Some}
 use Rattle.std.proofs.lemmas.List.{length_push, map_push}
 use Rattle.bus_ledger.specs.BusValue.{Traffic, seat_at}
 use Rattle.bus_ledger.specs.Newcomers.{live_units}
@@ -16,7 +16,7 @@ use Rattle.journal.specs.Steps.{untagged}
 use Rattle.journal.specs.declared.event.Event.TheVariants.{Join}
 use Rattle.bus_ledger.specs.Newcomers.{join_refusal}
 use Rattle.garage.proofs.Traffics.{PutsOn, puts, keeps_refl, joined_units, joined_queued}
-use Rattle.garage.proofs.InHand.{bus_window, station_lives}
+use Rattle.garage.proofs.InHand.{stations_live}
 use Rattle.garage.proofs.Standing.{state, join_is, joins_join, stands_more, tallies_push, fresh_join, added, seated_join}
 use Rattle.garage.proofs.Lists.{lists_added}
 use Rattle.garage.proofs.garage.Garage.join.Goals as goal
@@ -37,7 +37,7 @@ invariant_of-self-2 c =
     let now = c.queue_frames.ensures ∙ (ap (λ (s : ℕ). queued s (untagged claim) c.join.new.self.traffic) did.0 ∙ ap (queued k (untagged claim)) did.2) in
     let is = join_is seat name want (state a) in
     let put : PutsOn 1 (with_newcomer name t) (queued k (untagged claim) (with_newcomer name t)) = puts k (untagged claim ∷ []) (with_newcomer name t) (with_newcomer name t) (keeps_refl (with_newcomer name t)) in
-    let more = joined_units t name (bus_window a stands) (station_lives a stands) in
+    let more = joined_units t name (stations_live a stands) in
     let lives = ap live_units now ∙ put.units in
     let wires = ap (λ (u : Traffic). length u.wire) now ∙ ap length put.wire in
     let many = ap (λ (u : Traffic). length u.seats) now in
@@ -56,15 +56,16 @@ invariant_of-self-2 c =
       fits = (did.0 ∙ ap (λ (u : Traffic). length u.seats) stands.traffic, ap (λ (u : Traffic). join_refusal name u) (sym stands.traffic) ∙ did.1, small, c.requires);
       traffic = now ∙ (ap (λ (f : FrameValue). queued k (untagged f) (with_newcomer name t)) claims
           ∙ (ap (λ (u : Traffic). queued (length u.seats) (untagged (claim_frame_value name (Some want))) (with_newcomer name u)) stands.traffic ∙ sym (ap (λ (v : State). v.traffic) is)));
-      station = stands.station ∙ sym (ap (λ (v : State). table_at v 0) is);
+      stations = refl;
+      posts = λ y h. stands.posts y h ∙ sym (ap (λ (v : State). table_at v y) is);
       units = ap (map unit_of) items ∙ (map_push unit_of a.places.items p ∙ (ap (λ (u : UnitState). map unit_of a.places.items ++ u ∷ []) (ap (λ (x : NodeValue). record { node = x; session_message = 0 }) c.new-node.ensures)
           ∙ (ap (λ (us : List UnitState). us ++ new_unit name want ∷ []) stands.units ∙ sym (ap (λ (v : State). v.units) is))));
       begun = stands.begun ∙ sym (ap (λ (v : State). length v.begun) is);
       injected = omega arith;
       joined = joins_join seat name want (reverse a.journal.items) ∙ (let j = stands.joined in omega arith);
-      tallies = subst (λ (xs : List Place). (j : ℕ) → j < length xs → (place_at xs j).tally ≡ tally_of (suc j) (Join seat name want ∷ reverse a.journal.items)) (sym items)
-          (tallies_push a.places.items (reverse a.journal.items) p seat name want stands.tallies (let d = did.0 in let x = stands.seats in omega arith) refl (stands.fresh (suc (length a.places.items)) (omega arith)));
-      fresh = λ j l. fresh_join (reverse a.journal.items) seat name want (length a.places.items) stands.fresh (let d = did.0 in let x = stands.seats in omega arith) j (omega arith);
+      tallies = subst (λ (xs : List Place). (j : ℕ) → j < length xs → (place_at xs j).tally ≡ tally_of (a.stations + j) (Join seat name want ∷ reverse a.journal.items)) (sym items)
+          (tallies_push a.stations a.places.items (reverse a.journal.items) p seat name want stands.tallies (let d = did.0 in let x = stands.seats in omega arith) refl (stands.fresh (a.stations + length a.places.items) (omega arith)));
+      fresh = λ j l. fresh_join (reverse a.journal.items) seat name want (a.stations + length a.places.items) stands.fresh (let d = did.0 in let x = stands.seats in omega arith) j (omega arith);
       seats = (let x = stands.seats in omega arith);
       live = (let x = stands.live in omega arith);
       within = (let w = stands.within in omega arith);
@@ -78,7 +79,7 @@ invariant_of-self-2 c =
 pub returns-clause-ok : goal.returns-clause-ok
 returns-clause-ok c =
     let a = c.self.inside in
-    let b : Inside = (record { name = a.name; address = a.address; window = a.window; grant = a.grant; limit = a.limit; bus = c.queue_frames.new.bus; station = a.station; places = c.push_reserved.new.self; begun = a.begun; live = a.live + 1; injected = a.injected; journal = c.note_join.new.self }) in
+    let b : Inside = (record { limit = a.limit; bus = c.queue_frames.new.bus; posts = a.posts; stations = a.stations; places = c.push_reserved.new.self; begun = a.begun; live = a.live + 1; injected = a.injected; journal = c.note_join.new.self }) in
     let stands = c.self.invariant in
     let did = c.in_ok-seat.ensures.ok in
     let small : c.args.name < 2 ^ 64 = subst (λ (n : ℕ). n < 2 ^ 64) (ap (λ (n : NodeValue). n.claimer.name) c.new-node.ensures) c.start-claim.ensures.name_fits in

@@ -11,7 +11,7 @@ overflow_add-place c =
     let a = c.self.inside in
     let u = unit_now a c.args.self.now c.args.seat c.self.view_is c.requires.unit in
     let h = place_within a c.args.seat c.self.invariant u in
-    let f = place_few a (c.args.seat - 1) c.index_mut-place.result.now c.self.invariant h c.index_mut-place.ensures.value in
+    let f = place_few a (c.args.seat - a.stations) c.index_mut-place.result.now c.self.invariant h c.index_mut-place.ensures.value in
     let w = c.self.invariant.within in let l = c.self.invariant.few in let t = f.events in omega arith
 
 pub mark_heard-requires-clause-next : goal.mark_heard-requires-clause-next
@@ -31,7 +31,7 @@ invariant_of-self-2 c =
     let n = gains.room in
     quiet_stands a _ seat m c.args.frame.now c.index_mut-place.result.now c.settle.new.self c.self.invariant (unit_now a c.args.self.now seat c.self.view_is c.requires.unit) told.1
     (next_inside a c.args.self.now seat c.args.frame.now c.self.view_is c.requires.next) c.index_mut-place.ensures.value (settled_quietly c.of-sifted.result c.args.frame.now c.index_mut-place.result.now.node c.settle.new.self c.of-sifted.ensures (c.settle.ensures.settled c.if-not-settle.false))
-    refl gains.items c.mark_heard.ensures.traffic refl refl refl refl refl (omega arith) (omega arith)
+    refl gains.items c.mark_heard.ensures.traffic (record { posts = refl; stations = refl }) refl refl refl refl (omega arith) (omega arith)
 
 pub returns-clause-quiet : goal.returns-clause-quiet
 returns-clause-quiet c = λ m e t.
@@ -41,14 +41,11 @@ returns-clause-quiet c = λ m e t.
     let told = told_inside a c.args.self.now seat m c.self.view_is c.self.invariant e in
     let gains = c.note_passed.ensures m told.0 in
     quiet_passes a (record {
-      name = a.name;
-      address = a.address;
-      window = a.window;
-      grant = a.grant;
       limit = a.limit;
       bus = c.mark_heard.new.self;
-      station = a.station;
-      places = with_item a.places (seat - 1) (record x { node = c.settle.new.self; tally = one_more x.tally });
+      posts = a.posts;
+      stations = a.stations;
+      places = with_item a.places (seat - a.stations) (record x { node = c.settle.new.self; tally = one_more x.tally });
       begun = a.begun;
       live = a.live;
       injected = a.injected;

@@ -1,4 +1,4 @@
-use Rattle.std.proofs.Common.{ℕ, ◌≡◌, arith, refl, ap, ◌∙◌, sym, subst, List, ◌++◌, ◌∷◌, [], ◌-◌, ◌<◌, length, map, set, Bool, Some}
+use Rattle.std.proofs.Common.{◌+◌, ℕ, ◌≡◌, arith, refl, ap, ◌∙◌, sym, subst, List, ◌++◌, ◌∷◌, [], ◌-◌, ◌<◌, length, map, set, Bool, Some}
 use Rattle.std.proofs.lemmas.List.{length-set, length-map, map-set}
 use Rattle.fault_memory.specs.Memory.{MemoryValue, IsLawfulMemory}
 use Rattle.bus_ledger.specs.BusValue.{Traffic, seat_at}
@@ -20,8 +20,8 @@ use Rattle.garage.specs.Answers.{count_with_begun}
 use Rattle.garage.specs.declared.garage.Garage.TheInside.{Inside}
 use Rattle.garage.specs.declared.garage.Place.{Place}
 use Rattle.garage.proofs.Traffics.{some_live, puts, keeps_heard, keeps_withdrawn_by, keeps_then}
-use Rattle.garage.proofs.InHand.{bus_window, station_lives}
-use Rattle.garage.proofs.Standing.{one_station, one_window, state, added, place_few, place_within, unit_now, bus_unit, unit_is, hear_did, begun_length, begun_few, next_within, is_answered, joins_hear, place_tally, stands_more, tallies_one, fresh_one, hears_of, still, same_place}
+use Rattle.garage.proofs.InHand.{stations_live}
+use Rattle.garage.proofs.Standing.{stations_are, windows_are, state, added, place_few, place_within, unit_now, bus_unit, unit_is, hear_did, begun_length, begun_few, next_within, is_answered, joins_hear, place_tally, stands_more, tallies_one, fresh_one, hears_of, still, same_place}
 use Rattle.garage.proofs.Lent.{on_err}
 use Rattle.garage.proofs.Passing.{memory_unasked, told_hearing, told_inside}
 use Rattle.garage.proofs.garage.Garage.react_to.Goals as goal
@@ -40,8 +40,8 @@ invariant_of-self-in_err-heard g c =
     let u = unit_now a c.args.self.now c.args.seat c.self.view_is c.requires.unit in
     let h = place_within a c.args.seat stands u in
     let node = c.in_err-heard.ensures.kept in
-    still a _ stands refl c.make_ready.ensures.traffic refl
-    (same_place a.places.items (c.args.seat - 1) x _ h c.index_mut-place.ensures.value (ap (λ (n : NodeValue). record { node = n; session_message = x.session_message; tally = x.tally }) node))
+    still a _ stands refl c.make_ready.ensures.traffic refl refl
+    (same_place a.places.items (c.args.seat - a.stations) x _ h c.index_mut-place.ensures.value (ap (λ (n : NodeValue). record { node = n; session_message = x.session_message; tally = x.tally }) node))
     refl refl refl c.make_ready.ensures.items (let r = stands.room in let m = c.make_ready.ensures.grows in omega arith)
 
 pub overflow_add-place : goal.overflow_add-place
@@ -49,7 +49,7 @@ overflow_add-place g c =
     let a = c.self.inside in
     let u = unit_now a c.args.self.now c.args.seat c.self.view_is c.requires.unit in
     let h = place_within a c.args.seat c.self.invariant u in
-    let f = place_few a (c.args.seat - 1) c.index_mut-place.result.now c.self.invariant h c.index_mut-place.ensures.value in
+    let f = place_few a (c.args.seat - a.stations) c.index_mut-place.result.now c.self.invariant h c.index_mut-place.ensures.value in
     let w = c.self.invariant.within in let l = c.self.invariant.few in let t = f.events in omega arith
 
 pub do_heard-requires-clause-next : goal.do_heard-requires-clause-next
@@ -65,7 +65,7 @@ do_heard-requires-clause-few g c =
     let a = c.self.inside in
     let stands = c.self.invariant in
     let ub = bus_unit a c.args.seat stands (unit_now a c.args.self.now c.args.seat c.self.view_is c.requires.unit) in
-    let one = some_live a.bus.traffic c.args.seat (bus_window a stands) (station_lives a stands) ub in
+    let one = some_live a.bus.traffic c.args.seat (stations_live a stands) ub in
     let q = stands.queued c.args.seat in
     let same = ap (λ (t : Traffic). (seat_at t c.args.seat).queued) c.make_ready.ensures.traffic in
     let few = c.in_ok-heard.ensures.few in
@@ -80,13 +80,13 @@ invariant_of-self-2 g c =
     let a = c.self.inside in
     let stands = c.self.invariant in
     let seat = c.args.seat in
-    let k = seat - 1 in
+    let k = seat - a.stations in
     let t = a.bus.traffic in
     let s = state a in
     let x = c.index_mut-place.result.now in
     let u = unit_now a c.args.self.now seat c.self.view_is c.requires.unit in
     let ub = bus_unit a seat stands u in
-    let one_is = one_window a stands in
+    let one_is = windows_are a stands in
     let low = u.0 in
     let h = place_within a seat stands u in
     let f = c.args.frame in
@@ -132,15 +132,16 @@ invariant_of-self-2 g c =
           ∙ (ap (λ (l : ℕ). put_all seat (map (tagged (length s.begun) (begins_session heard.begun) l) heard.put) (withdrawn_by seat heard.withdraw (heard_more seat 1 t))) last_is
           ∙ (ap (λ (b : Traffic). put_all seat (map (tagged (length s.begun) (begins_session heard.begun) (session_message_after (unit_at s seat).session_message (length s.begun) heard.begun)) heard.put) (withdrawn_by seat heard.withdraw (heard_more seat 1 b))) stands.traffic
           ∙ sym (ap (λ (v : State). v.traffic) is)))));
-      station = stands.station ∙ sym (ap (λ (v : State). table_at v 0) is);
+      stations = refl;
+      posts = λ y h. stands.posts y h ∙ sym (ap (λ (v : State). table_at v y) is);
       units = map-set unit_of a.places.items k p ∙ (ap (λ (l : ℕ). set (map unit_of a.places.items) k (record { node = node'; session_message = l })) last_is
           ∙ (ap (λ (us : List UnitState). set us k (record { node = node'; session_message = session_message_after (unit_at s seat).session_message (length s.begun) heard.begun })) stands.units
-          ∙ (ap (λ (n : ℕ). set s.units (seat - n) (record { node = node'; session_message = session_message_after (unit_at s seat).session_message (length s.begun) heard.begun })) (sym (one_station a stands)) ∙ sym (ap (λ (v : State). v.units) is))));
+          ∙ (ap (λ (n : ℕ). set s.units (seat - n) (record { node = node'; session_message = session_message_after (unit_at s seat).session_message (length s.begun) heard.begun })) (sym (stations_are a stands)) ∙ sym (ap (λ (v : State). v.units) is))));
       begun = counted ∙ (ap (λ (n : ℕ). count_with_begun n heard.begun) number ∙ (sym (begun_length s.begun seat (seat_at s.traffic seat).name memory heard.begun) ∙ sym (ap (λ (v : State). length v.begun) is)));
       injected = omega arith;
       joined = joins_hear seat memory heard.answer _ ∙ (stands.joined ∙ sym (length-set a.places.items k p));
-      tallies = tallies_one a.places.items _ (Hear seat memory heard.answer) k seat p one_more stands.tallies (λ j t'. refl) (omega arith) h (ap one_more (place_tally a k x h c.index_mut-place.ensures.value));
-      fresh = λ j l. fresh_one _ (Hear seat memory heard.answer) seat (length a.places.items) one_more stands.fresh (λ i t'. refl) (omega arith) j (omega (arith, length-set a.places.items k));
+      tallies = tallies_one a.stations a.places.items _ (Hear seat memory heard.answer) k seat p one_more stands.tallies (λ j t'. refl) (omega arith) h (ap one_more (place_tally a k x h c.index_mut-place.ensures.value));
+      fresh = λ j l. fresh_one _ (Hear seat memory heard.answer) seat (a.stations + length a.places.items) one_more stands.fresh (λ i t'. refl) (omega arith) j (omega (arith, length-set a.places.items k));
       seats = (let y = stands.seats in omega (arith, length-set a.places.items k p));
       live = stands.live ∙ sym lives;
       within = (let w = stands.within in omega arith);
@@ -175,14 +176,11 @@ returns-clause-ok g c =
       asked.0,
       asked.1,
       hears_of a (record {
-        name = a.name;
-        address = a.address;
-        window = a.window;
-        grant = a.grant;
         limit = a.limit;
         bus = c.do_heard.new.bus;
-        station = a.station;
-        places = with_item a.places (seat - 1) (record { node = c.hear.new.self; session_message = c.last_session-place.result; tally = one_more x.tally });
+        posts = a.posts;
+        stations = a.stations;
+        places = with_item a.places (seat - a.stations) (record { node = c.hear.new.self; session_message = c.last_session-place.result; tally = one_more x.tally });
         begun = c.begun_count-begun.result;
         live = a.live;
         injected = a.injected;
@@ -215,14 +213,11 @@ returns-clause-told g c = λ unasked.
     let lawful = c.in_ok-memory.ensures.lawful in
     let reacts = c.in_ok-heard.ensures.heard in
     let b : Inside = record {
-      name = a.name;
-      address = a.address;
-      window = a.window;
-      grant = a.grant;
       limit = a.limit;
       bus = c.do_heard.new.bus;
-      station = a.station;
-      places = with_item a.places (seat - 1) (record { node = c.hear.new.self; session_message = c.last_session-place.result; tally = one_more x.tally });
+      posts = a.posts;
+      stations = a.stations;
+      places = with_item a.places (seat - a.stations) (record { node = c.hear.new.self; session_message = c.last_session-place.result; tally = one_more x.tally });
       begun = c.begun_count-begun.result;
       live = a.live;
       injected = a.injected;

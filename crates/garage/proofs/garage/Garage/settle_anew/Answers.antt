@@ -20,7 +20,7 @@ overflow_add-place g c =
     let a = c.self.inside in
     let u = unit_now a c.args.self.now c.args.seat c.self.view_is c.requires.unit in
     let h = place_within a c.args.seat c.self.invariant u in
-    let f = place_few a (c.args.seat - 1) c.index_mut-place.result.now c.self.invariant h c.index_mut-place.ensures.value in
+    let f = place_few a (c.args.seat - a.stations) c.index_mut-place.result.now c.self.invariant h c.index_mut-place.ensures.value in
     let w = c.self.invariant.within in let l = c.self.invariant.few in let t = f.events in omega arith
 
 pub invariant_of-self-2 : goal.invariant_of-self-2
@@ -40,7 +40,7 @@ invariant_of-self-2 g c =
     let n = c.note_hear.ensures.room in
     let quiet : IsHeardQuietly x.node f node' = heard_so c.args.sifted.now v a f x.node node' c.self.view_is c.requires.last behind.last (c.settle.ensures.settled c.if-not-settle.false) in
     quiet_stands a _ seat memory f x node' c.self.invariant (unit_now a v seat c.self.view_is c.requires.unit) lawful behind.next c.index_mut-place.ensures.value quiet
-    refl (c.note_hear.ensures.items ∙ ap (λ (l : List Event). l ++ Hear seat memory NotAsked ∷ []) c.ready_to_note.ensures.items) c.mark_heard.ensures.traffic refl refl refl refl refl (omega arith) (omega arith)
+    refl (c.note_hear.ensures.items ∙ ap (λ (l : List Event). l ++ Hear seat memory NotAsked ∷ []) c.ready_to_note.ensures.items) c.mark_heard.ensures.traffic (record { posts = refl; stations = refl }) refl refl refl refl (omega arith) (omega arith)
 
 pub returns-clause-settled : goal.returns-clause-settled
 returns-clause-settled g c = λ t.
@@ -57,14 +57,11 @@ returns-clause-settled g c = λ t.
       f,
       ap (λ (g : GarageValue). next_for (state_of g) seat) (sym c.self.view_is) ∙ behind.next,
       quiet_passes a (record {
-        name = a.name;
-        address = a.address;
-        window = a.window;
-        grant = a.grant;
         limit = a.limit;
         bus = c.mark_heard.new.self;
-        station = a.station;
-        places = with_item a.places (seat - 1) (record x { node = node'; tally = one_more x.tally });
+        posts = a.posts;
+        stations = a.stations;
+        places = with_item a.places (seat - a.stations) (record x { node = node'; tally = one_more x.tally });
         begun = a.begun;
         live = a.live;
         injected = a.injected;
@@ -87,14 +84,11 @@ returns-clause-last g c =
     let lawful : IsLawfulMemory memory = subst IsLawfulMemory (sym c.in-Ok.ensures.memory.value) c.in-Ok.ensures.lawful in
     let quiet : IsHeardQuietly x.node f node' = heard_so c.args.sifted.now v a f x.node node' c.self.view_is c.requires.last behind.last (c.settle.ensures.settled c.if-not-settle.false) in
     let b : Inside = record {
-      name = a.name;
-      address = a.address;
-      window = a.window;
-      grant = a.grant;
       limit = a.limit;
       bus = c.mark_heard.new.self;
-      station = a.station;
-      places = with_item a.places (seat - 1) (record x { node = node'; tally = one_more x.tally });
+      posts = a.posts;
+      stations = a.stations;
+      places = with_item a.places (seat - a.stations) (record x { node = node'; tally = one_more x.tally });
       begun = a.begun;
       live = a.live;
       injected = a.injected;

@@ -8,7 +8,7 @@ use Rattle.garage.specs.Inside.{garage_value_of}
 use Rattle.garage.specs.declared.garage.Garage.TheInside.{Inside}
 use Rattle.garage.proofs.Crew.{comes_same}
 use Rattle.garage.proofs.Sweeping.{Sweeps, swept, swept_by}
-use Rattle.garage.proofs.Standing.{bus_unit, place_few, place_within}
+use Rattle.garage.proofs.Standing.{seat_low, bus_unit, place_few, place_within}
 use Rattle.garage.proofs.garage.Garage.sweep_sifted.Goals as goal
 
 pub returns-then-not-has_room-clause-comes : goal.returns-then-not-has_room-clause-comes
@@ -35,13 +35,26 @@ unheard-unheard-requires g c =
     let seated = c.loop-i.invariant.crew.seated.each c.loop-i.i (get_or c.loop-i.units c.loop-i.i c.index-units-i.result) (slice_get-get_or c.loop-i.units c.loop-i.i c.index-units-i.result (let e = c.loop-i.auto.units in let t = c.loop-i-test.true in omega arith)) in
     bus_unit c.loop-i.self-inside _ c.loop-i.invariant.stands seated.unit
 
+pub overflow_sub-seat : goal.overflow_sub-seat
+overflow_sub-seat g c =
+    let a = c.loop-i.self-inside in
+    let seated = c.loop-i.invariant.crew.seated.each c.loop-i.i (get_or c.loop-i.units c.loop-i.i c.index-units-i.result) (slice_get-get_or c.loop-i.units c.loop-i.i c.index-units-i.result (let e = c.loop-i.auto.units in let t = c.loop-i-test.true in omega arith)) in
+    seat_low a _ (get_or c.loop-i.units c.loop-i.i c.index-units-i.result).seat refl c.loop-i.invariant.stands seated.unit
+
+pub index_mut-place-requires : goal.index_mut-place-requires
+index_mut-place-requires g c =
+    let a = c.loop-i.self-inside in
+    let seated = c.loop-i.invariant.crew.seated.each c.loop-i.i (get_or c.loop-i.units c.loop-i.i c.index-units-i.result) (slice_get-get_or c.loop-i.units c.loop-i.i c.index-units-i.result (let e = c.loop-i.auto.units in let t = c.loop-i-test.true in omega arith)) in
+    let within = place_within a (get_or c.loop-i.units c.loop-i.i c.index-units-i.result).seat c.loop-i.invariant.stands seated.unit in
+    grind (arith)
+
 pub overflow_add-place : goal.overflow_add-place
 overflow_add-place g c =
     let a = c.loop-i.self-inside in
     let stands = c.loop-i.invariant.stands in
     let seated = c.loop-i.invariant.crew.seated.each c.loop-i.i (get_or c.loop-i.units c.loop-i.i c.index-units-i.result) (slice_get-get_or c.loop-i.units c.loop-i.i c.index-units-i.result (let e = c.loop-i.auto.units in let t = c.loop-i-test.true in omega arith)) in
     let h = place_within a (get_or c.loop-i.units c.loop-i.i c.index-units-i.result).seat stands seated.unit in
-    let f = place_few a ((get_or c.loop-i.units c.loop-i.i c.index-units-i.result).seat - 1) c.index_mut-place.result.now stands h c.index_mut-place.ensures.value in
+    let f = place_few a ((get_or c.loop-i.units c.loop-i.i c.index-units-i.result).seat - a.stations) c.index_mut-place.result.now stands h c.index_mut-place.ensures.value in
     let w = stands.within in let l = stands.few in let t = f.events in omega arith
 
 pub mark_heard-requires-clause-unit : goal.mark_heard-requires-clause-unit
@@ -69,14 +82,11 @@ loop-i-preserved g c =
     let ready : a.journal.room ≤ c.note_passed.new.self.room + 1 = (let r = gains.room in omega arith) in
     let same = length-set c.loop-i.units i p' in
     let b : Inside = record {
-      name = a.name;
-      address = a.address;
-      window = a.window;
-      grant = a.grant;
       limit = a.limit;
       bus = c.mark_heard.new.self;
-      station = a.station;
-      places = with_item a.places (p.seat - 1) (record x { node = c.settle.new.self; tally = one_more x.tally });
+      posts = a.posts;
+      stations = a.stations;
+      places = with_item a.places (p.seat - a.stations) (record x { node = c.settle.new.self; tally = one_more x.tally });
       begun = a.begun;
       live = a.live;
       injected = a.injected;
@@ -87,4 +97,4 @@ loop-i-preserved g c =
     subst (λ y. Sweeps (λ p. record { seat = p.seat; name = (goal.Unit-dyn g (p.unit.vtable, p.unit.value)).name_of p.unit.value; events = p.events; memory = (goal.Unit-dyn g (p.unit.vtable, p.unit.value)).memory_of p.unit.value }) c.args.self.now c.args.sifted.now b (set c.loop-i.units i (record y { events = x.tally.events + 1 })) c.args.marks.now (length (set c.loop-i.units i (record y { events = x.tally.events + 1 })) - (i + 1))) again
     (swept_by (λ p. record { seat = p.seat; name = (goal.Unit-dyn g (p.unit.vtable, p.unit.value)).name_of p.unit.value; events = p.events; memory = (goal.Unit-dyn g (p.unit.vtable, p.unit.value)).memory_of p.unit.value }) c.args.self.now c.args.sifted.now b (set c.loop-i.units i p') c.args.marks.now left (length (set c.loop-i.units i p') - (i + 1)) (omega arith)
     (swept (λ p. record { seat = p.seat; name = (goal.Unit-dyn g (p.unit.vtable, p.unit.value)).name_of p.unit.value; events = p.events; memory = (goal.Unit-dyn g (p.unit.vtable, p.unit.value)).memory_of p.unit.value }) c.args.self.now c.args.sifted.now a b c.loop-i.units c.args.marks.now left i p p' x c.settle.new.self so there marked (let k = c.unheard-unheard.ensures.count in let w = c.unheard-unheard.ensures.within in let e = c.if-unheard-ne1.false in omega arith)
-    c.index_mut-place.ensures.value (c.settle.ensures.settled c.if-not-settle.false) refl refl gains.items c.mark_heard.ensures.traffic refl refl refl refl refl ready))
+    c.index_mut-place.ensures.value (c.settle.ensures.settled c.if-not-settle.false) refl refl gains.items c.mark_heard.ensures.traffic (record { posts = refl; stations = refl }) refl refl refl refl ready))

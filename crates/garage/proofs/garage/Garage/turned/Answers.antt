@@ -4,7 +4,7 @@ use Rattle.journal.specs.Journal.{one_more}
 use Rattle.journal.specs.declared.event.Event.{Event}
 use Rattle.journal.specs.declared.event.Event.TheVariants.{Turned}
 use Rattle.journal.specs.declared.tally.Tally.{Tally}
-use Rattle.garage.proofs.Standing.{one_window, place_few, place_within, unit_now, units_same, joins_turned, place_tally, stands_more, tallies_one, fresh_one}
+use Rattle.garage.proofs.Standing.{windows_are, place_few, place_within, unit_now, units_same, joins_turned, place_tally, stands_more, tallies_one, fresh_one}
 use Rattle.garage.proofs.garage.Garage.turned.Goals as goal
 
 pub overflow_add-place : goal.overflow_add-place
@@ -12,7 +12,7 @@ overflow_add-place c =
     let a = c.self.inside in
     let u = unit_now a c.args.self.now c.args.seat c.self.view_is c.requires in
     let h = place_within a c.args.seat c.self.invariant u in
-    let f = place_few a (c.args.seat - 1) c.index_mut-place.result.now c.self.invariant h c.index_mut-place.ensures.value in
+    let f = place_few a (c.args.seat - a.stations) c.index_mut-place.result.now c.self.invariant h c.index_mut-place.ensures.value in
     let w = c.self.invariant.within in let l = c.self.invariant.few in let t = f.turned in omega arith
 
 pub overflow_add-place-2 : goal.overflow_add-place-2
@@ -20,7 +20,7 @@ overflow_add-place-2 c =
     let a = c.self.inside in
     let u = unit_now a c.args.self.now c.args.seat c.self.view_is c.requires in
     let h = place_within a c.args.seat c.self.invariant u in
-    let f = place_few a (c.args.seat - 1) c.index_mut-place.result.now c.self.invariant h c.index_mut-place.ensures.value in
+    let f = place_few a (c.args.seat - a.stations) c.index_mut-place.result.now c.self.invariant h c.index_mut-place.ensures.value in
     let w = c.self.invariant.within in let l = c.self.invariant.few in let t = f.events in omega arith
 
 pub invariant_of-self-2 : goal.invariant_of-self-2
@@ -29,10 +29,10 @@ invariant_of-self-2 c =
     let stands = c.self.invariant in
     let x = c.index_mut-place.result.now in
     let u = unit_now a c.args.self.now c.args.seat c.self.view_is c.requires in
-    let one_is = one_window a stands in
+    let one_is = windows_are a stands in
     let low = u.0 in
     let h = place_within a c.args.seat stands u in
-    let k = c.args.seat - 1 in
+    let k = c.args.seat - a.stations in
     let ok = c.in_ok-make_room.ensures.ok in
     let room = ok.1 in
     let fits = ok.0 in
@@ -41,14 +41,15 @@ invariant_of-self-2 c =
       journal = c.note_turned.ensures.items ∙ ap (λ (l : List Event). l ++ Turned c.args.seat ∷ []) c.make_room.ensures.items;
       fits = u;
       traffic = stands.traffic;
-      station = stands.station;
+      stations = refl;
+      posts = stands.posts;
       units = units_same a.places.items k x _ h c.index_mut-place.ensures.value refl ∙ stands.units;
       begun = stands.begun;
       injected = omega arith;
       joined = joins_turned c.args.seat _ ∙ (stands.joined ∙ sym (length-set a.places.items k _));
-      tallies = tallies_one a.places.items _ (Turned c.args.seat) k c.args.seat _ (λ (t : Tally). one_more (record t { turned = t.turned + 1 })) stands.tallies (λ j t. refl) (omega arith) h
+      tallies = tallies_one a.stations a.places.items _ (Turned c.args.seat) k c.args.seat _ (λ (t : Tally). one_more (record t { turned = t.turned + 1 })) stands.tallies (λ j t. refl) (omega arith) h
           (ap (λ (t : Tally). one_more (record t { turned = t.turned + 1 })) (place_tally a k x h c.index_mut-place.ensures.value));
-      fresh = λ j l. fresh_one _ (Turned c.args.seat) c.args.seat (length a.places.items) (λ (t : Tally). one_more (record t { turned = t.turned + 1 })) stands.fresh (λ i t. refl) (omega arith) j (omega (arith, length-set a.places.items k));
+      fresh = λ j l. fresh_one _ (Turned c.args.seat) c.args.seat (a.stations + length a.places.items) (λ (t : Tally). one_more (record t { turned = t.turned + 1 })) stands.fresh (λ i t. refl) (omega arith) j (omega (arith, length-set a.places.items k));
       seats = (let s = stands.seats in omega (arith, length-set a.places.items k));
       live = stands.live;
       within = (let w = stands.within in omega arith);

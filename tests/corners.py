@@ -5,6 +5,7 @@ import random
 from model.frames import KINDS
 from model.script import COMMANDS, Script
 from strangers import Strangers
+from two_stations import TwoStations
 
 MOST_LINES, MOST_WIRE = 260, 700  # where a script ends; the model looks back over the wire, so long ones cost time
 MANY = "4294967295"
@@ -21,12 +22,13 @@ MESSAGES = list(KINDS)
 ASKED = MESSAGES * 2 + ["dm3", "dm11", "claim", "65259", "65226", "65227", "65231", "60928", "0", "130762", "130767", "16777215"]
 
 
-class Writer(Strangers):
+class Writer(Strangers, TwoStations):
     """A script that is being written, and the model's answers to it."""
 
     def __init__(self, seed):
         self.random, self.script, self.lines, self.answers = random.Random(seed), Script(), [], []
         self.strangers = False  # whether frames come from outside
+        self.at = 0  # the station that is aimed at
 
     def say(self, *words):
         line = " ".join(map(str, words))
@@ -49,20 +51,16 @@ class Writer(Strangers):
     def garage(self):
         return self.script.garage
 
-    @property
-    def station(self):
-        return self.garage.station
-
     # Whom to aim at.
 
     def seats(self):
-        return [number for number, seat in enumerate(self.garage.seats) if number and seat.live]
+        return [number for number, seat in enumerate(self.garage.seats) if number >= self.first and seat.live]
 
     def seat(self):
         """A live seat, for the most part; rarely one that is gone or was never given."""
         live = self.seats()
         if not live or self.chance(2):
-            return self.one_of(0, len(self.garage.seats), max(1, len(self.garage.seats) - 2), 4294967295)
+            return self.one_of(0, self.first - 1, len(self.garage.seats), max(1, len(self.garage.seats) - 2), 4294967295)
         return self.random.choice(live)
 
     def unit(self):
@@ -97,18 +95,29 @@ class Writer(Strangers):
 
     # Commands.
 
-    def make_garage(self, window=None, grant=None, limit=None, name=None):
+    def make_garage(self, window=None, grant=None, limit=None, name=None, more=0):
+        """A garage, of two stations in a third of the scripts, and then with a limit that is so many more."""
         if self.chance(6):
-            self.say(self.one_of("join 0000000000000001 0 plain", "round 1", "stats", "hear 1", "fly", "carry", "row XY"))
+            self.say(self.one_of("join 0000000000000001 0 plain", "round 1", "stats", "hear 1", "fly", "carry", "row XY", "at 0 read",
+                                 "at 1 garage 0000000000000001 249 4 16 100"))
         while self.chance(25):
-            self.say("garage", self.random.choice(NO_GARAGES))
-        window = window or self.one_of(1, 2, 3, 4, 5, 8, 16, 64, 64, 64, 4096)
-        grant = grant or self.one_of(1, 1, 2, 3, 4, 7, 16, 16, 255)
-        self.say("garage", name or self.random.choice(STATIONS), self.random.choice([249, 249, 249, 0, 128, 253]), window, grant,
-                 limit or self.one_of(100000, 100000, 16777216))
+            self.say(*self.one_of(("garage", self.random.choice(NO_GARAGES)), ("garage2", self.no_garage2())))
+        name, address = name or self.random.choice(STATIONS), self.random.choice([249, 249, 249, 0, 128, 253])
+        first = (name, address, window or self.any_window(), grant or self.any_grant())
+        limit = limit or self.one_of(100000, 100000, 16777216)
+        if self.chance(33):
+            self.make_garage2(first, limit + more, [other for other in STATIONS if other != name])
+        else:
+            self.say("garage", *first, limit)
+
+    def any_window(self):
+        return self.one_of(1, 2, 3, 4, 5, 8, 16, 64, 64, 64, 4096)
+
+    def any_grant(self):
+        return self.one_of(1, 1, 2, 3, 4, 7, 16, 16, 255)
 
     def join(self, name=None, address=None, kind=None):
-        name = name or self.random.choice(UNITS)
+        name = name or ("%016X" % self.random.choice(self.garage.stations).name if self.chance(3) else self.random.choice(UNITS))
         address = address if address is not None else 254 if self.chance(2) else 255 if self.chance(1) else self.address()
         return self.say("join", name, address, kind or self.kind())
 
@@ -152,7 +161,8 @@ class Writer(Strangers):
         self.say("carry", self.count())
 
     def read(self):
-        self.say("read", self.count())
+        self.aim()
+        self.tell("read", self.count())
 
     def hear(self):
         self.say("hear", self.seat(), self.count())
@@ -162,10 +172,10 @@ class Writer(Strangers):
 
     def ask(self):
         what = "16777216" if self.chance(2) else self.random.choice(ASKED)
-        self.say("ask", "all" if self.chance(30) else self.name(), what)
+        self.tell("ask", "all" if self.chance(30) else self.name(), what)
 
     def command(self):
-        self.say("command", self.name(), self.one_of(254, 255) if self.chance(5) else self.address())
+        self.tell("command", self.name(), self.one_of(254, 255) if self.chance(5) else self.address())
 
     def think(self):
         """A unit thinks; a flicker's code may be pending then."""
@@ -182,9 +192,10 @@ class Writer(Strangers):
         self.say("leave", self.seat())
 
     def query(self):
-        self.say(*self.random.choice([
+        self.aim()
+        self.tell(*self.random.choice([
             ("shown", self.name(), self.one_of(*MESSAGES)), ("row", self.name()), ("stats",), ("report",),
-            ("counts", self.one_of(0, self.seat(), self.random.randrange(len(self.garage.seats)))),
+            ("counts", self.one_of(0, self.first - 1, self.seat(), self.random.randrange(len(self.garage.seats)))),
             ("frame", self.random.randrange(len(self.garage.wire) + 2)), ("injected",)]))
 
     def misspelt(self):
@@ -194,7 +205,10 @@ class Writer(Strangers):
             "pend {seat} 300 1 2", "unpend {seat} 300 1 2", "lamps {seat} 04FF",
             "think {seat}", "turn {seat}", "leave {seat}", "hear {seat} 1", "dm1 {seat}", "carry 1", "read 1", "round 1",
             "ask {name} dm1", "ask {name} dm6", "ask all dm3", "command {name} 7", "shown {name} dm1", "shown {name} dm6", "row {name}", "counts {seat}", "stats",
-            "frame 0", "inject 18FECA00 04 FF", "injected", "report", "garage {name} 249 4 16 100"]).format(seat=self.seat(), name=self.name())
+            "frame 0", "inject 18FECA00 04 FF", "injected", "injected", "report", "report", "garage {name} 249 4 16 100",
+            "garage2 {name} 249 4 16 {name} 250 4 16 100"]).format(seat=self.seat(), name=self.name())
+        if self.chance(25):
+            line = f"at {self.one_of(0, 0, 1, 1, 1, 2)} {line}"
         words = line.split(" ")
         at = self.random.randrange(len(words))
         way = self.random.randrange(9)
@@ -219,7 +233,7 @@ class Writer(Strangers):
                                 ["stats\r"])
         else:
             words[at] = self.one_of("all", "ALL", "none", "dm1", "DM1", "dm3", "dm6", "DM6", "dm5", "plain", "Plain", "flicker", "guarded")
-        if words and words[0] in COMMANDS | {"fly": 0} or way in (0, 4, 7) or self.chance(50):
+        if words and words[0] in COMMANDS | {"fly": 0, "at": 0} or way in (0, 4, 7) or self.chance(50):
             self.say(*words)
 
     # What stands in the way of messages that are under way.
@@ -227,17 +241,17 @@ class Writer(Strangers):
     def gap(self):
         """More frames than the station's window holds, at times with one more behind them."""
         seats = self.seats()
-        if self.garage.window > 16 or not seats:
+        if self.window > 16 or not seats:
             return
-        for _ in range(self.garage.window + self.random.randrange(3)):
+        for _ in range(self.window + self.random.randrange(3)):
             self.say("dm1", self.random.choice(seats))
         for seat in seats:
             self.say("hear", seat, MANY)
-        self.say("carry", self.garage.window + self.random.randrange(6))
+        self.say("carry", self.window + self.random.randrange(6))
         if self.chance(50):
             self.hear()
             self.carry()
-        self.say("read", self.one_of("1", "1", "2", MANY))
+        self.tell("read", self.one_of("1", "1", "2", MANY))
 
     def contend(self):
         """A unit joins at an address that is held: a lower or higher NAME, one that may move or one that may not."""
@@ -250,7 +264,7 @@ class Writer(Strangers):
         unit = self.unit()
         if unit:
             own = unit.held if unit.held is not None else 3
-            self.say("command", self.name_text(unit.name), self.one_of(own, self.address(), self.address(), 5))
+            self.tell("command", self.name_text(unit.name), self.one_of(own, self.address(), self.address(), 5))
 
     def replace(self):
         """A unit leaves, and the next one of its NAME comes to its address or to another."""
@@ -293,16 +307,20 @@ class Writer(Strangers):
             self.fill(unit.seat)
         self.say("round", self.one_of(9, 9, 3, 0))
         kind = self.one_of(*MESSAGES, *MESSAGES, "dm11", "dm3")
-        self.say("ask", self.name_text(unit.name), kind)
+        self.tell("ask", self.name_text(unit.name), kind)
         for _ in range(self.random.randrange(1, 6)):
             self.go_on()
             if self.chance(25):
-                self.say("ask", self.one_of(self.name_text(unit.name), "all"), self.one_of(kind, *MESSAGES))
+                self.tell("ask", self.one_of(self.name_text(unit.name), "all"), self.one_of(kind, *MESSAGES))
+            if self.chance(10):
+                self.at_the_other("ask", self.one_of(self.name_text(unit.name), "all"), self.one_of(kind, *MESSAGES))
             if self.chance(30):
                 self.say("dm1", unit.seat)
             if self.chance(50):
                 self.disturb()
-        self.say("shown", self.name_text(unit.name), kind if kind in KINDS else "dm1")
+        self.tell("shown", self.name_text(unit.name), kind if kind in KINDS else "dm1")
+        if self.chance(50):
+            self.at_the_other("shown", self.name_text(unit.name), kind if kind in KINDS else "dm1")
 
     def broadcast(self):
         """A long message to all, disturbed before each packet of it."""
@@ -315,12 +333,12 @@ class Writer(Strangers):
         if self.chance(60):
             self.say("dm1", unit.seat)
         else:
-            self.say("ask", "all", self.one_of(*MESSAGES))
+            self.tell("ask", "all", self.one_of(*MESSAGES))
         for _ in range(self.random.randrange(1, 6)):
             self.go_on()
             if self.chance(50):
                 self.disturb()
-        self.say("shown", self.name_text(unit.name), self.one_of(*MESSAGES))
+        self.tell("shown", self.name_text(unit.name), self.one_of(*MESSAGES))
 
     def stale_end(self):
         """A session ends by a command while its end of message acknowledgment is under way, and the next one is open."""
@@ -330,13 +348,13 @@ class Writer(Strangers):
         self.say("set", unit.seat, 100, 1, 3)
         self.say("round", MANY)
         name = "%016X" % unit.name
-        self.say("ask", name, "dm1")
+        self.tell("ask", name, "dm1")
         for _ in range(8):
             if any(frame.pgn == 60160 for frame, _ in unit.queue):
                 break
             self.say("round", 1)
-        self.say("command", name, unit.held if unit.held is not None else 3)
-        self.say("ask", name, self.one_of("dm1", "dm1", "dm2", "dm6", "all"))
+        self.tell("command", name, unit.held if unit.held is not None else 3)
+        self.tell("ask", name, self.one_of("dm1", "dm1", "dm2", "dm6", "all"))
         for _ in range(self.random.randrange(6, 14)):
             self.say("round", 1)
             if self.chance(10):
@@ -355,17 +373,17 @@ class Writer(Strangers):
         if kind == "dm6" or self.chance(50):
             self.say("pend", unit.seat, 300, 1, self.one_of(2, 3))
         self.say("round", MANY)
-        self.say("ask", name, kind)
+        self.tell("ask", name, kind)
         self.say("round", self.one_of(1, 2, 3))
-        self.say("ask", self.one_of(name, "all"), "dm3" if kind == "dm2" else "dm11")
-        self.say("ask", name, self.one_of(*MESSAGES))
-        self.say("ask", self.one_of(name, "all"), kind)
+        self.tell("ask", self.one_of(name, "all"), "dm3" if kind == "dm2" else "dm11")
+        self.tell("ask", name, self.one_of(*MESSAGES))
+        self.tell("ask", self.one_of(name, "all"), kind)
         for _ in range(self.random.randrange(1, 4)):
             self.say("round", self.one_of(1, 2, 3))
             if self.chance(20):
                 self.disturb()
         self.say("round", MANY)
-        self.say("shown", name, kind)
+        self.tell("shown", name, kind)
 
     def clear(self):
         """A unit with codes of one kind or of several is asked to clear them, alone or among all."""
@@ -382,10 +400,10 @@ class Writer(Strangers):
             self.say("pend", unit.seat, self.one_of(300, 101), 1, self.one_of(1, 2, 5))
         self.say("round", self.one_of(0, MANY))
         for _ in range(2):
-            self.say("ask", self.one_of(self.name_text(unit.name), self.name_text(unit.name), "all"), self.one_of("dm3", "dm11"))
+            self.tell("ask", self.one_of(self.name_text(unit.name), self.name_text(unit.name), "all"), self.one_of("dm3", "dm11"))
         self.say("round", self.one_of(2, MANY))
         self.say("dm1", unit.seat)
-        self.say("ask", self.one_of(self.name_text(unit.name), "all"), self.one_of("dm2", "dm6"))
+        self.tell("ask", self.one_of(self.name_text(unit.name), "all"), self.one_of("dm2", "dm6"))
         self.go_on()
 
     def begun_again(self):
@@ -404,7 +422,7 @@ class Writer(Strangers):
             seat = len(self.garage.seats) - 1
             self.say("set", seat, 200, 1, self.one_of(2, 3))
         else:
-            self.say("command", name, unit.held)
+            self.tell("command", name, unit.held)
             self.say("round", self.one_of(3, 4))
         self.say("dm1", seat)
         self.say("round", self.one_of(2, 3, MANY))
@@ -413,35 +431,35 @@ class Writer(Strangers):
     def gap_in_session(self):
         """The station misses frames while packets are granted, and reads the rest of them."""
         unit = self.unit()
-        if unit is None or unit.held is None or self.garage.window > 5 or len(self.seats()) < 2:
+        if unit is None or unit.held is None or self.window > 5 or len(self.seats()) < 2:
             return
         self.say("set", unit.seat, 100, 1, self.one_of(3, 9))
         self.say("round", MANY)
-        self.say("ask", "%016X" % unit.name, "dm1")
+        self.tell("ask", "%016X" % unit.name, "dm1")
         self.say("round", self.one_of(2, 3, 4))
-        for _ in range(self.garage.window + 1):
+        for _ in range(self.window + 1):
             self.say("dm1", self.random.choice(self.seats()))
-        for _ in range(self.garage.window + self.random.randrange(1, 4)):
+        for _ in range(self.window + self.random.randrange(1, 4)):
             for seat in self.seats():
                 self.say("hear", seat, MANY)
             self.say("carry", 1)
-        self.say("read", self.one_of(MANY, 1, 2))
+        self.tell("read", self.one_of(MANY, 1, 2))
         self.go_on()
 
     def answer_after_gap(self):
         """An acknowledgment is read behind a gap, so that nobody is known to own its source."""
         unit = self.unit()
-        if unit is None or unit.held is None or self.garage.window > 5:
+        if unit is None or unit.held is None or self.window > 5:
             return
         self.say("round", MANY)
-        self.say("ask", "%016X" % unit.name, self.one_of("dm3", "0", "65259"))
-        for _ in range(self.garage.window + self.random.randrange(2)):
+        self.tell("ask", "%016X" % unit.name, self.one_of("dm3", "0", "65259"))
+        for _ in range(self.window + self.random.randrange(2)):
             self.say("dm1", self.random.choice(self.seats()))
-        for _ in range(self.garage.window + 3):
+        for _ in range(self.window + 3):
             self.say("carry", 1)
             for seat in self.seats():
                 self.say("hear", seat, MANY)
-        self.say("read", MANY)
+        self.tell("read", MANY)
         self.go_on()
 
     def half_command(self):
@@ -461,11 +479,11 @@ class Writer(Strangers):
             return
         if self.chance(50):
             self.session()
-        self.say("ask", self.one_of("all", self.name()), self.random.choice(ASKED))
+        self.tell("ask", self.one_of("all", self.name()), self.random.choice(ASKED))
         if self.chance(60):
             self.join(address=own)
         else:
-            self.say("command", self.name(), own)
+            self.tell("command", self.name(), own)
         for _ in range(self.random.randrange(1, 4)):
             self.go_on()
 
@@ -476,7 +494,7 @@ class Writer(Strangers):
             return
         self.say("set", unit.seat, 100, 1, 3)
         self.say("round", MANY)
-        self.say("ask", "%016X" % unit.name, "dm1")
+        self.tell("ask", "%016X" % unit.name, "dm1")
         self.say("carry", 1)
         self.say("hear", unit.seat, MANY)
         self.join(address=own)
@@ -491,23 +509,23 @@ class Writer(Strangers):
     def unowned_session(self):
         """The station misses frames and then reads a request to send from an address whose owner it forgot."""
         unit = self.unit()
-        if unit is None or unit.held is None or self.garage.window > 5 or self.station.held is None:
+        if unit is None or unit.held is None or self.window > 5 or self.station.held is None:
             return
         self.say("set", unit.seat, 100, 1, 3)
         self.say("round", MANY)
-        self.say("ask", "%016X" % unit.name, "dm1")
-        for _ in range(self.garage.window + 1):
+        self.tell("ask", "%016X" % unit.name, "dm1")
+        for _ in range(self.window + 1):
             self.say("dm1", self.random.choice(self.seats()))
         self.say("carry", 1)
         for seat in self.seats():
             self.say("hear", seat, MANY)
-        for _ in range(self.garage.window + 4):
+        for _ in range(self.window + 4):
             self.say("carry", 1)
             for seat in self.seats():
                 self.say("hear", seat, MANY)
             if unit.session is None or unit.queue == []:
                 break
-        self.say("read", self.one_of(MANY, "2", "1"))
+        self.tell("read", self.one_of(MANY, "2", "1"))
         for _ in range(3):
             self.go_on()
 
@@ -520,15 +538,16 @@ class Writer(Strangers):
                             self.query, self.query, self.query, self.misspelt])()
 
     def ask_all_about_it(self):
-        """All that can be asked at the end."""
-        for name in self.random.sample(self.station.names(), min(4, len(self.station.names()))):
-            for kind in MESSAGES:
-                self.say("shown", "%016X" % name, kind)
-            self.say("row", "%016X" % name)
+        """All that can be asked at the end, at each station."""
+        for self.at in range(self.first):
+            for name in self.random.sample(self.station.names(), min(4, len(self.station.names()))):
+                for kind in MESSAGES:
+                    self.tell("shown", "%016X" % name, kind)
+                self.tell("row", "%016X" % name)
+            self.tell("stats")
+            self.tell("report")
         for seat in range(min(6, len(self.garage.seats))):
             self.say("counts", seat)
-        self.say("stats")
-        self.say("report")
         for at in sorted(self.random.sample(range(len(self.garage.wire)), min(60, len(self.garage.wire)))):
             self.say("frame", at)
 
@@ -560,11 +579,15 @@ def mixed(writer):
             writer.stale_end, writer.half_command, writer.to_the_station, writer.foreign_session, writer.unowned_session,
             writer.shortened, writer.shortened, writer.clear, writer.clear, writer.answer_after_gap,
             writer.begun_again, writer.begun_again, writer.gap_in_session, writer.gap_in_session]
+    if writer.first > 1:
+        aims += [writer.between_stations, writer.same_address, writer.moves_onto_the_other, writer.gap_at_one_alone,
+                 writer.both_ask, writer.source_is_claimed, writer.answer_behind_a_gap] * 2
     if writer.strangers:
-        aims += [writer.in_a_session] * 6 + [writer.strange_session, writer.strange_broadcast, writer.claimed_before] * 2
+        aims += [writer.in_a_session] * 6 + [writer.strange_session, writer.strange_broadcast, writer.claimed_before, writer.sessions_at_once] * 2
     while not writer.is_long():
         if len(writer.seats()) > 7:
             writer.leave()
+        writer.aim()
         if writer.chance(40):
             writer.random.choice(aims)()
         else:
@@ -608,17 +631,18 @@ def room(writer):
 def session_at_the_limit(writer):
     """The journal is full while a session is open, a frame is queued or unread; then all that may still be answered."""
     writer.make_garage(limit=writer.random.randrange(50, 110))
+    one = writer.first
     writer.join("00000000000000A0", writer.one_of(0, 0, 0, 249), "plain")
     writer.join()
-    writer.say("set", 1, 100, 1, writer.one_of(2, 3, 9))
-    writer.say("pend", 1, 300, 1, writer.one_of(0, 2, 3))
+    writer.say("set", one, 100, 1, writer.one_of(2, 3, 9))
+    writer.say("pend", one, 300, 1, writer.one_of(0, 2, 3))
     writer.say("round", MANY)
-    writer.say("ask", "00000000000000A0", writer.one_of("dm1", "dm1", "dm2", "dm6"))
+    writer.tell("ask", "00000000000000A0", writer.one_of("dm1", "dm1", "dm2", "dm6"))
     writer.say("round", writer.random.choice([0, 1, 2, 2, 2, 3, 4, 5]))
     if writer.chance(40):
         writer.contend()
     if writer.chance(40):
-        writer.say("dm1", 1)
+        writer.say("dm1", one)
         writer.say("carry", writer.one_of("1", "3"))
     for _ in range(writer.random.randrange(6)):
         writer.any_line()
@@ -632,35 +656,39 @@ def session_at_the_limit(writer):
     while room(writer) > left and writer.seats():
         writer.say("turn", writer.random.choice(writer.seats()))
     for _ in range(2):
-        behind = min(writer.seats() or [1], key=lambda seat: writer.garage.seats[seat].heard)
-        writer.say(*writer.random.choice([("hear", behind, MANY), ("hear", behind, MANY), ("read", MANY), ("carry", MANY),
+        writer.aim()
+        behind = min(writer.seats() or [one], key=lambda seat: writer.garage.seats[seat].heard)
+        writer.tell(*writer.random.choice([("hear", behind, MANY), ("hear", behind, MANY), ("read", MANY), ("carry", MANY),
                                           ("round", MANY)]))
     for _ in range(30):
         seat = writer.seat()
-        writer.say(*writer.random.choice([("carry", MANY), ("hear", seat, MANY), ("read", MANY), ("round", MANY), ("dm1", seat),
-                                          ("dm1", 1)]))
+        writer.aim()
+        writer.tell(*writer.random.choice([("carry", MANY), ("hear", seat, MANY), ("read", MANY), ("round", MANY), ("dm1", seat),
+                                          ("dm1", one)]))
         if writer.chance(40):
             writer.random.choice([writer.join, writer.command, writer.ask, writer.turn, writer.query, writer.leave])()
 
 
 def cut_short(writer):
     """A repeating command has more to do than the journal has room for."""
-    writer.make_garage(limit=writer.random.randrange(30, 36), name=STATIONS[0])
+    writer.make_garage(limit=writer.random.randrange(30, 36), more=8, name=STATIONS[0])
+    one = writer.first
     for name, address in (("00000000000000A0", 0), ("00000000000000B0", 1)):
         writer.say("join", name, address, "plain")
     writer.say("round", MANY)
     for _ in range(5):
-        writer.say("dm1", writer.one_of(1, 2))
-    writer.say("hear", writer.one_of(1, 2), writer.one_of(0, 1))
+        writer.say("dm1", writer.one_of(one, one + 1))
+    writer.say("hear", writer.one_of(one, one + 1), writer.one_of(0, 1))
     writer.say("carry", writer.one_of(1, 3))
-    writer.say("dm1", 1)
-    writer.say("dm1", 2)
+    writer.say("dm1", one)
+    writer.say("dm1", one + 1)
     left = writer.one_of(1, 1, 2)
     while room(writer) > left:
-        writer.say("turn", 1)
+        writer.say("turn", one)
     behind = min(writer.seats(), key=lambda seat: writer.garage.seats[seat].heard)
     for _ in range(3):
-        writer.say(*writer.random.choice([("hear", behind, MANY), ("read", MANY), ("carry", MANY), ("round", MANY)]))
+        writer.aim()
+        writer.tell(*writer.random.choice([("hear", behind, MANY), ("read", MANY), ("carry", MANY), ("round", MANY)]))
     for _ in range(6):
         writer.any_line()
 
@@ -701,7 +729,8 @@ def full_memory(writer):
     writer.say("round", 9)
     memory = writer.garage.unit(seat).memory
     asked = max(KINDS, key=lambda word: len(memory.payload(KINDS[word])))
-    writer.say(*writer.random.choice([("dm1", seat), ("ask", "all", asked)] + [("ask", "00000000000000A0", asked)] * 4))
+    writer.aim()
+    writer.tell(*writer.random.choice([("dm1", seat), ("ask", "all", asked)] + [("ask", "00000000000000A0", asked)] * 4))
     writer.say("round", writer.random.choice([MANY, MANY, MANY, 255, 256, 257, 258, 40, 300]))
     for _ in range(4):
         writer.disturb()
@@ -712,14 +741,15 @@ def full_memory(writer):
 def counted_out(writer):
     """Codes that come back again and again, up to the greatest count."""
     writer.make_garage()
+    one = writer.first
     writer.join("00000000000000A0", 0, writer.one_of("plain", "flicker 100 1"))
-    writer.say("pend", 1, 100, 1, writer.one_of(0, 1))
+    writer.say("pend", one, 100, 1, writer.one_of(0, 1))
     for _ in range(writer.random.randrange(118, 132)):
-        writer.say("set", 1, 100, 1)
-        writer.say("heal", 1, 100, 1)
-    writer.say("think", 1)
-    writer.say("set", 1, 100, 1)
-    writer.say("dm1", 1)
+        writer.say("set", one, 100, 1)
+        writer.say("heal", one, 100, 1)
+    writer.say("think", one)
+    writer.say("set", one, 100, 1)
+    writer.say("dm1", one)
     writer.say("round", MANY)
 
 
@@ -746,39 +776,41 @@ def no_free_address(writer):
 def late_listening(writer):
     """Hundreds of frames are neither heard nor read, and then all are in one round, but for what the window does not hold."""
     writer.make_garage(window=writer.random.choice([100, 300, 1000, 4096]), name=STATIONS[0])
+    one = writer.first
     for name, address in (("00000000000000A0", 0), ("00000000000000B0", 1)):
         writer.say("join", name, address, "plain")
     writer.say("round", MANY)
-    writer.say("set", 1, 1000, 1, writer.random.choice([100, 300, 445]))
+    writer.say("set", one, 1000, 1, writer.random.choice([100, 300, 445]))
     for _ in range(2):
-        writer.say("dm1", 1)
+        writer.say("dm1", one)
     writer.say("carry", writer.random.choice([20, 65, 70, 129, 200, 258, 300, MANY]))
     if writer.chance(30):
-        writer.say("hear", 2, writer.random.choice([10, 66, 200, 300, MANY]))
+        writer.say("hear", one + 1, writer.random.choice([10, 66, 200, 300, MANY]))
     if writer.chance(30):
         writer.say("read", writer.random.choice([10, 66, 200, 300, MANY]))
     writer.say("round", writer.random.choice([0, 0, 1, 2, 301, 302, MANY]))
-    for words in (("read", MANY), ("hear", 2, MANY), ("stats",), ("round", MANY), ("shown", "00000000000000A0", "dm1")):
+    for words in (("read", MANY), ("hear", one + 1, MANY), ("stats",), ("round", MANY), ("shown", "00000000000000A0", "dm1")):
         writer.say(*words)
 
 
 def wide_window(writer):
     """The widest window, and as many frames as it holds or a few more."""
     writer.make_garage(window=4096)
+    one = writer.first
     writer.say("join", "00000000000000B0", 1, "plain")
     writer.say("round", 9)
-    writer.say("set", 1, 1000, 1, 445)
+    writer.say("set", one, 1000, 1, 445)
     for _ in range(17):
-        writer.say("dm1", 1)
+        writer.say("dm1", one)
     writer.say("carry", writer.random.choice([4095, 4096, 4097, 4097, 4098, 4100, 4200, MANY]))
     writer.say("read", writer.one_of(1, 2, 3))
     writer.say("stats")
-    writer.say("leave", 1)
+    writer.say("leave", one)
     writer.say("carry", 1)
 
 
 PLANS = {mixed: 68, among_strangers: 24, lines_alone: 10, at_the_limit: 8, session_at_the_limit: 8, cut_short: 12, full_house: 2,
-         full_memory: 13, counted_out: 2, no_free_address: 5, late_listening: 3, wide_window: 3}
+         full_memory: 13, counted_out: 2, no_free_address: 5, late_listening: 3, wide_window: 3, Writer.at_one_address: 6}
 
 
 def script(seed):

@@ -26,7 +26,7 @@ class Strangers:
         self.say("inject", text.lower() if self.chance(5) else text)
 
     def held_addresses(self):
-        """The addresses that units and the station hold now."""
+        """The addresses that units and stations hold now."""
         seats = [seat.who.held for seat in self.garage.seats if seat.live]
         return [address for address in seats if address is not None] or [0]
 
@@ -37,7 +37,7 @@ class Strangers:
         return self.random.choice(NOBODYS) if self.chance(12) else self.owned() if self.chance(70) else self.address()
 
     def own_address(self):
-        """The station's address."""
+        """The address of the station that is aimed at."""
         return 249 if self.station.held is None else self.station.held
 
     def some_name(self):
@@ -121,7 +121,7 @@ class Strangers:
 
     def in_a_session(self):
         """Somebody speaks in a session that is open: as the one who asked for it, or as its unit."""
-        units = [seat.who for seat in self.garage.seats[1:] if seat.live and seat.who.session and seat.who.held is not None]
+        units = [seat.who for seat in self.garage.live() if seat.who.session and seat.who.held is not None]
         if not units:
             self.session()
             return
@@ -154,6 +154,25 @@ class Strangers:
             start = Frame(start.number, bytes(data))
         self.some_of([start] + [packet(payload, which, own, source) for which in range(1, packets_of(len(payload)) + 1)])
 
+    def sessions_at_once(self):
+        """One address has a session with each station, their packets in between each other's. At times a station's address is
+        claimed meanwhile, and the packets go on to where the session was."""
+        source, messages = self.anybody(), []
+        if self.chance(50):
+            self.inject(claim(self.some_name(), source))
+        for station in self.garage.stations:
+            payload, pgn, own = codes_of(self.random.randrange(2, 6)), self.one_of(*TITLES), 249 if station.held is None else station.held
+            messages.append([rts(len(payload), pgn, own, source)]
+                            + [packet(payload, which, own, source) for which in range(1, packets_of(len(payload)) + 1)])
+        while any(messages):
+            self.inject(self.random.choice([frames for frames in messages if frames]).pop(0))
+            if self.chance(40):
+                self.say("round", self.one_of(0, 0, 1, 2))
+            if self.chance(15):
+                station = self.random.choice(self.garage.stations)
+                self.inject(claim(self.one_of(self.some_name(), (1 << 64) - 1), 249 if station.held is None else station.held))
+                self.say("round", self.one_of(0, 1))
+
     def strange_command(self):
         """A commanded address from outside: also one that nobody can hold, and in pieces."""
         payload = self.some_name().to_bytes(8, "little") + bytes([self.one_of(254, 255, self.address(), 5)])
@@ -181,4 +200,4 @@ class Strangers:
             self.any_frame, self.any_of_a_group, self.any_of_a_group, self.strange_claim, self.strange_claim, self.claimed_before,
             self.strange_request, self.strange_request, self.strange_acknowledgment, self.strange_memory, self.strange_control,
             self.strange_control, self.to_one_alone, self.strange_packet, self.in_a_session, self.in_a_session, self.strange_broadcast,
-            self.strange_session, self.strange_command, self.no_frame])()
+            self.strange_session, self.sessions_at_once, self.strange_command, self.no_frame])()

@@ -1,4 +1,4 @@
-"""The bus, its units, its station and the script language a second time, in plain Python, written from the rules alone.
+"""The bus, its units, its stations and the script language a second time, in plain Python, written from the rules alone.
 
 It is read beside the program and never from it: where the program keeps tables, the model looks back over what happened.
 Read in this order: `frames` (identifiers, layouts, packets), `memory` (fault memories and what messages say of them),

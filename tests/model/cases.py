@@ -4,6 +4,8 @@ Each rule of the unit, of the station, of the bus and of the script has its case
 counts them. A word that is not here is an error. A case that a long run does not reach is one that the scripts do not test.
 """
 
+import contextlib
+
 from .frames import TITLES
 
 UNIT = """
@@ -115,9 +117,88 @@ the station aborts what it is asked to let send
 the station grants further packets
 the station reads a further packet of a session
 the station reads a packet of a session that it does not join
-the station reads a control message or packet that is not for it
+the station is asked among all for its claim
+the station is asked among all for a claim that it cannot make
+the station is asked at its address for its claim
+the station is asked for what it does not know
+the station reads a request that it does not answer
+the station reads a request to send to another
+the station reads a grant to another
+the station reads an acknowledgment of the end to another
+the station reads an abort to another
+the station reads a packet to another
 """
 SHOWN = [f"the station shows a {kind} by {way}" for kind in TITLES.values() for way in ("a single frame", "a broadcast", "a session")]
+
+# Each line of a station's table by a frame of the other station, as far as a station ever sends such a frame.
+OTHER_STATION = """
+the station reads a claim of an address without owner
+the station reads a claim by the owner again
+the station reads a claim that takes an address from another NAME
+the station reads a cannot-claim
+the station drops a half joined broadcast since its source is claimed by another NAME
+the station drops a half joined session since its source is claimed by another NAME
+the station hears a cannot-claim
+the station hears a claim of an address that it does not hold
+the station defends its address against a higher NAME
+the station moves, since it may take another address
+the station moves past an address that is noted for another NAME
+the station loses its address to a lower NAME
+the station drops sessions since it has to claim anew
+the station withdraws frames since it has to claim anew
+the station is asked among all for its claim
+the station is asked among all for a claim that it cannot make
+the station is asked at its address for its claim
+the station is asked for what it does not know
+the station reads a request that it does not answer
+the station keeps an acknowledgment
+the station reads an acknowledgment for another
+the station reads an acknowledgment from an address without owner
+the station does not join a broadcast
+the station reads a packet of a broadcast that it does not join
+the station reads a grant to another
+the station reads an acknowledgment of the end to another
+the station reads an abort to another
+"""
+# What the second station does as the first one does, beside that.
+SECOND_STATION = """
+the station keeps an acknowledgment
+the station reads an acknowledgment for another
+the station joins a broadcast
+the station joins a session
+the station grants further packets
+the station aborts what it is asked to let send
+the station reads a request to send to another
+the station reads a packet to another
+"""
+
+# Where there are two stations.
+STATIONS = """
+both stations want to send
+both stations want to send the same identifier
+all stations wait for each other's readings
+a station that has not read all is passed over
+station 0 meets a gap while the other has missed none
+station 0 meets a gap while the other has missed frames before
+station 1 meets a gap while the other has missed none
+station 1 meets a gap while the other has missed frames before
+a station misses a frame of the other one
+a station misses the other one's claim
+a setting of the first station is refused
+a setting of the second station is refused
+the limit of two stations is refused
+a setting is refused before one NAME for both stations
+a unit may not join under the second station's NAME
+garage2: ok
+garage2: ok, both stations at one address
+a garage2 again is a bad line
+a command before the garage is a bad line, with its station
+at: bad line, before another command
+at: bad line, before no command
+at: bad line, no such station among 1
+at: bad line, no such station among 2
+counts: of station 1
+"""
 
 BUS = """
 several seats want to send
@@ -200,7 +281,7 @@ row: an address
 row: no address
 row: an acknowledgment
 row: no acknowledgment
-counts: of the station
+counts: of station 0
 counts: of a live unit
 counts: of a unit that is gone
 stats: none missed
@@ -220,7 +301,7 @@ report: no DM1
 """
 
 REFUSALS = {
-    "garage": "BadName BadSetting", "join": "BadName NotAnAddress NameInUse TooManySeats BookFull",
+    "garage": "BadName BadSetting", "garage2": "BadName BadSetting NameInUse", "join": "BadName NotAnAddress NameInUse TooManySeats BookFull",
     "set": "SpnTooLarge FmiTooLarge Full", "heal": "SpnTooLarge FmiTooLarge", "pend": "SpnTooLarge FmiTooLarge Full",
     "unpend": "SpnTooLarge FmiTooLarge", "turn": "BookFull", "hear": "BookFull",
     "dm1": "Unclaimed BookFull", "carry": "BookFull", "read": "BookFull", "round": "BookFull",
@@ -230,13 +311,14 @@ REFUSALS = {
 LISTS = {"heal: refused NotActive": "previous pending unknown", "unpend: refused NotPending": "active previous unknown"}
 SEVERAL = ["set", "heal", "pend", "unpend", "hear", "carry", "read", "round"]  # a refusal leaves what was done before it
 EARLIER = ["join", "dm1", "ask", "command", "inject"]  # these have refusals that come before the limit's
-BAD_LINES = ["garage", "join", "set", "heal", "pend", "unpend", "lamps", "think", "turn", "leave", "hear", "dm1", "carry", "read",
-             "round", "ask", "command", "shown", "row", "counts", "stats", "frame", "inject", "injected", "report",
-             "fly"]  # `fly`: no command at all
+BAD_LINES = ["garage", "garage2", "at", "join", "set", "heal", "pend", "unpend", "lamps", "think", "turn", "leave", "hear", "dm1",
+             "carry", "read", "round", "ask", "command", "shown", "row", "counts", "stats", "frame", "inject", "injected", "report",
+             "fly"]  # `fly`: no command at all; `at`: the number of a station, or no command that may stand behind it
+AT_STATIONS = ["read", "ask", "command", "shown", "row", "stats", "report"]
 NO_SEAT = ["set", "heal", "pend", "unpend", "lamps", "think", "turn", "leave", "hear", "dm1", "counts"]
 
-# Cases that need a frame from outside, since neither a unit nor the station of this bus ever sends such a one at that moment:
-# a unit never hears its own NAME's claims; the station grants at least one packet, begins no session and answers its own
+# Cases that need a frame from outside, since neither a unit nor a station of this bus ever sends such a one at that moment:
+# a unit never hears its own NAME's claims; a station grants at least one packet, begins no session and answers its own
 # requests by nobody; an unreadable frame has no sender; and a session's destination is claimed anew before it could be aborted.
 FROM_OUTSIDE = """
 a unit hears a claim of its own NAME
@@ -250,9 +332,8 @@ a unit is commanded an address that nobody can hold
 a unit hears a frame of another kind
 the station hears a claim of its own NAME
 the station moves to an address that it claimed before
-the station is asked for its claim
-the station is asked for what it does not know
-the station reads a request that it does not answer
+the station reads an announcement to another
+the station reads a control message that says nothing to it
 the station reads a request to send from nobody's address
 the station reads a packet out of order
 the station aborts a session for a packet out of order
@@ -267,6 +348,10 @@ def lines(text):
 
 
 WANTED = lines(UNIT) + CLEARS + MESSAGES + lines(STATION) + SHOWN + lines(FROM_OUTSIDE) + UNREAD + lines(BUS) + lines(ANSWERS) + [
+    case + " by the other station" for case in lines(OTHER_STATION)
+] + [case + " at station 1" for case in lines(SECOND_STATION) + SHOWN] + lines(STATIONS) + [
+    f"at: {command} at station {number} of {stations}" for command in AT_STATIONS for number, stations in ((0, 1), (0, 2), (1, 2))
+] + [
     f"{command}: refused {refusal}" for command, refusals in REFUSALS.items() for refusal in refusals.split()
 ] + [f"{refused}, {which}" for refused, lists in LISTS.items() for which in lists.split()] + [f"{command}: refused after some" for command in SEVERAL] + [
     f"{command}: another refusal at the limit" for command in EARLIER
@@ -275,5 +360,21 @@ WANTED = lines(UNIT) + CLEARS + MESSAGES + lines(STATION) + SHOWN + lines(FROM_O
 COUNTS = {case: 0 for case in WANTED}
 
 
+ALSO = []  # what is true of what is under way: words that make a case of their own of each case below
+
+
+@contextlib.contextmanager
+def also(*words):
+    """While this lasts, a case is counted with each of these words behind it, too, where that is listed."""
+    ALSO.extend(words)
+    try:
+        yield
+    finally:
+        ALSO.clear()
+
+
 def reach(case):
     COUNTS[case] += 1
+    for words in ALSO:
+        if words and case + words in COUNTS:
+            COUNTS[case + words] += 1

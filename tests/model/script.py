@@ -1,7 +1,9 @@
 """The words of a script: one answer for each line that is neither empty nor begins with `#`. That of `report` has several lines.
 
-Looked at in this order: the line itself (`bad line`: its words, numbers and kinds), the text of a NAME, a PGN, a frame's
-identifier and then its number of bytes, whether the seat has a unit (`no seat`), and then what the call refuses.
+Looked at in this order: the line itself (`bad line`: its words, numbers and kinds, and the station it is for), the text of a NAME,
+a PGN, a frame's identifier and then its number of bytes, whether the seat has a unit (`no seat`), and then what the call refuses.
+
+`at S` before a command says which station it is for. Without it that is station 0.
 """
 
 import contextlib
@@ -54,10 +56,14 @@ def name_of(word):
 
 
 class Script:
-    """A garage, once one was accepted, and the commands on it."""
+    """A garage, once one was accepted, and the commands on it. `at` is the number of the station that a command is for."""
 
     def __init__(self):
-        self.garage = None
+        self.garage, self.at = None, 0
+
+    @property
+    def station(self):
+        return self.garage.stations[self.at]
 
     def answer(self, line):
         """The answer to a line; None where it has none."""
@@ -65,11 +71,15 @@ class Script:
             return None
         words = [word for word in line.split(" ") if word]
         command = words[0] if words else ""
-        form = command if command in COMMANDS else "fly"
-        if (self.garage is None) != (command == "garage"):
-            reach("a garage again is a bad line" if command == "garage" else "a command before the garage is a bad line")
+        form, self.at = command if command in COMMANDS or command == "at" else "fly", 0
+        if (self.garage is None) != (command in GARAGES):
+            reach(f"a {command} again is a bad line" if command in GARAGES else
+                  f"a command before the garage is a bad line{', with its station' * (command == 'at')}")
             return "bad line"
         try:
+            if command == "at":
+                self.at, words = self.station_of(words)
+                form = command = words[0]
             if command not in COMMANDS:
                 raise BadLine
             return COMMANDS[command](self, words[1:])
@@ -85,6 +95,20 @@ class Script:
                 reach(form + ": another refusal at the limit")
             return f"refused {NUMBERS[refused.refusal]} {refused.refusal}"
 
+    def station_of(self, words):
+        """The number of the station that a command is for, and the words of the command behind it."""
+        if len(words) < 3:
+            raise BadLine
+        number = number_of(words[1], WORD)
+        if words[2] not in AT_A_STATION:
+            reach("at: bad line, before another command" if words[2] in COMMANDS else "at: bad line, before no command")
+            raise BadLine
+        if number >= len(self.garage.stations):
+            reach(f"at: bad line, no such station among {len(self.garage.stations)}")
+            raise BadLine
+        reach(f"at: {words[2]} at station {number} of {len(self.garage.stations)}")
+        return number, words[2:]
+
     @staticmethod
     def words(given, *counts):
         if len(given) not in counts:
@@ -99,8 +123,19 @@ class Script:
     def make_garage(self, given):
         name, *numbers = self.words(given, 5)
         address, window, grant, limit = map(number_of, numbers, (BYTE, WORD, BYTE, WORD))
-        self.garage = Garage(name_of(name), address, window, grant, limit)
+        self.garage = Garage([(name_of(name), address, window, grant)], limit)
         reach("garage: ok")
+        return "ok"
+
+    def make_garage2(self, given):
+        """The setting of each station, then the limit that holds for both."""
+        self.words(given, 9)
+        settings = [(name, *map(number_of, numbers, (BYTE, WORD, BYTE))) for name, *numbers in (given[:4], given[4:8])]
+        limit = number_of(given[8], WORD)
+        self.garage = Garage([(name_of(name), *numbers) for name, *numbers in settings], limit)
+        reach("garage2: ok")
+        if settings[0][1] == settings[1][1]:
+            reach("garage2: ok, both stations at one address")
         return "ok"
 
     def join(self, given):
@@ -205,7 +240,7 @@ class Script:
 
     def read(self, given):
         count = self.count_of(self.words(given, 0, 1), 0)
-        return "read %d" % self.repeat("read", count, self.garage.read)
+        return "read %d" % self.repeat("read", count, lambda: self.garage.read(self.at))
 
     def carry(self, given):
         return self.carry_until("carry", self.count_of(self.words(given, 0, 1), 0), lambda: None)
@@ -230,12 +265,13 @@ class Script:
         return f"carried {len(done)}{end}"
 
     def all_hear(self):
-        """Each live unit, in order of seat, hears all; the station reads all."""
+        """Each live unit, in order of seat, hears all; then each station, in order, reads all."""
         for seat in self.garage.live():
             while self.garage.hear(seat.who.seat):
                 pass
-        while self.garage.read():
-            pass
+        for y in range(len(self.garage.stations)):
+            while self.garage.read(y):
+                pass
 
     def ask(self, given):
         name, what = self.words(given, 2)
@@ -243,8 +279,7 @@ class Script:
         name = name if name == "all" else name_of(name)
         if pgn >= 1 << 24:
             raise Refused("PgnTooLarge")
-        station = self.garage.station
-        self.garage.tell_station(station.ask_all(pgn) if name == "all" else station.ask(name, pgn))
+        self.garage.tell_station(self.at, self.station.ask_all(pgn) if name == "all" else self.station.ask(name, pgn))
         reach("ask: all" if name == "all" else "ask: one")
         reach("ask: " + (what if what in ASKED else "a number"))
         return "ok"
@@ -252,7 +287,7 @@ class Script:
     def command(self, given):
         name, address = self.words(given, 2)
         address = number_of(address, BYTE)
-        self.garage.tell_station(self.garage.station.command(name_of(name), address))
+        self.garage.tell_station(self.at, self.station.command(name_of(name), address))
         reach("command: ok")
         return "ok"
 
@@ -260,12 +295,12 @@ class Script:
         name, kind = self.words(given, 2)
         if kind not in KINDS:
             raise BadLine
-        entries = self.garage.station.shown(name_of(name), KINDS[kind])
+        entries = self.station.shown(name_of(name), KINDS[kind])
         reach("shown: none" if not entries else "shown: one" if len(entries) == 1 else "shown: several")
         return f"shown {len(entries)}" + (": " + " | ".join(map(entry_text, entries)) if entries else "")
 
     def row(self, given):
-        name, station = name_of(self.words(given, 1)[0]), self.garage.station
+        name, station = name_of(self.words(given, 1)[0]), self.station
         if not station.is_known(name):
             reach("row: unknown")
             return "row unknown"
@@ -279,13 +314,13 @@ class Script:
         seat = number_of(self.words(given, 1)[0], WORD)
         if seat >= len(self.garage.seats):
             raise NoSeat
-        reach("counts: of the station" if seat == 0 else
+        reach(f"counts: of station {seat}" if seat < len(self.garage.stations) else
               "counts: of a live unit" if self.garage.seats[seat].live else "counts: of a unit that is gone")
         return "counts %d %d %d %d" % self.garage.seats[seat].counts()
 
     def stats(self, given):
         self.words(given, 0)
-        station = self.garage.station
+        station = self.station
         reach("stats: some missed" if station.missed else "stats: none missed")
         return f"missed {station.missed} unread {station.unread}"
 
@@ -293,7 +328,7 @@ class Script:
         """A line for each NAME, in order of the first claim read: its address right in 4 places, its numbers of DM1, DM2 and DM6
         entries right in 6, of the newest DM1 the lamps and the number of codes right in 4. At the end what `stats` tells."""
         self.words(given, 0)
-        station, lines = self.garage.station, []
+        station, lines = self.station, []
         for name in station.names():
             address, dm1 = station.address_of(name), station.shown(name, DM1)
             newest = "%s %4d" % (dm1[-1][0].hex().upper(), len(dm1[-1][1])) if dm1 else "----    -"
@@ -333,12 +368,14 @@ class Script:
 
 
 COMMANDS = {
-    "garage": Script.make_garage, "join": Script.join, "set": Script.set, "heal": Script.heal, "pend": Script.pend,
-    "unpend": Script.unpend, "lamps": Script.lamps, "think": Script.think, "turn": Script.turn, "leave": Script.leave,
-    "hear": Script.hear, "dm1": Script.dm1, "carry": Script.carry, "read": Script.read, "round": Script.round,
+    "garage": Script.make_garage, "garage2": Script.make_garage2, "join": Script.join, "set": Script.set, "heal": Script.heal,
+    "pend": Script.pend, "unpend": Script.unpend, "lamps": Script.lamps, "think": Script.think, "turn": Script.turn,
+    "leave": Script.leave, "hear": Script.hear, "dm1": Script.dm1, "carry": Script.carry, "read": Script.read, "round": Script.round,
     "ask": Script.ask, "command": Script.command, "shown": Script.shown, "row": Script.row, "counts": Script.counts,
     "stats": Script.stats, "frame": Script.frame, "inject": Script.inject, "injected": Script.injected, "report": Script.report,
 }
+GARAGES = ["garage", "garage2"]
+AT_A_STATION = ["read", "ask", "command", "shown", "row", "stats", "report"]  # what may stand behind `at S`
 
 
 def answers(text):

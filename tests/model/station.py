@@ -1,15 +1,18 @@
-"""What the station does with a reading, and what it can tell.
+"""What a station does with a reading, and what it can tell. Each does so by itself: another one's frames are readings like any.
 
 It keeps its readings, the latest last, and looks back over them. A reading is a frame or a gap of missed frames. Who owns
 an address, which message a packet completes and where a NAME stands are all said by looking back from a place.
 """
 
 from .cases import reach
-from .frames import (ABORT, ACKNOWLEDGMENT, BAM, CLAIM, COMMANDED_ADDRESS, CONTROL, GLOBAL, LAST_ADDRESS, NEGATIVE, NULL,
-                     PACKET, RTS, TITLES, abort, acknowledgment, broadcast, claim, claimed_name, control_of, control_pgn,
+from .frames import (ABORT, ACKNOWLEDGMENT, BAM, CLAIM, COMMANDED_ADDRESS, CONTROL, CTS, END_OF_MESSAGE, GLOBAL, LAST_ADDRESS,
+                     NEGATIVE, NULL, PACKET, RTS, TITLES, abort, acknowledgment, broadcast, claim, claimed_name, control_of, control_pgn,
                      control_size, cts, end_of_message, in_order, joined, number, request, requested)
 from .memory import Refused, read_message
 from .unit import contend
+
+CONTROLS = {RTS: "a request to send", CTS: "a grant", END_OF_MESSAGE: "an acknowledgment of the end", BAM: "an announcement",
+            ABORT: "an abort"}
 
 
 class Reading:
@@ -171,8 +174,12 @@ class Station:
             self.take_packet(frame, place)
         elif frame.pgn == PACKET and frame.dest == self.held:
             self.take_packet_of_session(frame, place)
-        elif frame.pgn in (CONTROL, PACKET):
-            reach("the station reads a control message or packet that is not for it")
+        elif frame.pgn == CONTROL and control_of(frame) is not None and frame.dest not in (self.held, GLOBAL):
+            reach(f"the station reads {CONTROLS[control_of(frame)]} to another")
+        elif frame.pgn == PACKET:
+            reach("the station reads a packet to another")
+        elif frame.pgn == CONTROL:
+            reach("the station reads a control message that says nothing to it")
         else:
             reach("the station reads a frame of another kind")
 
@@ -209,7 +216,8 @@ class Station:
 
     def take_request(self, frame):
         if requested(frame) == CLAIM and frame.dest in (self.held, GLOBAL):
-            reach("the station is asked for its claim")
+            where = "among all" if frame.dest == GLOBAL else "at its address"
+            reach(f"the station is asked {where} for " + ("its claim" if self.held is not None else "a claim that it cannot make"))
             self.put(claim(self.name, self.held))
         elif frame.dest == self.held and frame.source <= LAST_ADDRESS:
             reach("the station is asked for what it does not know")

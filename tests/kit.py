@@ -1,4 +1,8 @@
 """The kit that tests were tried with which rest on its private files or on the wording of its messages."""
+import importlib.machinery
+import importlib.util
+import os
+import shutil
 import subprocess
 import sys
 
@@ -14,3 +18,13 @@ def stop_unless_tried(program):
     identity = told.stdout.strip()
     if told.returncode or identity != TRIED_WITH:
         sys.exit(f"{program}: this was tried with the kit '{TRIED_WITH}', and here is '{identity[:200]}': try it with that, and name it in tests/kit.py")
+
+
+def toolchain(program):
+    """What the command `rt` is made of: only it knows how a crate is checked, and by which sum of files it finds a library to be right."""
+    stop_unless_tried(program)
+    loader = importlib.machinery.SourceFileLoader("rtlib", f"{os.path.dirname(os.path.realpath(shutil.which('rt')))}/rtlib.py")
+    made = importlib.util.module_from_spec(importlib.util.spec_from_loader("rtlib", loader))
+    sys.modules["rtlib"] = made
+    loader.exec_module(made)
+    return made

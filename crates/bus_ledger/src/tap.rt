@@ -24,7 +24,8 @@ impl Model for Tap {
 
     ghost view = { λ t. record { size = t.ring.capacity; unread = t.ring.items; missed = t.missed } };
 
-    ghost invariant = { λ t. (0 < t.ring.capacity) × (length t.ring.items ≤ t.ring.capacity) };
+    // (a frame is missed only where the ring is full, and the gap is read before any frame of it)
+    ghost invariant = { λ t. (0 < t.ring.capacity) × (length t.ring.items ≤ t.ring.capacity) × (0 < t.missed → 0 < length t.ring.items) };
 }
 
 impl Tap {
@@ -66,7 +67,7 @@ impl Tap {
     pub(crate) fn is_empty(&self) -> bool
         ensures { MatchBool result (reading_of self.now ≡ Reading.Empty) (reading_of self.now ≢ Reading.Empty) }
     {
-        self.missed == 0 && self.ring.is_empty()
+        self.ring.is_empty()
     }
 
     /// Passes over the next reading, and says how many frames it was of. After a gap nothing counts as missed.

@@ -69,10 +69,10 @@ pub enum Asked {
 pub struct StationWords {
     /// Its NAME.
     pub name: NameWord,
-    /// The address that it claims.
-    pub address: u8,
     /// How many frames it may leave unread before it misses one.
     pub window: u32,
+    /// The address that it claims.
+    pub address: u8,
     /// How many packets of a session it asks for at once.
     pub grant: u8,
 }
@@ -100,9 +100,9 @@ pub enum Command {
     },
     /// `garage2 NAME ADDRESS WINDOW GRANT NAME ADDRESS WINDOW GRANT LIMIT`: two stations, and the limit of their garage.
     Garage2 {
+        limit: u32,
         first: StationWords,
         second: StationWords,
-        limit: u32,
     },
     /// `join NAME ADDRESS KIND`
     Join {

@@ -33,29 +33,14 @@ pub fn read_line(line: &str) -> Option<Line>
     let mut words = Words::of(line);
     let keyword = words.next_word()?;
     // To compare a `str` is a call, and no command has two characters.
-    let read = if keyword.len() == 2 && keyword == "at" {
-        read_at(&mut words)?
+    let names_station = keyword.len() == 2 && keyword == "at";
+    let (station, keyword) = if names_station {
+        (next_number(&mut words)?, words.next_word()?)
     } else {
-        Line {
-            station: 0,
-            command: read_command(keyword, &mut words)?,
-        }
+        (0, keyword)
     };
-    match words.next_word() {
-        None => Some(read),
-        Some(_) => None,
-    }
-}
-
-/// The number of a station and a command of it, which stand behind `at`.
-#[inline(never)]
-fn read_at(words: &mut Words<'_>) -> Option<Line>
-    ensures station { IfSome result (λ read. SpellsNumber (first_word words.old.rest.now) read.station) }
-    ensures of_station { IfSome result (λ read. is_of_station read.command ≡ true) }
-{
-    let station = next_number(words)?;
-    let command = read_command(words.next_word()?, words)?;
-    if !command.is_of_station() {
+    let command = read_command(keyword, &mut words)?;
+    if words.next_word().is_some() || (names_station && !command.is_of_station()) {
         return None;
     }
     Some(Line { station, command })

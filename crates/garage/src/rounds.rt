@@ -115,20 +115,55 @@ impl Garage {
         ensures comes { Comes self.old self.new }
         ensures only { IfErr result IsWant }
     {
-        let mut next = self.first_behind(&*units);
-        if next >= units.len() {
-            return self.read_rest(alloc);
+        self.hear_each(alloc, units, marks)?;
+        self.read_rest(alloc)
+    }
+
+    /// Each unit in turn hears all that it has not heard.
+    #[inline(always)]
+    #[tactic(auto, using(crate::proofs::Crew::comes_same))]
+    fn hear_each(
+        &mut self,
+        alloc: Global,
+        units: &mut [Parked],
+        marks: &mut [bool],
+    ) -> Result<(), GarageError>
+        requires { IsCrew (λ p. record { seat = p.seat; name = name_of p.unit; events = p.events; memory = memory_of p.unit }) self.old units.old marks.old }
+        ensures crew { IsCrew (λ p. record { seat = p.seat; name = name_of p.unit; events = p.events; memory = memory_of p.unit }) self.new units.new marks.new }
+        ensures comes { Comes self.old self.new }
+        ensures only { IfErr result IsWant }
+    {
+        let first = self.first_behind(&*units);
+        if first >= units.len() {
+            return Ok(());
         }
+        self.hear_from(alloc, units, marks, first)
+    }
+
+    /// Each unit in turn, from the `first` one on, hears all that it has not heard.
+    fn hear_from(
+        &mut self,
+        alloc: Global,
+        units: &mut [Parked],
+        marks: &mut [bool],
+        first: usize,
+    ) -> Result<(), GarageError>
+        requires { IsCrew (λ p. record { seat = p.seat; name = name_of p.unit; events = p.events; memory = memory_of p.unit }) self.old units.old marks.old }
+        ensures crew { IsCrew (λ p. record { seat = p.seat; name = name_of p.unit; events = p.events; memory = memory_of p.unit }) self.new units.new marks.new }
+        ensures comes { Comes self.old self.new }
+        ensures only { IfErr result IsWant }
+    {
+        let mut next = first;
         for _ in 0..units.len() {
             let sifted = self.sifted_last();
             next = self.hear_last(&mut *units, &mut *marks, next, &sifted);
             if next >= units.len() {
-                return self.read_rest(alloc);
+                return Ok(());
             }
             self.hear_rest(alloc, &mut *units, &mut *marks, next)?;
             next += 1;
         }
-        self.read_rest(alloc)
+        Ok(())
     }
 
     /// The i-th unit hears all that it has not heard; nothing, where there is no such unit.

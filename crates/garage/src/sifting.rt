@@ -105,7 +105,9 @@ impl Garage {
         if !has_room(&self.journal, with_live(count, self.live), self.limit) {
             return first;
         }
-        for i in first..units.len() {
+        let stations = self.stations;
+        let last = count.min(marks.len());
+        for i in first..last {
             let number = units[i].seat;
             let behind = self.bus.unheard(number);
             if behind == 0 {
@@ -118,13 +120,13 @@ impl Garage {
             if !is_told {
                 return i;
             }
-            let own = &mut self.places[(number - self.stations) as usize];
+            let own = &mut self.places[(number - stations) as usize];
             own.tally.events += 1;
             units[i].events = own.tally.events;
             self.bus.mark_heard(number);
             self.journal.note_passed(number);
         }
-        units.len()
+        first.max(last)
     }
 
     /// As `sweep`, for any frame.
@@ -145,7 +147,9 @@ impl Garage {
         if !has_room(&self.journal, with_live(units.len(), self.live), self.limit) {
             return first;
         }
-        for i in first..units.len() {
+        let stations = self.stations;
+        let last = units.len().min(marks.len());
+        for i in first..last {
             let seat = units[i].seat;
             let unheard = self.bus.unheard(seat);
             if unheard == 0 {
@@ -157,7 +161,7 @@ impl Garage {
             if !is_marked(marks, i) {
                 return i;
             }
-            let place = &mut self.places[(seat - self.stations) as usize];
+            let place = &mut self.places[(seat - stations) as usize];
             if !place.node.settle(sifted) {
                 return i;
             }
@@ -166,7 +170,7 @@ impl Garage {
             self.bus.mark_heard(seat);
             self.journal.note_passed(seat);
         }
-        units.len()
+        first.max(last)
     }
 
     /// The i-th unit, where it is not marked, is marked, or settles the last frame of the wire and is marked, or it has heard all; answers

@@ -1,5 +1,5 @@
 use Rattle.garage.specs.Crew.{Comes, IsCrew}
-use Rattle.garage.proofs.garage.Garage.listen.Given as goal
+use Rattle.garage.proofs.garage.Garage.hear_from.Given as goal
 
 abbrev pub invariant-loop : goal.invariant-loop
 invariant-loop g l =

@@ -27,3 +27,4 @@ pub mod Marks
 pub mod Rows
 pub mod Names
 pub mod Only
+pub mod Changes

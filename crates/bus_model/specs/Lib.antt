@@ -1,6 +1,7 @@
 pub mod Messages
 pub mod Traffic
 pub mod Heard
+pub mod Changed
 pub mod Expected
 pub mod Machine
 pub mod Order

@@ -19,6 +19,11 @@ ghost use Rattle.bus_model.specs.Example.{one_station, two_at_one_address, two_s
 ghost use Rattle.bus_model.specs.Machine.{World, Seat, Station, IsAt, Event, AreFit, IsFit, Step, Run, start};
 ghost use Rattle.bus_model.specs.Marks.{IsMarkedBy};
 ghost use Rattle.bus_model.specs.Whose.{IsFromItsSeat};
+ghost use Rattle.bus_model.specs.Changed.{AreListed, change_heard, is_listed, missed_changed, names_changed, row_changed, unread_changed};
+
+mod change;
+
+pub use change::{Change, Displaced};
 
 /// The lists are exact: after every list of events, at each station, under each NAME and kind, the entries heard are the entries expected.
 pub fn lists_are_exact()
@@ -113,6 +118,17 @@ pub fn names_look_back()
 pub fn counts_look_back()
     ensures missed { (readings : List Reading) → missed_count readings ≡ counted (sum_by gap_of readings) }
     ensures unread { (settings : StationSettings) (readings : List Reading) → unread_count settings readings ≡ counted (count_by (λ (m : Reading × List Reading). is_unreadable (ended settings m.0 m.1)) (moments readings)) }
+{}
+
+/// What a reading changes is all that it does to what a station shows, over any list of readings: the rows, the NAMEs, the lists and the
+/// counts follow from those before it and this one change. So who follows the changes knows all of them, and need not ask.
+pub fn a_change_says_all()
+    ensures row { (settings : StationSettings) (reading : Reading) (older : List Reading) (n : ℕ) → row_heard settings n (reading ∷ older) ≡ row_changed (change_heard settings reading older) n (row_heard settings n older) }
+    ensures names { (settings : StationSettings) (reading : Reading) (older : List Reading) → names_heard (reading ∷ older) ≡ names_changed (change_heard settings reading older) (names_heard older) }
+    ensures lists { (settings : StationSettings) (reading : Reading) (older : List Reading) (n : ℕ) (k : Kind)
+        → AreListed (is_listed (change_heard settings reading older) n k) (entries_heard settings n k older) (entries_heard settings n k (reading ∷ older)) }
+    ensures missed { (settings : StationSettings) (reading : Reading) (older : List Reading) → missed_count (reading ∷ older) ≡ missed_changed (change_heard settings reading older) (missed_count older) }
+    ensures unread { (settings : StationSettings) (reading : Reading) (older : List Reading) → unread_count settings (reading ∷ older) ≡ unread_changed (change_heard settings reading older) (unread_count settings older) }
 {}
 
 /// The machine is not empty: one run shows an entry by a single frame, one by a broadcast of two packets and one by a

@@ -1,5 +1,5 @@
 -- Runs of equal entries, and the lists that they stand for.
-use Rattle.std.specs.Prelude.{ℕ, List, [], ◌∷◌, ◌++◌, nat_eq, replicate}
+use Rattle.std.specs.Prelude.{ℕ, Bool, List, [], ◌∷◌, ◌++◌, length, nat_eq, nat_lt, replicate}
 use Rattle.std.specs.Option.{unwrap_or}
 use Rattle.std.specs.Map.{lookup}
 use Rattle.bus_watch.specs.declared.run.Run.{Run}
@@ -11,6 +11,10 @@ use Rattle.dm_messages.specs.declared.shown.Shown.{Shown}
 abbrev pub unrolled : List Run → List Shown
 unrolled [] = []
 unrolled (r ∷ later) = replicate r.times r.shown ++ unrolled later
+
+-- whether there are more runs than before: one has begun
+unfoldable pub has_begun : List Run → List Run → Bool
+has_begun before after = nat_lt (length before) (length after)
 
 -- the runs under a NAME, none where it has none
 abbrev pub runs_of : List (ℕ × List Run) → ℕ → List Run

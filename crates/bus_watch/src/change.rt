@@ -1,8 +1,12 @@
+ghost use Rattle.std.specs.Prelude.{◌≡◌};
+ghost use Rattle.bus_watch.specs.Tellings as tellings;
+
 use can_frame::Pgn;
 use dm_messages::Kind;
 use name_field::Name;
+use station_table::{Change as Heard, Displaced};
 
-/// What a line changed. `Watch` has the rest.
+/// What a line changed, as far as it is told. `Watch` has the rest.
 #[derive(Clone, Copy, Debug, PartialEq, Eq)]
 pub enum Change {
     /// The NAME holds this address, 0 to 253.
@@ -20,4 +24,77 @@ pub enum Change {
     Ack { name: Name, control: u8, pgn: Pgn },
     /// A message could not be read.
     Unread,
+}
+
+/// What is told of a line: nothing, one thing, or two where a claim took its address from another NAME.
+#[derive(Clone, Copy, Debug, PartialEq, Eq)]
+pub struct Changes {
+    /// The NAME that has no address any more, since another one claimed it. It is told first.
+    pub lost: Option<Name>,
+    /// What else changed.
+    pub change: Option<Change>,
+}
+
+impl Changes {
+    /// What is told of what the station heard. An entry, an acknowledgment and a message from an address without owner are told where
+    /// they are news.
+    pub(crate) fn of(heard: &Heard, is_news: bool) -> Changes
+        ensures { result ≡ tellings.told_of is_news heard.now }
+    {
+        match *heard {
+            Heard::Nothing => nothing(),
+            Heard::Claimed {
+                name,
+                address,
+                displaced,
+            } => Changes {
+                lost: who_lost(displaced),
+                change: Some(Change::At { name, address }),
+            },
+            Heard::GaveUp { name } => one(Change::NoAddress { name }),
+            Heard::Acknowledged {
+                name, control, pgn, ..
+            } => where_news(is_news, Change::Ack { name, control, pgn }),
+            Heard::Listed { name, kind, .. } => where_news(is_news, Change::Entry { name, kind }),
+            Heard::Unreadable { .. } => one(Change::Unread),
+            Heard::Unowned { source, .. } => where_news(is_news, Change::Unowned { source }),
+            Heard::Missed { count } => one(Change::Missed { count }),
+        }
+    }
+}
+
+fn nothing() -> Changes
+    ensures { result ≡ tellings.nothing_told }
+{
+    Changes {
+        lost: None,
+        change: None,
+    }
+}
+
+fn one(change: Change) -> Changes
+    ensures { result ≡ tellings.one_told change }
+{
+    Changes {
+        lost: None,
+        change: Some(change),
+    }
+}
+
+fn where_news(is_news: bool, change: Change) -> Changes
+    ensures { result ≡ tellings.told_if is_news change }
+{
+    if is_news { one(change) } else { nothing() }
+}
+
+/// The NAME that lost its address, if one did.
+fn who_lost(displaced: Option<Displaced>) -> Option<Name>
+    ensures { result ≡ tellings.who_lost displaced }
+{
+    let displaced = displaced?;
+    if displaced.lost {
+        Some(displaced.name)
+    } else {
+        None
+    }
 }

@@ -6,16 +6,17 @@
 #![tactic(auto)]
 
 mod change;
+mod contests;
 mod counts;
 mod lists;
-mod owners;
 mod packets;
 mod run;
 mod run_list;
 mod run_table;
+mod unowned;
 mod watch;
 
-pub use change::Change;
+pub use change::{Change, Changes};
 pub use counts::Counts;
 pub use run::Run;
 pub use watch::{Settings, Watch};

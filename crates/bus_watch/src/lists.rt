@@ -1,6 +1,6 @@
-ghost use Rattle.std.specs.Prelude.{◌≡◌, ℕ, Some, length, OnOk};
+ghost use Rattle.std.specs.Prelude.{◌≡◌, ℕ, Some, length, IfOk, OnOk};
 ghost use Rattle.bus_model.specs.Heard.{counted};
-ghost use Rattle.bus_watch.specs.Runs.{entries_in, no_runs, runs_under};
+ghost use Rattle.bus_watch.specs.Runs.{entries_in, has_begun, no_runs, runs_under};
 ghost use Rattle.dm_messages.specs.declared.kind.Kind.{Kind as AnyKind};
 ghost use Rattle.station_table.specs.Lists.{with_taken};
 
@@ -72,7 +72,8 @@ impl Lists {
         time: Option<Time>,
         contested: bool,
     ) -> Result<bool, AllocError>
-        ensures { OnOk result ((n : ℕ) (k : AnyKind) → entries_in self.new n k ≡ with_taken name kind (Some shown) (entries_in self.old) n k) }
+        ensures entries { OnOk result ((n : ℕ) (k : AnyKind) → entries_in self.new n k ≡ with_taken name kind (Some shown) (entries_in self.old) n k) }
+        ensures begins { IfOk result (λ b. b ≡ has_begun (runs_under self.old name kind) (runs_under self.new name kind)) }
     {
         match kind {
             Kind::Dm1 => self.dm1.add(alloc, name, shown, time, contested),

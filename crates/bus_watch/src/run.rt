@@ -1,5 +1,5 @@
-ghost use Rattle.std.specs.Prelude.{◌≡◌, ◌+◌, ◌<◌, ◌^◌, ◌∷◌, [], ◌++◌, true, if◌then◌else◌, OnOk, OnErr};
-ghost use Rattle.bus_watch.specs.Runs.{unrolled};
+ghost use Rattle.std.specs.Prelude.{◌≡◌, ◌+◌, ◌<◌, ◌^◌, ◌∷◌, [], ◌++◌, true, if◌then◌else◌, length, IfOk, OnOk, OnErr};
+ghost use Rattle.bus_watch.specs.Runs.{has_begun, unrolled};
 
 use candump_line::Time;
 use dm_messages::Shown;
@@ -44,7 +44,8 @@ fn goes_on(run: &Run, shown: &Shown, contested: bool) -> bool
 /// Counts an entry to the newest run, where it goes on with it. Tells whether it does.
 #[tactic(auto, using(crate::proofs::Runs::one_more))]
 fn lengthen(runs: &mut Vec<Run>, shown: &Shown, time: Option<Time>, contested: bool) -> bool
-    ensures { unrolled runs.new.items ≡ (if result then unrolled runs.old.items ++ shown.now ∷ [] else unrolled runs.old.items) }
+    ensures entries { unrolled runs.new.items ≡ (if result then unrolled runs.old.items ++ shown.now ∷ [] else unrolled runs.old.items) }
+    ensures runs { length runs.new.items ≡ length runs.old.items }
 {
     match runs.last_mut() {
         Some(newest) if goes_on(newest, shown, contested) => {
@@ -57,7 +58,7 @@ fn lengthen(runs: &mut Vec<Run>, shown: &Shown, time: Option<Time>, contested: b
 }
 
 /// Puts an entry to the newest run, or begins one. Tells whether it begins one. Where memory is refused, nothing changes.
-#[tactic(auto, using(crate::proofs::Runs::one_run_more))]
+#[tactic(auto, using(crate::proofs::Runs::one_run_more), unfolding(crate::specs::Runs::has_begun))]
 pub(crate) fn add_to(
     runs: &mut Vec<Run>,
     shown: Shown,
@@ -65,6 +66,7 @@ pub(crate) fn add_to(
     contested: bool,
 ) -> Result<bool, AllocError>
     ensures ok { OnOk result (unrolled runs.new.items ≡ unrolled runs.old.items ++ shown ∷ []) }
+    ensures begins { IfOk result (λ b. b ≡ has_begun runs.old.items runs.new.items) }
     ensures err { OnErr result (unrolled runs.new.items ≡ unrolled runs.old.items) }
 {
     let first = time;

@@ -1,5 +1,5 @@
-ghost use Rattle.std.specs.Prelude.{◌≡◌, ◌∷◌, [], ◌++◌, length, OnOk, OnErr};
-ghost use Rattle.bus_watch.specs.Runs.{unrolled};
+ghost use Rattle.std.specs.Prelude.{◌≡◌, ◌∷◌, [], ◌++◌, length, IfOk, OnOk, OnErr};
+ghost use Rattle.bus_watch.specs.Runs.{has_begun, unrolled};
 ghost use Rattle.bus_model.specs.Heard.{counted};
 
 use crate::run::{Run, add_to};
@@ -18,7 +18,7 @@ pub(crate) struct RunList {
 impl Model for RunList {
     ghost use Rattle.std.specs.Prelude.{◌≡◌, List, length};
     ghost use Rattle.bus_watch.specs.declared.run.Run.{Run};
-    ghost use Rattle.bus_watch.specs.Runs.{unrolled};
+    ghost use Rattle.bus_watch.specs.Runs.{has_begun, unrolled};
     ghost use Rattle.bus_model.specs.Heard.{counted};
 
     ghost Value = { List Run };
@@ -62,6 +62,7 @@ impl RunList {
         contested: bool,
     ) -> Result<bool, AllocError>
         ensures ok { OnOk result (unrolled self.new ≡ unrolled self.old ++ shown ∷ []) }
+        ensures begins { IfOk result (λ b. b ≡ has_begun self.old self.new) }
         ensures err { OnErr result (unrolled self.new ≡ unrolled self.old) }
     {
         let begins = add_to(&mut self.runs, shown, time, contested)?;

@@ -1,6 +1,6 @@
-ghost use Rattle.std.specs.Prelude.{◌≡◌, ℕ, ◌==◌, ◌∷◌, [], ◌++◌, length, None, nat_eq, OnOk, if◌then◌else◌};
+ghost use Rattle.std.specs.Prelude.{◌≡◌, ℕ, ◌==◌, ◌∷◌, [], ◌++◌, length, None, nat_eq, IfOk, OnOk, if◌then◌else◌};
 ghost use Rattle.std.specs.Map.{lookup};
-ghost use Rattle.bus_watch.specs.Runs.{unrolled, runs_of};
+ghost use Rattle.bus_watch.specs.Runs.{has_begun, unrolled, runs_of};
 ghost use Rattle.bus_model.specs.Heard.{counted};
 
 use crate::run::Run;
@@ -66,7 +66,8 @@ impl RunTable {
         time: Option<Time>,
         contested: bool,
     ) -> Result<bool, AllocError>
-        ensures { OnOk result ((n : ℕ) → unrolled (runs_of self.new n) ≡ (if name == n then unrolled (runs_of self.old n) ++ shown ∷ [] else unrolled (runs_of self.old n))) }
+        ensures entries { OnOk result ((n : ℕ) → unrolled (runs_of self.new n) ≡ (if name == n then unrolled (runs_of self.old n) ++ shown ∷ [] else unrolled (runs_of self.old n))) }
+        ensures begins { IfOk result (λ b. b ≡ has_begun (runs_of self.old name) (runs_of self.new name)) }
     {
         match self.lists.get_mut(&name) {
             Some(list) => list.add(shown, time, contested),
@@ -84,7 +85,8 @@ impl RunTable {
         contested: bool,
     ) -> Result<bool, AllocError>
         requires { lookup (nat_eq name) self.old ≡ None }
-        ensures { OnOk result ((n : ℕ) → unrolled (runs_of self.new n) ≡ (if name == n then unrolled (runs_of self.old n) ++ shown ∷ [] else unrolled (runs_of self.old n))) }
+        ensures entries { OnOk result ((n : ℕ) → unrolled (runs_of self.new n) ≡ (if name == n then unrolled (runs_of self.old n) ++ shown ∷ [] else unrolled (runs_of self.old n))) }
+        ensures begins { IfOk result (λ b. b ≡ has_begun (runs_of self.old name) (runs_of self.new name)) }
     {
         let mut list = RunList::new(alloc);
         let begins = list.add(shown, time, contested)?;

@@ -5,11 +5,12 @@ ghost use Rattle.bus_watch.specs.Told.{Beginning, StandsForAll, Told, all_said};
 ghost use Rattle.can_frame.specs.declared.address.TheConstants.{GREATEST_ADDRESS};
 ghost use Rattle.station_table.specs.StandsFor.{row_heard_as};
 
+use crate::contests::Contests;
 use crate::counts::Counts;
 use crate::lists::Lists;
-use crate::owners::Owners;
 use crate::packets::Packets;
 use crate::run::Run;
+use crate::unowned::Unowned;
 use candump_line::Time;
 use dm_messages::Kind;
 use listening::GivenUp;
@@ -41,7 +42,8 @@ pub struct Watch {
     settings: Settings,
     station: Station,
     bus: Option<String>,
-    owners: Owners,
+    contests: Contests,
+    unowned: Unowned,
     broadcasts: Packets,
     sessions: Packets,
     given_up: GivenUp,
@@ -50,7 +52,7 @@ pub struct Watch {
     now: Option<Time>,
 }
 
-/// Seen as its station, the lists that were taken out of it, and what it knows of the bus that it follows.
+/// Seen as its station, the lists that were taken out of it, what it knows of the bus that it follows, and what it told once.
 impl Model for Watch {
     ghost use Rattle.std.specs.Prelude.{option_map, string_bytes};
     ghost use Rattle.bus_watch.specs.WatchValue.{WatchValue};
@@ -68,6 +70,7 @@ impl Model for Watch {
         sessions = w.sessions;
         given_up = w.given_up;
       };
+      told = w.unowned;
     } };
 }
 
@@ -93,7 +96,8 @@ impl Watch {
             settings,
             station: Station::new(alloc, settings.name, settings.address, GRANT),
             bus,
-            owners: Owners::new(),
+            contests: Contests::new(),
+            unowned: Unowned::new(),
             broadcasts: Packets::new(),
             sessions: Packets::new(),
             given_up: GivenUp::new(),

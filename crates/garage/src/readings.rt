@@ -80,9 +80,9 @@ impl Garage {
         make_room(&mut self.journal, self.live + 1, self.limit)?;
         self.bus.reserve(station, MOST_ANSWERS)?;
         let post = &mut self.posts[station as usize];
-        let reaction = post.station.take(alloc, *reading)?;
+        let outcome = post.station.take(alloc, *reading)?;
         self.bus.tap_pass_at(station);
-        react(&mut self.bus, station, &reaction);
+        react(&mut self.bus, station, &outcome.reaction);
         self.journal.note_read(station as u8, *reading);
         Ok(())
     }

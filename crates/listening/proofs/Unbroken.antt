@@ -1,5 +1,5 @@
 -- What a station that only listens has half joined by a session was announced, and nothing gave it up since.
-use Rattle.std.proofs.Common.{◌≡◌, ◌≢◌, ℕ, ◌<◌, ◌%◌, Bool, true, false, not, ◌&&◌, ◌==◌, List, [], ◌∷◌, ◌++◌, length, set, get_or, replicate, Option, Some, None, if◌then◌else◌, is_none, sym, refl, ap, ◌∙◌, subst, inl, inr, arith}
+use Rattle.std.proofs.Common.{◌≡◌, ◌≢◌, ℕ, ◌<◌, Bool, true, false, ◌&&◌, ◌==◌, List, [], ◌∷◌, length, set, get_or, Option, Some, None, if◌then◌else◌, is_none, sym, refl, ap, ◌∙◌, subst, inl, inr, arith}
 use Rattle.std.proofs.lemmas.Bool.{ne_eqb}
 use Rattle.std.proofs.lemmas.List.{get_or-set_same, get_or-set_other, length-set}
 use Rattle.address_claim.specs.Claiming.{is_held}
@@ -19,7 +19,7 @@ use Rattle.bus_model.proofs.Lookback.{and_parts, held_is, pick_cases, same_test,
 use Rattle.bus_model.proofs.Sessions.{session_owned}
 use Rattle.station_table.proofs.Stands.{sender, sender_below}
 use Rattle.listening.specs.GivenUp.{given_up_after, is_given_up, none_given_up}
-use Rattle.listening.specs.Listened.{GivesNothingUp, IsUnbroken, Listened, NothingGivenUp, frame_listened, listened, listened_with}
+use Rattle.listening.specs.Listened.{GivesNothingUp, IsUnbroken, frame_listened, listened}
 
 -- ---- which sessions are given up
 

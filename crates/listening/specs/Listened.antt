@@ -1,9 +1,11 @@
 -- A station that only listens, over all that it was handed, and a session of which it joined each packet.
-use Rattle.std.specs.Prelude.{◌≡◌, ℕ, Bool, List, [], ◌∷◌, ◌++◌, Option, Some}
+use Rattle.std.specs.Prelude.{◌≡◌, ℕ, Bool, List, [], ◌∷◌, ◌++◌, Some}
 use Rattle.can_frame.specs.FrameValue.{FrameValue}
 use Rattle.can_frame.specs.declared.reading.Reading.{Reading}
 use Rattle.can_frame.specs.declared.reading.Reading.TheVariants.{Frame, Gap, Empty}
+use Rattle.bus_model.specs.Changed.{change_heard}
 use Rattle.bus_model.specs.Heard.{StationSettings, address_heard, kind_of}
+use Rattle.bus_model.specs.declared.change.Change.{Change}
 use Rattle.dm_messages.specs.declared.kind.Kind.{Kind}
 use Rattle.parameter_group.specs.Group.{Group, ConnectionManagement, group_of}
 use Rattle.transport.specs.declared.control.Control.TheVariants.{Rts, Abort}
@@ -19,6 +21,16 @@ pub record Listened : Type 0 where
 -- what a frame is to its station
 abbrev pub frame_listened : StationSettings → FrameValue → Listened → Reading
 frame_listened r f l = frame_heard_by (Some l.given_up) (address_heard r l.readings) (group_of f) (Frame f)
+
+-- and what a reading is to it
+abbrev pub reading_listened : StationSettings → Reading → Listened → Reading
+reading_listened r (Frame f) l = frame_listened r f l
+reading_listened r (Gap n) l = Gap n
+reading_listened r Empty l = Empty
+
+-- what a reading changes of what it shows
+abbrev pub change_listened : StationSettings → Reading → Listened → Change
+change_listened r x l = change_heard r (reading_listened r x l) l.readings
 
 -- with one more frame, gap or nothing
 abbrev pub listened_with : StationSettings → Reading → Listened → Listened

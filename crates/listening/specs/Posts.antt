@@ -3,6 +3,8 @@ use Rattle.std.specs.Prelude.{ℕ, Bool, List, Option, Some, None, if◌then◌e
 use Rattle.can_frame.specs.declared.reading.Reading.{Reading}
 use Rattle.can_frame.specs.declared.reading.Reading.TheVariants.{Frame, Gap, Empty}
 use Rattle.parameter_group.specs.Group.{Group, group_of}
+use Rattle.bus_model.specs.declared.change.Change.{Change}
+use Rattle.station_table.specs.Changing.{reading_changes}
 use Rattle.station_table.specs.Reactions.{silent, station_reaction}
 use Rattle.station_table.specs.StationValue.{StationValue}
 use Rattle.station_table.specs.Steps.{after_reading}
@@ -48,3 +50,7 @@ replied_by (Some given) reaction = silent
 -- what it answers to a reading
 abbrev pub answer_at : PostValue → Reading → Reaction
 answer_at p x = replied_by p.given_up (station_reaction p.station (reading_at p x))
+
+-- what a reading changes of what it shows: nothing, where it is passed over
+abbrev pub change_at : PostValue → Reading → Change
+change_at p x = reading_changes p.station (reading_at p x)

@@ -1,15 +1,16 @@
 ghost use Rattle.std.specs.Prelude.{◌≡◌, ◌≤◌, ◌≢◌, ℕ, [], ◌∷◌, List, Some, None, length, IfOk, OnOk, OnErr, IsOkUnless};
+ghost use Rattle.bus_model.specs.Changed.{change_heard};
 ghost use Rattle.bus_model.specs.Heard.{StationSettings};
 ghost use Rattle.can_frame.specs.declared.reading.Reading.{Reading as AnyReading};
 ghost use Rattle.listening.specs.GivenUp.{none_given_up};
-ghost use Rattle.listening.specs.Listened.{HasListened};
-ghost use Rattle.listening.specs.Posts.{after_taking};
+ghost use Rattle.listening.specs.Listened.{HasListened, change_listened, listened};
+ghost use Rattle.listening.specs.Posts.{after_taking, change_at};
 ghost use Rattle.station_table.specs.StandsFor.{StandsFor};
 
 use crate::given_up::GivenUp;
 use can_frame::Reading;
 use parameter_group::ParameterGroup;
-use station_table::{Reaction, Station, StationError};
+use station_table::{Change, Outcome, Station, StationError};
 use std::alloc::Global;
 use std::marker::Model;
 
@@ -62,50 +63,59 @@ impl Post {
         &self.station
     }
 
-    /// Takes one reading, and says what to withdraw and to queue: nothing, where it only listens.
+    /// Takes one reading, and says what to withdraw and to queue, which is nothing where it only listens, and what changed: nothing
+    /// by a packet that is passed over.
     ///
     /// `OutOfMemory` leaves all as it was.
-    pub fn take(&mut self, alloc: Global, reading: Reading) -> Result<Reaction, StationError>
+    pub fn take(&mut self, alloc: Global, reading: Reading) -> Result<Outcome, StationError>
         ensures step { OnOk result (self.new ≡ after_taking self.old reading) }
         ensures stands { OnOk result ((r : StationSettings) (grant : ℕ) (h : List AnyReading) → StandsFor r grant self.old.station h
             → StandsFor r grant self.new.station (reading_at self.old reading ∷ h)) }
         ensures listens { OnOk result ((r : StationSettings) (grant : ℕ) (handed : List AnyReading) → HasListened r grant self.old handed
             → HasListened r grant self.new (reading ∷ handed)) }
-        ensures answer { IfOk result (λ x. x ≡ answer_at self.old reading) }
-        ensures few { IfOk result (λ x. length x.put ≤ 2) }
+        ensures answer { IfOk result (λ x. x.reaction ≡ answer_at self.old reading) }
+        ensures change { IfOk result (λ x. (r : StationSettings) (grant : ℕ) (h : List AnyReading) → StandsFor r grant self.old.station h
+            → x.change ≡ change_heard r (reading_at self.old reading) h) }
+        ensures heard { IfOk result (λ x. (r : StationSettings) (grant : ℕ) (handed : List AnyReading) → HasListened r grant self.old handed
+            → x.change ≡ change_listened r reading (listened r handed)) }
+        ensures few { IfOk result (λ x. length x.reaction.put ≤ 2) }
         ensures err { OnErr result (self.new ≡ self.old) }
         ensures only_memory { IsOkUnless result StationError.OutOfMemory }
     {
         match &mut self.given_up {
             None => self.station.take(alloc, reading),
             Some(given_up) => {
-                listen(alloc, &mut self.station, given_up, reading)?;
-                Ok(Reaction::silent(alloc))
+                let change = listen(alloc, &mut self.station, given_up, reading)?;
+                Ok(Outcome::quiet(alloc, change))
             }
         }
     }
 }
 
-/// A station takes a reading, but for a packet of a session that was given up.
+/// A station takes a reading, but for a packet of a session that was given up, and says what changed.
 fn listen(
     alloc: Global,
     station: &mut Station,
     given_up: &mut GivenUp,
     reading: Reading,
-) -> Result<(), StationError>
+) -> Result<Change, StationError>
     ensures step { OnOk result (record { station = station.new; given_up = Some given_up.new } ≡ after_taking (record { station = station.old; given_up = Some given_up.old }) reading) }
+    ensures change { IfOk result (λ c. c ≡ change_at (record { station = station.old; given_up = Some given_up.old }) reading) }
     ensures err { OnErr result ((station.new ≡ station.old) × (given_up.new ≡ given_up.old)) }
     ensures only_memory { IsOkUnless result StationError.OutOfMemory }
 {
     let Reading::Frame(frame) = reading else {
-        station.take(alloc, reading)?;
-        return Ok(());
+        let outcome = station.take(alloc, reading)?;
+        return Ok(outcome.change);
     };
     let group = ParameterGroup::read(&frame);
     let held = station.held();
-    if !given_up.passes_over(held, &group) {
-        station.take(alloc, reading)?;
-    }
+    let change = if given_up.passes_over(held, &group) {
+        Change::Nothing
+    } else {
+        let outcome = station.take_group(alloc, &group)?;
+        outcome.change
+    };
     given_up.hear(held, &group);
-    Ok(())
+    Ok(change)
 }

@@ -1,5 +1,5 @@
 -- What a call answers tells whether the station was asked and what it did.
-use Rattle.std.proofs.Common.{◌≡◌, Result, Ok, Err, IfErr, OnOk, refl, sym, ◌∙◌}
+use Rattle.std.proofs.Common.{◌≡◌, Result, Ok, Err, is_ok, IfErr, OnOk, refl, sym, ◌∙◌}
 use Rattle.station_table.specs.declared.error.StationError.{StationError}
 use Rattle.station_table.specs.declared.error.StationError.TheVariants as station
 use Rattle.station_table.specs.declared.reaction.Reaction.{Reaction}
@@ -18,6 +18,12 @@ pub done_is_ok : (P Q : Type 0) (answer : Result Reaction StationError) (status 
     → IfErr answer (λ e. (status ≡ status_of_station e) × Q) → status ≡ Done → OnOk answer P → P
 done_is_ok P Q (Ok x) status refused done ok = ok
 done_is_ok P Q (Err e) status refused done ok = absurd (refusal_is_not_done e (sym refused.0 ∙ done))
+
+-- what holds at an answer holds at that answer's part
+pub ok_of_part : {T U E : Type 0} (P : Type 0) (whole : Result T E) (part : Result U E) → is_ok part ≡ is_ok whole → OnOk whole P → OnOk part P
+ok_of_part P (Ok x) (Ok y) same ok = ok
+ok_of_part P (Err e) (Ok y) same ok = absurd cc
+ok_of_part P whole (Err e) same ok = tt
 
 -- 0 is the number of nothing else
 pub done_by_number : (status : Status) → status_number status ≡ 0 → status ≡ Done

@@ -10,6 +10,8 @@ use Rattle.transport.specs.declared.control.Control.TheVariants.{Rts}
 use Rattle.parameter_group.specs.Group.{Group, AddressClaimed, Request, ConnectionManagement, DataTransfer, group_of}
 use Rattle.station_table.specs.declared.reaction.Reaction.{Reaction}
 use Rattle.station_table.specs.StationValue.{StationValue}
+use Rattle.bus_model.specs.declared.change.Change.{Change}
+use Rattle.station_table.specs.Changing.{group_changes}
 use Rattle.reassembly.specs.Tables.{at}
 use Rattle.station_table.specs.Reactions.{claim_reaction, replying, reply_to, granted_at_once, group_reaction, station_reaction}
 use Rattle.station_table.specs.Steps.{after_group}
@@ -19,6 +21,9 @@ after_same s t g said e h = h ∙ ap (after_group s) e
 
 pub reaction_same : (s : StationValue) (x : Reaction) (g said : Group) → said ≡ g → x ≡ group_reaction s said → x ≡ group_reaction s g
 reaction_same s x g said e h = h ∙ ap (group_reaction s) e
+
+pub changes_same : (s : StationValue) (c : Change) (g said : Group) → said ≡ g → c ≡ group_changes s said → c ≡ group_changes s g
+changes_same s c g said e h = h ∙ ap (group_changes s) e
 
 -- two frames at most
 abbrev pub IsFew : Reaction → Type 0
@@ -55,6 +60,9 @@ few_reading : (s : StationValue) (x : Reading) → IsFew (station_reaction s x)
 few_reading s Empty = omega arith
 few_reading s (Gap n) = omega arith
 few_reading s (Frame f) = few_group s (group_of f)
+
+pub few_by_group : (s : StationValue) (g : Group) (put : Reaction) → put ≡ group_reaction s g → length put.put ≤ 2
+few_by_group s g put e = let P : Reaction → Type 0 = λ y. IsFew y in subst P (sym e) (few_group s g)
 
 pub few_frames : (s : StationValue) (x : Reading) (put : Reaction) → put ≡ station_reaction s x → length put.put ≤ 2
 few_frames s x put e = let P : Reaction → Type 0 = λ y. IsFew y in subst P (sym e) (few_reading s x)

@@ -1,3 +1,4 @@
+pub mod Changing
 pub mod Claims
 pub mod Commands
 pub mod Few

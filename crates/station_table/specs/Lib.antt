@@ -1,3 +1,4 @@
+pub mod Changing
 pub mod KeptValue
 pub mod Lists
 pub mod Orders

@@ -5,14 +5,17 @@ mod ended;
 mod error;
 mod kept;
 mod origin;
+mod outcome;
 mod reaction;
 mod replies;
 mod row;
 mod rows;
 mod station;
 
+pub use bus_model::{Change, Displaced};
 pub use error::StationError;
 pub use origin::kind_of;
+pub use outcome::Outcome;
 pub use reaction::{Ask, Reaction};
 pub use row::{AckSeen, Row};
 pub use station::Station;

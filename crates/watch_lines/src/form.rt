@@ -2,7 +2,7 @@ use crate::objects::{change_object, report_object};
 use crate::rows::report_rows;
 use crate::run::Options;
 use crate::text;
-use bus_watch::{Change, Watch};
+use bus_watch::{Change, Changes, Watch};
 use log_lines::LogFault;
 use std::alloc::Global;
 use std::io::Write;
@@ -18,8 +18,33 @@ pub enum Form {
     Csv,
 }
 
+/// Writes what is told of the line of this number: of a NAME that lost its address before the change that took it.
+pub fn write_changes<W: Write>(
+    writer: &mut W,
+    alloc: Global,
+    watch: &Watch,
+    form: Form,
+    number: u64,
+    changes: Changes,
+) -> Result<(), LogFault> {
+    if let Some(name) = changes.lost {
+        write_change(
+            writer,
+            alloc,
+            watch,
+            form,
+            number,
+            Change::NoAddress { name },
+        )?;
+    }
+    match changes.change {
+        Some(change) => write_change(writer, alloc, watch, form, number, change),
+        None => Ok(()),
+    }
+}
+
 /// Writes a change that the line of this number made.
-pub fn write_change<W: Write>(
+fn write_change<W: Write>(
     writer: &mut W,
     alloc: Global,
     watch: &Watch,

@@ -10,5 +10,5 @@ mod rows;
 mod run;
 mod text;
 
-pub use form::{Form, write_change, write_report};
+pub use form::{Form, write_changes, write_report};
 pub use run::{Assumed, Options, watch};

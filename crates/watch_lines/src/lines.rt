@@ -1,4 +1,4 @@
-use crate::form::write_change;
+use crate::form::write_changes;
 use crate::run::Options;
 use bus_watch::Watch;
 use candump_line::{Line, read_line};
@@ -68,8 +68,6 @@ fn hear_line<W: Write, E: Write>(
         }
     }
     let changes = watch.hear(alloc, &said)?;
-    for change in changes.iter() {
-        write_change(writer, alloc, watch, options.form, number, *change)?;
-    }
+    write_changes(writer, alloc, watch, options.form, number, changes)?;
     Ok(is_bad)
 }

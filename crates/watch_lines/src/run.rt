@@ -1,7 +1,7 @@
 ghost use Rattle.std.specs.Prelude.{◌≤◌};
 ghost use Rattle.can_frame.specs.declared.address.TheConstants.{GREATEST_ADDRESS};
 
-use crate::form::{Form, write_change, write_report};
+use crate::form::{Form, write_changes, write_report};
 use crate::lines::read_lines;
 use bus_watch::{Settings, Watch};
 use log_lines::{Ended, LogFault, ROOM};
@@ -73,9 +73,7 @@ fn opened<W: Write>(
     let mut watch = Watch::new(alloc, options.settings, options.bus)?;
     for assumed in options.assumed {
         let changes = watch.assume(alloc, assumed.name, assumed.address)?;
-        for change in changes.iter() {
-            write_change(writer, alloc, &watch, options.form, 0, *change)?;
-        }
+        write_changes(writer, alloc, &watch, options.form, 0, changes)?;
     }
     Ok(watch)
 }

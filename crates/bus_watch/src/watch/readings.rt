@@ -1,7 +1,7 @@
 ghost use Rattle.std.specs.Prelude.{◌≡◌, ◌≤◌, ℕ, ◌∷◌, List, Some, IfOk, OnOk, if◌then◌else◌};
 ghost use Rattle.address_claim.specs.Frames.{claim_frame_value};
 ghost use Rattle.bus_watch.specs.Followed as followed;
-ghost use Rattle.bus_watch.specs.Told.{Told, Beginning, StandsForAll};
+ghost use Rattle.bus_watch.specs.Told.{Told, Beginning, IsToldAs, StandsForAll};
 ghost use Rattle.bus_watch.specs.Told as told;
 ghost use Rattle.bus_watch.specs.WatchValue.{Takes};
 ghost use Rattle.can_frame.specs.declared.address.TheConstants.{GREATEST_ADDRESS};
@@ -11,7 +11,7 @@ ghost use Rattle.listening.specs.GivenUp as given_up;
 ghost use Rattle.parameter_group.specs.Group.{ConnectionManagement, DataTransfer};
 ghost use Rattle.parameter_group.specs.Said.{said as group_said};
 
-use crate::change::Change;
+use crate::change::Changes;
 use crate::watch::Watch;
 use address_claim::claim_frame;
 use can_frame::{Frame, GLOBAL_ADDRESS, Reading};
@@ -28,10 +28,14 @@ impl Watch {
     /// missed frames where the line tells of them, and one where it is bad and bad lines count; else the empty reading.
     /// An entry that the station lists by it is moved to the runs.
     ///
+    /// What is told is what that reading changed of what the station shows (`bus_model`): an entry where it begins a run, an acknowledgment
+    /// where it is another one than the last, and of an address without owner once.
+    ///
     /// # Errors
     /// Memory was refused. The station may have read the line, and the watch is not to be used any more.
-    pub fn hear(&mut self, alloc: Global, line: &Line<'_>) -> Result<Vec<Change>, AllocError>
-        ensures { OnOk result ((b : Beginning) (ts : List Told) → StandsForAll b ts self.old → StandsForAll b (told.Read line.now ∷ ts) self.new) }
+    pub fn hear(&mut self, alloc: Global, line: &Line<'_>) -> Result<Changes, AllocError>
+        ensures told { IfOk result (λ c. IsToldAs (told.Read line.now) self.old self.new c) }
+        ensures stands { OnOk result ((b : Beginning) (ts : List Told) → StandsForAll b ts self.old → StandsForAll b (told.Read line.now ∷ ts) self.new) }
     {
         let reading = self.reading_of(alloc, line)?;
         self.take(alloc, reading)
@@ -46,9 +50,10 @@ impl Watch {
         alloc: Global,
         name: Name,
         address: u8,
-    ) -> Result<Vec<Change>, AllocError>
+    ) -> Result<Changes, AllocError>
         requires { address ≤ GREATEST_ADDRESS }
-        ensures { OnOk result ((b : Beginning) (ts : List Told) → StandsForAll b ts self.old → StandsForAll b (told.Assumed name address ∷ ts) self.new) }
+        ensures told { IfOk result (λ c. IsToldAs (told.Assumed name address) self.old self.new c) }
+        ensures stands { OnOk result ((b : Beginning) (ts : List Told) → StandsForAll b ts self.old → StandsForAll b (told.Assumed name address ∷ ts) self.new) }
     {
         let claim = claim_frame(name, Some(address));
         self.take(alloc, Reading::Frame(claim))

@@ -87,7 +87,8 @@ fn take(
     let Some(mut post) = handle.lift(alloc) else {
         return Status::NoStation;
     };
-    let answer = post.take(alloc, reading);
+    let taken = post.take(alloc, reading);
     handle.put(post);
+    let answer = taken.map(|outcome| outcome.reaction);
     reply_with(answer, reply)
 }

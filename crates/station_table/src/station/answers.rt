@@ -1,15 +1,18 @@
-ghost use Rattle.std.specs.Prelude.{◌≡◌, IfOk};
+ghost use Rattle.std.specs.Prelude.{◌≡◌, Some, IfOk};
 ghost use Rattle.parameter_group.specs.Group as group;
 ghost use Rattle.station_table.specs.Reactions as reactions;
 
 use crate::reaction::Reaction;
 use crate::row::AckSeen;
 use crate::station::Station;
+use bus_model::Change;
 use can_frame::{GLOBAL_ADDRESS, NULL_ADDRESS, Pgn};
+use name_field::Name;
 use requests::{Ack, Request};
 use std::alloc::{AllocError, Global};
 
 impl Station {
+    ghost use Rattle.station_table.specs.Changing.{answers_again, group_changes};
     ghost use Rattle.station_table.specs.Steps.{after_group};
 
     /// A request, to the station or to all: for claims, its claim; for anything else, to it alone and from an address that
@@ -40,19 +43,36 @@ impl Station {
     }
 
     /// An acknowledgment that names the station's address or goes to it, from an address with an owner: it is kept.
-    pub(super) fn hear_acknowledgment(&mut self, ack: Ack)
-        ensures { self.new ≡ after_group self.old (group.Acknowledgment ack.control ack.requester ack.pgn ack.dest ack.source) }
+    pub(super) fn hear_acknowledgment(&mut self, ack: Ack) -> Change
+        ensures step { self.new ≡ after_group self.old (group.Acknowledgment ack.control ack.requester ack.pgn ack.dest ack.source) }
+        ensures change { result ≡ group_changes self.old (group.Acknowledgment ack.control ack.requester ack.pgn ack.dest ack.source) }
     {
         let held = self.claimer.held();
         if held != Some(ack.requester) && held != Some(ack.dest) {
-            return;
+            return Change::Nothing;
         }
-        if let Some(owner) = self.owner(ack.source) {
-            let seen = AckSeen {
-                control: ack.control,
-                pgn: ack.pgn,
-            };
-            self.rows.acknowledge(owner, seen);
+        let Some(name) = self.owner(ack.source) else {
+            return Change::Nothing;
+        };
+        let control = ack.control;
+        let pgn = ack.pgn;
+        let again = self.has_answered(name, control, pgn);
+        self.rows.acknowledge(name, AckSeen { control, pgn });
+        Change::Acknowledged {
+            name,
+            control,
+            pgn,
+            again,
+        }
+    }
+
+    /// Whether the NAME's last acknowledgment to the station is the same.
+    fn has_answered(&self, name: Name, control: u8, pgn: Pgn) -> bool
+        ensures { result ≡ answers_again self.now (Some name) control pgn }
+    {
+        match self.rows.get(name) {
+            Some((_, Some(last))) => last.control == control && last.pgn == pgn,
+            _ => false,
         }
     }
 }

@@ -1,6 +1,7 @@
 ghost use Rattle.std.specs.Prelude.{◌≡◌, slice_set, IfOk, OnOk, OnErr, IsOkUnless};
 ghost use Rattle.address_claim.specs.Claiming.{IsLawfulStep, after_claim, claim_step};
 ghost use Rattle.can_frame.specs.declared.reading.Reading.TheVariants.{Gap};
+ghost use Rattle.bus_model.specs.Changed.{displaced_by};
 ghost use Rattle.bus_model.specs.Heard.{kept_by_owner};
 ghost use Rattle.parameter_group.specs.Group as group;
 ghost use Rattle.reassembly.specs.Tables.{at};
@@ -10,10 +11,13 @@ ghost use Rattle.station_table.specs.Steps.{sessions_after};
 
 use crate::error::StationError;
 use crate::origin::{Origin, keep_under};
+use crate::outcome::Outcome;
 use crate::reaction::Reaction;
+use crate::row::Row;
 use crate::rows::Rows;
 use crate::station::Station;
 use address_claim::{ClaimStep, Claimer, claim_frame};
+use bus_model::{Change, Displaced};
 use can_frame::{Frames, GLOBAL_ADDRESS, NULL_ADDRESS, Pgn};
 use name_field::Name;
 use reassembly::Partials;
@@ -21,6 +25,7 @@ use requests::Request;
 use std::alloc::{AllocError, Global};
 
 impl Station {
+    ghost use Rattle.station_table.specs.Changing.{address_by, group_changes, keeps_address};
     ghost use Rattle.station_table.specs.Steps.{with_claim, after_group, after_gap};
 
     /// A claim of an address, 0 to 253: the NAME has a row and is the owner, what another NAME began from there is dropped,
@@ -30,12 +35,14 @@ impl Station {
         alloc: Global,
         source: u8,
         name: Name,
-    ) -> Result<Reaction, StationError>
+    ) -> Result<Outcome, StationError>
         ensures ok { OnOk result (self.new ≡ with_claim self.old source name) }
-        ensures reaction { IfOk result (λ x. x ≡ reactions.claim_reaction (claim_step source name self.old.claimer) self.old.claimer) }
+        ensures change { IfOk result (λ x. x.change ≡ group_changes self.old (group.AddressClaimed source name)) }
+        ensures reaction { IfOk result (λ x. x.reaction ≡ reactions.claim_reaction (claim_step source name self.old.claimer) self.old.claimer) }
         ensures err { OnErr result (self.new ≡ self.old) }
         ensures only_memory { IsOkUnless result StationError.OutOfMemory }
     {
+        let change = self.claim_change(source, name);
         let step = self.claimer.answer(source, name);
         let reaction = self.answer_to_claim(alloc, step)?;
         self.owners.make()?;
@@ -44,7 +51,45 @@ impl Station {
         self.owners.put(source, name);
         keep_under(&mut self.broadcasts, source, name);
         keep_sessions(&mut self.sessions, step, source, name);
-        Ok(reaction)
+        Ok(Outcome { reaction, change })
+    }
+
+    /// What a claim of an address by a NAME changes: nothing where the NAME has it.
+    fn claim_change(&self, source: u8, name: Name) -> Change
+        ensures { result ≡ group_changes self.now (group.AddressClaimed source name) }
+    {
+        if self.address_of(name) == Some(source) {
+            return Change::Nothing;
+        }
+        Change::Claimed {
+            name,
+            address: source,
+            displaced: self.displaced(source, name),
+        }
+    }
+
+    /// The other NAME that claimed the address last, if one did.
+    fn displaced(&self, address: u8, name: Name) -> Option<Displaced>
+        ensures { result ≡ displaced_by name (at self.now.owners address) (keeps_address self.now (at self.now.owners address) address) }
+    {
+        let other = self.owner(address)?;
+        if other == name {
+            return None;
+        }
+        Some(Displaced {
+            name: other,
+            lost: self.address_of(other) == Some(address),
+        })
+    }
+
+    /// The address that a NAME has.
+    fn address_of(&self, name: Name) -> Option<u8>
+        ensures { result ≡ address_by self.now name }
+    {
+        match self.row(name) {
+            Some(row) => row.address,
+            None => None,
+        }
     }
 
     /// What a step of its own claims makes the station do.
@@ -66,22 +111,27 @@ impl Station {
         &mut self,
         alloc: Global,
         name: Name,
-    ) -> Result<Reaction, StationError>
+    ) -> Result<Change, StationError>
         ensures ok { OnOk result (self.new ≡ after_group self.old (group.CannotClaim name)) }
-        ensures reaction { IfOk result (λ x. x ≡ reactions.silent) }
+        ensures change { IfOk result (λ c. c ≡ group_changes self.old (group.CannotClaim name)) }
         ensures err { OnErr result (self.new ≡ self.old) }
         ensures only_memory { IsOkUnless result StationError.OutOfMemory }
     {
+        let change = match self.row(name) {
+            Some(Row { address: None, .. }) => Change::Nothing,
+            _ => Change::GaveUp { name },
+        };
         self.rows.add(alloc, name)?;
         self.rows.claim(name, None);
-        Ok(Reaction::silent(alloc))
+        Ok(change)
     }
 
     /// Frames were missed: owners and all that is half joined are forgotten, and the station claims again and asks all for
     /// their claims.
-    pub(super) fn hear_gap(&mut self, alloc: Global, count: u32) -> Result<Reaction, StationError>
+    pub(super) fn hear_gap(&mut self, alloc: Global, count: u32) -> Result<Outcome, StationError>
         ensures ok { OnOk result (self.new ≡ after_gap self.old count) }
-        ensures reaction { IfOk result (λ x. x ≡ reactions.station_reaction self.old (Gap count)) }
+        ensures change { IfOk result (λ x. x.change ≡ Change.Missed count) }
+        ensures reaction { IfOk result (λ x. x.reaction ≡ reactions.station_reaction self.old (Gap count)) }
         ensures err { OnErr result (self.new ≡ self.old) }
         ensures only_memory { IsOkUnless result StationError.OutOfMemory }
     {
@@ -97,9 +147,12 @@ impl Station {
         self.broadcasts.clear();
         self.sessions.clear();
         self.missed = self.missed.saturating_add(u64::from(count));
-        Ok(Reaction {
-            withdraw: true,
-            put,
+        Ok(Outcome {
+            reaction: Reaction {
+                withdraw: true,
+                put,
+            },
+            change: Change::Missed { count },
         })
     }
 }

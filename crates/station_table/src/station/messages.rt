@@ -1,7 +1,8 @@
 ghost use Rattle.std.specs.Prelude.{◌≡◌, ◌≤◌, nat_lt, if◌then◌else◌, slice_set, Some, IfOk, OnOk, OnErr, IsOkUnless};
+ghost use Rattle.bus_model.specs.Changed.{announced_change, ended_change};
 ghost use Rattle.bus_model.specs.Heard as heard;
 ghost use Rattle.parameter_group.specs.Group as group;
-ghost use Rattle.reassembly.specs.Partials.{answer_to};
+ghost use Rattle.reassembly.specs.Partials.{answer_to, with_packet};
 ghost use Rattle.reassembly.specs.Tables.{at};
 ghost use Rattle.station_table.specs.Reactions as reactions;
 ghost use Rattle.transport.specs.Messages as message;
@@ -9,9 +10,11 @@ ghost use Rattle.transport.specs.Messages as message;
 use crate::ended::{Ended, ended_with, shown_by};
 use crate::error::StationError;
 use crate::origin::{Origin, drop_kind, kind_of};
+use crate::outcome::Outcome;
 use crate::reaction::Reaction;
 use crate::replies::{at_once, reply};
 use crate::station::Station;
+use bus_model::Change;
 use can_frame::{NULL_ADDRESS, Pgn};
 use dm_messages::Kind;
 use std::alloc::Global;
@@ -27,22 +30,31 @@ pub(super) struct Announced {
 }
 
 impl Station {
+    ghost use Rattle.station_table.specs.Changing.{group_changes, read_change};
     ghost use Rattle.station_table.specs.Steps.{after_group, origin_of, packets_at_once, with_broadcast_packet, with_read, with_session, with_session_packet};
 
-    /// What a message that ended shows is kept: an entry under its owner where it shows something, else it counts as unread.
-    fn keep(&mut self, ended: Option<Ended>) -> Result<(), StationError>
+    /// What a message from this address shows that ended is kept: an entry under its owner where it shows something, else it counts as unread.
+    fn keep(&mut self, source: u8, ended: Option<Ended>) -> Result<Change, StationError>
         ensures ok { OnOk result (self.new ≡ with_read self.old ended) }
+        ensures change { IfOk result (λ c. c ≡ read_change source ended) }
         ensures err { OnErr result (self.new ≡ self.old) }
         ensures only_memory { IsOkUnless result StationError.OutOfMemory }
     {
         let Some(Ended { origin, shown }) = ended else {
-            return Ok(());
+            return Ok(Change::Nothing);
         };
+        let name = origin.owner();
+        let kind = origin.kind();
         match shown {
-            Some(shown) => self.rows.push(origin.owner(), origin.kind(), shown)?,
-            None => self.unread = self.unread.saturating_add(1),
+            Some(shown) => {
+                self.rows.push(name, kind, shown)?;
+                Ok(Change::Listed { name, kind, source })
+            }
+            None => {
+                self.unread = self.unread.saturating_add(1);
+                Ok(Change::Unreadable { name, kind, source })
+            }
         }
-        Ok(())
     }
 
     /// A diagnostic message in one frame, from an address with an owner.
@@ -52,19 +64,21 @@ impl Station {
         kind: Kind,
         source: u8,
         bytes: &[u8],
-    ) -> Result<(), StationError>
+    ) -> Result<Change, StationError>
         ensures ok { OnOk result (self.new ≡ after_group self.old (group.Diagnostic kind source bytes.now)) }
+        ensures change { IfOk result (λ c. c ≡ group_changes self.old (group.Diagnostic kind source bytes.now)) }
         ensures err { OnErr result (self.new ≡ self.old) }
         ensures only_memory { IsOkUnless result StationError.OutOfMemory }
     {
         let Some(owner) = self.owner(source) else {
-            return Ok(());
+            return Ok(Change::Unowned { kind, source });
         };
         let shown = shown_by(alloc, bytes)?;
-        self.keep(Some(Ended {
+        let ended = Ended {
             origin: Origin::new(owner, kind),
             shown,
-        }))
+        };
+        self.keep(source, Some(ended))
     }
 
     /// Whose a message is that an announcement of this group starts: of an address with an owner, if it is a diagnostic one.
@@ -84,13 +98,14 @@ impl Station {
         source: u8,
         size: u16,
         pgn: Pgn,
-    ) -> Result<(), StationError>
+    ) -> Result<Change, StationError>
         requires least { 9 ≤ size }
         requires most { size ≤ 1785 }
         ensures ok { OnOk result (self.new ≡ record self.old {
           broadcasts =
               slice_set self.old.broadcasts source (heard.started (heard.kind_of pgn) size (at self.old.owners source));
         }) }
+        ensures change { IfOk result (λ c. c ≡ announced_change (heard.kind_of pgn) source (at self.old.owners source)) }
         ensures err { OnErr result (self.new ≡ self.old) }
         ensures only_memory { IsOkUnless result StationError.OutOfMemory }
     {
@@ -98,7 +113,17 @@ impl Station {
             Some(origin) => self.broadcasts.start(alloc, source, origin, size, pgn)?,
             None => self.broadcasts.forget(source),
         }
-        Ok(())
+        Ok(self.announced(source, pgn))
+    }
+
+    /// What the announcement of a broadcast changes: nothing, but that a diagnostic message begins at an address without an owner.
+    fn announced(&self, source: u8, pgn: Pgn) -> Change
+        ensures { result ≡ announced_change (heard.kind_of pgn) source (at self.now.owners source) }
+    {
+        match (kind_of(pgn), self.owner(source)) {
+            (Some(kind), None) => Change::Unowned { kind, source },
+            _ => Change::Nothing,
+        }
     }
 
     /// A session with the station is announced: a diagnostic one from an address with an owner starts in place of an older
@@ -160,34 +185,41 @@ impl Station {
         alloc: Global,
         source: u8,
         bytes: &[u8],
-    ) -> Result<(), StationError>
+    ) -> Result<Change, StationError>
         ensures ok { OnOk result (self.new ≡ with_broadcast_packet self.old source bytes.now) }
+        ensures change { IfOk result (λ c. c ≡ ended_change source (heard.finished (with_packet bytes.now (at self.old.broadcasts source)))) }
         ensures err { OnErr result (self.new ≡ self.old) }
         ensures only_memory { IsOkUnless result StationError.OutOfMemory }
     {
         let Some(took) = self.broadcasts.answer(source, bytes) else {
-            return Ok(());
+            return Ok(Change::Nothing);
         };
         match took {
             Took::Whole => self.end_broadcast(alloc, source, bytes),
             Took::More | Took::Broken => {
                 self.broadcasts.take(source, bytes, took);
-                Ok(())
+                Ok(Change::Nothing)
             }
         }
     }
 
     /// The last packet of a broadcast.
-    fn end_broadcast(&mut self, alloc: Global, source: u8, bytes: &[u8]) -> Result<(), StationError>
+    fn end_broadcast(
+        &mut self,
+        alloc: Global,
+        source: u8,
+        bytes: &[u8],
+    ) -> Result<Change, StationError>
         requires { answer_to bytes.now (at self.old.broadcasts source) ≡ Some Took.Whole }
         ensures ok { OnOk result (self.new ≡ with_broadcast_packet self.old source bytes.now) }
+        ensures change { IfOk result (λ c. c ≡ ended_change source (heard.finished (with_packet bytes.now (at self.old.broadcasts source)))) }
         ensures err { OnErr result (self.new ≡ self.old) }
         ensures only_memory { IsOkUnless result StationError.OutOfMemory }
     {
         let ended = ended_with(alloc, &mut self.broadcasts, source, bytes)?;
-        self.keep(ended)?;
+        let change = self.keep(source, ended)?;
         self.broadcasts.take(source, bytes, Took::Whole);
-        Ok(())
+        Ok(change)
     }
 
     /// A packet of a session with the station.
@@ -197,21 +229,22 @@ impl Station {
         source: u8,
         dest: u8,
         bytes: &[u8],
-    ) -> Result<Reaction, StationError>
+    ) -> Result<Outcome, StationError>
         ensures ok { OnOk result (self.new ≡ with_session_packet self.old source bytes.now) }
-        ensures reaction { IfOk result (λ x. x ≡ reactions.replying (reactions.reply_to (reactions.granted_at_once self.old source) (at self.old.sessions source) bytes.now) dest source) }
+        ensures change { IfOk result (λ x. x.change ≡ ended_change source (heard.finished (with_packet bytes.now (at self.old.sessions source)))) }
+        ensures reaction { IfOk result (λ x. x.reaction ≡ reactions.replying (reactions.reply_to (reactions.granted_at_once self.old source) (at self.old.sessions source) bytes.now) dest source) }
         ensures err { OnErr result (self.new ≡ self.old) }
         ensures only_memory { IsOkUnless result StationError.OutOfMemory }
     {
         let Some(took) = self.sessions.answer(source, bytes) else {
-            return Ok(Reaction::silent(alloc));
+            return Ok(Outcome::quiet(alloc, Change::Nothing));
         };
         let reaction = match self.reply(source, bytes, took) {
             Some(reply) => Reaction::answering(alloc, control_frame(reply, dest, source))?,
             None => Reaction::silent(alloc),
         };
-        self.take_session_packet(alloc, source, bytes, took)?;
-        Ok(reaction)
+        let change = self.take_session_packet(alloc, source, bytes, took)?;
+        Ok(Outcome { reaction, change })
     }
 
     /// Reads a packet of a session, which was answered so.
@@ -221,9 +254,10 @@ impl Station {
         source: u8,
         bytes: &[u8],
         took: Took,
-    ) -> Result<(), StationError>
+    ) -> Result<Change, StationError>
         requires { answer_to bytes.now (at self.old.sessions source) ≡ Some took }
         ensures ok { OnOk result (self.new ≡ with_session_packet self.old source bytes.now) }
+        ensures change { IfOk result (λ c. c ≡ ended_change source (heard.finished (with_packet bytes.now (at self.old.sessions source)))) }
         ensures err { OnErr result (self.new ≡ self.old) }
         ensures only_memory { IsOkUnless result StationError.OutOfMemory }
     {
@@ -231,22 +265,28 @@ impl Station {
             Took::Whole => self.end_session(alloc, source, bytes),
             Took::More | Took::Broken => {
                 self.sessions.take(source, bytes, took);
-                Ok(())
+                Ok(Change::Nothing)
             }
         }
     }
 
     /// The last packet of a session.
-    fn end_session(&mut self, alloc: Global, source: u8, bytes: &[u8]) -> Result<(), StationError>
+    fn end_session(
+        &mut self,
+        alloc: Global,
+        source: u8,
+        bytes: &[u8],
+    ) -> Result<Change, StationError>
         requires { answer_to bytes.now (at self.old.sessions source) ≡ Some Took.Whole }
         ensures ok { OnOk result (self.new ≡ with_session_packet self.old source bytes.now) }
+        ensures change { IfOk result (λ c. c ≡ ended_change source (heard.finished (with_packet bytes.now (at self.old.sessions source)))) }
         ensures err { OnErr result (self.new ≡ self.old) }
         ensures only_memory { IsOkUnless result StationError.OutOfMemory }
     {
         let ended = ended_with(alloc, &mut self.sessions, source, bytes)?;
-        self.keep(ended)?;
+        let change = self.keep(source, ended)?;
         self.sessions.take(source, bytes, Took::Whole);
-        Ok(())
+        Ok(change)
     }
 
     /// What is answered to a packet of a session, which was answered so.

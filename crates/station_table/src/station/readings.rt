@@ -1,71 +1,130 @@
 ghost use Rattle.std.specs.Prelude.{◌≡◌, ◌≢◌, ◌≤◌, ℕ, ◌∷◌, List, length, IfOk, OnOk, OnErr, IsOkUnless};
+ghost use Rattle.bus_model.specs.Changed.{change_heard, is_listed};
 ghost use Rattle.bus_model.specs.Heard.{StationSettings};
+ghost use Rattle.can_frame.specs.FrameValue.{FrameValue};
 ghost use Rattle.can_frame.specs.declared.reading.Reading.{Reading as AnyReading};
+ghost use Rattle.can_frame.specs.declared.reading.Reading.TheVariants.{Frame as FrameRead};
 ghost use Rattle.dm_messages.specs.declared.kind.Kind.{Kind as AnyKind};
 ghost use Rattle.dm_messages.specs.declared.shown.Shown.{Shown as AnyShown};
+ghost use Rattle.parameter_group.specs.Group.{group_of};
 ghost use Rattle.parameter_group.specs.Group as group;
+ghost use Rattle.parameter_group.specs.Said.{IsLawfulGroup, said};
 ghost use Rattle.station_table.specs.Reactions as reactions;
 ghost use Rattle.transport.specs.ControlMessage.{HasLawfulSize};
 
 use crate::error::StationError;
-use crate::reaction::Reaction;
+use crate::outcome::Outcome;
 use crate::station::Station;
 use crate::station::messages::Announced;
+use bus_model::Change;
 use can_frame::{Frame, GLOBAL_ADDRESS, Reading};
 use parameter_group::ParameterGroup;
 use std::alloc::Global;
 use transport::Control;
 
 impl Station {
+    ghost use Rattle.station_table.specs.Changing.{group_changes, reading_changes};
+    ghost use Rattle.station_table.specs.KeptValue.{entries_under};
+    ghost use Rattle.station_table.specs.Lists.{MayAdd};
     ghost use Rattle.station_table.specs.StandsFor.{StandsBeside, StandsFor};
     ghost use Rattle.station_table.specs.Steps.{after_group, after_reading};
 
-    /// Takes one reading, and says what to withdraw and to queue.
+    /// Takes one reading, and says what to withdraw and to queue, and what changed.
     ///
     /// A frame tells the station what it says; a gap makes it forget owners and all that is half joined; empty is nothing.
     /// `OutOfMemory` leaves the station as it was, and is never the answer to an empty reading.
+    ///
+    /// The change is all that the reading does to rows, NAMEs, lists and counts (`bus_model`): who follows the changes need not ask for them.
     #[tactic(auto, using(crate::proofs::Few::few_frames))]
-    pub fn take(&mut self, alloc: Global, reading: Reading) -> Result<Reaction, StationError>
+    pub fn take(&mut self, alloc: Global, reading: Reading) -> Result<Outcome, StationError>
         ensures step { OnOk result (self.new ≡ after_reading self.old reading) }
-        ensures reaction { IfOk result (λ x. x ≡ reactions.station_reaction self.old reading) }
+        ensures reaction { IfOk result (λ x. x.reaction ≡ reactions.station_reaction self.old reading) }
+        ensures change { IfOk result (λ x. x.change ≡ reading_changes self.old reading) }
+        ensures heard { IfOk result (λ x. (taken : ℕ → AnyKind → List AnyShown) (r : StationSettings) (grant : ℕ) (h : List AnyReading) → StandsBeside taken r grant self.old h
+            → x.change ≡ change_heard r reading h) }
+        ensures listed { IfOk result (λ x. (n : ℕ) (k : AnyKind) → MayAdd (is_listed x.change n k) (entries_under self.old.rows n k) (entries_under self.new.rows n k)) }
         ensures stands { OnOk result ((r : StationSettings) (grant : ℕ) (h : List AnyReading) → StandsFor r grant self.old h → StandsFor r grant self.new (reading ∷ h)) }
         ensures beside { OnOk result ((taken : ℕ → AnyKind → List AnyShown) (r : StationSettings) (grant : ℕ) (h : List AnyReading) → StandsBeside taken r grant self.old h
             → StandsBeside taken r grant self.new (reading ∷ h)) }
-        ensures few { IfOk result (λ x. length x.put ≤ 2) }
+        ensures few { IfOk result (λ x. length x.reaction.put ≤ 2) }
         ensures err { OnErr result (self.new ≡ self.old) }
         ensures not_empty { OnErr result (reading ≢ Reading.Empty) }
         ensures only_memory { IsOkUnless result StationError.OutOfMemory }
     {
         match reading {
-            Reading::Empty => Ok(Reaction::silent(alloc)),
+            Reading::Empty => Ok(Outcome::quiet(alloc, Change::Nothing)),
             Reading::Gap(count) => self.hear_gap(alloc, count),
             Reading::Frame(frame) => self.hear_frame(alloc, &frame),
         }
     }
 
-    /// What one frame says.
-    #[tactic(auto, using(crate::proofs::Few::after_same, crate::proofs::Few::reaction_same))]
-    fn hear_frame(&mut self, alloc: Global, frame: &Frame) -> Result<Reaction, StationError>
-        ensures ok { OnOk result (self.new ≡ after_group self.old (group.group_of frame.now)) }
-        ensures reaction { IfOk result (λ x. x ≡ reactions.group_reaction self.old (group.group_of frame.now)) }
+    /// Takes what one frame says, as `take` takes the frame.
+    pub fn take_group(
+        &mut self,
+        alloc: Global,
+        group: &ParameterGroup<'_>,
+    ) -> Result<Outcome, StationError>
+        requires { IsLawfulGroup group.now }
+        ensures step { OnOk result (self.new ≡ after_group self.old (said group.now)) }
+        ensures reaction { IfOk result (λ x. x.reaction ≡ reactions.group_reaction self.old (said group.now)) }
+        ensures change { IfOk result (λ x. x.change ≡ group_changes self.old (said group.now)) }
+        ensures heard { IfOk result (λ x. (f : FrameValue) → group_of f ≡ said group.now → (taken : ℕ → AnyKind → List AnyShown) (r : StationSettings) (grant : ℕ) (h : List AnyReading) → StandsBeside taken r grant self.old h
+            → x.change ≡ change_heard r (FrameRead f) h) }
+        ensures listed { IfOk result (λ x. (n : ℕ) (k : AnyKind) → MayAdd (is_listed x.change n k) (entries_under self.old.rows n k) (entries_under self.new.rows n k)) }
+        ensures beside { OnOk result ((f : FrameValue) → group_of f ≡ said group.now → (taken : ℕ → AnyKind → List AnyShown) (r : StationSettings) (grant : ℕ) (h : List AnyReading) → StandsBeside taken r grant self.old h
+            → StandsBeside taken r grant self.new (FrameRead f ∷ h)) }
+        ensures few { IfOk result (λ x. length x.reaction.put ≤ 2) }
         ensures err { OnErr result (self.new ≡ self.old) }
         ensures only_memory { IsOkUnless result StationError.OutOfMemory }
     {
-        match ParameterGroup::read(frame) {
+        self.hear_group(alloc, group)
+    }
+
+    /// A frame.
+    #[tactic(auto, using(crate::proofs::Few::after_same, crate::proofs::Few::reaction_same, crate::proofs::Few::changes_same))]
+    fn hear_frame(&mut self, alloc: Global, frame: &Frame) -> Result<Outcome, StationError>
+        ensures ok { OnOk result (self.new ≡ after_group self.old (group_of frame.now)) }
+        ensures reaction { IfOk result (λ x. x.reaction ≡ reactions.group_reaction self.old (group_of frame.now)) }
+        ensures change { IfOk result (λ x. x.change ≡ group_changes self.old (group_of frame.now)) }
+        ensures err { OnErr result (self.new ≡ self.old) }
+        ensures only_memory { IsOkUnless result StationError.OutOfMemory }
+    {
+        self.hear_group(alloc, &ParameterGroup::read(frame))
+    }
+
+    /// What one frame says.
+    fn hear_group(
+        &mut self,
+        alloc: Global,
+        group: &ParameterGroup<'_>,
+    ) -> Result<Outcome, StationError>
+        requires { IsLawfulGroup group.now }
+        ensures ok { OnOk result (self.new ≡ after_group self.old (said group.now)) }
+        ensures reaction { IfOk result (λ x. x.reaction ≡ reactions.group_reaction self.old (said group.now)) }
+        ensures change { IfOk result (λ x. x.change ≡ group_changes self.old (said group.now)) }
+        ensures err { OnErr result (self.new ≡ self.old) }
+        ensures only_memory { IsOkUnless result StationError.OutOfMemory }
+    {
+        match *group {
             ParameterGroup::AddressClaimed { source, name } => self.hear_claim(alloc, source, name),
-            ParameterGroup::CannotClaim { name } => self.hear_cannot_claim(alloc, name),
-            ParameterGroup::Request(request) => Ok(self.hear_request(alloc, request)?),
+            ParameterGroup::CannotClaim { name } => {
+                let change = self.hear_cannot_claim(alloc, name)?;
+                Ok(Outcome::quiet(alloc, change))
+            }
+            ParameterGroup::Request(request) => {
+                Ok(Outcome::answer(self.hear_request(alloc, request)?))
+            }
             ParameterGroup::Acknowledgment(ack) => {
-                self.hear_acknowledgment(ack);
-                Ok(Reaction::silent(alloc))
+                let change = self.hear_acknowledgment(ack);
+                Ok(Outcome::quiet(alloc, change))
             }
             ParameterGroup::Diagnostic {
                 kind,
                 source,
                 bytes,
             } => {
-                self.hear_single(alloc, kind, source, bytes)?;
-                Ok(Reaction::silent(alloc))
+                let change = self.hear_single(alloc, kind, source, bytes)?;
+                Ok(Outcome::quiet(alloc, change))
             }
             ParameterGroup::ConnectionManagement {
                 source,
@@ -77,7 +136,7 @@ impl Station {
                 dest,
                 bytes,
             } => self.hear_packet(alloc, source, dest, bytes),
-            ParameterGroup::Other => Ok(Reaction::silent(alloc)),
+            ParameterGroup::Other => Ok(Outcome::quiet(alloc, Change::Nothing)),
         }
     }
 
@@ -88,18 +147,20 @@ impl Station {
         source: u8,
         dest: u8,
         control: Control,
-    ) -> Result<Reaction, StationError>
+    ) -> Result<Outcome, StationError>
         requires { HasLawfulSize control }
         ensures ok { OnOk result (self.new ≡ after_group self.old (group.ConnectionManagement source dest control)) }
-        ensures reaction { IfOk result (λ x. x ≡ reactions.group_reaction self.old (group.ConnectionManagement source dest control)) }
+        ensures reaction { IfOk result (λ x. x.reaction ≡ reactions.group_reaction self.old (group.ConnectionManagement source dest control)) }
+        ensures change { IfOk result (λ x. x.change ≡ group_changes self.old (group.ConnectionManagement source dest control)) }
         ensures err { OnErr result (self.new ≡ self.old) }
         ensures only_memory { IsOkUnless result StationError.OutOfMemory }
     {
         let to_it = self.claimer.held() == Some(dest);
         match control {
-            Control::Bam { size, pgn, .. } if dest == GLOBAL_ADDRESS => self.hear_bam(
-                alloc, source, size, pgn,
-            )?,
+            Control::Bam { size, pgn, .. } if dest == GLOBAL_ADDRESS => {
+                let change = self.hear_bam(alloc, source, size, pgn)?;
+                Ok(Outcome::quiet(alloc, change))
+            }
             Control::Rts {
                 size,
                 packets,
@@ -112,12 +173,15 @@ impl Station {
                     most,
                     pgn,
                 };
-                return self.hear_rts(alloc, source, dest, announced);
+                let reaction = self.hear_rts(alloc, source, dest, announced)?;
+                Ok(Outcome::answer(reaction))
             }
-            Control::Abort { pgn, .. } if to_it => self.hear_abort(source, pgn),
-            _ => {}
+            Control::Abort { pgn, .. } if to_it => {
+                self.hear_abort(source, pgn);
+                Ok(Outcome::quiet(alloc, Change::Nothing))
+            }
+            _ => Ok(Outcome::quiet(alloc, Change::Nothing)),
         }
-        Ok(Reaction::silent(alloc))
     }
 
     /// A packet to all or to the station.
@@ -127,19 +191,20 @@ impl Station {
         source: u8,
         dest: u8,
         bytes: &[u8],
-    ) -> Result<Reaction, StationError>
+    ) -> Result<Outcome, StationError>
         ensures ok { OnOk result (self.new ≡ after_group self.old (group.DataTransfer source dest bytes.now)) }
-        ensures reaction { IfOk result (λ x. x ≡ reactions.group_reaction self.old (group.DataTransfer source dest bytes.now)) }
+        ensures reaction { IfOk result (λ x. x.reaction ≡ reactions.group_reaction self.old (group.DataTransfer source dest bytes.now)) }
+        ensures change { IfOk result (λ x. x.change ≡ group_changes self.old (group.DataTransfer source dest bytes.now)) }
         ensures err { OnErr result (self.new ≡ self.old) }
         ensures only_memory { IsOkUnless result StationError.OutOfMemory }
     {
         if dest == GLOBAL_ADDRESS {
-            self.hear_broadcast_packet(alloc, source, bytes)?;
-            return Ok(Reaction::silent(alloc));
+            let change = self.hear_broadcast_packet(alloc, source, bytes)?;
+            return Ok(Outcome::quiet(alloc, change));
         }
         if self.claimer.held() == Some(dest) {
             return self.hear_session_packet(alloc, source, dest, bytes);
         }
-        Ok(Reaction::silent(alloc))
+        Ok(Outcome::quiet(alloc, Change::Nothing))
     }
 }

@@ -1,0 +1,55 @@
+ghost use Rattle.std.specs.Prelude.{◌≡◌, false, slice_index_or};
+ghost use Rattle.bus_watch.specs.Tellings.{none_told, told_after};
+
+use station_table::Change as Heard;
+use std::marker::Model;
+
+/// Of which addresses it was told that a message came from there without an owner: once, until somebody claims the address or frames
+/// are missed.
+#[derive(Debug, Drop)]
+pub(crate) struct Unowned {
+    told: [bool; 256],
+}
+
+impl Model for Unowned {
+    ghost use Rattle.std.specs.Prelude.{Bool, List};
+
+    ghost Value = { List Bool };
+
+    ghost view = { λ u. u.told };
+}
+
+impl Unowned {
+    /// Of none.
+    pub(crate) fn new() -> Unowned
+        ensures { result ≡ none_told }
+    {
+        Unowned { told: none_told() }
+    }
+
+    /// Whether it was told of this address.
+    pub(crate) fn is_told(&self, address: u8) -> bool
+        ensures { result ≡ slice_index_or self.now address false }
+    {
+        self.told[usize::from(address)]
+    }
+
+    /// HasFollowed what the station heard.
+    pub(crate) fn follow(&mut self, heard: &Heard)
+        ensures { self.new ≡ told_after heard.now self.old }
+    {
+        match *heard {
+            Heard::Claimed { address, .. } => self.told[usize::from(address)] = false,
+            Heard::Unowned { source, .. } => self.told[usize::from(source)] = true,
+            Heard::Missed { .. } => self.told = none_told(),
+            _ => {}
+        }
+    }
+}
+
+#[tactic(auto, unfolding(crate::specs::Tellings::none_told))]
+fn none_told() -> [bool; 256]
+    ensures { result ≡ none_told }
+{
+    [false; 256]
+}

@@ -1,16 +1,20 @@
 -- A station that takes a reading stands for the readings with it.
-use Rattle.std.proofs.Common.{◌≡◌, ℕ, List, ◌∷◌, Some, IfOk, OnOk, Result, Ok, Err, refl, ap, ◌∙◌, subst}
+use Rattle.std.proofs.Common.{◌≡◌, ℕ, List, ◌∷◌, Option, Some, IfOk, OnOk, Result, Ok, Err, refl, ap, ◌∙◌, subst}
 use Rattle.bus_model.specs.Changed.{change_heard}
 use Rattle.bus_model.specs.Heard.{StationSettings, address_heard}
 use Rattle.bus_model.specs.declared.change.Change.{Change}
 use Rattle.can_frame.specs.declared.reading.Reading.{Reading}
 use Rattle.can_frame.specs.declared.reading.Reading.TheVariants.{Frame, Gap, Empty}
+use Rattle.entry_lists.specs.Entries.{HasPut}
+use Rattle.entry_lists.specs.declared.entry.NewEntry.{NewEntry}
 use Rattle.listening.specs.Listened.{HasListened, change_listened, listened, reading_listened}
-use Rattle.listening.specs.Posts.{PostValue, after_taking, change_at, given_up_at, reading_at}
-use Rattle.station_table.specs.StandsFor.{StandsFor, none_taken}
+use Rattle.listening.specs.Posts.{PostValue, after_taking, change_at, entry_at, given_up_at, reading_at}
+use Rattle.station_table.specs.Listing.{entry_heard}
+use Rattle.station_table.specs.StandsFor.{StandsFor}
 use Rattle.station_table.specs.StationValue.{StationValue}
 use Rattle.station_table.specs.declared.outcome.Outcome.{Outcome}
 use Rattle.station_table.proofs.Changing.{reading_same}
+use Rattle.station_table.proofs.Listing.{entry_same, listed_on_ok}
 use Rattle.station_table.proofs.Stands.{stands_read}
 
 pub stands_with : (p q : PostValue) (x : Reading) → q ≡ after_taking p x
@@ -63,7 +67,7 @@ listens_with_ok (Err y) p q x e = tt
 -- what a reading changes by the tables is what was heard to change
 pub change_with : (p : PostValue) (x : Reading) (c : Change) → c ≡ change_at p x
     → (r : StationSettings) (grant : ℕ) (h : List Reading) → StandsFor r grant p.station h → c ≡ change_heard r (reading_at p x) h
-change_with p x c e r grant h st = e ∙ reading_same none_taken r grant p.station h (reading_at p x) st
+change_with p x c e r grant h st = e ∙ reading_same r grant p.station h (reading_at p x) st
 
 -- the same at a call's answer
 pub change_with_ok : {E : Type 0} (result : Result Outcome E) (p : PostValue) (x : Reading) → IfOk result (λ o. o.change ≡ change_at p x)
@@ -76,3 +80,12 @@ pub heard_with : (p : PostValue) (x : Reading) (c : Change) → c ≡ change_at 
     → (r : StationSettings) (grant : ℕ) (handed : List Reading) → HasListened r grant p handed → c ≡ change_listened r x (listened r handed)
 heard_with p x c e r grant handed l =
     change_with p x c e r grant (listened r handed).readings l.stands ∙ ap (λ (y : Reading). change_heard r y (listened r handed).readings) (read_as r grant p handed l x)
+
+-- the entry by the tables is the one that was heard
+pub listed_with : {L : Type 0} (takes : L → NewEntry → L → Type 0) (before after : L) (p : PostValue) (x : Reading) → HasPut takes before (entry_at p x) after
+    → (r : StationSettings) (grant : ℕ) (h : List Reading) → StandsFor r grant p.station h → HasPut takes before (entry_heard r (reading_at p x) h) after
+listed_with takes before after p x put r grant h st = subst (λ (e : Option NewEntry). HasPut takes before e after) (entry_same r grant p.station h (reading_at p x) st) put
+
+pub listed_with_ok : {T E L : Type 0} (result : Result T E) (takes : L → NewEntry → L → Type 0) (before after : L) (p : PostValue) (x : Reading) → OnOk result (HasPut takes before (entry_at p x) after)
+    → OnOk result ((r : StationSettings) (grant : ℕ) (h : List Reading) → StandsFor r grant p.station h → HasPut takes before (entry_heard r (reading_at p x) h) after)
+listed_with_ok result takes before after p x put = listed_on_ok result takes before after p.station (reading_at p x) put

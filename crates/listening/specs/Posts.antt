@@ -4,7 +4,9 @@ use Rattle.can_frame.specs.declared.reading.Reading.{Reading}
 use Rattle.can_frame.specs.declared.reading.Reading.TheVariants.{Frame, Gap, Empty}
 use Rattle.parameter_group.specs.Group.{Group, group_of}
 use Rattle.bus_model.specs.declared.change.Change.{Change}
+use Rattle.entry_lists.specs.declared.entry.NewEntry.{NewEntry}
 use Rattle.station_table.specs.Changing.{reading_changes}
+use Rattle.station_table.specs.Listing.{reading_entry}
 use Rattle.station_table.specs.Reactions.{silent, station_reaction}
 use Rattle.station_table.specs.StationValue.{StationValue}
 use Rattle.station_table.specs.Steps.{after_reading}
@@ -54,3 +56,7 @@ answer_at p x = replied_by p.given_up (station_reaction p.station (reading_at p 
 -- what a reading changes of what it shows: nothing, where it is passed over
 abbrev pub change_at : PostValue → Reading → Change
 change_at p x = reading_changes p.station (reading_at p x)
+
+-- the entry that a reading lists: none, where it is passed over
+abbrev pub entry_at : PostValue → Reading → Option NewEntry
+entry_at p x = reading_entry p.station (reading_at p x)

@@ -2,111 +2,97 @@
 use Rattle.std.proofs.Common.{◌≡◌, ℕ, ◌<◌, ◌≤◌, Bool, ◌||◌, ◌==◌, List, ◌∷◌, Option, Some, None, if◌then◌else◌, length, refl, sym, ap, ◌∙◌, subst}
 use Rattle.std.specs.Prelude.{Result, Ok, Err, IfOk, OnOk}
 use Rattle.address_claim.specs.Claiming.{is_held}
-use Rattle.bus_model.specs.Changed.{is_listed, announced_change, answer_change, change_heard, claim_change, displaced_by, ended_change, giving_up, group_change, has_answered, is_again, single_change, still_has}
+use Rattle.bus_model.specs.Changed.{announced_change, answer_change, change_heard, claim_change, displaced_by, ended_change, giving_up, group_change, has_answered, is_again, single_change, still_has}
 use Rattle.bus_model.specs.Heard.{Joining, RowHeard, StationSettings, ack_in_row, address_heard, address_in_row, address_known, broadcast_heard, ended_by, finished, kind_of, owner_heard}
 use Rattle.bus_model.specs.declared.change.Change.TheVariants.{Nothing}
 use Rattle.can_frame.specs.FrameValue.{FrameValue}
 use Rattle.can_frame.specs.declared.reading.Reading.{Reading}
 use Rattle.can_frame.specs.declared.reading.Reading.TheVariants.{Frame, Gap, Empty}
-use Rattle.dm_messages.specs.declared.kind.Kind.{Kind}
-use Rattle.dm_messages.specs.declared.shown.Shown.{Shown}
 use Rattle.parameter_group.specs.Group.{Group, AddressClaimed, CannotClaim, Request, Acknowledgment, Diagnostic, ConnectionManagement, DataTransfer, Other, group_of}
 use Rattle.reassembly.specs.Partials.{with_packet}
 use Rattle.reassembly.specs.Tables.{at}
 use Rattle.transport.specs.declared.control.Control.{Control}
 use Rattle.transport.specs.declared.control.Control.TheVariants.{Bam}
 use Rattle.station_table.specs.Changing.{address_by, answers_again, ended_by_packet, group_changes, keeps_address, reading_changes}
-use Rattle.station_table.specs.KeptValue.{KeptValue, entries_under, kept_under}
-use Rattle.station_table.specs.Lists.{MayAdd}
+use Rattle.station_table.specs.KeptValue.{KeptValue, kept_under}
 use Rattle.station_table.specs.Orders.{address_in}
-use Rattle.station_table.specs.StandsFor.{StandsBeside, row_known, row_of}
+use Rattle.station_table.specs.StandsFor.{StandsFor, row_known, row_of}
 use Rattle.station_table.specs.StationValue.{StationValue}
 use Rattle.station_table.proofs.Lines.{held_same}
 use Rattle.station_table.specs.Reactions.{group_reaction}
-use Rattle.station_table.specs.Steps.{after_group, after_reading}
+use Rattle.station_table.specs.Steps.{after_group}
 use Rattle.station_table.specs.declared.outcome.Outcome.{Outcome}
 use Rattle.station_table.proofs.Few.{few_by_group}
-use Rattle.station_table.proofs.Lists.{one_added, one_added_by}
-use Rattle.station_table.proofs.Stands.{beside_after, sender, sender_below}
+use Rattle.station_table.proofs.Stands.{stands_after, sender, sender_below}
 
 address_words : (owners : List (Option ℕ)) (name : ℕ) (k : Option KeptValue) → address_in (row_of owners name k) ≡ address_in_row (row_known owners name k)
 address_words owners name None = refl
 address_words owners name (Some k) = refl
 
-address_same : (taken : ℕ → Kind → List Shown) (r : StationSettings) (grant : ℕ) (s : StationValue) (h : List Reading) → StandsBeside taken r grant s h → (n : ℕ) → address_by s n ≡ address_known r n h
-address_same taken r grant s h st n = address_words s.owners n (kept_under s.rows n) ∙ ap (λ (o : Option RowHeard). address_in_row o) (st.rows n)
+address_same : (r : StationSettings) (grant : ℕ) (s : StationValue) (h : List Reading) → StandsFor r grant s h → (n : ℕ) → address_by s n ≡ address_known r n h
+address_same r grant s h st n = address_words s.owners n (kept_under s.rows n) ∙ ap (λ (o : Option RowHeard). address_in_row o) (st.rows n)
 
-still_same : (taken : ℕ → Kind → List Shown) (r : StationSettings) (grant : ℕ) (s : StationValue) (h : List Reading) → StandsBeside taken r grant s h → (a : ℕ) (own : Option ℕ)
+still_same : (r : StationSettings) (grant : ℕ) (s : StationValue) (h : List Reading) → StandsFor r grant s h → (a : ℕ) (own : Option ℕ)
     → keeps_address s own a ≡ still_has r own a h
-still_same taken r grant s h st a None = refl
-still_same taken r grant s h st a (Some m) = ap (λ (o : Option ℕ). is_held o a) (address_same taken r grant s h st m)
+still_same r grant s h st a None = refl
+still_same r grant s h st a (Some m) = ap (λ (o : Option ℕ). is_held o a) (address_same r grant s h st m)
 
-answered_same : (taken : ℕ → Kind → List Shown) (r : StationSettings) (grant : ℕ) (s : StationValue) (h : List Reading) → StandsBeside taken r grant s h → (c p : ℕ) (own : Option ℕ)
+answered_same : (r : StationSettings) (grant : ℕ) (s : StationValue) (h : List Reading) → StandsFor r grant s h → (c p : ℕ) (own : Option ℕ)
     → answers_again s own c p ≡ has_answered r own c p h
-answered_same taken r grant s h st c p None = refl
-answered_same taken r grant s h st c p (Some m) = ap (λ (o : Option RowHeard). is_again c p (ack_in_row o)) (st.rows m)
+answered_same r grant s h st c p None = refl
+answered_same r grant s h st c p (Some m) = ap (λ (o : Option RowHeard). is_again c p (ack_in_row o)) (st.rows m)
 
 -- the message that a packet ends
-packet_same : (taken : ℕ → Kind → List Shown) (r : StationSettings) (grant : ℕ) (s : StationValue) (h : List Reading) (a d : ℕ) (bytes : List ℕ) → a < 256 → StandsBeside taken r grant s h
+pub packet_same : (r : StationSettings) (grant : ℕ) (s : StationValue) (h : List Reading) (a d : ℕ) (bytes : List ℕ) → a < 256 → StandsFor r grant s h
     → ended_by_packet s a d bytes ≡ ended_by r (DataTransfer a d bytes) h
-packet_same taken r grant s h a d bytes lt st =
+packet_same r grant s h a d bytes lt st =
     ap (λ (j : Option Joining). if d == 255 then finished (with_packet bytes j) else (if is_held s.claimer.held d then finished (with_packet bytes (at s.sessions a)) else None)) (st.broadcasts a lt)
-    ∙ (ap (λ (o : Option ℕ). if d == 255 then finished (with_packet bytes (broadcast_heard a h)) else (if is_held o d then finished (with_packet bytes (at s.sessions a)) else None)) (held_same taken r grant s h st)
+    ∙ (ap (λ (o : Option ℕ). if d == 255 then finished (with_packet bytes (broadcast_heard a h)) else (if is_held o d then finished (with_packet bytes (at s.sessions a)) else None)) (held_same r grant s h st)
     ∙ ap (λ (j : Option Joining). if d == 255 then finished (with_packet bytes (broadcast_heard a h)) else (if is_held (address_heard r h) d then finished (with_packet bytes j) else None)) (st.sessions a lt))
 
-control_same : (taken : ℕ → Kind → List Shown) (r : StationSettings) (grant : ℕ) (s : StationValue) (h : List Reading) (a d : ℕ) (c : Control) → a < 256 → StandsBeside taken r grant s h
+control_same : (r : StationSettings) (grant : ℕ) (s : StationValue) (h : List Reading) (a d : ℕ) (c : Control) → a < 256 → StandsFor r grant s h
     → group_changes s (ConnectionManagement a d c) ≡ group_change r (ConnectionManagement a d c) h
-control_same taken r grant s h a d (Bam size packets pgn) lt st = ap (λ (o : Option ℕ). if d == 255 then announced_change (kind_of pgn) a o else Nothing) (st.owners a lt)
-control_same taken r grant s h a d _ lt st = refl
+control_same r grant s h a d (Bam size packets pgn) lt st = ap (λ (o : Option ℕ). if d == 255 then announced_change (kind_of pgn) a o else Nothing) (st.owners a lt)
+control_same r grant s h a d _ lt st = refl
 
-group_same : (taken : ℕ → Kind → List Shown) (r : StationSettings) (grant : ℕ) (s : StationValue) (h : List Reading) (g : Group) → sender g < 256 → StandsBeside taken r grant s h
+group_same : (r : StationSettings) (grant : ℕ) (s : StationValue) (h : List Reading) (g : Group) → sender g < 256 → StandsFor r grant s h
     → group_changes s g ≡ group_change r g h
-group_same taken r grant s h (AddressClaimed a n) lt st =
-    ap (λ (o : Option ℕ). claim_change n a (is_held o a) (displaced_by n (at s.owners a) (keeps_address s (at s.owners a) a))) (address_same taken r grant s h st n)
+group_same r grant s h (AddressClaimed a n) lt st =
+    ap (λ (o : Option ℕ). claim_change n a (is_held o a) (displaced_by n (at s.owners a) (keeps_address s (at s.owners a) a))) (address_same r grant s h st n)
     ∙ (ap (λ (o : Option ℕ). claim_change n a (is_held (address_known r n h) a) (displaced_by n o (keeps_address s o a))) (st.owners a lt)
-    ∙ ap (λ (b : Bool). claim_change n a (is_held (address_known r n h) a) (displaced_by n (owner_heard a h) b)) (still_same taken r grant s h st a (owner_heard a h)))
-group_same taken r grant s h (CannotClaim n) lt st = ap (giving_up n) (st.rows n)
-group_same taken r grant s h (Acknowledgment c q p d a) lt st =
-    ap (λ (o : Option ℕ). answer_change (is_held o q || is_held o d) (at s.owners a) c p (answers_again s (at s.owners a) c p)) (held_same taken r grant s h st)
+    ∙ ap (λ (b : Bool). claim_change n a (is_held (address_known r n h) a) (displaced_by n (owner_heard a h) b)) (still_same r grant s h st a (owner_heard a h)))
+group_same r grant s h (CannotClaim n) lt st = ap (giving_up n) (st.rows n)
+group_same r grant s h (Acknowledgment c q p d a) lt st =
+    ap (λ (o : Option ℕ). answer_change (is_held o q || is_held o d) (at s.owners a) c p (answers_again s (at s.owners a) c p)) (held_same r grant s h st)
     ∙ (ap (λ (o : Option ℕ). answer_change (is_held (address_heard r h) q || is_held (address_heard r h) d) o c p (answers_again s o c p)) (st.owners a lt)
-    ∙ ap (λ (b : Bool). answer_change (is_held (address_heard r h) q || is_held (address_heard r h) d) (owner_heard a h) c p b) (answered_same taken r grant s h st c p (owner_heard a h)))
-group_same taken r grant s h (Diagnostic k a bytes) lt st = ap (λ (o : Option ℕ). single_change k a o bytes) (st.owners a lt)
-group_same taken r grant s h (ConnectionManagement a d c) lt st = control_same taken r grant s h a d c lt st
-group_same taken r grant s h (DataTransfer a d bytes) lt st = ap (ended_change a) (packet_same taken r grant s h a d bytes lt st)
-group_same taken r grant s h (Request p d a) lt st = refl
-group_same taken r grant s h Other lt st = refl
+    ∙ ap (λ (b : Bool). answer_change (is_held (address_heard r h) q || is_held (address_heard r h) d) (owner_heard a h) c p b) (answered_same r grant s h st c p (owner_heard a h)))
+group_same r grant s h (Diagnostic k a bytes) lt st = ap (λ (o : Option ℕ). single_change k a o bytes) (st.owners a lt)
+group_same r grant s h (ConnectionManagement a d c) lt st = control_same r grant s h a d c lt st
+group_same r grant s h (DataTransfer a d bytes) lt st = ap (ended_change a) (packet_same r grant s h a d bytes lt st)
+group_same r grant s h (Request p d a) lt st = refl
+group_same r grant s h Other lt st = refl
 
-pub reading_same : (taken : ℕ → Kind → List Shown) (r : StationSettings) (grant : ℕ) (s : StationValue) (h : List Reading) (x : Reading) → StandsBeside taken r grant s h → reading_changes s x ≡ change_heard r x h
-reading_same taken r grant s h Empty st = refl
-reading_same taken r grant s h (Gap n) st = refl
-reading_same taken r grant s h (Frame f) st = group_same taken r grant s h (group_of f) (sender_below f) st
+pub reading_same : (r : StationSettings) (grant : ℕ) (s : StationValue) (h : List Reading) (x : Reading) → StandsFor r grant s h → reading_changes s x ≡ change_heard r x h
+reading_same r grant s h Empty st = refl
+reading_same r grant s h (Gap n) st = refl
+reading_same r grant s h (Frame f) st = group_same r grant s h (group_of f) (sender_below f) st
 
 -- at a call's answer
 pub heard_on_ok : {E : Type 0} (result : Result Outcome E) (s : StationValue) (x : Reading) → IfOk result (λ o. o.change ≡ reading_changes s x)
-    → IfOk result (λ o. (taken : ℕ → Kind → List Shown) (r : StationSettings) (grant : ℕ) (h : List Reading) → StandsBeside taken r grant s h → o.change ≡ change_heard r x h)
-heard_on_ok (Ok o) s x e = λ taken r grant h st. e ∙ reading_same taken r grant s h x st
+    → IfOk result (λ o. (r : StationSettings) (grant : ℕ) (h : List Reading) → StandsFor r grant s h → o.change ≡ change_heard r x h)
+heard_on_ok (Ok o) s x e = λ r grant h st. e ∙ reading_same r grant s h x st
 heard_on_ok (Err y) s x e = tt
-
-pub listed_on_ok : {E : Type 0} (result : Result Outcome E) (s t : StationValue) (x : Reading) → IfOk result (λ o. o.change ≡ reading_changes s x) → OnOk result (t ≡ after_reading s x)
-    → IfOk result (λ o. (n : ℕ) (k : Kind) → MayAdd (is_listed o.change n k) (entries_under s.rows n k) (entries_under t.rows n k))
-listed_on_ok (Ok o) s t x e step = λ n k. one_added s t x o.change n k e step
-listed_on_ok (Err y) s t x e step = tt
 
 -- and at that of a call that takes what a frame says
 pub group_on_ok : {E : Type 0} (result : Result Outcome E) (s : StationValue) (g : Group) → IfOk result (λ o. o.change ≡ group_changes s g)
-    → IfOk result (λ o. (f : FrameValue) → group_of f ≡ g → (taken : ℕ → Kind → List Shown) (r : StationSettings) (grant : ℕ) (h : List Reading) → StandsBeside taken r grant s h → o.change ≡ change_heard r (Frame f) h)
-group_on_ok (Ok o) s g e = λ f is taken r grant h st. e ∙ (ap (group_changes s) (sym is) ∙ reading_same taken r grant s h (Frame f) st)
+    → IfOk result (λ o. (f : FrameValue) → group_of f ≡ g → (r : StationSettings) (grant : ℕ) (h : List Reading) → StandsFor r grant s h → o.change ≡ change_heard r (Frame f) h)
+group_on_ok (Ok o) s g e = λ f is r grant h st. e ∙ (ap (group_changes s) (sym is) ∙ reading_same r grant s h (Frame f) st)
 group_on_ok (Err y) s g e = tt
 
-pub group_listed_on_ok : {E : Type 0} (result : Result Outcome E) (s t : StationValue) (g : Group) → IfOk result (λ o. o.change ≡ group_changes s g) → OnOk result (t ≡ after_group s g)
-    → IfOk result (λ o. (n : ℕ) (k : Kind) → MayAdd (is_listed o.change n k) (entries_under s.rows n k) (entries_under t.rows n k))
-group_listed_on_ok (Ok o) s t g e step = λ n k. one_added_by s t g o.change n k e step
-group_listed_on_ok (Err y) s t g e step = tt
-
-pub group_beside_on_ok : {T E : Type 0} (result : Result T E) (s t : StationValue) (g : Group) → OnOk result (t ≡ after_group s g)
-    → OnOk result ((f : FrameValue) → group_of f ≡ g → (taken : ℕ → Kind → List Shown) (r : StationSettings) (grant : ℕ) (h : List Reading) → StandsBeside taken r grant s h → StandsBeside taken r grant t (Frame f ∷ h))
-group_beside_on_ok (Ok y) s t g e = λ f is taken r grant h st. subst (λ (v : StationValue). StandsBeside taken r grant v (Frame f ∷ h)) (ap (after_group s) is ∙ sym e) (beside_after taken r grant s h (Frame f) st)
-group_beside_on_ok (Err y) s t g e = tt
+pub group_stands_on_ok : {T E : Type 0} (result : Result T E) (s t : StationValue) (g : Group) → OnOk result (t ≡ after_group s g)
+    → OnOk result ((f : FrameValue) → group_of f ≡ g → (r : StationSettings) (grant : ℕ) (h : List Reading) → StandsFor r grant s h → StandsFor r grant t (Frame f ∷ h))
+group_stands_on_ok (Ok y) s t g e = λ f is r grant h st. subst (λ (v : StationValue). StandsFor r grant v (Frame f ∷ h)) (ap (after_group s) is ∙ sym e) (stands_after r grant s h (Frame f) st)
+group_stands_on_ok (Err y) s t g e = tt
 
 pub group_few_on_ok : {E : Type 0} (result : Result Outcome E) (s : StationValue) (g : Group) → IfOk result (λ o. o.reaction ≡ group_reaction s g) → IfOk result (λ o. length o.reaction.put ≤ 2)
 group_few_on_ok (Ok o) s g e = few_by_group s g o.reaction e

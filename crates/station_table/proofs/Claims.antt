@@ -1,52 +1,26 @@
 -- After a claim or an acknowledgment, the tables have at each address what was then heard of it.
-use Rattle.std.proofs.Common.{◌≡◌, ℕ, ◌<◌, Bool, true, false, ◌==◌, not, ◌&&◌, ◌||◌, List, [], ◌++◌, Option, Some, None, if◌then◌else◌, unwrap_or, length, map, refl, sym, ap, ◌∙◌, subst}
+use Rattle.std.proofs.Common.{◌≡◌, ℕ, ◌<◌, Bool, true, false, ◌==◌, not, ◌&&◌, ◌||◌, List, Option, Some, None, if◌then◌else◌, unwrap_or, length, map, refl, sym, ap, ◌∙◌, subst}
 use Rattle.std.specs.Prelude.{slice_set, nat_lt}
-use Rattle.std.specs.Option.{option_map, option_map_or}
+use Rattle.std.specs.Option.{option_map}
 use Rattle.std.proofs.lemmas.Bool.{eq-eqb, eqb-true, ne_eqb}
 use Rattle.std.proofs.lemmas.List.{length-set}
 use Rattle.address_claim.specs.Claiming.{ClaimerValue, is_held, claim_step, move_step, next_address, noted_after}
 use Rattle.address_claim.specs.declared.claimer.ClaimStep.{ClaimStep}
 use Rattle.address_claim.specs.declared.claimer.ClaimStep.TheVariants.{Nothing, Defend, Move, CannotClaim as NoAddress}
 use Rattle.can_frame.specs.declared.reading.Reading.{Reading}
-use Rattle.dm_messages.specs.declared.kind.Kind.{Kind}
-use Rattle.dm_messages.specs.declared.kind.Kind.TheVariants.{Dm1, Dm2, Dm6}
-use Rattle.dm_messages.specs.declared.shown.Shown.{Shown}
 use Rattle.parameter_group.specs.Group.{AddressClaimed, CannotClaim, Acknowledgment}
 use Rattle.parameter_group.specs.Calm.{is_contest}
 use Rattle.bus_model.specs.Heard.{StationSettings, Joining, AckHeard, RowHeard, without_address, row_with_ack as with_ack_heard, is_answer, ack_in_row, owner_heard, address_heard, broadcast_heard, session_heard, row_heard, with_name, kept_by_owner as joining_under}
 use Rattle.bus_model.proofs.Bridge.{claimer_name}
-use Rattle.station_table.specs.declared.row.AckSeen.{AckSeen}
-use Rattle.station_table.specs.KeptValue.{KeptValue, nothing_kept, kept_under, entries_of, entries_under, with_claimed, with_ack, with_row, changed_under}
+use Rattle.station_table.specs.KeptValue.{KeptValue, nothing_kept, kept_under, with_claimed, with_ack, with_row, changed_under}
 use Rattle.reassembly.specs.Tables.{at}
 use Rattle.reassembly.specs.TableLaws.{at-set, at-empty, places-empty}
 use Rattle.station_table.specs.StationValue.{StationValue}
 use Rattle.station_table.specs.Steps.{sessions_after, with_answer, after_group}
-use Rattle.station_table.specs.StandsFor.{StandsBeside, still_owned, ack_known, row_known}
+use Rattle.station_table.specs.StandsFor.{StandsFor, still_owned, ack_known, row_known}
 use Rattle.station_table.proofs.OwnAddress.{still_apart}
 use Rattle.station_table.proofs.RowLemmas.{named, kept_under-changed, names-changed, kept_under-with_row, names-with_row}
 use Rattle.station_table.proofs.Lines.{StandsAfter, held_same, and_false, changed_place, written_place, tells}
-
--- what a change that leaves the entries leaves
-pub entries_left : (f : KeptValue → KeptValue) → ((x : KeptValue) (k : Kind) → entries_of (f x) k ≡ entries_of x k)
-    → (rows : List (ℕ × KeptValue)) (m n : ℕ) (k : Kind) → entries_under (changed_under f rows m) n k ≡ entries_under rows n k
-entries_left f keeps rows m n k =
-    ap (λ (o : Option KeptValue). option_map_or (λ kept. entries_of kept k) o []) (kept_under-changed f rows m n)
-    ∙ go (m == n) (kept_under rows n)
-  where
-    go : (b : Bool) (o : Option KeptValue) → option_map_or (λ kept. entries_of kept k) (if b then option_map f o else o) [] ≡ option_map_or (λ kept. entries_of kept k) o []
-    go false o = refl
-    go true None = refl
-    go true (Some x) = keeps x k
-
-pub ack_keeps : (ack : AckSeen) (x : KeptValue) (k : Kind) → entries_of (with_ack ack x) k ≡ entries_of x k
-ack_keeps ack x Dm1 = refl
-ack_keeps ack x Dm2 = refl
-ack_keeps ack x Dm6 = refl
-
-claimed_keeps : (a : Option ℕ) (x : KeptValue) (k : Kind) → entries_of (with_claimed a x) k ≡ entries_of x k
-claimed_keeps a x Dm1 = refl
-claimed_keeps a x Dm2 = refl
-claimed_keeps a x Dm6 = refl
 
 row_acknowledged : (owners : List (Option ℕ)) (n control pgn : ℕ) (o : Option KeptValue)
     → row_known owners n (option_map (with_ack (record { control = control; pgn = pgn })) o) ≡ with_ack_heard control pgn (row_known owners n o)
@@ -54,40 +28,37 @@ row_acknowledged owners n control pgn None = refl
 row_acknowledged owners n control pgn (Some x) = refl
 
 -- an acknowledgment
-pub acknowledged : (taken : ℕ → Kind → List Shown) (r : StationSettings) (grant : ℕ) (s : StationValue) (h : List Reading) (control requester pgn d src : ℕ) → src < 256 → StandsBeside taken r grant s h
-    → StandsAfter taken r grant (Acknowledgment control requester pgn d src) (after_group s (Acknowledgment control requester pgn d src)) h
-acknowledged taken r grant s h control requester pgn d src lt st =
+pub acknowledged : (r : StationSettings) (grant : ℕ) (s : StationValue) (h : List Reading) (control requester pgn d src : ℕ) → src < 256 → StandsFor r grant s h
+    → StandsAfter r grant (Acknowledgment control requester pgn d src) (after_group s (Acknowledgment control requester pgn d src)) h
+acknowledged r grant s h control requester pgn d src lt st =
     go (is_held s.claimer.held requester || is_held s.claimer.held d) refl (at s.owners src) refl
   where
     same_test : (b : Bool) (own : Option ℕ) → (is_held s.claimer.held requester || is_held s.claimer.held d) ≡ b → at s.owners src ≡ own → (n : ℕ)
         → is_answer requester d (address_heard r h) (owner_heard src h) n ≡ (b && is_held own n)
-    same_test b own i j n = rw (← held_same taken r grant s h st, i, ← st.owners src lt, j) refl
+    same_test b own i j n = rw (← held_same r grant s h st, i, ← st.owners src lt, j) refl
 
     row_of_other : (n : ℕ) (b : Bool) → (if b && false then with_ack_heard control pgn (row_heard r n h) else row_heard r n h) ≡ row_heard r n h
     row_of_other n b = rw (and_false b) refl
 
-    left : (b : Bool) → ((n : ℕ) → is_answer requester d (address_heard r h) (owner_heard src h) n ≡ false) → StandsAfter taken r grant (Acknowledgment control requester pgn d src) s h
+    left : (b : Bool) → ((n : ℕ) → is_answer requester d (address_heard r h) (owner_heard src h) n ≡ false) → StandsAfter r grant (Acknowledgment control requester pgn d src) s h
     left b never = record {
-      addresses = (tells taken r grant s h st).addresses;
+      addresses = (tells r grant s h st).addresses;
       rows = λ n. rw (never n) (st.rows n);
       names = st.names;
-      entries = st.entries;
       missed = st.missed;
       unread = st.unread;
     }
 
     go : (b : Bool) → (is_held s.claimer.held requester || is_held s.claimer.held d) ≡ b → (own : Option ℕ) → at s.owners src ≡ own
-        → StandsAfter taken r grant (Acknowledgment control requester pgn d src) (if b then with_answer s own (record { control = control; pgn = pgn }) else s) h
+        → StandsAfter r grant (Acknowledgment control requester pgn d src) (if b then with_answer s own (record { control = control; pgn = pgn }) else s) h
     go false i own j = left false (λ n. same_test false own i j n)
     go true i None j = left true (λ n. same_test true None i j n)
     go true i (Some m) j = record {
-      addresses = (tells taken r grant s h st).addresses;
+      addresses = (tells r grant s h st).addresses;
       rows = λ n.
           ap (row_known s.owners n) (kept_under-changed (with_ack (record { control = control; pgn = pgn })) s.rows m n)
           ∙ (if_row n (m == n) ∙ rw (same_test true (Some m) i j n, ← st.rows n) refl);
       names = names-changed (with_ack (record { control = control; pgn = pgn })) s.rows m ∙ st.names;
-      entries = λ n k.
-          ap (λ (x : List Shown). taken n k ++ x) (entries_left (with_ack (record { control = control; pgn = pgn })) (ack_keeps (record { control = control; pgn = pgn })) s.rows m n k) ∙ st.entries n k;
       missed = st.missed;
       unread = st.unread;
     }
@@ -114,19 +85,6 @@ kept_once_claimed a rows m n = kept_under-changed (with_claimed a) (with_row row
 names_once_claimed : (a : Option ℕ) (rows : List (ℕ × KeptValue)) (m : ℕ) → map named (changed_under (with_claimed a) (with_row rows m) m) ≡ with_name m (map named rows)
 names_once_claimed a rows m = names-changed (with_claimed a) (with_row rows m) m ∙ names-with_row rows m
 
-pub entries_once_claimed : (a : Option ℕ) (rows : List (ℕ × KeptValue)) (m n : ℕ) (k : Kind)
-    → entries_under (changed_under (with_claimed a) (with_row rows m) m) n k ≡ entries_under rows n k
-entries_once_claimed a rows m n k =
-    ap (λ (o : Option KeptValue). option_map_or (λ kept. entries_of kept k) o []) (kept_once_claimed a rows m n) ∙ go (m == n) (kept_under rows n) k
-  where
-    go : (b : Bool) (o : Option KeptValue) (l : Kind)
-        → option_map_or (λ kept. entries_of kept l) (if b then Some (with_claimed a (unwrap_or o nothing_kept)) else o) [] ≡ option_map_or (λ kept. entries_of kept l) o []
-    go false o l = refl
-    go true None Dm1 = refl
-    go true None Dm2 = refl
-    go true None Dm6 = refl
-    go true (Some x) l = claimed_keeps a x l
-
 ack_unclaimed : (owners : List (Option ℕ)) (n : ℕ) (o : Option KeptValue) → ack_known (unwrap_or o nothing_kept).ack ≡ ack_in_row (row_known owners n o)
 ack_unclaimed owners n None = refl
 ack_unclaimed owners n (Some x) = refl
@@ -137,13 +95,12 @@ no_address : (owners : List (Option ℕ)) (n : ℕ) (o : Option KeptValue)
 no_address owners n None = refl
 no_address owners n (Some x) = refl
 
-pub cannot_claim : (taken : ℕ → Kind → List Shown) (r : StationSettings) (grant : ℕ) (s : StationValue) (h : List Reading) (m : ℕ) → StandsBeside taken r grant s h
-    → StandsAfter taken r grant (CannotClaim m) (after_group s (CannotClaim m)) h
-cannot_claim taken r grant s h m st = record {
-  addresses = (tells taken r grant s h st).addresses;
+pub cannot_claim : (r : StationSettings) (grant : ℕ) (s : StationValue) (h : List Reading) (m : ℕ) → StandsFor r grant s h
+    → StandsAfter r grant (CannotClaim m) (after_group s (CannotClaim m)) h
+cannot_claim r grant s h m st = record {
+  addresses = (tells r grant s h st).addresses;
   rows = λ n. ap (row_known s.owners n) (kept_once_claimed None s.rows m n) ∙ rw (← st.rows n) (go n (m == n));
   names = names_once_claimed None s.rows m ∙ ap (with_name m) st.names;
-  entries = λ n k. ap (λ (x : List Shown). taken n k ++ x) (entries_once_claimed None s.rows m n k) ∙ st.entries n k;
   missed = st.missed;
   unread = st.unread;
 }
@@ -221,9 +178,9 @@ contest_step src m c = go (is_held c.held src) (m == c.name) (nat_lt c.name m)
     go true false false = move_contest (next_address c.name (noted_after src m c.noted))
 
 -- a claim of an address
-pub claimed : (taken : ℕ → Kind → List Shown) (r : StationSettings) (grant : ℕ) (s : StationValue) (h : List Reading) (src m : ℕ) → src < 256 → StandsBeside taken r grant s h
-    → StandsAfter taken r grant (AddressClaimed src m) (after_group s (AddressClaimed src m)) h
-claimed taken r grant s h src m lt st = record {
+pub claimed : (r : StationSettings) (grant : ℕ) (s : StationValue) (h : List Reading) (src m : ℕ) → src < 256 → StandsFor r grant s h
+    → StandsAfter r grant (AddressClaimed src m) (after_group s (AddressClaimed src m)) h
+claimed r grant s h src m lt st = record {
   addresses = record {
     grants = st.grants;
     claims = rw (st.claims) refl;
@@ -244,13 +201,12 @@ claimed taken r grant s h src m lt st = record {
   };
   rows = λ n. ap (row_known (slice_set s.owners src (Some m)) n) (kept_once_claimed (Some src) s.rows m n) ∙ rw (← st.rows n) (rows_now n (m == n) refl);
   names = names_once_claimed (Some src) s.rows m ∙ ap (with_name m) st.names;
-  entries = λ n k. ap (λ (x : List Shown). taken n k ++ x) (entries_once_claimed (Some src) s.rows m n k) ∙ st.entries n k;
   missed = st.missed;
   unread = st.unread;
 }
   where
     contest_same : is_contest s.claimer.name s.claimer.held (AddressClaimed src m) ≡ is_contest r.name (address_heard r h) (AddressClaimed src m)
-    contest_same = rw (held_same taken r grant s h st, st.claims, claimer_name r h) refl
+    contest_same = rw (held_same r grant s h st, st.claims, claimer_name r h) refl
 
     session_places : (step : ClaimStep) → length (sessions_after step (slice_set s.sessions src (joining_under m (at s.sessions src)))) ≡ 256
     session_places Nothing = length-set s.sessions src (joining_under m (at s.sessions src)) ∙ st.places.sessions

@@ -3,9 +3,8 @@ pub mod Claims
 pub mod Commands
 pub mod Few
 pub mod Joinings
-pub mod Known
 pub mod Lines
-pub mod Lists
+pub mod Listing
 pub mod Messages
 pub mod Orders
 pub mod OwnAddress

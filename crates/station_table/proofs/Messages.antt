@@ -1,5 +1,5 @@
 -- After a diagnostic message, or a part of one, the tables have at each address what was then heard of it.
-use Rattle.std.proofs.Common.{◌≡◌, ℕ, ◌<◌, Bool, true, false, ◌==◌, ◌&&◌, List, Option, Some, None, is_some, if◌then◌else◌, refl, sym, ap, ◌∙◌, subst, ⊎_elim}
+use Rattle.std.proofs.Common.{◌≡◌, ℕ, ◌<◌, Bool, true, false, ◌==◌, ◌&&◌, List, Option, Some, None, is_some, if◌then◌else◌, refl, sym, ap, ◌∙◌, subst}
 use Rattle.std.specs.Prelude.{slice_set, slice_index}
 use Rattle.std.proofs.lemmas.Bool.{eq-eqb, eqb-true}
 use Rattle.std.proofs.lemmas.List.{length-set}
@@ -9,59 +9,29 @@ use Rattle.dm_messages.specs.declared.kind.Kind.{Kind}
 use Rattle.dm_messages.specs.declared.shown.Shown.{Shown}
 use Rattle.dm_messages.specs.View.{decoding}
 use Rattle.transport.specs.declared.control.Control.TheVariants.{Rts, Bam, Abort}
-use Rattle.transport.specs.Pieces.{joined}
 use Rattle.parameter_group.specs.Group.{Diagnostic, ConnectionManagement, DataTransfer}
-use Rattle.reassembly.specs.Partials.{with_packet, is_whole, after_packet}
+use Rattle.reassembly.specs.Partials.{with_packet, after_packet}
 use Rattle.reassembly.specs.Tables.{at}
 use Rattle.reassembly.specs.TableLaws.{item-set}
-use Rattle.bus_model.specs.Heard.{StationSettings, Joining, Entry, kind_of, started, finished, entry_under, or_else, without_kind, owner_heard, address_heard, broadcast_heard, session_heard, row_heard, ended_by}
+use Rattle.bus_model.specs.Heard.{StationSettings, Joining, Entry, kind_of, started, finished, entry_under, or_else, without_kind, owner_heard, address_heard, broadcast_heard, session_heard, ended_by}
 use Rattle.station_table.specs.StationValue.{StationValue}
 use Rattle.station_table.specs.Steps.{with_reading, with_ended, with_broadcast_packet, with_session_packet, with_session, after_group}
-use Rattle.station_table.specs.StandsFor.{StandsBeside, most_heard}
-use Rattle.bus_model.proofs.Lookback.{pick_cases}
-use Rattle.station_table.proofs.Known.{owner_has_row, broadcast_has_row, session_has_row, packet_owner_row}
+use Rattle.station_table.specs.StandsFor.{StandsFor, most_heard}
 use Rattle.station_table.proofs.Lines.{StandsAfter, Midway, held_same, and_true, and_false, changed_place, written_place, ending, tells}
 
 -- a single message
-pub single : (taken : ℕ → Kind → List Shown) (r : StationSettings) (grant : ℕ) (s : StationValue) (h : List Reading) (k : Kind) (src : ℕ) (bytes : List ℕ) → src < 256 → StandsBeside taken r grant s h
-    → StandsAfter taken r grant (Diagnostic k src bytes) (after_group s (Diagnostic k src bytes)) h
-single taken r grant s h k src bytes lt st = ending taken r grant (Diagnostic k src bytes) s h (entry_under (at s.owners src) k bytes) mid same there
+pub single : (r : StationSettings) (grant : ℕ) (s : StationValue) (h : List Reading) (k : Kind) (src : ℕ) (bytes : List ℕ) → src < 256 → StandsFor r grant s h
+    → StandsAfter r grant (Diagnostic k src bytes) (after_group s (Diagnostic k src bytes)) h
+single r grant s h k src bytes lt st = ending r grant (Diagnostic k src bytes) s h (entry_under (at s.owners src) k bytes) mid same
   where
-    mid : Midway taken r grant (Diagnostic k src bytes) s h
+    mid : Midway r grant (Diagnostic k src bytes) s h
     mid = record {
-      tells = tells taken r grant s h st;
+      tells = tells r grant s h st;
       rows = λ n. refl;
     }
 
     same : entry_under (at s.owners src) k bytes ≡ entry_under (owner_heard src h) k bytes
     same = rw (st.owners src lt) refl
-
-    owned : (own : Option ℕ) (e : Entry) → owner_heard src h ≡ own → entry_under own k bytes ≡ Some e → is_some (row_heard r e.name h) ≡ true
-    owned None e i j = absurd cc
-    owned (Some n) e i j =
-        let q : record { name = n; kind = k; bytes = bytes } ≡ e = cc in
-        owner_has_row r src e.name h (i ∙ ap (λ (x : Entry). Some x.name) q)
-
-    there : (e : Entry) → entry_under (at s.owners src) k bytes ≡ Some e → is_some (row_heard r e.name h) ≡ true
-    there e j = owned (owner_heard src h) e refl (sym same ∙ j)
-
--- the owner of a message that is whole
-finished_owner : (o : Option Joining) (e : Entry) → finished o ≡ Some e → (j : Joining) × (o ≡ Some j) × (j.tag.owner ≡ e.name)
-finished_owner None e h = absurd cc
-finished_owner (Some j) e h =
-    ⊎_elim (λ w. (j, refl, ap (λ (x : Option Entry). name_of x) (w.1))) (λ w. absurd (cc (w.1)))
-    (pick_cases (is_whole j) (Some (record { name = j.tag.owner; kind = j.tag.kind; bytes = joined j.size j.pieces })) None (Some e) h)
-  where
-    name_of : Option Entry → ℕ
-    name_of None = 0
-    name_of (Some x) = x.name
-
--- whose message is whole once the packet is there
-packet_there : (r : StationSettings) (h : List Reading) (bytes : List ℕ) (before : Option Joining) (e : Entry)
-    → ((j : Joining) → before ≡ Some j → is_some (row_heard r j.tag.owner h) ≡ true) → finished (with_packet bytes before) ≡ Some e → is_some (row_heard r e.name h) ≡ true
-packet_there r h bytes before e known f =
-    let w = finished_owner (with_packet bytes before) e f in
-    subst (λ (v : ℕ). is_some (row_heard r v h) ≡ true) w.2 (packet_owner_row r h bytes before w.0 known w.1)
 
 -- no test of the place is passed where the other test fails
 test_fails : {X : Type 0} (s a : ℕ) (b : Bool) (x y : X) → b ≡ false → y ≡ (if s == a && b then x else y)
@@ -76,7 +46,7 @@ ended_broadcasts : (s : StationValue) (o : Option Entry) (table : List (Option J
 ended_broadcasts s None table = refl
 ended_broadcasts s (Some e) table = go (decoding e.bytes)
   where
-    go : (o : Option Shown) → with_reading (record s { broadcasts = table }) e.name e.kind o ≡ (let ended = with_reading s e.name e.kind o in record ended { broadcasts = table })
+    go : (o : Option Shown) → with_reading (record s { broadcasts = table }) o ≡ (let ended = with_reading s o in record ended { broadcasts = table })
     go None = refl
     go (Some v) = refl
 
@@ -85,23 +55,23 @@ ended_sessions : (s : StationValue) (o : Option Entry) (table : List (Option Joi
 ended_sessions s None table = refl
 ended_sessions s (Some e) table = go (decoding e.bytes)
   where
-    go : (o : Option Shown) → with_reading (record s { sessions = table }) e.name e.kind o ≡ (let ended = with_reading s e.name e.kind o in record ended { sessions = table })
+    go : (o : Option Shown) → with_reading (record s { sessions = table }) o ≡ (let ended = with_reading s o in record ended { sessions = table })
     go None = refl
     go (Some v) = refl
 
 -- a packet of a broadcast
-broadcast_packet : (taken : ℕ → Kind → List Shown) (r : StationSettings) (grant : ℕ) (s : StationValue) (h : List Reading) (src d : ℕ) (bytes : List ℕ) → (d == 255) ≡ true → src < 256
-    → is_held s.claimer.held 255 ≡ false → StandsBeside taken r grant s h → StandsAfter taken r grant (DataTransfer src d bytes) (with_broadcast_packet s src bytes) h
-broadcast_packet taken r grant s h src d bytes to_all lt not_held st =
-    subst (λ (x : StationValue). StandsAfter taken r grant (DataTransfer src d bytes) x h)
+broadcast_packet : (r : StationSettings) (grant : ℕ) (s : StationValue) (h : List Reading) (src d : ℕ) (bytes : List ℕ) → (d == 255) ≡ true → src < 256
+    → is_held s.claimer.held 255 ≡ false → StandsFor r grant s h → StandsAfter r grant (DataTransfer src d bytes) (with_broadcast_packet s src bytes) h
+broadcast_packet r grant s h src d bytes to_all lt not_held st =
+    subst (λ (x : StationValue). StandsAfter r grant (DataTransfer src d bytes) x h)
     (ended_broadcasts s (finished (with_packet bytes (at s.broadcasts src))) (slice_set s.broadcasts src (after_packet bytes (at s.broadcasts src))))
-    (ending taken r grant (DataTransfer src d bytes) (record s { broadcasts = slice_set s.broadcasts src (after_packet bytes (at s.broadcasts src)) }) h
-    (finished (with_packet bytes (at s.broadcasts src))) mid same there)
+    (ending r grant (DataTransfer src d bytes) (record s { broadcasts = slice_set s.broadcasts src (after_packet bytes (at s.broadcasts src)) }) h
+    (finished (with_packet bytes (at s.broadcasts src))) mid same)
   where
     own_other : is_held (address_heard r h) d ≡ false
-    own_other = let e : d ≡ 255 = eqb-true d 255 to_all in rw (← held_same taken r grant s h st, e) not_held
+    own_other = let e : d ≡ 255 = eqb-true d 255 to_all in rw (← held_same r grant s h st, e) not_held
 
-    mid : Midway taken r grant (DataTransfer src d bytes) (record s { broadcasts = slice_set s.broadcasts src (after_packet bytes (at s.broadcasts src)) }) h
+    mid : Midway r grant (DataTransfer src d bytes) (record s { broadcasts = slice_set s.broadcasts src (after_packet bytes (at s.broadcasts src)) }) h
     mid = record {
       tells = record {
         addresses = record {
@@ -119,7 +89,6 @@ broadcast_packet taken r grant s h src d bytes to_all lt not_held st =
         };
         rows = st.rows;
         names = st.names;
-        entries = st.entries;
         missed = st.missed;
         unread = st.unread;
       };
@@ -129,22 +98,19 @@ broadcast_packet taken r grant s h src d bytes to_all lt not_held st =
     same : finished (with_packet bytes (at s.broadcasts src)) ≡ ended_by r (DataTransfer src d bytes) h
     same = rw (to_all, st.broadcasts src lt) refl
 
-    there : (e : Entry) → finished (with_packet bytes (at s.broadcasts src)) ≡ Some e → is_some (row_heard r e.name h) ≡ true
-    there e j = packet_there r h bytes (broadcast_heard src h) e (broadcast_has_row r src h) (ap (λ (o : Option Joining). finished (with_packet bytes o)) (sym (st.broadcasts src lt)) ∙ j)
-
 -- a packet of a session
-session_packet : (taken : ℕ → Kind → List Shown) (r : StationSettings) (grant : ℕ) (s : StationValue) (h : List Reading) (src d : ℕ) (bytes : List ℕ) → (d == 255) ≡ false → is_held s.claimer.held d ≡ true
-    → src < 256 → StandsBeside taken r grant s h → StandsAfter taken r grant (DataTransfer src d bytes) (with_session_packet s src bytes) h
-session_packet taken r grant s h src d bytes not_all held lt st =
-    subst (λ (x : StationValue). StandsAfter taken r grant (DataTransfer src d bytes) x h)
+session_packet : (r : StationSettings) (grant : ℕ) (s : StationValue) (h : List Reading) (src d : ℕ) (bytes : List ℕ) → (d == 255) ≡ false → is_held s.claimer.held d ≡ true
+    → src < 256 → StandsFor r grant s h → StandsAfter r grant (DataTransfer src d bytes) (with_session_packet s src bytes) h
+session_packet r grant s h src d bytes not_all held lt st =
+    subst (λ (x : StationValue). StandsAfter r grant (DataTransfer src d bytes) x h)
     (ended_sessions s (finished (with_packet bytes (at s.sessions src))) (slice_set s.sessions src (after_packet bytes (at s.sessions src))))
-    (ending taken r grant (DataTransfer src d bytes) (record s { sessions = slice_set s.sessions src (after_packet bytes (at s.sessions src)) }) h
-    (finished (with_packet bytes (at s.sessions src))) mid same there)
+    (ending r grant (DataTransfer src d bytes) (record s { sessions = slice_set s.sessions src (after_packet bytes (at s.sessions src)) }) h
+    (finished (with_packet bytes (at s.sessions src))) mid same)
   where
     own : is_held (address_heard r h) d ≡ true
-    own = rw (← held_same taken r grant s h st) held
+    own = rw (← held_same r grant s h st) held
 
-    mid : Midway taken r grant (DataTransfer src d bytes) (record s { sessions = slice_set s.sessions src (after_packet bytes (at s.sessions src)) }) h
+    mid : Midway r grant (DataTransfer src d bytes) (record s { sessions = slice_set s.sessions src (after_packet bytes (at s.sessions src)) }) h
     mid = record {
       tells = record {
         addresses = record {
@@ -161,7 +127,6 @@ session_packet taken r grant s h src d bytes not_all held lt st =
         };
         rows = st.rows;
         names = st.names;
-        entries = st.entries;
         missed = st.missed;
         unread = st.unread;
       };
@@ -171,13 +136,10 @@ session_packet taken r grant s h src d bytes not_all held lt st =
     same : finished (with_packet bytes (at s.sessions src)) ≡ ended_by r (DataTransfer src d bytes) h
     same = rw (not_all, own, st.sessions src lt) refl
 
-    there : (e : Entry) → finished (with_packet bytes (at s.sessions src)) ≡ Some e → is_some (row_heard r e.name h) ≡ true
-    there e j = packet_there r h bytes (session_heard r src h) e (session_has_row r src h) (ap (λ (o : Option Joining). finished (with_packet bytes o)) (sym (st.sessions src lt)) ∙ j)
-
 -- a packet to another address
-other_packet : (taken : ℕ → Kind → List Shown) (r : StationSettings) (grant : ℕ) (s : StationValue) (h : List Reading) (src d : ℕ) (bytes : List ℕ) → (d == 255) ≡ false → is_held s.claimer.held d ≡ false
-    → StandsBeside taken r grant s h → StandsAfter taken r grant (DataTransfer src d bytes) s h
-other_packet taken r grant s h src d bytes not_all not_held st = record {
+other_packet : (r : StationSettings) (grant : ℕ) (s : StationValue) (h : List Reading) (src d : ℕ) (bytes : List ℕ) → (d == 255) ≡ false → is_held s.claimer.held d ≡ false
+    → StandsFor r grant s h → StandsAfter r grant (DataTransfer src d bytes) s h
+other_packet r grant s h src d bytes not_all not_held st = record {
   addresses = record {
     grants = st.grants;
     claims = st.claims;
@@ -191,28 +153,27 @@ other_packet taken r grant s h src d bytes not_all not_held st = record {
   };
   rows = st.rows;
   names = st.names;
-  entries = λ n k. rw (not_all, own_other) (st.entries n k);
   missed = st.missed;
   unread = rw (not_all, own_other) (st.unread);
 }
   where
     own_other : is_held (address_heard r h) d ≡ false
-    own_other = rw (← held_same taken r grant s h st) not_held
+    own_other = rw (← held_same r grant s h st) not_held
 
-pub packet : (taken : ℕ → Kind → List Shown) (r : StationSettings) (grant : ℕ) (s : StationValue) (h : List Reading) (src d : ℕ) (bytes : List ℕ) → src < 256 → is_held s.claimer.held 255 ≡ false
-    → StandsBeside taken r grant s h → StandsAfter taken r grant (DataTransfer src d bytes) (after_group s (DataTransfer src d bytes)) h
-packet taken r grant s h src d bytes lt not_held st = go (d == 255) (is_held s.claimer.held d) refl refl
+pub packet : (r : StationSettings) (grant : ℕ) (s : StationValue) (h : List Reading) (src d : ℕ) (bytes : List ℕ) → src < 256 → is_held s.claimer.held 255 ≡ false
+    → StandsFor r grant s h → StandsAfter r grant (DataTransfer src d bytes) (after_group s (DataTransfer src d bytes)) h
+packet r grant s h src d bytes lt not_held st = go (d == 255) (is_held s.claimer.held d) refl refl
   where
     go : (b c : Bool) → (d == 255) ≡ b → is_held s.claimer.held d ≡ c
-        → StandsAfter taken r grant (DataTransfer src d bytes) (if b then with_broadcast_packet s src bytes else (if c then with_session_packet s src bytes else s)) h
-    go true c i j = broadcast_packet taken r grant s h src d bytes i lt not_held st
-    go false true i j = session_packet taken r grant s h src d bytes i j lt st
-    go false false i j = other_packet taken r grant s h src d bytes i j st
+        → StandsAfter r grant (DataTransfer src d bytes) (if b then with_broadcast_packet s src bytes else (if c then with_session_packet s src bytes else s)) h
+    go true c i j = broadcast_packet r grant s h src d bytes i lt not_held st
+    go false true i j = session_packet r grant s h src d bytes i j lt st
+    go false false i j = other_packet r grant s h src d bytes i j st
 
 -- a broadcast is announced
-pub bam : (taken : ℕ → Kind → List Shown) (r : StationSettings) (grant : ℕ) (s : StationValue) (h : List Reading) (src d size packets pgn : ℕ) → src < 256 → StandsBeside taken r grant s h
-    → StandsAfter taken r grant (ConnectionManagement src d (Bam size packets pgn)) (after_group s (ConnectionManagement src d (Bam size packets pgn))) h
-bam taken r grant s h src d size packets pgn lt st = go (d == 255) refl
+pub bam : (r : StationSettings) (grant : ℕ) (s : StationValue) (h : List Reading) (src d size packets pgn : ℕ) → src < 256 → StandsFor r grant s h
+    → StandsAfter r grant (ConnectionManagement src d (Bam size packets pgn)) (after_group s (ConnectionManagement src d (Bam size packets pgn))) h
+bam r grant s h src d size packets pgn lt st = go (d == 255) refl
   where
     new : ℕ → Option Joining
     new a = started (kind_of pgn) size (owner_heard a h)
@@ -221,7 +182,7 @@ bam taken r grant s h src d size packets pgn lt st = go (d == 255) refl
     here = started (kind_of pgn) size (at s.owners src)
 
     go : (b : Bool) → (d == 255) ≡ b
-        → StandsAfter taken r grant (ConnectionManagement src d (Bam size packets pgn))
+        → StandsAfter r grant (ConnectionManagement src d (Bam size packets pgn))
         (if b then record s { broadcasts = slice_set s.broadcasts src (started (kind_of pgn) size (at s.owners src)) } else s) h
     go true i = record {
       addresses = record {
@@ -239,7 +200,6 @@ bam taken r grant s h src d size packets pgn lt st = go (d == 255) refl
       };
       rows = st.rows;
       names = st.names;
-      entries = st.entries;
       missed = st.missed;
       unread = st.unread;
     }
@@ -256,21 +216,20 @@ bam taken r grant s h src d size packets pgn lt st = go (d == 255) refl
       };
       rows = st.rows;
       names = st.names;
-      entries = st.entries;
       missed = st.missed;
       unread = st.unread;
     }
 
 -- a session is announced
-pub rts : (taken : ℕ → Kind → List Shown) (r : StationSettings) (grant : ℕ) (s : StationValue) (h : List Reading) (src d size packets most pgn : ℕ) → src < 256 → StandsBeside taken r grant s h
-    → StandsAfter taken r grant (ConnectionManagement src d (Rts size packets most pgn)) (after_group s (ConnectionManagement src d (Rts size packets most pgn))) h
-rts taken r grant s h src d size packets most pgn lt st = go (is_held s.claimer.held d) refl
+pub rts : (r : StationSettings) (grant : ℕ) (s : StationValue) (h : List Reading) (src d size packets most pgn : ℕ) → src < 256 → StandsFor r grant s h
+    → StandsAfter r grant (ConnectionManagement src d (Rts size packets most pgn)) (after_group s (ConnectionManagement src d (Rts size packets most pgn))) h
+rts r grant s h src d size packets most pgn lt st = go (is_held s.claimer.held d) refl
   where
     begun_at : ℕ → Option Joining
     begun_at a = started (kind_of pgn) size (owner_heard a h)
 
     own_held : (b : Bool) → is_held s.claimer.held d ≡ b → is_held (address_heard r h) d ≡ b
-    own_held b i = ap (λ v. is_held v d) (sym (held_same taken r grant s h st)) ∙ i
+    own_held b i = ap (λ v. is_held v d) (sym (held_same r grant s h st)) ∙ i
 
     at_source : (o : Option Joining) → started (kind_of pgn) size (at s.owners src) ≡ o → (a : ℕ) → (src == a) ≡ true → started (kind_of pgn) size (owner_heard a h) ≡ o
     at_source o e a here =
@@ -296,7 +255,7 @@ rts taken r grant s h src d size packets most pgn lt st = go (is_held s.claimer.
     limit a j below e false c here i = st.most a below
 
     begins : is_held s.claimer.held d ≡ true → (o : Option Joining) → started (kind_of pgn) size (at s.owners src) ≡ o
-        → StandsAfter taken r grant (ConnectionManagement src d (Rts size packets most pgn)) (with_session s src most o) h
+        → StandsAfter r grant (ConnectionManagement src d (Rts size packets most pgn)) (with_session s src most o) h
     begins i None e = record {
       addresses = record {
         grants = st.grants;
@@ -310,7 +269,6 @@ rts taken r grant s h src d size packets most pgn lt st = go (is_held s.claimer.
       };
       rows = st.rows;
       names = st.names;
-      entries = st.entries;
       missed = st.missed;
       unread = st.unread;
     }
@@ -337,13 +295,12 @@ rts taken r grant s h src d size packets most pgn lt st = go (is_held s.claimer.
       };
       rows = st.rows;
       names = st.names;
-      entries = st.entries;
       missed = st.missed;
       unread = st.unread;
     }
 
     go : (b : Bool) → is_held s.claimer.held d ≡ b
-        → StandsAfter taken r grant (ConnectionManagement src d (Rts size packets most pgn))
+        → StandsAfter r grant (ConnectionManagement src d (Rts size packets most pgn))
         (if b then with_session s src most (started (kind_of pgn) size (at s.owners src)) else s) h
     go true i = begins i (started (kind_of pgn) size (at s.owners src)) refl
     go false i = record {
@@ -359,18 +316,17 @@ rts taken r grant s h src d size packets most pgn lt st = go (is_held s.claimer.
       };
       rows = st.rows;
       names = st.names;
-      entries = st.entries;
       missed = st.missed;
       unread = st.unread;
     }
 
 -- a session is aborted
-pub aborted : (taken : ℕ → Kind → List Shown) (r : StationSettings) (grant : ℕ) (s : StationValue) (h : List Reading) (src d reason pgn : ℕ) → src < 256 → StandsBeside taken r grant s h
-    → StandsAfter taken r grant (ConnectionManagement src d (Abort reason pgn)) (after_group s (ConnectionManagement src d (Abort reason pgn))) h
-aborted taken r grant s h src d reason pgn lt st = go (is_held s.claimer.held d) refl
+pub aborted : (r : StationSettings) (grant : ℕ) (s : StationValue) (h : List Reading) (src d reason pgn : ℕ) → src < 256 → StandsFor r grant s h
+    → StandsAfter r grant (ConnectionManagement src d (Abort reason pgn)) (after_group s (ConnectionManagement src d (Abort reason pgn))) h
+aborted r grant s h src d reason pgn lt st = go (is_held s.claimer.held d) refl
   where
     go : (b : Bool) → is_held s.claimer.held d ≡ b
-        → StandsAfter taken r grant (ConnectionManagement src d (Abort reason pgn))
+        → StandsAfter r grant (ConnectionManagement src d (Abort reason pgn))
         (if b then record s { sessions = slice_set s.sessions src (without_kind (kind_of pgn) (at s.sessions src)) } else s) h
     go true i = record {
       addresses = record {
@@ -383,12 +339,11 @@ aborted taken r grant s h src d reason pgn lt st = go (is_held s.claimer.held d)
         sessions = λ a below.
             changed_place s.sessions (λ v. session_heard r v h) (without_kind (kind_of pgn)) src st.places.sessions lt st.sessions a below
             ∙ test_holds src a (is_held (address_heard r h) d) (without_kind (kind_of pgn) (session_heard r a h)) (session_heard r a h)
-            (ap (λ v. is_held v d) (sym (held_same taken r grant s h st)) ∙ i);
+            (ap (λ v. is_held v d) (sym (held_same r grant s h st)) ∙ i);
         most = st.most;
       };
       rows = st.rows;
       names = st.names;
-      entries = st.entries;
       missed = st.missed;
       unread = st.unread;
     }
@@ -403,12 +358,11 @@ aborted taken r grant s h src d reason pgn lt st = go (is_held s.claimer.held d)
         sessions = λ a below.
             st.sessions a below
             ∙ test_fails src a (is_held (address_heard r h) d) (without_kind (kind_of pgn) (session_heard r a h)) (session_heard r a h)
-            (ap (λ v. is_held v d) (sym (held_same taken r grant s h st)) ∙ i);
+            (ap (λ v. is_held v d) (sym (held_same r grant s h st)) ∙ i);
         most = st.most;
       };
       rows = st.rows;
       names = st.names;
-      entries = st.entries;
       missed = st.missed;
       unread = st.unread;
     }

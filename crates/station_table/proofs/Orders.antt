@@ -5,7 +5,7 @@ use Rattle.can_frame.specs.declared.reading.Reading.{Reading}
 use Rattle.bus_model.specs.Heard.{StationSettings, address_heard, address_in_row, address_known}
 use Rattle.station_table.specs.KeptValue.{KeptValue, kept_under}
 use Rattle.station_table.specs.Orders.{AnswersAskAll, AnswersAsk, AnswersCommand, address_in, ask_all_answer, ask_answer, ask_from, command_answer, command_from}
-use Rattle.station_table.specs.StandsFor.{StandsFor, none_taken, row_known, row_of}
+use Rattle.station_table.specs.StandsFor.{StandsFor, row_known, row_of}
 use Rattle.station_table.specs.StationValue.{StationValue}
 use Rattle.station_table.specs.declared.error.StationError.TheVariants.{NotAnAddress, NoAddress, NotHeld}
 use Rattle.station_table.specs.declared.reaction.Ask.{Ask}
@@ -25,7 +25,7 @@ from_two (Some own) (Some address) ask = search rules
 
 pub asked_as_heard : (r : StationSettings) (grant : ℕ) (s : StationValue) (h : List Reading) (name : ℕ) (ask : Ask) → StandsFor r grant s h → AnswersAsk r h name (ask_answer s name ask)
 asked_as_heard r grant s h name ask st =
-    let own = held_same none_taken r grant s h st in
+    let own = held_same r grant s h st in
     let to : address_in (row_of s.owners name (kept_under s.rows name)) ≡ address_known r name h = row_address s.owners name (kept_under s.rows name) ∙ ap address_in_row (st.rows name) in
     let parts = from_two (address_heard r h) (address_known r name h) ask in
     rw (own, to) (record { not_held = parts.0; no_address = parts.1; asked = parts.2 })
@@ -36,7 +36,7 @@ from_one (Some own) ask to = search rules
 
 pub all_asked_as_heard : (r : StationSettings) (grant : ℕ) (s : StationValue) (h : List Reading) (ask : Ask) → StandsFor r grant s h → AnswersAskAll r h (ask_all_answer s ask)
 all_asked_as_heard r grant s h ask st =
-    let own = held_same none_taken r grant s h st in
+    let own = held_same r grant s h st in
     let parts = from_one (address_heard r h) ask 255 in
     rw own (record { not_held = parts.0; asked = parts.1 })
 
@@ -53,6 +53,6 @@ commands_from (Some own) name address false e = let near : address ≤ 253 = ltb
 
 pub commanded_as_heard : (r : StationSettings) (grant : ℕ) (s : StationValue) (h : List Reading) (name address : ℕ) → StandsFor r grant s h → AnswersCommand r h address (command_answer s name address)
 commanded_as_heard r grant s h name address st =
-    let own = held_same none_taken r grant s h st in
+    let own = held_same r grant s h st in
     let parts = commands_from (address_heard r h) name address (nat_lt 253 address) refl in
     rw own (record { not_an_address = parts.0; not_held = parts.1; commanded = parts.2 })

@@ -8,8 +8,6 @@ use Rattle.can_frame.specs.declared.reading.Reading.{Reading}
 use Rattle.can_frame.specs.declared.reading.Reading.TheVariants.{Frame, Gap, Empty}
 use Rattle.transport.specs.declared.control.Control.{Control}
 use Rattle.transport.specs.declared.control.Control.TheVariants.{Rts, Cts, EndAck, Bam, Abort}
-use Rattle.dm_messages.specs.declared.kind.Kind.{Kind}
-use Rattle.dm_messages.specs.declared.shown.Shown.{Shown}
 use Rattle.parameter_group.specs.Group.{Group, AddressClaimed, CannotClaim, Request, Acknowledgment, Diagnostic, ConnectionManagement, DataTransfer, Other, group_of, group_by, control_group}
 use Rattle.can_frame.specs.Fields.{pgn_of, pdu_specific_of, source_of}
 use Rattle.can_frame.specs.FrameValue.{FrameValue}
@@ -20,7 +18,7 @@ use Rattle.reassembly.specs.Tables.{empty_table}
 use Rattle.reassembly.specs.TableLaws.{at-empty, places-empty}
 use Rattle.station_table.specs.StationValue.{StationValue}
 use Rattle.station_table.specs.Steps.{no_limits, new_station, after_group, after_gap, after_reading}
-use Rattle.station_table.specs.StandsFor.{StandsBeside, StandsFor, none_taken, still_owned, ack_known, row_known}
+use Rattle.station_table.specs.StandsFor.{StandsFor, still_owned, ack_known, row_known}
 use Rattle.station_table.proofs.Lines.{StandsAfter, stands_as_told, tells}
 use Rattle.station_table.proofs.Claims.{acknowledged, cannot_claim, claimed}
 use Rattle.station_table.proofs.Messages.{single, packet, bam, rts, aborted}
@@ -62,20 +60,20 @@ unfolding group_of
 sender_below f = below_group (pgn_of f.id) (pdu_specific_of f.id) (source_of f.id) f.bytes (omega arith)
 
 -- whatever a frame says
-pub group_beside : (taken : ℕ → Kind → List Shown) (r : StationSettings) (grant : ℕ) (s : StationValue) (h : List Reading) (g : Group) → sender g < 256
-    → StandsBeside taken r grant s h → StandsAfter taken r grant g (after_group s g) h
-group_beside taken r grant s h (AddressClaimed src n) lt st = claimed taken r grant s h src n lt st
-group_beside taken r grant s h (CannotClaim n) lt st = cannot_claim taken r grant s h n st
-group_beside taken r grant s h (Acknowledgment c q p d src) lt st = acknowledged taken r grant s h c q p d src lt st
-group_beside taken r grant s h (Diagnostic k src bytes) lt st = single taken r grant s h k src bytes lt st
-group_beside taken r grant s h (ConnectionManagement src d (Bam size packets pgn)) lt st = bam taken r grant s h src d size packets pgn lt st
-group_beside taken r grant s h (ConnectionManagement src d (Rts size packets most pgn)) lt st = rts taken r grant s h src d size packets most pgn lt st
-group_beside taken r grant s h (ConnectionManagement src d (Abort reason pgn)) lt st = aborted taken r grant s h src d reason pgn lt st
-group_beside taken r grant s h (DataTransfer src d bytes) lt st = packet taken r grant s h src d bytes lt st.apart st
-group_beside taken r grant s h (Request p d src) lt st = tells taken r grant s h st
-group_beside taken r grant s h (ConnectionManagement src d (Cts granted next pgn)) lt st = tells taken r grant s h st
-group_beside taken r grant s h (ConnectionManagement src d (EndAck size packets pgn)) lt st = tells taken r grant s h st
-group_beside taken r grant s h Other lt st = tells taken r grant s h st
+pub group_stands : (r : StationSettings) (grant : ℕ) (s : StationValue) (h : List Reading) (g : Group) → sender g < 256
+    → StandsFor r grant s h → StandsAfter r grant g (after_group s g) h
+group_stands r grant s h (AddressClaimed src n) lt st = claimed r grant s h src n lt st
+group_stands r grant s h (CannotClaim n) lt st = cannot_claim r grant s h n st
+group_stands r grant s h (Acknowledgment c q p d src) lt st = acknowledged r grant s h c q p d src lt st
+group_stands r grant s h (Diagnostic k src bytes) lt st = single r grant s h k src bytes lt st
+group_stands r grant s h (ConnectionManagement src d (Bam size packets pgn)) lt st = bam r grant s h src d size packets pgn lt st
+group_stands r grant s h (ConnectionManagement src d (Rts size packets most pgn)) lt st = rts r grant s h src d size packets most pgn lt st
+group_stands r grant s h (ConnectionManagement src d (Abort reason pgn)) lt st = aborted r grant s h src d reason pgn lt st
+group_stands r grant s h (DataTransfer src d bytes) lt st = packet r grant s h src d bytes lt st.apart st
+group_stands r grant s h (Request p d src) lt st = tells r grant s h st
+group_stands r grant s h (ConnectionManagement src d (Cts granted next pgn)) lt st = tells r grant s h st
+group_stands r grant s h (ConnectionManagement src d (EndAck size packets pgn)) lt st = tells r grant s h st
+group_stands r grant s h Other lt st = tells r grant s h st
 
 -- a gap
 addressless_row : (n : ℕ) (owners : List (Option ℕ)) (o : Option KeptValue) → row_known empty_table n o ≡ addressless (row_known owners n o)
@@ -86,8 +84,8 @@ addressless_row n owners (Some x) = go x.claimed
     go None = refl
     go (Some a) = rw (at-empty {X = ℕ} a) refl
 
-pub gap_beside : (taken : ℕ → Kind → List Shown) (r : StationSettings) (grant : ℕ) (s : StationValue) (h : List Reading) (n : ℕ) → StandsBeside taken r grant s h → StandsBeside taken r grant (after_gap s n) (Gap n ∷ h)
-gap_beside taken r grant s h n st = record {
+pub gap_stands : (r : StationSettings) (grant : ℕ) (s : StationValue) (h : List Reading) (n : ℕ) → StandsFor r grant s h → StandsFor r grant (after_gap s n) (Gap n ∷ h)
+gap_stands r grant s h n st = record {
   grants = st.grants;
   claims = st.claims;
   apart = st.apart;
@@ -98,23 +96,17 @@ gap_beside taken r grant s h n st = record {
   most = st.most;
   rows = λ m. addressless_row m s.owners (kept_under s.rows m) ∙ ap addressless (st.rows m);
   names = st.names;
-  entries = st.entries;
   missed = ap (λ v. counted (v + n)) st.missed;
   unread = st.unread;
 }
 
 -- a reading that is not refused
-pub beside_after : (taken : ℕ → Kind → List Shown) (r : StationSettings) (grant : ℕ) (s : StationValue) (h : List Reading) (x : Reading) → StandsBeside taken r grant s h
-    → StandsBeside taken r grant (after_reading s x) (x ∷ h)
-beside_after taken r grant s h Empty st = stands_as_told taken r grant s (Empty ∷ h) (tells taken r grant s h st)
-beside_after taken r grant s h (Gap n) st = gap_beside taken r grant s h n st
-beside_after taken r grant s h (Frame f) st =
-    stands_as_told taken r grant (after_group s (group_of f)) (Frame f ∷ h) (group_beside taken r grant s h (group_of f) (sender_below f) st)
-
--- where no entry was taken out of a list
 pub stands_after : (r : StationSettings) (grant : ℕ) (s : StationValue) (h : List Reading) (x : Reading) → StandsFor r grant s h
     → StandsFor r grant (after_reading s x) (x ∷ h)
-stands_after r grant s h x st = beside_after none_taken r grant s h x st
+stands_after r grant s h Empty st = stands_as_told r grant s (Empty ∷ h) (tells r grant s h st)
+stands_after r grant s h (Gap n) st = gap_stands r grant s h n st
+stands_after r grant s h (Frame f) st =
+    stands_as_told r grant (after_group s (group_of f)) (Frame f ∷ h) (group_stands r grant s h (group_of f) (sender_below f) st)
 
 -- no sender told how many packets it takes at once
 limits_places : length no_limits ≡ 256
@@ -138,7 +130,6 @@ stands_new r grant s below e = subst (λ (v : StationValue). StandsFor r grant v
   most = λ a below. limit_none a below;
   rows = λ n. refl;
   names = refl;
-  entries = λ n k. refl;
   missed = refl;
   unread = refl;
 })
@@ -171,9 +162,3 @@ pub stands_on_ok : {T E : Type 0} (result : Result T E) (s t : StationValue) (x 
     → OnOk result ((r : StationSettings) (grant : ℕ) (h : List Reading) → StandsFor r grant s h → StandsFor r grant t (x ∷ h))
 stands_on_ok (Ok y) s t x e = λ r grant h st. stands_read r grant s t h x e st
 stands_on_ok (Err y) s t x e = tt
-
--- and with entries taken out of the lists
-pub beside_on_ok : {T E : Type 0} (result : Result T E) (s t : StationValue) (x : Reading) → OnOk result (t ≡ after_reading s x)
-    → OnOk result ((taken : ℕ → Kind → List Shown) (r : StationSettings) (grant : ℕ) (h : List Reading) → StandsBeside taken r grant s h → StandsBeside taken r grant t (x ∷ h))
-beside_on_ok (Ok y) s t x e = λ taken r grant h st. subst (λ (v : StationValue). StandsBeside taken r grant v (x ∷ h)) (sym e) (beside_after taken r grant s h x st)
-beside_on_ok (Err y) s t x e = tt

@@ -1,6 +1,6 @@
 pub mod Changing
 pub mod KeptValue
-pub mod Lists
+pub mod Listing
 pub mod Orders
 pub mod Reactions
 pub mod Refusals

@@ -1,19 +1,17 @@
 -- When the station's tables say what a list of readings says.
-use Rattle.std.specs.Prelude.{◌≡◌, ℕ, ◌<◌, List, [], ◌∷◌, ◌++◌, Option, Some, None, false, ◌&&◌, ◌==◌, is_some, if◌then◌else◌, length, map, reverse, slice_index}
+use Rattle.std.specs.Prelude.{◌≡◌, ℕ, ◌<◌, List, [], ◌∷◌, Option, Some, None, false, ◌&&◌, ◌==◌, is_some, if◌then◌else◌, length, map, slice_index}
 use Rattle.address_claim.specs.Claiming.{is_held}
 use Rattle.can_frame.specs.declared.reading.Reading.{Reading}
 use Rattle.can_frame.specs.declared.reading.Reading.TheVariants.{Frame, Gap, Empty}
 use Rattle.can_frame.specs.declared.address.TheConstants.{GLOBAL_ADDRESS}
-use Rattle.dm_messages.specs.declared.kind.Kind.{Kind}
-use Rattle.dm_messages.specs.declared.shown.Shown.{Shown}
 use Rattle.transport.specs.declared.control.TheConstants.Control.{NO_LIMIT}
 use Rattle.transport.specs.declared.control.Control.TheVariants.{Rts}
 use Rattle.parameter_group.specs.Group.{Group, ConnectionManagement, group_of}
 use Rattle.reassembly.specs.Tables.{at}
-use Rattle.bus_model.specs.Heard.{StationSettings, Joining, AckHeard, RowHeard, kind_of, started, owner_heard, claimer_heard, address_heard, broadcast_heard, session_heard, row_heard, names_heard, entries_heard, missed_count, unread_count}
+use Rattle.bus_model.specs.Heard.{StationSettings, Joining, AckHeard, RowHeard, kind_of, started, owner_heard, claimer_heard, address_heard, broadcast_heard, session_heard, row_heard, names_heard, missed_count, unread_count}
 use Rattle.station_table.specs.declared.row.AckSeen.{AckSeen}
 use Rattle.station_table.specs.declared.row.Row.{Row}
-use Rattle.station_table.specs.KeptValue.{KeptValue, kept_under, entries_under}
+use Rattle.station_table.specs.KeptValue.{KeptValue, kept_under}
 use Rattle.station_table.specs.StationValue.{StationValue}
 
 -- an Rts that starts a session tells how many packets its sender takes at once
@@ -50,9 +48,8 @@ pub record AreTables (owned : List (Option ℕ)) (announced opened : List (Optio
   pub sessions : length opened ≡ 256
   pub most : length limits ≡ 256
 
--- each table has at each address what was heard of it, and so has each list, with the entries that were taken out of it in
--- front of those that stand there
-pub record StandsBeside (taken : ℕ → Kind → List Shown) (r : StationSettings) (grant : ℕ) (s : StationValue) (h : List Reading) : Type 0 where
+-- each table has at each address what was heard of it
+pub record StandsFor (r : StationSettings) (grant : ℕ) (s : StationValue) (h : List Reading) : Type 0 where
   pub grants : s.grant ≡ grant
   pub claims : s.claimer ≡ claimer_heard r h
   pub apart : is_held s.claimer.held GLOBAL_ADDRESS ≡ false
@@ -63,17 +60,8 @@ pub record StandsBeside (taken : ℕ → Kind → List Shown) (r : StationSettin
   pub most : (a : ℕ) → a < 256 → slice_index s.most a ≡ most_heard r a h
   pub rows : (n : ℕ) → row_known s.owners n (kept_under s.rows n) ≡ row_heard r n h
   pub names : map (λ e. e.0) s.rows ≡ names_heard h
-  pub entries : (n : ℕ) (k : Kind) → taken n k ++ entries_under s.rows n k ≡ reverse (entries_heard r n k h)
   pub missed : s.missed ≡ missed_count h
   pub unread : s.unread ≡ unread_count r h
-
--- no entry was taken out of a list
-abbrev pub none_taken : ℕ → Kind → List Shown
-none_taken n k = []
-
--- each table and each list has what was heard of it
-abbrev pub StandsFor : StationSettings → ℕ → StationValue → List Reading → Type 0
-StandsFor r grant s h = StandsBeside none_taken r grant s h
 
 -- the row that the station shows of a NAME
 abbrev pub row_of : List (Option ℕ) → ℕ → Option KeptValue → Option Row

@@ -17,7 +17,7 @@ use Rattle.reassembly.specs.Tables.{at, empty_table}
 use Rattle.bus_model.specs.Heard.{Joining, Origin, Entry, kind_of, started, finished, entry_under, without_kind, counted, kept_by_owner as joining_under}
 use Rattle.station_table.specs.declared.row.AckSeen.{AckSeen}
 use Rattle.station_table.specs.declared.ended.Ended.{Ended}
-use Rattle.station_table.specs.KeptValue.{with_claimed, with_ack, with_entry, with_row, changed_under}
+use Rattle.station_table.specs.KeptValue.{with_claimed, with_ack, with_row, changed_under}
 use Rattle.station_table.specs.StationValue.{StationValue}
 
 -- no sender told how many packets it takes at once
@@ -34,25 +34,25 @@ origin_of (Some k) (Some n) = Some (record { owner = n; kind = k })
 abbrev pub packets_at_once : ℕ → ℕ → ℕ
 packets_at_once grant most = if most == 0 then grant else min grant most
 
--- a message that ended is read: an entry where it shows something, else it counts as unread
-abbrev pub with_reading : StationValue → ℕ → Kind → Option Shown → StationValue
-with_reading s name kind None = record s { unread = counted (s.unread + 1) }
-with_reading s name kind (Some shown) = record s { rows = changed_under (with_entry kind shown) s.rows name }
+-- a message that ended is read: where it shows nothing it counts as unread, else it is for the lists
+abbrev pub with_reading : StationValue → Option Shown → StationValue
+with_reading s None = record s { unread = counted (s.unread + 1) }
+with_reading s (Some shown) = s
 
 -- a message that ended, if one did
 abbrev pub with_ended : StationValue → Option Entry → StationValue
 with_ended s None = s
-with_ended s (Some e) = with_reading s e.name e.kind (decoding e.bytes)
+with_ended s (Some e) = with_reading s (decoding e.bytes)
 
 -- what a message that ended shows, if one did
 abbrev pub ended_shown : Option Entry → Option Ended
 ended_shown None = None
 ended_shown (Some e) = Some (record { origin = record { owner = e.name; kind = e.kind }; shown = decoding e.bytes })
 
--- what it shows is kept
+-- and what it shows is read
 abbrev pub with_read : StationValue → Option Ended → StationValue
 with_read s None = s
-with_read s (Some e) = with_reading s e.origin.owner e.origin.kind e.shown
+with_read s (Some e) = with_reading s e.shown
 
 -- an acknowledgment from an address with an owner
 abbrev pub with_answer : StationValue → Option ℕ → AckSeen → StationValue

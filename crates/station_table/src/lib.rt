@@ -4,6 +4,7 @@
 mod ended;
 mod error;
 mod kept;
+mod laws;
 mod origin;
 mod outcome;
 mod reaction;
@@ -14,6 +15,7 @@ mod station;
 
 pub use bus_model::{Change, Displaced};
 pub use error::StationError;
+pub use laws::lists_are_what_was_heard;
 pub use origin::kind_of;
 pub use outcome::Outcome;
 pub use reaction::{Ask, Reaction};

@@ -3,7 +3,6 @@ ghost use Rattle.std.specs.Option.{option_map};
 
 use crate::kept::Kept;
 use crate::row::AckSeen;
-use dm_messages::{Kind, Shown};
 use indexmap::IndexMap;
 use name_field::Name;
 use std::alloc::{AllocError, Global};
@@ -25,7 +24,7 @@ impl Model for Rows {
 }
 
 impl Rows {
-    ghost use Rattle.station_table.specs.KeptValue.{KeptValue, kept_under, entries_under, with_claimed, with_ack, with_entry, with_row, without_oldest, changed_under};
+    ghost use Rattle.station_table.specs.KeptValue.{KeptValue, kept_under, with_claimed, with_ack, with_row, changed_under};
 
     /// No rows.
     pub fn new(alloc: Global) -> Rows
@@ -55,14 +54,14 @@ impl Rows {
 
     /// Gives the NAME a row at the end, where it has none. Where memory is refused, nothing changes.
     #[tactic(auto, using(crate::proofs::RowLemmas::name_added))]
-    pub fn add(&mut self, alloc: Global, name: Name) -> Result<(), AllocError>
+    pub fn add(&mut self, name: Name) -> Result<(), AllocError>
         ensures ok { OnOk result (self.new ≡ with_row self.old name) }
         ensures err { OnErr result (self.new ≡ self.old) }
     {
         if self.rows.contains_key(&name) {
             return Ok(());
         }
-        self.rows.insert(name, Kept::new(alloc))?;
+        self.rows.insert(name, Kept::new())?;
         Ok(())
     }
 
@@ -93,47 +92,12 @@ impl Rows {
         }
     }
 
-    /// Puts an entry at the end of the NAME's list of that kind; a NAME without a row does nothing. Where memory is
-    /// refused, nothing changes.
-    #[tactic(auto, using(std::proofs::lemmas::Map::Steps::set_value_same))]
-    pub fn push(&mut self, name: Name, kind: Kind, shown: Shown) -> Result<(), AllocError>
-        ensures ok { OnOk result (self.new ≡ changed_under (with_entry kind shown) self.old name) }
-        ensures err { OnErr result (self.new ≡ self.old) }
-    {
-        if let Some(kept) = self.rows.get_mut(&name) {
-            kept.push(kind, shown)?;
-        }
-        Ok(())
-    }
-
     /// The address last claimed under the NAME and its last acknowledgment, where it has a row.
     pub fn get(&self, name: Name) -> Option<(Option<u8>, Option<AckSeen>)>
         ensures { result ≡ option_map (λ (k : KeptValue). (k.claimed, k.ack)) (kept_under self.now name) }
     {
         match self.rows.get(&name) {
             Some(kept) => Some((kept.claimed(), kept.ack())),
-            None => None,
-        }
-    }
-
-    /// The entries of a kind under the NAME, oldest first; none where it has no row.
-    pub fn shown(&self, name: Name, kind: Kind) -> &[Shown]
-        ensures { result.now ≡ entries_under self.now name kind }
-    {
-        match self.rows.get(&name) {
-            Some(kept) => kept.shown(kind),
-            None => &[],
-        }
-    }
-
-    /// Takes out the oldest entry of a kind under the NAME; none where it has no row, or no entry of that kind.
-    #[tactic(auto, using(std::proofs::lemmas::Map::Steps::set_value_same))]
-    pub fn take_oldest(&mut self, name: Name, kind: Kind) -> Option<Shown>
-        ensures value { result ≡ slice_get (entries_under self.old name kind) 0 }
-        ensures rest { self.new ≡ changed_under (without_oldest kind) self.old name }
-    {
-        match self.rows.get_mut(&name) {
-            Some(kept) => kept.take_oldest(kind),
             None => None,
         }
     }

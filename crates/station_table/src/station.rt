@@ -1,9 +1,9 @@
-ghost use Rattle.std.specs.Prelude.{◌≡◌, ℕ, ◌<◌, ◌≤◌, ◌^◌, [], ◌∷◌, length, map, reverse, slice_get, List, IfOk, IfSome, OnOk, OnErr};
+ghost use Rattle.std.specs.Prelude.{◌≡◌, ℕ, ◌<◌, ◌≤◌, ◌^◌, [], ◌∷◌, length, map, slice_get, List, IfOk, IfSome, OnOk, OnErr};
 ghost use Rattle.std.specs.Option.{option_map};
 ghost use Rattle.can_frame.specs.declared.reading.Reading.{Reading as AnyReading};
 ghost use Rattle.can_frame.specs.declared.address.TheConstants.{GREATEST_ADDRESS};
 ghost use Rattle.address_claim.specs.Claiming.{ClaimerValue};
-ghost use Rattle.bus_model.specs.Heard.{StationSettings, address_heard, names_heard, row_heard, entries_heard, missed_count, unread_count};
+ghost use Rattle.bus_model.specs.Heard.{StationSettings, address_heard, names_heard, row_heard, missed_count, unread_count};
 ghost use Rattle.station_table.specs.Reactions.{own_claim};
 ghost use Rattle.station_table.specs.Steps.{no_limits};
 
@@ -12,7 +12,6 @@ use crate::row::Row;
 use crate::rows::Rows;
 use address_claim::{Claimer, claim_frame};
 use can_frame::Frame;
-use dm_messages::{Kind, Shown};
 use name_field::Name;
 use reassembly::{AddressTable, Partials};
 use std::alloc::Global;
@@ -21,12 +20,12 @@ use transport::Control;
 
 mod answers;
 mod claims;
-mod lists;
 mod messages;
 mod orders;
 mod readings;
 
-/// The diagnostic station: the rows by NAME that the frames which it reads tell, and what it answers.
+/// The diagnostic station: the rows by NAME that the frames which it reads tell, and what it answers. What it reads of diagnostic
+/// messages it puts into the lists that it is lent (`entry_lists`).
 ///
 /// Its tables are indexed by source address, and take no memory before something is kept in them. It knows of the bus only
 /// what it was handed.
@@ -65,7 +64,7 @@ impl Model for Station {
 }
 
 impl Station {
-    ghost use Rattle.station_table.specs.KeptValue.{kept_under, entries_under};
+    ghost use Rattle.station_table.specs.KeptValue.{kept_under};
     ghost use Rattle.reassembly.specs.Tables.{at};
     ghost use Rattle.station_table.specs.Steps.{new_station};
     ghost use Rattle.station_table.specs.StandsFor.{StandsFor, row_of, row_heard_as};
@@ -147,15 +146,6 @@ impl Station {
         ensures { result ≡ at self.now.owners address }
     {
         self.owners.get(address).copied()
-    }
-
-    /// The entries of a kind under a NAME, oldest first; none for a NAME that has no row.
-    #[tactic(auto, using(crate::proofs::Queries::entries_as_heard))]
-    pub fn shown(&self, name: Name, kind: Kind) -> &[Shown]
-        ensures value { result.now ≡ entries_under self.now.rows name kind }
-        ensures heard { (r : StationSettings) (grant : ℕ) (h : List AnyReading) → StandsFor r grant self.now h → result.now ≡ reverse (entries_heard r name kind h) }
-    {
-        self.rows.shown(name, kind)
     }
 
     /// How many frames it was told of as missed, up to the greatest 64-bit number.

@@ -121,7 +121,7 @@ impl Station {
             Some(Row { address: None, .. }) => Change::Nothing,
             _ => Change::GaveUp { name },
         };
-        self.rows.add(alloc, name)?;
+        self.rows.add(name)?;
         self.rows.claim(name, None);
         Ok(change)
     }
@@ -172,7 +172,7 @@ fn note_claim(
     ensures same_claimer { OnErr result (claimer.new ≡ claimer.old) }
 {
     let before = rows.len();
-    rows.add(alloc, name)?;
+    rows.add(name)?;
     if let Err(refused) = claimer.hear_claim(alloc, source, name) {
         rows.truncate(before);
         return Err(refused);

@@ -1,6 +1,7 @@
 ghost use Rattle.std.specs.Prelude.{◌≡◌, ◌≤◌, nat_lt, if◌then◌else◌, slice_set, Some, IfOk, OnOk, OnErr, IsOkUnless};
 ghost use Rattle.bus_model.specs.Changed.{announced_change, ended_change};
 ghost use Rattle.bus_model.specs.Heard as heard;
+ghost use Rattle.entry_lists.specs.Entries.{HasPut};
 ghost use Rattle.parameter_group.specs.Group as group;
 ghost use Rattle.reassembly.specs.Partials.{answer_to, with_packet};
 ghost use Rattle.reassembly.specs.Tables.{at};
@@ -17,6 +18,7 @@ use crate::station::Station;
 use bus_model::Change;
 use can_frame::{NULL_ADDRESS, Pgn};
 use dm_messages::Kind;
+use entry_lists::{Lists, NewEntry};
 use std::alloc::Global;
 use transport::{Control, Took, control_frame};
 
@@ -31,13 +33,23 @@ pub(super) struct Announced {
 
 impl Station {
     ghost use Rattle.station_table.specs.Changing.{group_changes, read_change};
+    ghost use Rattle.station_table.specs.Listing.{entry_of_ended, entry_of_read, group_entry};
     ghost use Rattle.station_table.specs.Steps.{after_group, origin_of, packets_at_once, with_broadcast_packet, with_read, with_session, with_session_packet};
 
-    /// What a message from this address shows that ended is kept: an entry under its owner where it shows something, else it counts as unread.
-    fn keep(&mut self, source: u8, ended: Option<Ended>) -> Result<Change, StationError>
+    /// What a message from this address shows that ended goes to the lists: an entry under its owner where it shows something, else it counts
+    /// as unread.
+    fn keep<L: Lists>(
+        &mut self,
+        alloc: Global,
+        source: u8,
+        ended: Option<Ended>,
+        lists: &mut L,
+    ) -> Result<Change, StationError>
         ensures ok { OnOk result (self.new ≡ with_read self.old ended) }
         ensures change { IfOk result (λ c. c ≡ read_change source ended) }
+        ensures lists { OnOk result (HasPut L.Takes lists.old (entry_of_read source ended) lists.new) }
         ensures err { OnErr result (self.new ≡ self.old) }
+        ensures err_lists { OnErr result (lists.new ≡ lists.old) }
         ensures only_memory { IsOkUnless result StationError.OutOfMemory }
     {
         let Some(Ended { origin, shown }) = ended else {
@@ -47,7 +59,13 @@ impl Station {
         let kind = origin.kind();
         match shown {
             Some(shown) => {
-                self.rows.push(name, kind, shown)?;
+                let entry = NewEntry {
+                    name,
+                    kind,
+                    source,
+                    shown,
+                };
+                lists.put(alloc, entry)?;
                 Ok(Change::Listed { name, kind, source })
             }
             None => {
@@ -58,16 +76,19 @@ impl Station {
     }
 
     /// A diagnostic message in one frame, from an address with an owner.
-    pub(super) fn hear_single(
+    pub(super) fn hear_single<L: Lists>(
         &mut self,
         alloc: Global,
         kind: Kind,
         source: u8,
         bytes: &[u8],
+        lists: &mut L,
     ) -> Result<Change, StationError>
         ensures ok { OnOk result (self.new ≡ after_group self.old (group.Diagnostic kind source bytes.now)) }
         ensures change { IfOk result (λ c. c ≡ group_changes self.old (group.Diagnostic kind source bytes.now)) }
+        ensures lists { OnOk result (HasPut L.Takes lists.old (group_entry self.old (group.Diagnostic kind source bytes.now)) lists.new) }
         ensures err { OnErr result (self.new ≡ self.old) }
+        ensures err_lists { OnErr result (lists.new ≡ lists.old) }
         ensures only_memory { IsOkUnless result StationError.OutOfMemory }
     {
         let Some(owner) = self.owner(source) else {
@@ -78,7 +99,7 @@ impl Station {
             origin: Origin::new(owner, kind),
             shown,
         };
-        self.keep(source, Some(ended))
+        self.keep(alloc, source, Some(ended), lists)
     }
 
     /// Whose a message is that an announcement of this group starts: of an address with an owner, if it is a diagnostic one.
@@ -180,22 +201,25 @@ impl Station {
     }
 
     /// A packet of a broadcast.
-    pub(super) fn hear_broadcast_packet(
+    pub(super) fn hear_broadcast_packet<L: Lists>(
         &mut self,
         alloc: Global,
         source: u8,
         bytes: &[u8],
+        lists: &mut L,
     ) -> Result<Change, StationError>
         ensures ok { OnOk result (self.new ≡ with_broadcast_packet self.old source bytes.now) }
         ensures change { IfOk result (λ c. c ≡ ended_change source (heard.finished (with_packet bytes.now (at self.old.broadcasts source)))) }
+        ensures lists { OnOk result (HasPut L.Takes lists.old (entry_of_ended source (heard.finished (with_packet bytes.now (at self.old.broadcasts source)))) lists.new) }
         ensures err { OnErr result (self.new ≡ self.old) }
+        ensures err_lists { OnErr result (lists.new ≡ lists.old) }
         ensures only_memory { IsOkUnless result StationError.OutOfMemory }
     {
         let Some(took) = self.broadcasts.answer(source, bytes) else {
             return Ok(Change::Nothing);
         };
         match took {
-            Took::Whole => self.end_broadcast(alloc, source, bytes),
+            Took::Whole => self.end_broadcast(alloc, source, bytes, lists),
             Took::More | Took::Broken => {
                 self.broadcasts.take(source, bytes, took);
                 Ok(Change::Nothing)
@@ -204,36 +228,42 @@ impl Station {
     }
 
     /// The last packet of a broadcast.
-    fn end_broadcast(
+    fn end_broadcast<L: Lists>(
         &mut self,
         alloc: Global,
         source: u8,
         bytes: &[u8],
+        lists: &mut L,
     ) -> Result<Change, StationError>
         requires { answer_to bytes.now (at self.old.broadcasts source) ≡ Some Took.Whole }
         ensures ok { OnOk result (self.new ≡ with_broadcast_packet self.old source bytes.now) }
         ensures change { IfOk result (λ c. c ≡ ended_change source (heard.finished (with_packet bytes.now (at self.old.broadcasts source)))) }
+        ensures lists { OnOk result (HasPut L.Takes lists.old (entry_of_ended source (heard.finished (with_packet bytes.now (at self.old.broadcasts source)))) lists.new) }
         ensures err { OnErr result (self.new ≡ self.old) }
+        ensures err_lists { OnErr result (lists.new ≡ lists.old) }
         ensures only_memory { IsOkUnless result StationError.OutOfMemory }
     {
         let ended = ended_with(alloc, &mut self.broadcasts, source, bytes)?;
-        let change = self.keep(source, ended)?;
+        let change = self.keep(alloc, source, ended, lists)?;
         self.broadcasts.take(source, bytes, Took::Whole);
         Ok(change)
     }
 
     /// A packet of a session with the station.
-    pub(super) fn hear_session_packet(
+    pub(super) fn hear_session_packet<L: Lists>(
         &mut self,
         alloc: Global,
         source: u8,
         dest: u8,
         bytes: &[u8],
+        lists: &mut L,
     ) -> Result<Outcome, StationError>
         ensures ok { OnOk result (self.new ≡ with_session_packet self.old source bytes.now) }
         ensures change { IfOk result (λ x. x.change ≡ ended_change source (heard.finished (with_packet bytes.now (at self.old.sessions source)))) }
         ensures reaction { IfOk result (λ x. x.reaction ≡ reactions.replying (reactions.reply_to (reactions.granted_at_once self.old source) (at self.old.sessions source) bytes.now) dest source) }
+        ensures lists { OnOk result (HasPut L.Takes lists.old (entry_of_ended source (heard.finished (with_packet bytes.now (at self.old.sessions source)))) lists.new) }
         ensures err { OnErr result (self.new ≡ self.old) }
+        ensures err_lists { OnErr result (lists.new ≡ lists.old) }
         ensures only_memory { IsOkUnless result StationError.OutOfMemory }
     {
         let Some(took) = self.sessions.answer(source, bytes) else {
@@ -243,26 +273,29 @@ impl Station {
             Some(reply) => Reaction::answering(alloc, control_frame(reply, dest, source))?,
             None => Reaction::silent(alloc),
         };
-        let change = self.take_session_packet(alloc, source, bytes, took)?;
+        let change = self.take_session_packet(alloc, source, bytes, took, lists)?;
         Ok(Outcome { reaction, change })
     }
 
     /// Reads a packet of a session, which was answered so.
-    fn take_session_packet(
+    fn take_session_packet<L: Lists>(
         &mut self,
         alloc: Global,
         source: u8,
         bytes: &[u8],
         took: Took,
+        lists: &mut L,
     ) -> Result<Change, StationError>
         requires { answer_to bytes.now (at self.old.sessions source) ≡ Some took }
         ensures ok { OnOk result (self.new ≡ with_session_packet self.old source bytes.now) }
         ensures change { IfOk result (λ c. c ≡ ended_change source (heard.finished (with_packet bytes.now (at self.old.sessions source)))) }
+        ensures lists { OnOk result (HasPut L.Takes lists.old (entry_of_ended source (heard.finished (with_packet bytes.now (at self.old.sessions source)))) lists.new) }
         ensures err { OnErr result (self.new ≡ self.old) }
+        ensures err_lists { OnErr result (lists.new ≡ lists.old) }
         ensures only_memory { IsOkUnless result StationError.OutOfMemory }
     {
         match took {
-            Took::Whole => self.end_session(alloc, source, bytes),
+            Took::Whole => self.end_session(alloc, source, bytes, lists),
             Took::More | Took::Broken => {
                 self.sessions.take(source, bytes, took);
                 Ok(Change::Nothing)
@@ -271,20 +304,23 @@ impl Station {
     }
 
     /// The last packet of a session.
-    fn end_session(
+    fn end_session<L: Lists>(
         &mut self,
         alloc: Global,
         source: u8,
         bytes: &[u8],
+        lists: &mut L,
     ) -> Result<Change, StationError>
         requires { answer_to bytes.now (at self.old.sessions source) ≡ Some Took.Whole }
         ensures ok { OnOk result (self.new ≡ with_session_packet self.old source bytes.now) }
         ensures change { IfOk result (λ c. c ≡ ended_change source (heard.finished (with_packet bytes.now (at self.old.sessions source)))) }
+        ensures lists { OnOk result (HasPut L.Takes lists.old (entry_of_ended source (heard.finished (with_packet bytes.now (at self.old.sessions source)))) lists.new) }
         ensures err { OnErr result (self.new ≡ self.old) }
+        ensures err_lists { OnErr result (lists.new ≡ lists.old) }
         ensures only_memory { IsOkUnless result StationError.OutOfMemory }
     {
         let ended = ended_with(alloc, &mut self.sessions, source, bytes)?;
-        let change = self.keep(source, ended)?;
+        let change = self.keep(alloc, source, ended, lists)?;
         self.sessions.take(source, bytes, Took::Whole);
         Ok(change)
     }

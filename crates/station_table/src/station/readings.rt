@@ -1,11 +1,10 @@
 ghost use Rattle.std.specs.Prelude.{◌≡◌, ◌≢◌, ◌≤◌, ℕ, ◌∷◌, List, length, IfOk, OnOk, OnErr, IsOkUnless};
-ghost use Rattle.bus_model.specs.Changed.{change_heard, is_listed};
+ghost use Rattle.bus_model.specs.Changed.{change_heard};
 ghost use Rattle.bus_model.specs.Heard.{StationSettings};
 ghost use Rattle.can_frame.specs.FrameValue.{FrameValue};
 ghost use Rattle.can_frame.specs.declared.reading.Reading.{Reading as AnyReading};
 ghost use Rattle.can_frame.specs.declared.reading.Reading.TheVariants.{Frame as FrameRead};
-ghost use Rattle.dm_messages.specs.declared.kind.Kind.{Kind as AnyKind};
-ghost use Rattle.dm_messages.specs.declared.shown.Shown.{Shown as AnyShown};
+ghost use Rattle.entry_lists.specs.Entries.{HasPut};
 ghost use Rattle.parameter_group.specs.Group.{group_of};
 ghost use Rattle.parameter_group.specs.Group as group;
 ghost use Rattle.parameter_group.specs.Said.{IsLawfulGroup, said};
@@ -18,91 +17,113 @@ use crate::station::Station;
 use crate::station::messages::Announced;
 use bus_model::Change;
 use can_frame::{Frame, GLOBAL_ADDRESS, Reading};
+use entry_lists::Lists;
 use parameter_group::ParameterGroup;
 use std::alloc::Global;
 use transport::Control;
 
 impl Station {
     ghost use Rattle.station_table.specs.Changing.{group_changes, reading_changes};
-    ghost use Rattle.station_table.specs.KeptValue.{entries_under};
-    ghost use Rattle.station_table.specs.Lists.{MayAdd};
-    ghost use Rattle.station_table.specs.StandsFor.{StandsBeside, StandsFor};
+    ghost use Rattle.station_table.specs.Listing.{SaysEntry, entry_heard, group_entry, reading_entry};
+    ghost use Rattle.station_table.specs.StandsFor.{StandsFor};
     ghost use Rattle.station_table.specs.Steps.{after_group, after_reading};
 
     /// Takes one reading, and says what to withdraw and to queue, and what changed.
     ///
     /// A frame tells the station what it says; a gap makes it forget owners and all that is half joined; empty is nothing.
-    /// `OutOfMemory` leaves the station as it was, and is never the answer to an empty reading.
+    /// `OutOfMemory` leaves the station and the lists as they were, and is never the answer to an empty reading.
     ///
     /// The change is all that the reading does to rows, NAMEs, lists and counts (`bus_model`): who follows the changes need not ask for them.
+    /// A diagnostic message that ends, and can be read, is put into the lists; they are asked before anything is changed.
     #[tactic(auto, using(crate::proofs::Few::few_frames))]
-    pub fn take(&mut self, alloc: Global, reading: Reading) -> Result<Outcome, StationError>
+    pub fn take<L: Lists>(
+        &mut self,
+        alloc: Global,
+        reading: Reading,
+        lists: &mut L,
+    ) -> Result<Outcome, StationError>
         ensures step { OnOk result (self.new ≡ after_reading self.old reading) }
         ensures reaction { IfOk result (λ x. x.reaction ≡ reactions.station_reaction self.old reading) }
         ensures change { IfOk result (λ x. x.change ≡ reading_changes self.old reading) }
-        ensures heard { IfOk result (λ x. (taken : ℕ → AnyKind → List AnyShown) (r : StationSettings) (grant : ℕ) (h : List AnyReading) → StandsBeside taken r grant self.old h
+        ensures heard { IfOk result (λ x. (r : StationSettings) (grant : ℕ) (h : List AnyReading) → StandsFor r grant self.old h
             → x.change ≡ change_heard r reading h) }
-        ensures listed { IfOk result (λ x. (n : ℕ) (k : AnyKind) → MayAdd (is_listed x.change n k) (entries_under self.old.rows n k) (entries_under self.new.rows n k)) }
         ensures stands { OnOk result ((r : StationSettings) (grant : ℕ) (h : List AnyReading) → StandsFor r grant self.old h → StandsFor r grant self.new (reading ∷ h)) }
-        ensures beside { OnOk result ((taken : ℕ → AnyKind → List AnyShown) (r : StationSettings) (grant : ℕ) (h : List AnyReading) → StandsBeside taken r grant self.old h
-            → StandsBeside taken r grant self.new (reading ∷ h)) }
         ensures few { IfOk result (λ x. length x.reaction.put ≤ 2) }
+        ensures lists { OnOk result (HasPut L.Takes lists.old (reading_entry self.old reading) lists.new) }
+        ensures listed { OnOk result ((r : StationSettings) (grant : ℕ) (h : List AnyReading) → StandsFor r grant self.old h → HasPut L.Takes lists.old (entry_heard r reading h) lists.new) }
+        ensures entry { IfOk result (λ x. SaysEntry x.change (reading_entry self.old reading)) }
         ensures err { OnErr result (self.new ≡ self.old) }
+        ensures err_lists { OnErr result (lists.new ≡ lists.old) }
         ensures not_empty { OnErr result (reading ≢ Reading.Empty) }
         ensures only_memory { IsOkUnless result StationError.OutOfMemory }
     {
         match reading {
             Reading::Empty => Ok(Outcome::quiet(alloc, Change::Nothing)),
             Reading::Gap(count) => self.hear_gap(alloc, count),
-            Reading::Frame(frame) => self.hear_frame(alloc, &frame),
+            Reading::Frame(frame) => self.hear_frame(alloc, &frame, lists),
         }
     }
 
     /// Takes what one frame says, as `take` takes the frame.
-    pub fn take_group(
+    pub fn take_group<L: Lists>(
         &mut self,
         alloc: Global,
         group: &ParameterGroup<'_>,
+        lists: &mut L,
     ) -> Result<Outcome, StationError>
         requires { IsLawfulGroup group.now }
         ensures step { OnOk result (self.new ≡ after_group self.old (said group.now)) }
         ensures reaction { IfOk result (λ x. x.reaction ≡ reactions.group_reaction self.old (said group.now)) }
         ensures change { IfOk result (λ x. x.change ≡ group_changes self.old (said group.now)) }
-        ensures heard { IfOk result (λ x. (f : FrameValue) → group_of f ≡ said group.now → (taken : ℕ → AnyKind → List AnyShown) (r : StationSettings) (grant : ℕ) (h : List AnyReading) → StandsBeside taken r grant self.old h
+        ensures heard { IfOk result (λ x. (f : FrameValue) → group_of f ≡ said group.now → (r : StationSettings) (grant : ℕ) (h : List AnyReading) → StandsFor r grant self.old h
             → x.change ≡ change_heard r (FrameRead f) h) }
-        ensures listed { IfOk result (λ x. (n : ℕ) (k : AnyKind) → MayAdd (is_listed x.change n k) (entries_under self.old.rows n k) (entries_under self.new.rows n k)) }
-        ensures beside { OnOk result ((f : FrameValue) → group_of f ≡ said group.now → (taken : ℕ → AnyKind → List AnyShown) (r : StationSettings) (grant : ℕ) (h : List AnyReading) → StandsBeside taken r grant self.old h
-            → StandsBeside taken r grant self.new (FrameRead f ∷ h)) }
+        ensures stands { OnOk result ((f : FrameValue) → group_of f ≡ said group.now → (r : StationSettings) (grant : ℕ) (h : List AnyReading) → StandsFor r grant self.old h
+            → StandsFor r grant self.new (FrameRead f ∷ h)) }
         ensures few { IfOk result (λ x. length x.reaction.put ≤ 2) }
+        ensures lists { OnOk result (HasPut L.Takes lists.old (group_entry self.old (said group.now)) lists.new) }
+        ensures listed { OnOk result ((f : FrameValue) → group_of f ≡ said group.now → (r : StationSettings) (grant : ℕ) (h : List AnyReading) → StandsFor r grant self.old h
+            → HasPut L.Takes lists.old (entry_heard r (FrameRead f) h) lists.new) }
+        ensures entry { IfOk result (λ x. SaysEntry x.change (group_entry self.old (said group.now))) }
         ensures err { OnErr result (self.new ≡ self.old) }
+        ensures err_lists { OnErr result (lists.new ≡ lists.old) }
         ensures only_memory { IsOkUnless result StationError.OutOfMemory }
     {
-        self.hear_group(alloc, group)
+        self.hear_group(alloc, group, lists)
     }
 
     /// A frame.
-    #[tactic(auto, using(crate::proofs::Few::after_same, crate::proofs::Few::reaction_same, crate::proofs::Few::changes_same))]
-    fn hear_frame(&mut self, alloc: Global, frame: &Frame) -> Result<Outcome, StationError>
+    #[tactic(auto, using(crate::proofs::Few::after_same, crate::proofs::Few::reaction_same, crate::proofs::Few::changes_same, crate::proofs::Listing::entry_same_said))]
+    fn hear_frame<L: Lists>(
+        &mut self,
+        alloc: Global,
+        frame: &Frame,
+        lists: &mut L,
+    ) -> Result<Outcome, StationError>
         ensures ok { OnOk result (self.new ≡ after_group self.old (group_of frame.now)) }
         ensures reaction { IfOk result (λ x. x.reaction ≡ reactions.group_reaction self.old (group_of frame.now)) }
         ensures change { IfOk result (λ x. x.change ≡ group_changes self.old (group_of frame.now)) }
+        ensures lists { OnOk result (HasPut L.Takes lists.old (group_entry self.old (group_of frame.now)) lists.new) }
         ensures err { OnErr result (self.new ≡ self.old) }
+        ensures err_lists { OnErr result (lists.new ≡ lists.old) }
         ensures only_memory { IsOkUnless result StationError.OutOfMemory }
     {
-        self.hear_group(alloc, &ParameterGroup::read(frame))
+        self.hear_group(alloc, &ParameterGroup::read(frame), lists)
     }
 
     /// What one frame says.
-    fn hear_group(
+    fn hear_group<L: Lists>(
         &mut self,
         alloc: Global,
         group: &ParameterGroup<'_>,
+        lists: &mut L,
     ) -> Result<Outcome, StationError>
         requires { IsLawfulGroup group.now }
         ensures ok { OnOk result (self.new ≡ after_group self.old (said group.now)) }
         ensures reaction { IfOk result (λ x. x.reaction ≡ reactions.group_reaction self.old (said group.now)) }
         ensures change { IfOk result (λ x. x.change ≡ group_changes self.old (said group.now)) }
+        ensures lists { OnOk result (HasPut L.Takes lists.old (group_entry self.old (said group.now)) lists.new) }
         ensures err { OnErr result (self.new ≡ self.old) }
+        ensures err_lists { OnErr result (lists.new ≡ lists.old) }
         ensures only_memory { IsOkUnless result StationError.OutOfMemory }
     {
         match *group {
@@ -123,7 +144,7 @@ impl Station {
                 source,
                 bytes,
             } => {
-                let change = self.hear_single(alloc, kind, source, bytes)?;
+                let change = self.hear_single(alloc, kind, source, bytes, lists)?;
                 Ok(Outcome::quiet(alloc, change))
             }
             ParameterGroup::ConnectionManagement {
@@ -135,7 +156,7 @@ impl Station {
                 source,
                 dest,
                 bytes,
-            } => self.hear_packet(alloc, source, dest, bytes),
+            } => self.hear_packet(alloc, source, dest, bytes, lists),
             ParameterGroup::Other => Ok(Outcome::quiet(alloc, Change::Nothing)),
         }
     }
@@ -185,25 +206,28 @@ impl Station {
     }
 
     /// A packet to all or to the station.
-    fn hear_packet(
+    fn hear_packet<L: Lists>(
         &mut self,
         alloc: Global,
         source: u8,
         dest: u8,
         bytes: &[u8],
+        lists: &mut L,
     ) -> Result<Outcome, StationError>
         ensures ok { OnOk result (self.new ≡ after_group self.old (group.DataTransfer source dest bytes.now)) }
         ensures reaction { IfOk result (λ x. x.reaction ≡ reactions.group_reaction self.old (group.DataTransfer source dest bytes.now)) }
         ensures change { IfOk result (λ x. x.change ≡ group_changes self.old (group.DataTransfer source dest bytes.now)) }
+        ensures lists { OnOk result (HasPut L.Takes lists.old (group_entry self.old (group.DataTransfer source dest bytes.now)) lists.new) }
         ensures err { OnErr result (self.new ≡ self.old) }
+        ensures err_lists { OnErr result (lists.new ≡ lists.old) }
         ensures only_memory { IsOkUnless result StationError.OutOfMemory }
     {
         if dest == GLOBAL_ADDRESS {
-            let change = self.hear_broadcast_packet(alloc, source, bytes)?;
+            let change = self.hear_broadcast_packet(alloc, source, bytes, lists)?;
             return Ok(Outcome::quiet(alloc, change));
         }
         if self.claimer.held() == Some(dest) {
-            return self.hear_session_packet(alloc, source, dest, bytes);
+            return self.hear_session_packet(alloc, source, dest, bytes, lists);
         }
         Ok(Outcome::quiet(alloc, Change::Nothing))
     }

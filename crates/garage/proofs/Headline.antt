@@ -10,12 +10,14 @@ use Rattle.bus_model.specs.Heard.{entries_heard, missed_count, row_heard, unread
 use Rattle.bus_model.specs.LawfulTraffic.{IsLawfulTraffic}
 use Rattle.bus_model.specs.Messages.{Message, IsAmong}
 use Rattle.bus_model.specs.Whole.{received_whole}
-use Rattle.station_table.specs.KeptValue.{entries_under, kept_under}
+use Rattle.entry_lists.specs.Entries.{entries_under}
+use Rattle.station_table.specs.KeptValue.{kept_under}
+use Rattle.station_table.specs.Listing.{lists_heard}
 use Rattle.station_table.specs.StandsFor.{StandsFor, row_of, row_heard_as}
 use Rattle.station_table.specs.StationValue.{StationValue}
 use Rattle.station_table.specs.declared.row.Row.{Row}
 use Rattle.station_table.proofs.Queries.{row_as_heard}
-use Rattle.journal.specs.Journal.{GarageValue, injected_of, readings_at, shown_at, state_of}
+use Rattle.journal.specs.Journal.{GarageValue, injected_of, listed_at, readings_at, shown_at, state_of}
 use Rattle.journal.specs.Promises.{IsFromOwner, wire_of}
 use Rattle.journal.specs.State.{path_at, setting_at, table_at}
 use Rattle.journal.specs.Worlds.{station_of_at}
@@ -24,7 +26,7 @@ use Rattle.journal.proofs.Headline.{exact, readable, station}
 use Rattle.garage.specs.Inside.{settings_of, garage_value_of, Stands}
 use Rattle.garage.specs.declared.garage.Garage.TheInside.{Inside}
 use Rattle.garage.specs.declared.garage.Post.{Post}
-use Rattle.garage.proofs.Standing.{lawful_now, post_table, settings_are, station_below}
+use Rattle.garage.proofs.Standing.{lawful_now, post_is, post_table, settings_are, station_below}
 
 -- a station's tables stand for its readings in the journal
 pub tables : (a : Inside) (y : ℕ) → Stands a → y < a.stations → StandsFor (station_of_at (settings_of a) y) (setting_at (settings_of a) y).grant (table_at (state_of (garage_value_of a)) y) (readings_at y (reverse a.journal.items))
@@ -33,29 +35,32 @@ tables a y stands h = station (settings_of a) (reverse a.journal.items) stands.f
     within : (a : Inside) (y : ℕ) → Stands a → y < a.stations → y < length (settings_of a).stations
     within a y stands h = (let n = settings_are a stands in omega arith)
 
+-- a post's station stands for its readings, and its lists have what was heard
+pub reading_heard : (a : Inside) (y : ℕ) (x : Post) → Stands a → y < a.stations → x ≡ get_or a.posts.items y x
+    → StandsFor (station_of_at (settings_of a) y) (setting_at (settings_of a) y).grant x.station (readings_at y (reverse a.journal.items))
+    × ((n : ℕ) (k : Kind) → entries_under x.lists n k ≡ lists_heard (station_of_at (settings_of a) y) (readings_at y (reverse a.journal.items)) n k)
+reading_heard a y x stands below read = (
+  subst (λ (s : StationValue). StandsFor (station_of_at (settings_of a) y) (setting_at (settings_of a) y).grant s (readings_at y (reverse a.journal.items))) (sym (post_table a y x stands below read)) (tables a y stands below),
+  λ n k. ap (λ (p : Post). entries_under p.lists n k) (post_is a y x stands below read) ∙ stands.lists y n k below,
+)
+
 -- what is asked of the station on a post, at what callers see
-pub shown_expected : (a : Inside) (v : GarageValue) (y n : ℕ) (k : Kind) (x : Post) (l : List Shown) → garage_value_of a ≡ v → Stands a → y < length v.settings.stations → x ≡ get_or a.posts.items y x → l ≡ entries_under x.station.rows n k
+pub shown_expected : (a : Inside) (v : GarageValue) (y n : ℕ) (k : Kind) (x : Post) (l : List Shown) → garage_value_of a ≡ v → Stands a → y < length v.settings.stations → x ≡ get_or a.posts.items y x → l ≡ entries_under x.lists n k
     → injected_of v.journal ≡ 0 → l ≡ shown_at v y n k
 shown_expected a v y n k x l is stands h read e none =
     let below = station_below a v y is stands h in
-    let table = post_table a y x stands below read in
     let h' : y < length (settings_of a).stations = subst (λ (g : GarageValue). y < length g.settings.stations) (sym is) h in
     let none' : injected_of (reverse a.journal.items) ≡ 0 = ap (λ (g : GarageValue). injected_of g.journal) is ∙ none in
-    e ∙ (ap (λ (s : StationValue). entries_under s.rows n k) table ∙ (exact (settings_of a) (reverse a.journal.items) stands.fits none' y h' n k ∙ ap (λ (g : GarageValue). shown_at g y n k) is))
+    e ∙ (ap (λ (p : Post). entries_under p.lists n k) (post_is a y x stands below read)
+    ∙ (stands.lists y n k below ∙ (exact (settings_of a) (reverse a.journal.items) stands.fits none' y h' n k ∙ ap (λ (g : GarageValue). shown_at g y n k) is)))
 
-pub shown_heard : (a : Inside) (v : GarageValue) (y n : ℕ) (k : Kind) (x : Post) (l : List Shown) → garage_value_of a ≡ v → Stands a → y < length v.settings.stations → x ≡ get_or a.posts.items y x → l ≡ entries_under x.station.rows n k
+pub shown_heard : (a : Inside) (v : GarageValue) (y n : ℕ) (k : Kind) (x : Post) (l : List Shown) → garage_value_of a ≡ v → Stands a → y < length v.settings.stations → x ≡ get_or a.posts.items y x → l ≡ entries_under x.lists n k
     → l ≡ reverse (entries_heard (station_of_at v.settings y) n k (readings_at y v.journal))
 shown_heard a v y n k x l is stands h read e =
     let below = station_below a v y is stands h in
-    e ∙ (ap (λ (s : StationValue). entries_under s.rows n k) (post_table a y x stands below read)
-    ∙ ((tables a y stands below).entries n k ∙ ap (λ (g : GarageValue). reverse (entries_heard (station_of_at g.settings y) n k (readings_at y g.journal))) is))
+    e ∙ (ap (λ (p : Post). entries_under p.lists n k) (post_is a y x stands below read) ∙ (stands.lists y n k below ∙ ap (λ (g : GarageValue). listed_at g y n k) is))
 
-pub shown_kept : (a : Inside) (v : GarageValue) (y n : ℕ) (k : Kind) (x : Post) (l : List Shown) → garage_value_of a ≡ v → Stands a → y < length v.settings.stations → x ≡ get_or a.posts.items y x → l ≡ entries_under x.station.rows n k
-    → l ≡ entries_under (table_at (state_of v) y).rows n k
-shown_kept a v y n k x l is stands h read e =
-    e ∙ (ap (λ (s : StationValue). entries_under s.rows n k) (post_table a y x stands (station_below a v y is stands h) read) ∙ ap (λ (g : GarageValue). entries_under (table_at (state_of g) y).rows n k) is)
-
-pub shown_quiet : (a : Inside) (v : GarageValue) (y n : ℕ) (k : Kind) (x : Post) (l : List Shown) → garage_value_of a ≡ v → Stands a → y < length v.settings.stations → x ≡ get_or a.posts.items y x → l ≡ entries_under x.station.rows n k
+pub shown_quiet : (a : Inside) (v : GarageValue) (y n : ℕ) (k : Kind) (x : Post) (l : List Shown) → garage_value_of a ≡ v → Stands a → y < length v.settings.stations → x ≡ get_or a.posts.items y x → l ≡ entries_under x.lists n k
     → injected_of v.journal ≡ 0 → NoneMissed (path_at (state_of v) y) → l ≡ reverse (received_whole (station_of_at v.settings y) n k (state_of v).begun (path_at (state_of v) y))
 shown_quiet a v y n k x l is stands h read e none whole =
     shown_expected a v y n k x l is stands h read e none ∙ quiet v (lawful_now a v is stands) none y h whole n k

@@ -17,3 +17,4 @@ mod BeginLemmas
 mod Lines
 pub mod Lent
 pub mod Crew
+mod Listed

@@ -8,10 +8,13 @@ use Rattle.bus_ledger.specs.BusValue.{SeatValue, Traffic, nobody, seat_at}
 use Rattle.bus_ledger.specs.Changes.{HasWindow, new_traffic, seat_of_station}
 use Rattle.bus_ledger.specs.Newcomers.{live_units}
 use Rattle.bus_ledger.specs.declared.traffic.StationSeat.{StationSeat}
+use Rattle.bus_model.specs.Heard.{StationSettings, entries_heard}
 use Rattle.bus_model.specs.Machine.{AreFit, AreNot}
-use Rattle.journal.specs.Worlds.{law_settings, stations_of}
+use Rattle.dm_messages.specs.declared.kind.Kind.{Kind}
+use Rattle.entry_lists.specs.Entries.{entries_under}
+use Rattle.journal.specs.Worlds.{law_settings, station_of_at, stations_of}
 use Rattle.journal.specs.State.{Settings, State, StationSetting, StationState, new_state, new_state_of, station_seat, table_at, with_claims}
-use Rattle.journal.specs.Journal.{tally_of, state_after, state_of, AllFit, injected_of, joins}
+use Rattle.journal.specs.Journal.{tally_of, state_after, state_of, AllFit, injected_of, joins, readings_at}
 use Rattle.journal.specs.declared.event.Event.{Event}
 use Rattle.journal.proofs.Starting.{claims_wire, seat_started, start_stands}
 use Rattle.journal.proofs.Station.{new_at}
@@ -121,6 +124,11 @@ opened_table settings limit y p h e =
     let many = length-map settings setting_value in
     e ∙ (ap (λ (s : StationSetting). (new_state_of s).table) (sym (get_or-map setting_value settings y nothing_set _ h)) ∙ ap (λ (s : StationState). s.table) (sym (new_at (with_stations settings limit) y (omega arith))))
 
+-- nothing was heard of no readings
+nothing_listed : (r : StationSettings) (y n : ℕ) (k : Kind) → reverse (entries_heard r n k (readings_at y [])) ≡ []
+unfolding readings_at
+nothing_listed r y n k = refl
+
 pub opened_stands : (g : Inside) (settings : List Setting) → AreSettings settings g.limit → HaveOwnNames settings → HaveNames settings (length settings) → ArePostsOf g.posts.items settings (length settings) → g.stations ≡ length settings
     → g.journal.items ≡ [] → g.places.items ≡ [] → g.begun ≡ 0 → g.live ≡ 0 → g.injected ≡ 0
     → g.bus.traffic ≡ with_claims 0 (map setting_value settings) (new_traffic (map station_seat_of settings)) → Stands g
@@ -149,6 +157,8 @@ opened_stands g settings are apart names posts count empty none begun live injec
       some = omega arith;
       eight = omega arith;
       posts = λ y h. (let h' : y < length settings = omega arith in opened_table settings g.limit y (post_at g.posts.items y) h' (ap (λ (p : Post). p.station) (posts.1 y h'))) ∙ sym (ap (λ (s : State). table_at s y) is);
+      lists = λ y n k h. (let h' : y < length settings = omega arith in ap (λ (p : Post). entries_under p.lists n k) (posts.1 y h'))
+          ∙ sym (ap (λ (es : List Event). reverse (entries_heard (station_of_at (settings_of g) y) n k (readings_at y es))) history ∙ nothing_listed (station_of_at (settings_of g) y) y n k);
       units = ap (map unit_of) none ∙ sym (ap (λ (s : State). s.units) is);
       begun = begun ∙ sym (ap (λ (s : State). length s.begun) is);
       fits = subst (λ (x : Settings). AllFit x (reverse g.journal.items)) (sym same) (subst (λ (es : List Event). AllFit r es) (sym history) (none_fit r (are_fit settings g.limit are.each apart names)));

@@ -23,6 +23,7 @@ use Rattle.journal.specs.Steps.{after, after_hearing, next_for}
 use Rattle.journal.specs.Journal.{GarageValue, Adds, AllFit, memory_told, one_more, state_of, tally_of}
 use Rattle.journal.specs.declared.event.Event.{Event}
 use Rattle.journal.specs.declared.event.Event.TheVariants.{Join, Hear, Begin, Turned, Carry, Read, Ordered, Leave, Inject}
+use Rattle.entry_lists.specs.Entries.{entries_under}
 use Rattle.garage.specs.Answers.{Hears, Passes}
 use Rattle.garage.specs.Inside.{settings_of, garage_value_of, place_at, post_at, unit_of, Stands}
 use Rattle.garage.specs.declared.garage.Garage.TheInside.{Inside}
@@ -94,6 +95,7 @@ quiet_stands a b seat memory f x node' stands u lawful next read quiet settings 
       traffic = now ∙ (ap (λ (v : Traffic). heard_more seat 1 v) stands.traffic ∙ sym (ap (λ (v : State). v.traffic) is));
       stations = same_posts.stations;
       posts = λ y l. ap (λ (ps : List Post). (post_at ps y).station) same_posts.posts ∙ (stands.posts y l ∙ sym (ap (λ (v : State). table_at v y) is));
+      lists = λ y n k l. ap (λ (ps : List Post). entries_under (post_at ps y).lists n k) same_posts.posts ∙ stands.lists y n k l;
       units = ap (map unit_of) places ∙ (map-set unit_of a.places.items k p ∙ (ap (λ (us : List UnitState). set us k (record (unit_of x) { node = node' })) stands.units
           ∙ (ap (λ (w : UnitState). set s.units k (record w { node = node' })) (sym same)
           ∙ (ap (λ (n : ℕ). set s.units (seat - n) (record (unit_at s seat) { node = node' })) (sym (stations_are a stands)) ∙ sym (ap (λ (v : State). v.units) is)))));

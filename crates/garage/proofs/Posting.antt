@@ -71,11 +71,11 @@ posting_ends settings start bus n e p =
 
 -- one post more
 pub posts_more : (posts : List Post) (settings : List Setting) (i : ℕ) (p : Post) → ArePostsOf posts settings i
-    → p ≡ record { setting = setting_in settings i; station = new_station (setting_in settings i).name (setting_in settings i).address (setting_in settings i).grant } → ArePostsOf (posts ++ p ∷ []) settings (i + 1)
+    → p ≡ record { setting = setting_in settings i; station = new_station (setting_in settings i).name (setting_in settings i).address (setting_in settings i).grant; lists = [] } → ArePostsOf (posts ++ p ∷ []) settings (i + 1)
 posts_more posts settings i p are is = (
   (let n = are.0 in omega (arith, length_push posts p)),
   λ y h. elim (same_or_not y i) [
-    | inl e ↦ get_or_push posts p no_post y (let n = are.0 in omega arith) ∙ (is ∙ ap (λ (k : ℕ). record { setting = setting_in settings k; station = new_station (setting_in settings k).name (setting_in settings k).address (setting_in settings k).grant }) (sym e))
+    | inl e ↦ get_or_push posts p no_post y (let n = are.0 in omega arith) ∙ (is ∙ ap (λ (k : ℕ). record { setting = setting_in settings k; station = new_station (setting_in settings k).name (setting_in settings k).address (setting_in settings k).grant; lists = [] }) (sym e))
     | inr n ↦ get_or_append_left posts (p ∷ []) no_post y (let m = are.0 in omega arith) ∙ are.1 y (omega arith)
   ],
 )

@@ -28,7 +28,11 @@ use Rattle.node_core.specs.Beginning.{begins}
 use Rattle.node_core.specs.declared.heard.Started.{Started}
 use Rattle.node_core.specs.declared.heard.Started.TheVariants as started
 use Rattle.node_core.specs.declared.out.Out.{Out}
+use Rattle.dm_messages.specs.declared.kind.Kind.{Kind}
 use Rattle.dm_messages.specs.declared.kind.Kind.TheVariants.{Dm1}
+use Rattle.entry_lists.specs.Entries.{entries_under}
+use Rattle.bus_model.specs.Heard.{entries_heard}
+use Rattle.journal.specs.Worlds.{station_of_at}
 use Rattle.journal.specs.Steps.{after_hear_of, after_hearing, next_for, begun_after}
 use Rattle.can_frame.specs.FrameValue.{FrameValue}
 use Rattle.node_core.specs.NodeValue.{NodeValue}
@@ -45,7 +49,7 @@ use Rattle.std.specs.Option.{option_map}
 use Rattle.garage.specs.Answers.{count_with_begun, Hears}
 use Rattle.garage.specs.declared.steps.HeardOne.TheVariants as heard
 use Rattle.journal.specs.Fits.{IsAnswered, Fits}
-use Rattle.journal.specs.Journal.{GarageValue, state_after, state_of, AllFit, injected_of, joins, tallied, tally_of}
+use Rattle.journal.specs.Journal.{GarageValue, state_after, state_of, AllFit, injected_of, joins, readings_at, tallied, tally_of}
 use Rattle.journal.specs.declared.event.Event.{Event}
 use Rattle.journal.specs.declared.event.Event.TheVariants.{Join, Hear, Begin, Turned, Carry, Read, Ordered, Leave, Inject}
 use Rattle.journal.specs.declared.tally.Tally.{Tally}
@@ -183,6 +187,23 @@ pub injected_few : (es : List Event) → injected_of es ≤ length es
 injected_few [] = (let e = none_outside in omega arith)
 injected_few (e ∷ es) = (let m = injected_more e es in let f = few_outside e in let r = injected_few es in omega arith)
 
+-- the readings of a station after one event more
+abbrev pub readings_with : Event → ℕ → List Reading → List Reading
+readings_with (Read j reading) y rs = if j == y then reading ∷ rs else rs
+readings_with _ y rs = rs
+
+readings_more : (e : Event) (y : ℕ) (es : List Event) → readings_at y (e ∷ es) ≡ readings_with e y (readings_at y es)
+unfolding readings_at
+readings_more (Join seat name address) y es = refl
+readings_more (Hear k memory answered) y es = refl
+readings_more (Begin k memory) y es = refl
+readings_more (Turned k) y es = refl
+readings_more (Carry k) y es = refl
+readings_more (Read j r) y es = refl
+readings_more (Ordered j o) y es = refl
+readings_more (Leave k) y es = refl
+readings_more (Inject f) y es = refl
+
 -- what a call has to show of the fields after one event more
 pub record More (a b : Inside) (e : Event) : Type 0 where
   pub settings : settings_of b ≡ settings_of a
@@ -191,6 +212,8 @@ pub record More (a b : Inside) (e : Event) : Type 0 where
   pub traffic : b.bus.traffic ≡ (after e (state a)).traffic
   pub stations : b.stations ≡ a.stations
   pub posts : (y : ℕ) → y < a.stations → (post_at b.posts.items y).station ≡ table_at (after e (state a)) y
+  pub lists : (y n : ℕ) (k : Kind) → y < a.stations
+      → entries_under (post_at b.posts.items y).lists n k ≡ reverse (entries_heard (station_of_at (settings_of a) y) n k (readings_with e y (readings_at y (reverse a.journal.items))))
   pub units : map unit_of b.places.items ≡ (after e (state a)).units
   pub begun : b.begun ≡ length (after e (state a)).begun
   pub injected : b.injected ≡ a.injected + from_outside e
@@ -226,6 +249,10 @@ stands_more a b e stands m =
       some = (let one = m.stations in let two = stands.some in omega arith);
       eight = (let one = m.stations in let two = stands.eight in omega arith);
       posts = λ y h. m.posts y (let one = m.stations in omega arith) ∙ ap (λ (s : State). table_at s y) (sym is);
+      lists = λ y n k h.
+          m.lists y n k (let one = m.stations in omega arith)
+          ∙ (ap (λ (rs : List Reading). reverse (entries_heard (station_of_at (settings_of a) y) n k rs)) (sym (ap (readings_at y) history ∙ readings_more e y (reverse a.journal.items)))
+          ∙ ap (λ (r : Settings). reverse (entries_heard (station_of_at r y) n k (readings_at y (reverse b.journal.items)))) (sym m.settings));
       units = m.units ∙ ap (λ (s : State). s.units) (sym is);
       begun = m.begun ∙ ap (λ (s : State). length s.begun) (sym is);
       fits = subst (λ (r : Settings). AllFit r (reverse b.journal.items)) (sym m.settings) (subst (λ (es : List Event). AllFit (settings_of a) es) (sym history) (fit_more (settings_of a) e (reverse a.journal.items) m.fits stands.fits));
@@ -399,6 +426,11 @@ still a b stands settings traffic posts stations places begun live injected jour
       some = (let s = stands.some in omega arith);
       eight = (let s = stands.eight in omega arith);
       posts = λ y h. ap (λ (ps : List Post). (post_at ps y).station) posts ∙ (stands.posts y (omega arith) ∙ ap (λ (s : State). table_at s y) (sym same));
+      lists = λ y n k h.
+          ap (λ (ps : List Post). entries_under (post_at ps y).lists n k) posts
+          ∙ (stands.lists y n k (omega arith)
+          ∙ (ap (λ (r : Settings). reverse (entries_heard (station_of_at r y) n k (readings_at y (reverse a.journal.items)))) (sym settings)
+          ∙ ap (λ (es : List Event). reverse (entries_heard (station_of_at (settings_of b) y) n k (readings_at y (reverse es)))) (sym journal)));
       units = ap (map unit_of) places ∙ (stands.units ∙ ap (λ (s : State). s.units) (sym same));
       begun = begun ∙ (stands.begun ∙ ap (λ (s : State). length s.begun) (sym same));
       fits = subst (λ (r : Settings). AllFit r (reverse b.journal.items)) (sym settings) (subst (λ (es : List Event). AllFit (settings_of a) (reverse es)) (sym journal) stands.fits);

@@ -1,14 +1,16 @@
 -- How the fields of a garage stand for its journal.
-use Rattle.std.specs.Prelude.{ℕ, ◌≡◌, ◌+◌, ◌*◌, ◌<◌, ◌≤◌, ◌^◌, List, map, reverse, length, slice_index_or}
+use Rattle.std.specs.Prelude.{ℕ, ◌≡◌, ◌+◌, ◌*◌, ◌<◌, ◌≤◌, ◌^◌, List, [], map, reverse, length, slice_index_or}
 use Rattle.bus_ledger.specs.BusValue.{seat_at}
 use Rattle.bus_ledger.specs.Newcomers.{live_units}
 use Rattle.journal.specs.State.{Settings, StationSetting, UnitState, table_at}
 use Rattle.bus_ledger.specs.declared.bus.TheConstants.{MOST_STATIONS}
 use Rattle.station_table.specs.Steps.{new_station}
+use Rattle.dm_messages.specs.declared.kind.Kind.{Kind}
+use Rattle.entry_lists.specs.Entries.{entries_under}
 use Rattle.garage.specs.Opening.{nothing_set, setting_in, setting_value}
 use Rattle.garage.specs.declared.opening.Setting.{Setting}
 use Rattle.garage.specs.declared.garage.Post.{Post}
-use Rattle.journal.specs.Journal.{GarageValue, state_of, AllFit, injected_of, joins, tally_of}
+use Rattle.journal.specs.Journal.{GarageValue, state_of, AllFit, injected_of, joins, listed_at, tally_of}
 use Rattle.journal.specs.declared.tally.Tally.{Tally}
 use Rattle.node_core.specs.NodeValue.{new_node}
 use Rattle.garage.specs.declared.garage.Place.{Place}
@@ -20,7 +22,7 @@ post_setting p = setting_value p.setting
 
 -- what stands at the number of no station
 abbrev pub no_post : Post
-no_post = record { setting = nothing_set; station = new_station 0 0 0 }
+no_post = record { setting = nothing_set; station = new_station 0 0 0; lists = [] }
 
 abbrev pub post_at : List Post → ℕ → Post
 post_at posts y = slice_index_or posts y no_post
@@ -29,7 +31,7 @@ post_at posts y = slice_index_or posts y no_post
 abbrev pub ArePostsOf : List Post → List Setting → ℕ → Type 0
 ArePostsOf posts settings n =
     (length posts ≡ n)
-    × ((y : ℕ) → y < n → post_at posts y ≡ record { setting = setting_in settings y; station = new_station (setting_in settings y).name (setting_in settings y).address (setting_in settings y).grant })
+    × ((y : ℕ) → y < n → post_at posts y ≡ record { setting = setting_in settings y; station = new_station (setting_in settings y).name (setting_in settings y).address (setting_in settings y).grant; lists = [] })
 
 abbrev pub settings_of : Inside → Settings
 settings_of g = record { stations = map post_setting g.posts.items; limit = g.limit }
@@ -49,7 +51,7 @@ no_place = record { node = new_node 0 0; session_message = 0; tally = no_tally }
 abbrev pub place_at : List Place → ℕ → Place
 place_at places k = slice_index_or places k no_place
 
--- bus, station and units are as the journal leads to, and the counts are those of the journal
+-- bus, stations and units are as the journal leads to, the lists have what was heard, and the counts are those of the journal
 pub record Stands (g : Inside) : Type 0 where
   pub few : g.limit ≤ 2 ^ 24
   pub traffic : g.bus.traffic ≡ (state_of (garage_value_of g)).traffic
@@ -57,6 +59,7 @@ pub record Stands (g : Inside) : Type 0 where
   pub some : 0 < g.stations
   pub eight : g.stations ≤ MOST_STATIONS
   pub posts : (y : ℕ) → y < g.stations → (post_at g.posts.items y).station ≡ table_at (state_of (garage_value_of g)) y
+  pub lists : (y n : ℕ) (k : Kind) → y < g.stations → entries_under (post_at g.posts.items y).lists n k ≡ listed_at (garage_value_of g) y n k
   pub units : map unit_of g.places.items ≡ (state_of (garage_value_of g)).units
   pub begun : g.begun ≡ length (state_of (garage_value_of g)).begun
   pub fits : AllFit (settings_of g) (reverse g.journal.items)

@@ -3,6 +3,7 @@ ghost use Rattle.std.specs.Prelude.{◌≡◌};
 use crate::opening::Setting;
 use bus_ledger::{Bus, Counts, MOST_STATIONS};
 use can_frame::Frame;
+use entry_lists::AllEntries;
 use journal::{Journal, Tally};
 use node_core::Node;
 use station_table::Station;
@@ -24,6 +25,8 @@ pub(crate) struct Place {
 pub(crate) struct Post {
     pub(crate) setting: Setting,
     pub(crate) station: Station,
+    // what it read of diagnostic messages
+    pub(crate) lists: AllEntries,
 }
 
 /// The bus of one vehicle with its units and its stations, and the journal of all that happened on it.

@@ -11,6 +11,7 @@ use crate::error::GarageError;
 use crate::garage::{Garage, MOST_EVENTS, Post};
 use bus_ledger::{Bus, MOST_STATIONS, MOST_UNREAD, StationSeat};
 use can_frame::GREATEST_ADDRESS;
+use entry_lists::AllEntries;
 use journal::Journal;
 use name_field::Name;
 use station_table::Station;
@@ -199,10 +200,12 @@ fn post(alloc: Global, bus: &mut Bus, settings: &[Setting]) -> Result<Vec<Post>,
     let mut posts = Vec::with_capacity(alloc, settings.len())?;
     for (seat, setting) in settings.iter().enumerate() {
         let station = Station::new(alloc, setting.name, setting.address, setting.grant);
+        let lists = AllEntries::new(alloc);
         bus.queue_reserved(seat as u32, station.start(), None);
         posts.push(Post {
             setting: *setting,
             station,
+            lists,
         })?;
     }
     Ok(posts)

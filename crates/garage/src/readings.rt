@@ -80,7 +80,7 @@ impl Garage {
         make_room(&mut self.journal, self.live + 1, self.limit)?;
         self.bus.reserve(station, MOST_ANSWERS)?;
         let post = &mut self.posts[station as usize];
-        let outcome = post.station.take(alloc, *reading)?;
+        let outcome = post.station.take(alloc, *reading, &mut post.lists)?;
         self.bus.tap_pass_at(station);
         react(&mut self.bus, station, &outcome.reaction);
         self.journal.note_read(station as u8, *reading);

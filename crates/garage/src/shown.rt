@@ -7,7 +7,6 @@ ghost use Rattle.bus_model.specs.Whole.{received_whole};
 ghost use Rattle.journal.specs.Journal.{injected_of, state_of, readings_at, readings_of, shown_at, shown_of};
 ghost use Rattle.journal.specs.State.{path_at, table_at};
 ghost use Rattle.journal.specs.Worlds.{station_of, station_of_at};
-ghost use Rattle.station_table.specs.KeptValue.{entries_under};
 
 use crate::garage::Garage;
 use dm_messages::{Kind, Shown};
@@ -21,7 +20,6 @@ impl Garage {
         ensures heard { result.now ≡ reverse (entries_heard (station_of self.now.settings) name kind (readings_of self.now.journal)) }
         ensures quiet { injected_of self.now.journal ≡ 0 → NoneMissed (path_at (state_of self.now) 0) → result.now ≡ reverse (received_whole (station_of self.now.settings) name kind (state_of self.now).begun (path_at (state_of self.now) 0)) }
         ensures looks_back { injected_of self.now.journal ≡ 0 → (m : Message) → IsAmong m (state_of self.now).begun → (is_clear (station_of self.now.settings) m (path_at (state_of self.now) 0) ≡ true) ↔ IsOnClearPath (station_of self.now.settings) m (path_at (state_of self.now) 0) }
-        ensures kept { result.now ≡ entries_under (table_at (state_of self.now) 0).rows name kind }
     {
         let _ = self.stations();
         self.shown_at(0, name, kind)
@@ -44,9 +42,8 @@ impl Garage {
         ensures heard { result.now ≡ reverse (entries_heard (station_of_at self.now.settings station) name kind (readings_at station self.now.journal)) }
         ensures quiet { injected_of self.now.journal ≡ 0 → NoneMissed (path_at (state_of self.now) station) → result.now ≡ reverse (received_whole (station_of_at self.now.settings station) name kind (state_of self.now).begun (path_at (state_of self.now) station)) }
         ensures looks_back { injected_of self.now.journal ≡ 0 → (m : Message) → IsAmong m (state_of self.now).begun → (is_clear (station_of_at self.now.settings station) m (path_at (state_of self.now) station) ≡ true) ↔ IsOnClearPath (station_of_at self.now.settings station) m (path_at (state_of self.now) station) }
-        ensures kept { result.now ≡ entries_under (table_at (state_of self.now) station).rows name kind }
     {
-        self.posts[station as usize].station.shown(name, kind)
+        self.posts[station as usize].lists.shown(name, kind)
     }
 
     /// How many frames station 0 was told of as missed.

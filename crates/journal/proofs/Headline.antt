@@ -1,12 +1,12 @@
 -- What a station shows of a journal: the law, put to the world that the journal leads to.
-use Rattle.std.proofs.Common.{ℕ, ◌≡◌, ◌<◌, List, length, reverse, ap, ◌∙◌, subst}
+use Rattle.std.proofs.Common.{ℕ, ◌≡◌, ◌<◌, List, length, reverse, sym, ap, ◌∙◌, subst}
 use Rattle.std.proofs.lemmas.Option.{slice_get-get_or}
 use Rattle.can_frame.specs.declared.reading.Reading.{Reading}
 use Rattle.dm_messages.specs.declared.kind.Kind.{Kind}
 use Rattle.bus_model.specs.Expected.{expected}
+use Rattle.bus_model.specs.Heard.{entries_heard}
 use Rattle.bus_model.specs.Machine.{IsAt, World, names_of, new_stations, start}
 use Rattle.bus_model.proofs.Worlds.{StationHolds, WorldLaw, law_run, law_start}
-use Rattle.station_table.specs.KeptValue.{entries_under}
 use Rattle.station_table.specs.StandsFor.{StandsFor}
 use Rattle.journal.specs.Journal.{AllFit, injected_of, readings_at, state_after}
 use Rattle.journal.specs.State.{Settings, no_setting, path_at, setting_at, table_at}
@@ -44,11 +44,12 @@ pub holds_after : (r : Settings) (journal : List Event) (fit : AllFit r journal)
     → StationHolds (names_in r) (world_after r journal fit none).wire (world_after r journal fit none).begun (world_station (state_after r journal) y (setting_at r y))
 holds_after r journal fit none y h = (law_after r journal fit none).stations y (world_station (state_after r journal) y (setting_at r y)) (at_after r journal fit none y h)
 
--- where no frame came from outside, its entries are those of the messages that came on a clear path
+-- where no frame came from outside, what was heard of its readings is what came on a clear path
 pub exact : (r : Settings) (journal : List Event) → AllFit r journal → injected_of journal ≡ 0 → (y : ℕ) → y < length r.stations → (n : ℕ) (k : Kind)
-    → entries_under (table_at (state_after r journal) y).rows n k ≡ reverse (expected (station_of_at r y) n k (state_after r journal).begun (path_at (state_after r journal) y))
+    → reverse (entries_heard (station_of_at r y) n k (readings_at y journal)) ≡ reverse (expected (station_of_at r y) n k (state_after r journal).begun (path_at (state_after r journal) y))
 unfolding world_after
-exact r journal fit none y h n k = ((stationed r journal fit).each y h).entries n k ∙ ap reverse ((holds_after r journal fit none y h).same n k)
+exact r journal fit none y h n k =
+    ap (λ (rs : List Reading). reverse (entries_heard (station_of_at r y) n k rs)) (sym (path_readings r journal y fit h)) ∙ ap reverse ((holds_after r journal fit none y h).same n k)
 
 -- and no message that ended was unreadable
 pub readable : (r : Settings) (journal : List Event) → AllFit r journal → injected_of journal ≡ 0 → (y : ℕ) → y < length r.stations → (table_at (state_after r journal) y).unread ≡ 0

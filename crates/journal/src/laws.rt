@@ -2,8 +2,8 @@ ghost use Rattle.std.specs.Prelude.{◌≡◌, ◌<◌, ◌≤◌, ℕ, List, le
 ghost use Rattle.can_frame.specs.declared.address.TheConstants.{GREATEST_ADDRESS};
 ghost use Rattle.dm_messages.specs.declared.kind.Kind.{Kind};
 ghost use Rattle.bus_model.specs.Expected.{expected};
+ghost use Rattle.bus_model.specs.Heard.{entries_heard};
 ghost use Rattle.bus_model.specs.Machine.{Event as Step, Run, Seat, start};
-ghost use Rattle.station_table.specs.KeptValue.{entries_under};
 ghost use Rattle.station_table.specs.StandsFor.{StandsFor};
 ghost use Rattle.bus_model.specs.Marks.{IsMarkedBy};
 ghost use Rattle.journal.specs.Fits.{Fits};
@@ -27,12 +27,12 @@ pub fn station_stands_for_its_readings()
         → StandsFor (station_of_at settings y) (setting_at settings y).grant (table_at (state_after settings journal) y) (readings_at y journal) }
 {}
 
-/// The headline: of every journal without frames from outside, at each station, under each NAME and kind, its entries are the views of the
-/// fault memories with which units of that NAME began messages, to all or to that station, whose frames it read all on a clear path, in the
+/// The headline: of every journal without frames from outside, at each station, under each NAME and kind, what was heard of the station's
+/// readings, which is what it lists, are the views of the fault memories with which units of that NAME began messages, to all or to that station, whose frames it read all on a clear path, in the
 /// order begun.
 pub fn shown_is_expected()
     ensures { (settings : Settings) (journal : List Event) → AllFit settings journal → injected_of journal ≡ 0 → (y : ℕ) → y < length settings.stations → (n : ℕ) (k : Kind)
-        → entries_under (table_at (state_after settings journal) y).rows n k ≡ reverse (expected (station_of_at settings y) n k (state_after settings journal).begun (path_at (state_after settings journal) y)) }
+        → reverse (entries_heard (station_of_at settings y) n k (readings_at y journal)) ≡ reverse (expected (station_of_at settings y) n k (state_after settings journal).begun (path_at (state_after settings journal) y)) }
 {}
 
 /// No message of a unit that came to its end was unreadable at a station, where no frame came from outside.

@@ -26,7 +26,7 @@ loop-seat-preserved c =
     let claim = c.start.ensures.frame ∙ (ap (λ (v : StationValue). own_claim v.claimer) new ∙ ap (λ (z : Setting). claim_frame_value z.name (Some z.address)) s) in
     let small : (setting_in settings i).name < 2 ^ 64 = subst (λ (n : ℕ). n < 2 ^ 64) (ap (λ (v : StationValue). v.claimer.name) new ∙ ap (λ (z : Setting). z.name) s) c.start.ensures.name_fits in
     let inv = c.loop-seat.invariant in (
-      subst (λ l. ArePostsOf l settings (i + 1)) (sym c.in_ok-push.ensures.items) (posts_more c.loop-seat.posts.items settings i _ inv.0 (cc (new, s))),
+      subst (λ l. ArePostsOf l settings (i + 1)) (sym c.in_ok-push.ensures.items) (posts_more c.loop-seat.posts.items settings i _ inv.0 (cc (new, s, c.new-lists.ensures))),
       below_more _ _ inv.1 small,
       posting_more settings c.args.bus.now.traffic c.loop-seat.bus c.queue_reserved.new.self i c.start.result inv.2 h c.queue_reserved.ensures.traffic claim c.queue_reserved.ensures.spares,
     )

@@ -86,6 +86,7 @@ invariant_of-self-2 g c =
           ∙ (ap (put_all seat (map (tagged (length s.begun) false (unit_at s seat).session_message) put)) stands.traffic ∙ sym (ap (λ (v : State). v.traffic) is))));
       stations = refl;
       posts = λ y h. stands.posts y h ∙ sym (ap (λ (v : State). table_at v y) is);
+      lists = stands.lists;
       units = units_same a.places.items k x p h c.index_mut-place.ensures.value refl ∙ (stands.units ∙ sym (ap (λ (v : State). v.units) is));
       begun = (let e : a.begun + 1 ≡ suc (length s.begun) = omega arith in e) ∙ sym (ap (λ (v : State). length v.begun) is);
       injected = omega arith;

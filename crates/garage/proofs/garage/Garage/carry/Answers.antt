@@ -41,6 +41,7 @@ invariant_of-self-2 c =
       traffic = now ∙ (ap (carried_from k q) stands.traffic ∙ sym (ap (λ (s : State). s.traffic) is));
       stations = refl;
       posts = λ y h. stands.posts y h ∙ sym (carry_table k y (state a));
+      lists = stands.lists;
       units = stands.units ∙ sym (ap (λ (s : State). s.units) is);
       begun = stands.begun ∙ sym (ap (λ (s : State). length s.begun) is);
       injected = omega arith;

@@ -35,6 +35,7 @@ invariant_of-self-2 c =
       traffic = now ∙ (ap (injected f) stands.traffic ∙ sym (ap (λ (s : State). s.traffic) is));
       stations = refl;
       posts = λ y h. stands.posts y h ∙ sym (ap (λ (s : State). table_at s y) is);
+      lists = stands.lists;
       units = stands.units ∙ sym (ap (λ (s : State). s.units) is);
       begun = stands.begun ∙ sym (ap (λ (s : State). length s.begun) is);
       injected = refl;

@@ -58,6 +58,7 @@ invariant_of-self-2 c =
           ∙ (ap (λ (u : Traffic). queued (length u.seats) (untagged (claim_frame_value name (Some want))) (with_newcomer name u)) stands.traffic ∙ sym (ap (λ (v : State). v.traffic) is)));
       stations = refl;
       posts = λ y h. stands.posts y h ∙ sym (ap (λ (v : State). table_at v y) is);
+      lists = stands.lists;
       units = ap (map unit_of) items ∙ (map_push unit_of a.places.items p ∙ (ap (λ (u : UnitState). map unit_of a.places.items ++ u ∷ []) (ap (λ (x : NodeValue). record { node = x; session_message = 0 }) c.new-node.ensures)
           ∙ (ap (λ (us : List UnitState). us ++ new_unit name want ∷ []) stands.units ∙ sym (ap (λ (v : State). v.units) is))));
       begun = stands.begun ∙ sym (ap (λ (v : State). length v.begun) is);

@@ -75,6 +75,7 @@ invariant_of-self c =
       traffic = c.leave.ensures.traffic ∙ (ap (left c.args.seat) stands.traffic ∙ sym (ap (λ (s : State). s.traffic) (leave_is c.args.seat _)));
       stations = refl;
       posts = λ y h. stands.posts y h ∙ sym (ap (λ (s : State). table_at s y) (leave_is c.args.seat _));
+      lists = stands.lists;
       units = units_same a.places.items k x _ h c.index_mut-place.ensures.value refl ∙ (stands.units ∙ sym (ap (λ (s : State). s.units) (leave_is c.args.seat _)));
       begun = stands.begun ∙ sym (ap (λ (s : State). length s.begun) (leave_is c.args.seat _));
       injected = omega arith;

@@ -134,6 +134,7 @@ invariant_of-self-2 g c =
           ∙ sym (ap (λ (v : State). v.traffic) is)))));
       stations = refl;
       posts = λ y h. stands.posts y h ∙ sym (ap (λ (v : State). table_at v y) is);
+      lists = stands.lists;
       units = map-set unit_of a.places.items k p ∙ (ap (λ (l : ℕ). set (map unit_of a.places.items) k (record { node = node'; session_message = l })) last_is
           ∙ (ap (λ (us : List UnitState). set us k (record { node = node'; session_message = session_message_after (unit_at s seat).session_message (length s.begun) heard.begun })) stands.units
           ∙ (ap (λ (n : ℕ). set s.units (seat - n) (record { node = node'; session_message = session_message_after (unit_at s seat).session_message (length s.begun) heard.begun })) (sym (stations_are a stands)) ∙ sym (ap (λ (v : State). v.units) is))));

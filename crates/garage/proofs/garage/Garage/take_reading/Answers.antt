@@ -1,4 +1,4 @@
-use Rattle.std.proofs.Common.{ℕ, ◌≢◌, ◌<◌, set, inl, inr, ◌+◌, ◌≡◌, arith, refl, ap, ◌∙◌, sym, subst, List, ◌++◌, ◌∷◌, [], length}
+use Rattle.std.proofs.Common.{ℕ, ◌≢◌, ◌<◌, set, inl, inr, ◌+◌, ◌≡◌, arith, refl, ap, ◌∙◌, sym, subst, List, ◌++◌, ◌∷◌, [], length, reverse}
 use Rattle.bus_ledger.specs.BusValue.{Traffic, IsLive, IsStation, seat_at}
 use Rattle.bus_ledger.specs.Newcomers.{live_units}
 use Rattle.bus_ledger.specs.Reception.{next_reading, reading_taken}
@@ -16,14 +16,19 @@ use Rattle.journal.specs.declared.event.Event.{Event}
 use Rattle.journal.specs.declared.event.Event.TheVariants.{Read}
 use Rattle.garage.proofs.Traffics.{live_read, keeps_read, puts_reacted}
 use Rattle.garage.proofs.InHand.{seat_of_station}
-use Rattle.garage.proofs.Standing.{added, other_table, post_table, read_table, station_below, station_there, state, read_is, joins_read, stands_more, tallies_still, fresh_still}
+use Rattle.garage.proofs.Standing.{added, other_table, post_table, read_table, station_below, station_there, state, read_is, readings_with, joins_read, stands_more, tallies_still, fresh_still}
+use Rattle.garage.proofs.Headline.{reading_heard}
+use Rattle.garage.proofs.Listed.{listed_now, other_reading, own_reading}
 use Rattle.garage.proofs.Lists.{lists_pushed}
-use Rattle.garage.specs.Inside.{garage_value_of, post_at}
+use Rattle.bus_model.specs.Heard.{entries_heard}
+use Rattle.entry_lists.specs.Entries.{entries_under}
+use Rattle.journal.specs.Worlds.{station_of_at}
+use Rattle.garage.specs.Inside.{garage_value_of, post_at, settings_of}
 use Rattle.garage.specs.declared.garage.Post.{Post}
 use Rattle.garage.proofs.Posts.{other_post, own_post, set_settings}
 use Rattle.bus_ledger.proofs.Numbers.{same_or_not}
 use Rattle.garage.specs.declared.garage.Garage.TheInside.{Inside}
-use Rattle.journal.specs.Journal.{Adds, GarageValue, state_of}
+use Rattle.journal.specs.Journal.{Adds, GarageValue, readings_at, state_of}
 use Rattle.garage.proofs.garage.Garage.take_reading.Goals as goal
 
 -- a reading that is not empty was taken by its event
@@ -79,7 +84,9 @@ invariant_of-self-2 c =
     let fits = ok.0 in
     let room = ok.1 in
     let n = c.note_read.ensures.room in
-    let p : Post = (record { setting = x.setting; station = c.take.new.self }) in
+    let p : Post = (record { setting = x.setting; station = c.take.new.self; lists = c.take.new.lists }) in
+    let heard = reading_heard a y x stands below read in
+    let lists = listed_now (station_of_at (settings_of a) y) r (readings_at y (reverse a.journal.items)) x.lists c.take.new.lists (c.in_ok-outcome.ensures.listed _ _ _ heard.0) heard.1 in
     stands_more a _ (Read y r) stands (record {
       settings = ap (λ (l : List StationSetting). let z : Settings = record { stations = l; limit = a.limit } in z) (set_settings a.posts.items y x p in' read refl);
       journal = c.note_read.ensures.items ∙ ap (λ (l : List Event). l ++ Read y r ∷ []) c.make_room.ensures.items;
@@ -92,6 +99,15 @@ invariant_of-self-2 c =
             ap (λ (i : ℕ). (post_at (set a.posts.items y p) i).station) e ∙ (ap (λ (q : Post). q.station) (own_post a.posts.items y p in')
             ∙ (c.in_ok-outcome.ensures.step ∙ (ap (λ (z : StationValue). station_after z r) table ∙ (sym (read_table a y r stands below) ∙ ap (λ (i : ℕ). table_at (after (Read y r) s) i) (sym e)))))
         | inr z ↦ ap (λ (q : Post). q.station) (other_post a.posts.items y j p z) ∙ (stands.posts j h ∙ sym (other_table a y j r z))
+      ];
+      lists = λ j n k h. elim (same_or_not j y) [
+        | inl e ↦
+            ap (λ (i : ℕ). entries_under (post_at (set a.posts.items y p) i).lists n k) e ∙ (ap (λ (q : Post). entries_under q.lists n k) (own_post a.posts.items y p in')
+            ∙ (lists n k ∙ sym (ap (λ (i : ℕ). reverse (entries_heard (station_of_at (settings_of a) i) n k (readings_with (Read y r) i (readings_at i (reverse a.journal.items))))) e
+            ∙ ap (λ (rs : List Reading). reverse (entries_heard (station_of_at (settings_of a) y) n k rs)) (own_reading y r (readings_at y (reverse a.journal.items))))))
+        | inr z ↦
+            ap (λ (q : Post). entries_under q.lists n k) (other_post a.posts.items y j p z)
+            ∙ (stands.lists j n k h ∙ sym (ap (λ (rs : List Reading). reverse (entries_heard (station_of_at (settings_of a) j) n k rs)) (other_reading y j r (readings_at j (reverse a.journal.items)) z)))
       ];
       units = stands.units ∙ sym (ap (λ (v : State). v.units) is);
       begun = stands.begun ∙ sym (ap (λ (v : State). length v.begun) is);
@@ -129,8 +145,8 @@ returns-clause-ok c =
     let below = station_below a c.args.self.now y c.self.view_is c.self.invariant c.requires.station in
     let in' : y < length a.posts.items = (let e = c.self.invariant.stations in omega arith) in
     let x = c.index_mut-post.result.now in
-    let settings = ap (λ (l : List StationSetting). let z : Settings = record { stations = l; limit = a.limit } in z) (set_settings a.posts.items y x (record { setting = x.setting; station = c.take.new.self }) in' c.index_mut-post.ensures.value refl) in
+    let settings = ap (λ (l : List StationSetting). let z : Settings = record { stations = l; limit = a.limit } in z) (set_settings a.posts.items y x (record { setting = x.setting; station = c.take.new.self; lists = c.take.new.lists }) in' c.index_mut-post.ensures.value refl) in
     reads_some y c.args.self.now r _ c.requires.some
-    (added a (record { limit = a.limit; bus = c.react.new.bus; posts = with_item a.posts y (record { setting = x.setting; station = c.take.new.self }); stations = a.stations; places = a.places; begun = a.begun; live = a.live; injected = a.injected; journal = c.note_read.new.self })
+    (added a (record { limit = a.limit; bus = c.react.new.bus; posts = with_item a.posts y (record { setting = x.setting; station = c.take.new.self; lists = c.take.new.lists }); stations = a.stations; places = a.places; begun = a.begun; live = a.live; injected = a.injected; journal = c.note_read.new.self })
     c.args.self.now (Read y r) c.self.view_is settings (c.note_read.ensures.items ∙ ap (λ (l : List Event). l ++ Read y r ∷ []) c.make_room.ensures.items)
     (station_there a y c.self.invariant below, next_is a c.args.self.now y r c.self.view_is c.requires.next, c.requires.some))

@@ -43,6 +43,7 @@ invariant_of-self-2 c =
       traffic = stands.traffic;
       stations = refl;
       posts = stands.posts;
+      lists = stands.lists;
       units = units_same a.places.items k x _ h c.index_mut-place.ensures.value refl ∙ stands.units;
       begun = stands.begun;
       injected = omega arith;

@@ -5,3 +5,4 @@ pub mod PartLists
 pub mod Contested
 pub mod Sifting
 pub mod HalfCommandLists
+pub mod CommandPackets

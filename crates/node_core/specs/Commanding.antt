@@ -1,31 +1,46 @@
 -- A commanded address (SAE J1939-81): nine bytes, broadcast in two packets.
-use Rattle.std.specs.Prelude.{ℕ, Bool, true, false, ◌&&◌, ◌==◌, nat_le, List, [], ◌∷◌, ◌++◌, drop, length, slice_index, slice_index_or, Option, Some, None, if◌then◌else◌}
+use Rattle.std.specs.Prelude.{ℕ, Bool, true, false, ◌&&◌, ◌==◌, nat_le, List, [], ◌∷◌, length, slice_index_or, Option, Some, None, if◌then◌else◌}
 use Rattle.can_frame.specs.declared.address.TheConstants.{GREATEST_ADDRESS, GLOBAL_ADDRESS}
 use Rattle.can_frame.specs.declared.group_numbers.TheConstants.{COMMANDED_ADDRESS}
 use Rattle.requests.specs.Layouts.{commanded_of}
 use Rattle.requests.specs.declared.commanded.Commanded.{Commanded}
+use Rattle.transport.specs.Assembling.{with_part}
+use Rattle.transport.specs.Pieces.{joined, packet_count}
 use Rattle.node_core.specs.declared.commanding.TheConstants.{COMMAND_SIZE}
 use Rattle.node_core.specs.declared.commanding.HalfCommand.{HalfCommand}
 use Rattle.node_core.specs.declared.commanding.HalfCommand.TheVariants.{Nothing, Started, First}
-
--- eight bytes, the first of which is that number
-abbrev pub is_packet : ℕ → List ℕ → Bool
-is_packet number bytes = (length bytes == 8) && (slice_index bytes 0 == number)
 
 -- what an announced broadcast starts: a commanded address, if it is one
 abbrev pub command_started : ℕ → ℕ → HalfCommand
 command_started size pgn = if (size == COMMAND_SIZE) && (pgn == COMMANDED_ADDRESS) then Started else Nothing
 
+-- the pieces of a commanded address that were taken
+abbrev pub taken_of : HalfCommand → Option (List (List ℕ))
+taken_of Nothing = None
+taken_of Started = Some []
+taken_of (First piece) = Some (piece ∷ [])
+
+-- what is half joined where these pieces were taken: more than one are all
+abbrev pub half_of : Option (List (List ℕ)) → HalfCommand
+half_of (Some (piece ∷ [])) = First piece
+half_of _ = Nothing
+
+-- the command that these pieces are, where they are all
+abbrev pub command_of : Option (List (List ℕ)) → Option Commanded
+command_of None = None
+command_of (Some taken) = if length taken == packet_count COMMAND_SIZE then Some (commanded_of (joined COMMAND_SIZE taken)) else None
+
+-- the pieces with a packet more, as packets of any message are joined (SAE J1939-21): none where it is not the next one
+abbrev pub taken_with : HalfCommand → List ℕ → Option (List (List ℕ))
+taken_with half bytes = with_part COMMAND_SIZE (taken_of half) bytes
+
 -- what is half joined after a packet: one that is not the next one drops it, and so does the last one
 abbrev pub continued : HalfCommand → List ℕ → HalfCommand
-continued Started bytes = if is_packet 1 bytes then First (drop 1 bytes) else Nothing
-continued _ bytes = Nothing
+continued half bytes = half_of (taken_with half bytes)
 
--- the command that a packet makes whole: the seven bytes of the first packet and the first two of the second
+-- the command that a packet makes whole
 abbrev pub completed : HalfCommand → List ℕ → Option Commanded
-completed (First piece) bytes =
-    if is_packet 2 bytes then Some (commanded_of (piece ++ slice_index bytes 1 ∷ slice_index bytes 2 ∷ [])) else None
-completed _ bytes = None
+completed half bytes = command_of (taken_with half bytes)
 
 -- the command is for this NAME, and its address can be held
 abbrev pub is_command_for : ℕ → Commanded → Bool

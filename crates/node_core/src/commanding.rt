@@ -1,4 +1,5 @@
-ghost use Rattle.std.specs.Prelude.{◌≡◌, ◌≤◌, [], ◌∷◌, ◌++◌, length, IfSome, IsFalse, IsTrue, None};
+ghost use Rattle.std.specs.Prelude.{◌≡◌, ◌≤◌, ◌+◌, ℕ, List, [], ◌∷◌, ◌++◌, length, IfSome, IsFalse, IsTrue, None};
+ghost use Rattle.transport.specs.Assembling.{is_next};
 ghost use Rattle.node_core.specs.Commanding as commanding;
 
 use can_frame::{GLOBAL_ADDRESS, GREATEST_ADDRESS, Pgn};
@@ -114,9 +115,12 @@ fn nine_bytes(piece: [u8; 7], eighth: u8, ninth: u8) -> [u8; 9]
     bytes
 }
 
-/// Whether these are eight bytes, the first of which is this number.
+/// Whether these are the packet of this number, 1 or 2: eight bytes, the first of which is the number.
+#[tactic(auto, using(crate::proofs::CommandPackets::next_by_number))]
 fn is_packet(number: u8, bytes: &[u8]) -> bool
-    ensures { result ≡ commanding.is_packet number bytes.now }
+    requires { number ≤ 2 }
+    ensures next { (taken : List (List ℕ)) → length taken + 1 ≡ number → result ≡ is_next COMMAND_SIZE taken bytes.now }
+    ensures eight { IsTrue result → length bytes.now ≡ 8 }
 {
     bytes.len() == 8 && bytes[0] == number
 }

@@ -1,8 +1,8 @@
 -- What is read from a watch is what was heard of the lines.
-use Rattle.std.proofs.Common.{◌≡◌, ℕ, List, ◌++◌, Option, length, map, reverse, sym, ap, ◌∙◌}
+use Rattle.std.proofs.Common.{◌≡◌, ℕ, List, Option, length, map, reverse, sym, ap, ◌∙◌}
 use Rattle.std.specs.Prelude.{slice_get}
 use Rattle.std.specs.Option.{option_map}
-use Rattle.std.proofs.lemmas.List.{length-map, length-reverse, append-nil}
+use Rattle.std.proofs.lemmas.List.{length-map, length-reverse}
 use Rattle.dm_messages.specs.declared.kind.Kind.{Kind}
 use Rattle.dm_messages.specs.declared.shown.Shown.{Shown}
 use Rattle.bus_model.specs.Heard.{counted, entries_heard, missed_count, names_heard, row_heard, unread_count}
@@ -17,36 +17,29 @@ use Rattle.bus_watch.specs.WatchValue.{WatchValue}
 use Rattle.bus_watch.specs.declared.run.Run.{Run}
 
 pub names_as_heard : (w : WatchValue) (b : Beginning) (ts : List Told) (n : ℕ) → n ≡ length w.station.rows → StandsForAll b ts w → n ≡ length (names_heard (all_said b ts).readings)
-names_as_heard w b ts n e s = e ∙ (sym (length-map w.station.rows named) ∙ ap (λ (l : List ℕ). length l) s.heard.beside.names)
+names_as_heard w b ts n e s = e ∙ (sym (length-map w.station.rows named) ∙ ap (λ (l : List ℕ). length l) s.heard.station.names)
 
 pub name_as_heard : (w : WatchValue) (b : Beginning) (ts : List Told) (place : ℕ) (o : Option ℕ)
     → o ≡ slice_get (map named w.station.rows) place → StandsForAll b ts w → o ≡ slice_get (names_heard (all_said b ts).readings) place
-name_as_heard w b ts place o e s = e ∙ ap (λ (l : List ℕ). slice_get l place) s.heard.beside.names
+name_as_heard w b ts place o e s = e ∙ ap (λ (l : List ℕ). slice_get l place) s.heard.station.names
 
 pub row_as_heard : (w : WatchValue) (b : Beginning) (ts : List Told) (name : ℕ) (o : Option Row)
     → o ≡ row_of w.station.owners name (kept_under w.station.rows name) → StandsForAll b ts w → option_map row_heard_as o ≡ row_heard b.station name (all_said b ts).readings
 row_as_heard w b ts name o e s =
-    ap (option_map row_heard_as) e ∙ (row_words w.station.owners name (kept_under w.station.rows name) ∙ s.heard.beside.rows name)
-
--- the entries of the runs are the whole list
-listed : (w : WatchValue) (b : Beginning) (ts : List Told) (name : ℕ) (kind : Kind) → StandsForAll b ts w
-    → entries_in w.lists name kind ≡ reverse (entries_heard b.station name kind (all_said b ts).readings)
-listed w b ts name kind s =
-    sym (append-nil (entries_in w.lists name kind))
-    ∙ (ap (λ (l : List Shown). entries_in w.lists name kind ++ l) (sym (s.heard.alone name kind)) ∙ s.heard.beside.entries name kind)
+    ap (option_map row_heard_as) e ∙ (row_words w.station.owners name (kept_under w.station.rows name) ∙ s.heard.station.rows name)
 
 pub runs_as_heard : (w : WatchValue) (b : Beginning) (ts : List Told) (name : ℕ) (kind : Kind) (l : List Run) → l ≡ runs_under w.lists name kind → StandsForAll b ts w
     → unrolled l ≡ reverse (entries_heard b.station name kind (all_said b ts).readings)
-runs_as_heard w b ts name kind l e s = ap unrolled e ∙ listed w b ts name kind s
+runs_as_heard w b ts name kind l e s = ap unrolled e ∙ s.heard.lists name kind
 
 pub entries_as_heard : (w : WatchValue) (b : Beginning) (ts : List Told) (name : ℕ) (kind : Kind) (n : ℕ) → n ≡ counted (length (entries_in w.lists name kind)) → StandsForAll b ts w
     → n ≡ counted (length (entries_heard b.station name kind (all_said b ts).readings))
 entries_as_heard w b ts name kind n e s =
-    e ∙ ap (λ (l : List Shown). counted (length l)) (listed w b ts name kind s)
+    e ∙ ap (λ (l : List Shown). counted (length l)) (s.heard.lists name kind)
     ∙ ap counted (length-reverse (entries_heard b.station name kind (all_said b ts).readings))
 
 pub missed_as_heard : (w : WatchValue) (b : Beginning) (ts : List Told) (n : ℕ) → n ≡ w.station.missed → StandsForAll b ts w → n ≡ missed_count (all_said b ts).readings
-missed_as_heard w b ts n e s = e ∙ s.heard.beside.missed
+missed_as_heard w b ts n e s = e ∙ s.heard.station.missed
 
 pub unread_as_heard : (w : WatchValue) (b : Beginning) (ts : List Told) (n : ℕ) → n ≡ w.station.unread → StandsForAll b ts w → n ≡ unread_count b.station (all_said b ts).readings
-unread_as_heard w b ts n e s = e ∙ s.heard.beside.unread
+unread_as_heard w b ts n e s = e ∙ s.heard.station.unread

@@ -2,15 +2,15 @@
 use Rattle.std.proofs.Common.{◌≡◌, ℕ, zero, suc, ◌+◌, ◌-◌, Bool, true, false, List, [], ◌∷◌, ◌++◌, length, replicate, Option, Some, None, refl, sym, ap, ◌∙◌, subst, arith, append-nil}
 use Rattle.std.specs.Prelude.{nat_eq, ◌==◌, if◌then◌else◌, slice_index_or, slice_set, min, ◌^◌}
 use Rattle.std.proofs.lemmas.List.{append_assoc, length-append, replicate-append-replicate}
-use Rattle.std.specs.Prelude.{cond, nat_lt}
+use Rattle.std.specs.Prelude.{cond}
 use Rattle.std.specs.Cmp.{nat_eq_equiv}
 use Rattle.std.specs.Map.{set_value}
 use Rattle.std.proofs.lemmas.Map.{lookup-set_value}
-use Rattle.bus_watch.specs.Runs.{has_begun, unrolled, runs_of}
+use Rattle.bus_watch.specs.Runs.{unrolled, runs_of}
 use Rattle.bus_model.specs.Heard.{counted}
 use Rattle.std.specs.Map.{lookup}
 use Rattle.std.specs.Option.{unwrap_or}
-use Rattle.std.proofs.lemmas.Bool.{eqb-true, le-ltb}
+use Rattle.std.proofs.lemmas.Bool.{eqb-true}
 use Rattle.bus_watch.specs.declared.run.Run.{Run}
 use Rattle.dm_messages.specs.declared.shown.Shown.{Shown}
 
@@ -78,8 +78,3 @@ lengthened before after name list new v there set one n =
     go true e =
         let here : lookup (nat_eq n) before ≡ Some list = subst (λ (m : ℕ). lookup (nat_eq m) before ≡ Some list) (eqb-true name n e) there in
         one ∙ ap (λ (o : Option (List Run)). unrolled (unwrap_or o []) ++ v ∷ []) (sym here)
-
--- no run has begun where nothing came
-pub none_begun : (runs : List Run) → false ≡ has_begun runs runs
-unfolding has_begun
-none_begun runs = sym (le-ltb (length runs) (length runs) (omega arith))

@@ -3,6 +3,7 @@ use Rattle.std.specs.Borrow.{Bor}
 use Rattle.std.specs.Prelude.{ℕ, Bool, true, false, not, ◌&&◌, ◌==◌, if◌then◌else◌, List, Option, Some, None, slice_set}
 use Rattle.std.specs.Str.{bytes_eq}
 use Rattle.address_claim.specs.Claiming.{is_held}
+use Rattle.can_frame.specs.FrameValue.{FrameValue}
 use Rattle.can_frame.specs.declared.reading.Reading.{Reading}
 use Rattle.can_frame.specs.declared.reading.Reading.TheVariants as reading
 use Rattle.can_frame.specs.declared.address.TheConstants.{GLOBAL_ADDRESS}
@@ -42,6 +43,14 @@ abbrev pub bus_after : Option (List ℕ) → Option (Bor (List ℕ)) → Option 
 bus_after followed None = followed
 bus_after None (Some bus) = Some bus.now
 bus_after (Some followed) (Some bus) = Some followed
+
+-- the bus once a line gave it this name, or none since it had one
+abbrev pub renamed : Option (List ℕ) → Option (List ℕ) → Option (List ℕ)
+renamed None followed = followed
+renamed (Some name) followed = Some name
+
+abbrev pub with_name : Option (List ℕ) → Followed → Followed
+with_name name f = record f { bus = renamed name f.bus }
 
 abbrev pub with_bus : Option (Bor (List ℕ)) → Followed → Followed
 with_bus bus f = record f { bus = bus_after f.bus bus }
@@ -83,11 +92,19 @@ with_given_up held g f = record f { given_up = given_up_after held g f.given_up 
 abbrev pub is_read : Option ℕ → Option ℕ → Group → Followed → Bool
 is_read held time g f = not (is_withheld f.silence held time g f) && not (is_given_up held g f.given_up)
 
+-- the reading that a frame of the bus is
+abbrev pub frame_reading : Option ℕ → Option ℕ → Followed → FrameValue → Reading
+frame_reading held time f frame = if is_read held time (group_of frame) f then reading.Frame frame else reading.Empty
+
+-- what is known after a frame of the bus that says this
+abbrev pub followed_with : Option ℕ → Option ℕ → Group → Followed → Followed
+followed_with held time g f = with_given_up held g (after_frame f.silence held time g f)
+
 -- the reading that a line is to a station that holds this address: the frame of a line of the bus, but for such a packet; as many
 -- missed frames as a line tells of; one where a line is bad and bad lines count; else the empty one
 abbrev pub reading_by : Option ℕ → Followed → Line → Reading
 reading_by held f (line.Frame time bus frame) =
-    if is_watched f.bus bus && is_read held time (group_of frame) f then reading.Frame frame else reading.Empty
+    if is_watched f.bus bus then frame_reading held time f frame else reading.Empty
 reading_by held f (line.Dropped bus count) = if may_be_watched f.bus bus then reading.Gap count else reading.Empty
 reading_by held f (line.Overflow time bus) = if is_watched f.bus bus then reading.Gap 1 else reading.Empty
 reading_by held f (line.Bad reason) = if f.skips_bad then reading.Empty else reading.Gap 1
@@ -96,7 +113,7 @@ reading_by held f _ = reading.Empty
 -- what is known after a line
 abbrev pub followed_after : Option ℕ → Followed → Line → Followed
 followed_after held f (line.Frame time bus frame) =
-    if is_watched f.bus bus then with_given_up held (group_of frame) (after_frame f.silence held time (group_of frame) (with_bus bus f)) else f
+    if is_watched f.bus bus then followed_with held time (group_of frame) (with_bus bus f) else f
 followed_after held f (line.Overflow time bus) = with_bus bus f
 followed_after held f (line.Foreign bus what) = with_bus bus f
 followed_after held f _ = f

@@ -1,5 +1,5 @@
 -- What is told of a line: of what its reading changed, and where that is news.
-use Rattle.std.specs.Prelude.{ℕ, Bool, true, false, not, length, List, [], ◌∷◌, Option, Some, None, if◌then◌else◌, replicate, slice_index_or, slice_set}
+use Rattle.std.specs.Prelude.{ℕ, Bool, true, false, not, List, [], ◌∷◌, Option, Some, None, if◌then◌else◌, replicate, slice_index_or, slice_set}
 use Rattle.bus_model.specs.Changed.{change_heard}
 use Rattle.bus_model.specs.Heard.{StationSettings}
 use Rattle.bus_model.specs.declared.change.Change.{Change as Heard}
@@ -59,3 +59,10 @@ is_news told before after (heard.Listed name kind source) = has_begun (runs_unde
 is_news told before after (heard.Acknowledged name control pgn again) = not again
 is_news told before after (heard.Unowned kind source) = not (slice_index_or told source false)
 is_news told before after _ = true
+
+-- the same, where it is known whether the newest entry began a run
+abbrev pub news_by : List Bool → Bool → Heard → Bool
+news_by told began (heard.Listed name kind source) = began
+news_by told began (heard.Acknowledged name control pgn again) = not again
+news_by told began (heard.Unowned kind source) = not (slice_index_or told source false)
+news_by told began _ = true

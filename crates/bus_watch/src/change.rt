@@ -53,7 +53,10 @@ impl Changes {
             },
             Heard::GaveUp { name } => one(Change::NoAddress { name }),
             Heard::Acknowledged {
-                name, control, pgn, ..
+                name,
+                control,
+                pgn,
+                ..
             } => where_news(is_news, Change::Ack { name, control, pgn }),
             Heard::Listed { name, kind, .. } => where_news(is_news, Change::Entry { name, kind }),
             Heard::Unreadable { .. } => one(Change::Unread),

@@ -49,15 +49,20 @@ impl Packets {
         self.table[usize::from(source)] = begun(time);
     }
 
-    /// Hears a packet. Tells whether it is late: it, or an earlier one of its message, came more than this many
-    /// microseconds after the frame before it.
-    pub(crate) fn hear(&mut self, source: u8, time: Option<Time>, most: u64) -> bool
-        ensures late { result ≡ transfers.is_over (packet_after most time (at self.old source)) }
-        ensures after { self.new ≡ slice_set self.old source (packet_after most time (at self.old source)) }
+    /// Whether a packet that comes now is late: it, or an earlier one of its message, comes more than this many microseconds
+    /// after the frame before it.
+    pub(crate) fn is_late(&self, source: u8, time: Option<Time>, most: u64) -> bool
+        ensures { result ≡ transfers.is_over (packet_after most time (at self.now source)) }
+    {
+        is_over(after_packet(self.table[usize::from(source)], time, most))
+    }
+
+    /// Hears a packet, which is late or not.
+    pub(crate) fn hear(&mut self, source: u8, time: Option<Time>, most: u64)
+        ensures { self.new ≡ slice_set self.old source (packet_after most time (at self.old source)) }
     {
         let after = after_packet(self.table[usize::from(source)], time, most);
         self.table[usize::from(source)] = after;
-        is_over(after)
     }
 }
 

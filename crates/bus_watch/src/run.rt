@@ -1,4 +1,4 @@
-ghost use Rattle.std.specs.Prelude.{◌≡◌, ◌+◌, ◌<◌, ◌^◌, ◌∷◌, [], ◌++◌, true, if◌then◌else◌, length, IfOk, OnOk, OnErr};
+ghost use Rattle.std.specs.Prelude.{◌≡◌, ◌+◌, ◌<◌, ◌^◌, ◌∷◌, [], ◌++◌, true, false, if◌then◌else◌, length, IfOk, OnOk, OnErr};
 ghost use Rattle.bus_watch.specs.Runs.{has_begun, unrolled};
 
 use candump_line::Time;
@@ -46,6 +46,7 @@ fn goes_on(run: &Run, shown: &Shown, contested: bool) -> bool
 fn lengthen(runs: &mut Vec<Run>, shown: &Shown, time: Option<Time>, contested: bool) -> bool
     ensures entries { unrolled runs.new.items ≡ (if result then unrolled runs.old.items ++ shown.now ∷ [] else unrolled runs.old.items) }
     ensures runs { length runs.new.items ≡ length runs.old.items }
+    ensures same { result ≡ false → runs.new.items ≡ runs.old.items }
 {
     match runs.last_mut() {
         Some(newest) if goes_on(newest, shown, contested) => {
@@ -67,7 +68,7 @@ pub(crate) fn add_to(
 ) -> Result<bool, AllocError>
     ensures ok { OnOk result (unrolled runs.new.items ≡ unrolled runs.old.items ++ shown ∷ []) }
     ensures begins { IfOk result (λ b. b ≡ has_begun runs.old.items runs.new.items) }
-    ensures err { OnErr result (unrolled runs.new.items ≡ unrolled runs.old.items) }
+    ensures err { OnErr result (runs.new.items ≡ runs.old.items) }
 {
     let first = time;
     let last = time;

@@ -53,7 +53,7 @@ impl RunList {
         self.entries
     }
 
-    /// Adds an entry. Tells whether it begins a run. Where memory is refused, no entry comes or goes.
+    /// Adds an entry. Tells whether it begins a run. Where memory is refused, nothing changes.
     #[tactic(auto, using(crate::proofs::Runs::counted_more))]
     pub(crate) fn add(
         &mut self,
@@ -63,7 +63,7 @@ impl RunList {
     ) -> Result<bool, AllocError>
         ensures ok { OnOk result (unrolled self.new ≡ unrolled self.old ++ shown ∷ []) }
         ensures begins { IfOk result (λ b. b ≡ has_begun self.old self.new) }
-        ensures err { OnErr result (unrolled self.new ≡ unrolled self.old) }
+        ensures err { OnErr result (self.new ≡ self.old) }
     {
         let begins = add_to(&mut self.runs, shown, time, contested)?;
         self.entries = self.entries.saturating_add(1);

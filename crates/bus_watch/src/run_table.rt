@@ -1,4 +1,4 @@
-ghost use Rattle.std.specs.Prelude.{◌≡◌, ℕ, ◌==◌, ◌∷◌, [], ◌++◌, length, None, nat_eq, IfOk, OnOk, if◌then◌else◌};
+ghost use Rattle.std.specs.Prelude.{◌≡◌, ℕ, ◌==◌, ◌∷◌, [], ◌++◌, length, None, nat_eq, IfOk, OnOk, OnErr, if◌then◌else◌};
 ghost use Rattle.std.specs.Map.{lookup};
 ghost use Rattle.bus_watch.specs.Runs.{has_begun, unrolled, runs_of};
 ghost use Rattle.bus_model.specs.Heard.{counted};
@@ -57,7 +57,8 @@ impl RunTable {
         }
     }
 
-    /// Adds an entry under a NAME. Tells whether it begins a run.
+    /// Adds an entry under a NAME. Tells whether it begins a run. Where memory is refused, nothing changes.
+    #[tactic(auto, using(std::proofs::lemmas::Map::Steps::set_value_same))]
     pub(crate) fn add(
         &mut self,
         alloc: Global,
@@ -68,6 +69,7 @@ impl RunTable {
     ) -> Result<bool, AllocError>
         ensures entries { OnOk result ((n : ℕ) → unrolled (runs_of self.new n) ≡ (if name == n then unrolled (runs_of self.old n) ++ shown ∷ [] else unrolled (runs_of self.old n))) }
         ensures begins { IfOk result (λ b. b ≡ has_begun (runs_of self.old name) (runs_of self.new name)) }
+        ensures err { OnErr result (self.new ≡ self.old) }
     {
         match self.lists.get_mut(&name) {
             Some(list) => list.add(shown, time, contested),
@@ -75,7 +77,7 @@ impl RunTable {
         }
     }
 
-    /// Begins the list of a NAME that has none.
+    /// Begins the list of a NAME that has none. Where memory is refused, nothing changes.
     fn begin(
         &mut self,
         alloc: Global,
@@ -87,6 +89,7 @@ impl RunTable {
         requires { lookup (nat_eq name) self.old ≡ None }
         ensures entries { OnOk result ((n : ℕ) → unrolled (runs_of self.new n) ≡ (if name == n then unrolled (runs_of self.old n) ++ shown ∷ [] else unrolled (runs_of self.old n))) }
         ensures begins { IfOk result (λ b. b ≡ has_begun (runs_of self.old name) (runs_of self.new name)) }
+        ensures err { OnErr result (self.new ≡ self.old) }
     {
         let mut list = RunList::new(alloc);
         let begins = list.add(shown, time, contested)?;

@@ -34,7 +34,7 @@ impl Unowned {
         self.told[usize::from(address)]
     }
 
-    /// HasFollowed what the station heard.
+    /// Follows what the station heard.
     pub(crate) fn follow(&mut self, heard: &Heard)
         ensures { self.new ≡ told_after heard.now self.old }
     {

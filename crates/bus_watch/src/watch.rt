@@ -5,7 +5,6 @@ ghost use Rattle.bus_watch.specs.Told.{Beginning, StandsForAll, Told, all_said};
 ghost use Rattle.can_frame.specs.declared.address.TheConstants.{GREATEST_ADDRESS};
 ghost use Rattle.station_table.specs.StandsFor.{row_heard_as};
 
-use crate::contests::Contests;
 use crate::counts::Counts;
 use crate::lists::Lists;
 use crate::packets::Packets;
@@ -36,23 +35,21 @@ pub struct Settings {
     ghost address_fits: { address ≤ GREATEST_ADDRESS },
 }
 
-/// A station that reads the lines of a log or of a live bus. What it lists is taken out of it, and kept as runs of equal entries.
+/// A station that reads the lines of a log or of a live bus. What it lists is kept as runs of equal entries.
 #[derive(Drop)]
 pub struct Watch {
     settings: Settings,
     station: Station,
     bus: Option<String>,
-    contests: Contests,
     unowned: Unowned,
     broadcasts: Packets,
     sessions: Packets,
     given_up: GivenUp,
     lists: Lists,
     counts: Counts,
-    now: Option<Time>,
 }
 
-/// Seen as its station, the lists that were taken out of it, what it knows of the bus that it follows, and what it told once.
+/// Seen as its station, the lists that it fills, what it knows of the bus that it follows, and what it told once.
 impl Model for Watch {
     ghost use Rattle.std.specs.Prelude.{option_map, string_bytes};
     ghost use Rattle.bus_watch.specs.WatchValue.{WatchValue};
@@ -96,14 +93,12 @@ impl Watch {
             settings,
             station: Station::new(alloc, settings.name, settings.address, GRANT),
             bus,
-            contests: Contests::new(),
             unowned: Unowned::new(),
             broadcasts: Packets::new(),
             sessions: Packets::new(),
             given_up: GivenUp::new(),
             lists: Lists::new(alloc),
             counts: Counts::default(),
-            now: None,
         })
     }
 
@@ -114,7 +109,7 @@ impl Watch {
 
     /// The time of the newest line that has one.
     pub fn now(&self) -> Option<Time> {
-        self.now
+        self.lists.now()
     }
 
     /// How many NAMEs have a row.

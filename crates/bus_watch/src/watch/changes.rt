@@ -1,93 +1,76 @@
-ghost use Rattle.std.specs.Prelude.{◌≡◌, length, IfOk, OnOk};
-ghost use Rattle.bus_watch.specs.Runs.{has_begun, runs_under};
-ghost use Rattle.bus_watch.specs.Tellings.{is_news, told_of};
-ghost use Rattle.bus_watch.specs.WatchValue.{HasFollowed, Keeps, Moves, Takes, Tells};
-ghost use Rattle.station_table.specs.Changing.{reading_changes};
-ghost use Rattle.station_table.specs.Steps.{after_reading};
+ghost use Rattle.std.specs.Prelude.{◌≡◌, IfOk, OnOk, OnErr};
+ghost use Rattle.bus_watch.specs.Tellings.{news_by, told_after, told_of};
+ghost use Rattle.bus_watch.specs.WatchValue.{Takes, Tells};
+ghost use Rattle.can_frame.specs.FrameValue.{FrameValue};
+ghost use Rattle.can_frame.specs.declared.reading.Reading.TheVariants.{Frame as FrameRead};
+ghost use Rattle.parameter_group.specs.Group.{group_of};
+ghost use Rattle.parameter_group.specs.Said.{IsLawfulGroup, said};
 
 use crate::change::Changes;
 use crate::watch::Watch;
 use can_frame::Reading;
-use dm_messages::Kind;
-use name_field::Name;
+use parameter_group::ParameterGroup;
 use station_table::{Change as Heard, Outcome};
 use std::alloc::{AllocError, Global};
 
 impl Watch {
-    /// Has the station take a reading, and tells what it changed.
+    /// Has the station take a reading, and tells what it changed. Where memory is refused, nothing changes.
     pub(super) fn take(&mut self, alloc: Global, reading: Reading) -> Result<Changes, AllocError>
-        ensures takes { OnOk result (Takes self.old self.new reading) }
+        ensures takes { OnOk result (Takes self.old self.new reading self.old.followed) }
         ensures tells { IfOk result (λ c. Tells self.old self.new reading c) }
+        ensures err { OnErr result (self.new ≡ self.old) }
     {
-        let Ok(outcome) = self.read(alloc, reading) else {
-            return Err(AllocError);
-        };
-        self.follow(alloc, &outcome.change)
-    }
-
-    /// Has the station take a reading. What it would send is only counted.
-    fn read(&mut self, alloc: Global, reading: Reading) -> Result<Outcome, AllocError>
-        ensures step { OnOk result (self.new ≡ record self.old { station = after_reading self.old.station reading }) }
-        ensures change { IfOk result (λ x. x.change ≡ reading_changes self.old.station reading) }
-    {
-        match self.station.take(alloc, reading) {
-            Ok(outcome) => {
-                self.count_not_sent(outcome.reaction.put.len());
-                Ok(outcome)
-            }
+        match self.station.take(alloc, reading, &mut self.lists) {
+            Ok(outcome) => Ok(self.tell(&outcome)),
             Err(_) => Err(AllocError),
         }
     }
 
-    /// HasFollowed what the station heard, and tells of it.
-    fn follow(&mut self, alloc: Global, heard: &Heard) -> Result<Changes, AllocError>
-        ensures follows { OnOk result (HasFollowed self.old self.new heard.now) }
-        ensures told { IfOk result (λ c. c ≡ told_of (is_news self.old.told self.old.lists self.new.lists heard.now) heard.now) }
+    /// Has the station take what one frame says, as `take` takes the frame.
+    pub(super) fn take_group(
+        &mut self,
+        alloc: Global,
+        group: &ParameterGroup<'_>,
+    ) -> Result<Changes, AllocError>
+        requires { IsLawfulGroup group.now }
+        ensures takes { OnOk result ((f : FrameValue) → group_of f ≡ said group.now → Takes self.old self.new (FrameRead f) self.old.followed) }
+        ensures tells { IfOk result (λ c. (f : FrameValue) → group_of f ≡ said group.now → Tells self.old self.new (FrameRead f) c) }
+        ensures err { OnErr result (self.new ≡ self.old) }
     {
-        let is_news = self.keep(alloc, heard)?;
-        self.unowned.follow(heard);
-        self.note(heard);
-        Ok(Changes::of(heard, is_news))
+        match self.station.take_group(alloc, group, &mut self.lists) {
+            Ok(outcome) => Ok(self.tell(&outcome)),
+            Err(_) => Err(AllocError),
+        }
+    }
+
+    /// Tells of what the station heard, and takes note of it. What it would send is only counted.
+    fn tell(&mut self, outcome: &Outcome) -> Changes
+        ensures noted { self.new ≡ record self.old { told = told_after outcome.now.change self.old.told } }
+        ensures told { result ≡ told_of (news_by self.old.told self.old.lists.began outcome.now.change) outcome.now.change }
+    {
+        let is_news = self.is_news(&outcome.change);
+        self.count_not_sent(outcome.reaction.put.len());
+        self.unowned.follow(&outcome.change);
+        self.note(&outcome.change);
+        Changes::of(&outcome.change, is_news)
+    }
+
+    /// Whether what the station heard is news. Its entry, if it listed one, is in the lists.
+    fn is_news(&self, heard: &Heard) -> bool
+        ensures { result ≡ news_by self.now.told self.now.lists.began heard.now }
+    {
+        match *heard {
+            Heard::Listed { .. } => self.lists.has_begun(),
+            Heard::Acknowledged { again, .. } => !again,
+            Heard::Unowned { source, .. } => !self.unowned.is_told(source),
+            _ => true,
+        }
     }
 
     fn count_not_sent(&mut self, frames: usize)
         ensures { self.new ≡ self.old }
     {
         self.counts.not_sent = self.counts.not_sent.saturating_add(frames as u64);
-    }
-
-    /// Moves the entry that the station listed, if it did, to the runs. Tells whether what it heard is news.
-    fn keep(&mut self, alloc: Global, heard: &Heard) -> Result<bool, AllocError>
-        ensures keeps { OnOk result (Keeps self.old self.new heard.now) }
-        ensures news { IfOk result (λ b. b ≡ is_news self.old.told self.old.lists self.new.lists heard.now) }
-    {
-        match *heard {
-            Heard::Listed { name, kind, source } => self.move_entry(alloc, source, name, kind),
-            Heard::Acknowledged { again, .. } => Ok(!again),
-            Heard::Unowned { source, .. } => Ok(!self.unowned.is_told(source)),
-            _ => Ok(true),
-        }
-    }
-
-    /// Moves the oldest entry of a list, if there is one, from the station to the runs. It came from this address. Tells whether it
-    /// begins a run.
-    #[tactic(auto, using(crate::proofs::Runs::none_begun))]
-    fn move_entry(
-        &mut self,
-        alloc: Global,
-        source: u8,
-        name: Name,
-        kind: Kind,
-    ) -> Result<bool, AllocError>
-        ensures moves { OnOk result (Moves self.old self.new name kind) }
-        ensures begins { IfOk result (λ b. b ≡ has_begun (runs_under self.old.lists name kind) (runs_under self.new.lists name kind)) }
-    {
-        let Some(shown) = self.station.take_oldest(name, kind) else {
-            return Ok(false);
-        };
-        let contested = self.contests.is_contested(source, self.now);
-        self.lists
-            .add(alloc, name, kind, shown, self.now, contested)
     }
 
     /// Takes note of when a claim displaced another NAME, and counts messages from addresses without owner.
@@ -99,8 +82,8 @@ impl Watch {
                 address,
                 displaced: Some(_),
                 ..
-            } => self.contests.begin(address, self.now),
-            Heard::Missed { .. } => self.contests.forget(),
+            } => self.lists.contest(address),
+            Heard::Missed { .. } => self.lists.forget_contests(),
             Heard::Unowned { .. } => {
                 self.counts.not_attributed = self.counts.not_attributed.saturating_add(1);
             }

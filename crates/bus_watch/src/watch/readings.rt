@@ -1,15 +1,15 @@
-ghost use Rattle.std.specs.Prelude.{◌≡◌, ◌≤◌, ℕ, ◌∷◌, List, Some, IfOk, OnOk, if◌then◌else◌};
+ghost use Rattle.std.specs.Prelude.{◌≡◌, ◌≤◌, ℕ, ◌∷◌, List, Some, IfOk, OnOk, OnErr, if◌then◌else◌, option_map, string_bytes};
 ghost use Rattle.address_claim.specs.Frames.{claim_frame_value};
 ghost use Rattle.bus_watch.specs.Followed as followed;
 ghost use Rattle.bus_watch.specs.Told.{Told, Beginning, IsToldAs, StandsForAll};
 ghost use Rattle.bus_watch.specs.Told as told;
-ghost use Rattle.bus_watch.specs.WatchValue.{Takes};
+ghost use Rattle.bus_watch.specs.WatchValue.{Hears, HearsTold, Takes, Tells};
+ghost use Rattle.can_frame.specs.FrameValue.{FrameValue};
 ghost use Rattle.can_frame.specs.declared.address.TheConstants.{GREATEST_ADDRESS};
 ghost use Rattle.can_frame.specs.declared.reading.Reading.TheVariants.{Frame as FrameRead};
 ghost use Rattle.candump_line.specs.declared.line.Line.TheVariants as said;
-ghost use Rattle.listening.specs.GivenUp as given_up;
-ghost use Rattle.parameter_group.specs.Group.{ConnectionManagement, DataTransfer};
-ghost use Rattle.parameter_group.specs.Said.{said as group_said};
+ghost use Rattle.parameter_group.specs.Group.{ConnectionManagement, DataTransfer, group_of};
+ghost use Rattle.parameter_group.specs.Said.{IsLawfulGroup, said as group_said};
 
 use crate::change::Changes;
 use crate::watch::Watch;
@@ -26,87 +26,214 @@ impl Watch {
     ///
     /// The station takes one reading: the frame of a line of the watched bus, but for a packet that came too late; so many
     /// missed frames where the line tells of them, and one where it is bad and bad lines count; else the empty reading.
-    /// An entry that the station lists by it is moved to the runs.
+    /// An entry that the station lists by it goes to the runs.
     ///
     /// What is told is what that reading changed of what the station shows (`bus_model`): an entry where it begins a run, an acknowledgment
     /// where it is another one than the last, and of an address without owner once.
     ///
     /// # Errors
-    /// Memory was refused. The station may have read the line, and the watch is not to be used any more.
+    /// Memory was refused. The watch is as it was before the line, but that `counts` and `now` may have it.
     pub fn hear(&mut self, alloc: Global, line: &Line<'_>) -> Result<Changes, AllocError>
         ensures told { IfOk result (λ c. IsToldAs (told.Read line.now) self.old self.new c) }
         ensures stands { OnOk result ((b : Beginning) (ts : List Told) → StandsForAll b ts self.old → StandsForAll b (told.Read line.now ∷ ts) self.new) }
+        ensures err { OnErr result (self.new ≡ self.old) }
     {
-        let reading = self.reading_of(alloc, line)?;
-        self.take(alloc, reading)
+        self.counts.lines = self.counts.lines.saturating_add(1);
+        self.hear_line(alloc, line)
     }
 
     /// Assumes that a NAME holds an address, 0 to 253, as if it had claimed it now.
     ///
     /// # Errors
-    /// Memory was refused, as by `hear`.
-    pub fn assume(
-        &mut self,
-        alloc: Global,
-        name: Name,
-        address: u8,
-    ) -> Result<Changes, AllocError>
+    /// Memory was refused. The watch is as it was.
+    pub fn assume(&mut self, alloc: Global, name: Name, address: u8) -> Result<Changes, AllocError>
         requires { address ≤ GREATEST_ADDRESS }
         ensures told { IfOk result (λ c. IsToldAs (told.Assumed name address) self.old self.new c) }
         ensures stands { OnOk result ((b : Beginning) (ts : List Told) → StandsForAll b ts self.old → StandsForAll b (told.Assumed name address ∷ ts) self.new) }
+        ensures err { OnErr result (self.new ≡ self.old) }
     {
         let claim = claim_frame(name, Some(address));
         self.take(alloc, Reading::Frame(claim))
     }
 
-    /// The reading that a line is to the station.
-    fn reading_of(&mut self, alloc: Global, line: &Line<'_>) -> Result<Reading, AllocError>
-        ensures reading { IfOk result (λ x. x ≡ followed.reading_by self.old.station.claimer.held self.old.followed line.now) }
-        ensures followed { OnOk result (self.new ≡ record self.old { followed = followed.followed_after self.old.station.claimer.held self.old.followed line.now }) }
+    /// Has the station take the reading that a line is, and tells what it changed.
+    fn hear_line(&mut self, alloc: Global, line: &Line<'_>) -> Result<Changes, AllocError>
+        ensures hears { OnOk result (Hears self.old self.new line.now) }
+        ensures tells { IfOk result (λ c. HearsTold self.old self.new line.now c) }
+        ensures err { OnErr result (self.new ≡ self.old) }
     {
-        self.counts.lines = self.counts.lines.saturating_add(1);
         match line {
-            Line::Frame { time, bus, frame } => self.reading_of_frame(alloc, *time, *bus, frame),
-            Line::Dropped { bus, count } => Ok(self.reading_of_drops(*bus, *count)),
-            Line::Overflow { time, bus } => self.reading_of_overflow(alloc, *time, *bus),
-            Line::Foreign { bus, what } => {
-                self.hear_foreign(alloc, *bus, *what)?;
-                Ok(Reading::Empty)
+            Line::Frame { time, bus, frame } => self.hear_frame(alloc, *time, *bus, frame),
+            Line::Dropped { bus, count } => {
+                let reading = self.reading_of_drops(*bus, *count);
+                self.take(alloc, reading)
             }
+            Line::Overflow { time, bus } => self.hear_overflow(alloc, *time, *bus),
+            Line::Foreign { bus, what } => self.hear_foreign(alloc, *bus, *what),
             Line::Note => {
-                self.counts.notes = self.counts.notes.saturating_add(1);
-                Ok(Reading::Empty)
+                self.count_note();
+                self.take(alloc, Reading::Empty)
             }
-            Line::Bad(_) => Ok(self.reading_of_bad()),
+            Line::Bad(_) => {
+                let reading = self.reading_of_bad();
+                self.take(alloc, reading)
+            }
         }
     }
 
     /// A frame of the watched bus is read, but for a packet that is withheld, and one of a session that was given up.
-    fn reading_of_frame(
+    fn hear_frame(
         &mut self,
         alloc: Global,
         time: Option<Time>,
         bus: Option<&str>,
         frame: &Frame,
-    ) -> Result<Reading, AllocError>
-        ensures reading { IfOk result (λ x. x ≡ followed.reading_by self.old.station.claimer.held self.old.followed (said.Frame time bus.entry frame.now)) }
-        ensures followed { OnOk result (self.new ≡ record self.old { followed = followed.followed_after self.old.station.claimer.held self.old.followed (said.Frame time bus.entry frame.now) }) }
+    ) -> Result<Changes, AllocError>
+        ensures hears { OnOk result (Hears self.old self.new (said.Frame time bus.entry frame.now)) }
+        ensures tells { IfOk result (λ c. HearsTold self.old self.new (said.Frame time bus.entry frame.now) c) }
+        ensures err { OnErr result (self.new ≡ self.old) }
     {
-        if !self.is_watched(alloc, bus)? {
-            return Ok(Reading::Empty);
+        if !self.is_watched(bus) {
+            return self.take(alloc, Reading::Empty);
         }
+        let at = time;
+        let named = self.bus_named(alloc, bus)?;
         self.counts.frames = self.counts.frames.saturating_add(1);
-        self.pass(time);
+        self.lists.pass(at);
+        self.read_frame(alloc, named, time, frame)
+    }
+
+    /// Reads a frame of the watched bus, and names that where a name is given.
+    fn read_frame(
+        &mut self,
+        alloc: Global,
+        named: Option<String>,
+        time: Option<Time>,
+        frame: &Frame,
+    ) -> Result<Changes, AllocError>
+        ensures takes { OnOk result (Takes self.old self.new (followed.frame_reading self.old.station.claimer.held time self.old.followed frame.now)
+            (followed.followed_with self.old.station.claimer.held time (group_of frame.now) (followed.with_name (option_map string_bytes named) self.old.followed))) }
+        ensures tells { IfOk result (λ c. Tells self.old self.new (followed.frame_reading self.old.station.claimer.held time self.old.followed frame.now) c) }
+        ensures err { OnErr result (self.new ≡ self.old) }
+    {
+        let at = time;
         let group = ParameterGroup::read(frame);
-        let is_withheld = self.is_withheld(&group, time);
-        let is_given_up = self.is_given_up(&group);
-        if is_withheld {
+        let held = self.station.held();
+        let changes = self.hear_group(alloc, at, &group)?;
+        self.name_bus(named);
+        self.follow_group(held, time, &group);
+        Ok(changes)
+    }
+
+    /// Has the station take what a frame says, unless that is passed over.
+    fn hear_group(
+        &mut self,
+        alloc: Global,
+        time: Option<Time>,
+        group: &ParameterGroup<'_>,
+    ) -> Result<Changes, AllocError>
+        requires { IsLawfulGroup group.now }
+        ensures takes { OnOk result ((f : FrameValue) → group_of f ≡ group_said group.now
+            → Takes self.old self.new (followed.frame_reading self.old.station.claimer.held time self.old.followed f) self.old.followed) }
+        ensures tells { IfOk result (λ c. (f : FrameValue) → group_of f ≡ group_said group.now
+            → Tells self.old self.new (followed.frame_reading self.old.station.claimer.held time self.old.followed f) c) }
+        ensures err { OnErr result (self.new ≡ self.old) }
+    {
+        if self.is_read(time, group) {
+            self.take_group(alloc, group)
+        } else {
+            self.take(alloc, Reading::Empty)
+        }
+    }
+
+    /// Whether a frame that says this is read: it is no packet that is withheld, and none of a session that was given up.
+    fn is_read(&mut self, time: Option<Time>, group: &ParameterGroup<'_>) -> bool
+        ensures read { result ≡ followed.is_read self.old.station.claimer.held time (group_said group.now) self.old.followed }
+        ensures same { self.new ≡ self.old }
+    {
+        if self.is_withheld(time, group) {
             self.counts.withheld = self.counts.withheld.saturating_add(1);
+            return false;
         }
-        if is_withheld || is_given_up {
-            return Ok(Reading::Empty);
+        !self.given_up.passes_over(self.station.held(), group)
+    }
+
+    /// Whether a frame that says this is a packet that came too late for its message, or one of a message that has such a packet.
+    fn is_withheld(&self, time: Option<Time>, group: &ParameterGroup<'_>) -> bool
+        ensures { result ≡ followed.is_withheld self.now.followed.silence self.now.station.claimer.held time (group_said group.now) self.now.followed }
+    {
+        let Some(most) = self.settings.silence else {
+            return false;
+        };
+        let ParameterGroup::DataTransfer { source, dest, .. } = *group else {
+            return false;
+        };
+        if dest == GLOBAL_ADDRESS {
+            return self.broadcasts.is_late(source, time, most);
         }
-        Ok(Reading::Frame(*frame))
+        self.station.held() == Some(dest) && self.sessions.is_late(source, time, most)
+    }
+
+    /// Takes note of what a frame says, at a station that held this address before it.
+    fn follow_group(&mut self, held: Option<u8>, time: Option<Time>, group: &ParameterGroup<'_>)
+        ensures { self.new ≡ record self.old { followed = followed.followed_with held time (group_said group.now) self.old.followed } }
+    {
+        if let Some(most) = self.settings.silence {
+            self.follow_packets(held, time, most, group);
+        }
+        self.given_up.hear(held, group);
+    }
+
+    /// Takes note of the times of messages to all and to the station.
+    fn follow_packets(
+        &mut self,
+        held: Option<u8>,
+        time: Option<Time>,
+        most: u64,
+        group: &ParameterGroup<'_>,
+    )
+        ensures { self.new ≡ record self.old { followed = followed.followed_by_group most held time (group_said group.now) self.old.followed } }
+    {
+        match *group {
+            ParameterGroup::ConnectionManagement {
+                source,
+                dest,
+                control,
+            } => self.hear_control(held, time, source, dest, control),
+            ParameterGroup::DataTransfer { source, dest, .. } => {
+                self.hear_packet(held, time, most, source, dest);
+            }
+            _ => {}
+        }
+    }
+
+    /// Takes note of a message that is announced to all or to the station.
+    fn hear_control(
+        &mut self,
+        held: Option<u8>,
+        time: Option<Time>,
+        source: u8,
+        dest: u8,
+        control: Control,
+    )
+        ensures { (most : ℕ) → self.new ≡ record self.old { followed = followed.followed_by_group most held time (ConnectionManagement source dest control) self.old.followed } }
+    {
+        match control {
+            Control::Bam { .. } if dest == GLOBAL_ADDRESS => self.broadcasts.announce(source, time),
+            Control::Rts { .. } if held == Some(dest) => self.sessions.announce(source, time),
+            _ => {}
+        }
+    }
+
+    /// Takes note of a packet of a message to all or to the station.
+    fn hear_packet(&mut self, held: Option<u8>, time: Option<Time>, most: u64, source: u8, dest: u8)
+        ensures { (bytes : List ℕ) → self.new ≡ record self.old { followed = followed.followed_by_group most held time (DataTransfer source dest bytes) self.old.followed } }
+    {
+        if dest == GLOBAL_ADDRESS {
+            self.broadcasts.hear(source, time, most);
+        } else if held == Some(dest) {
+            self.sessions.hear(source, time, most);
+        }
     }
 
     /// Frames that were dropped are missed, where they may be of the watched bus.
@@ -122,21 +249,33 @@ impl Watch {
     }
 
     /// A frame that the controller of the watched bus lost is missed.
-    fn reading_of_overflow(
+    fn hear_overflow(
         &mut self,
         alloc: Global,
         time: Option<Time>,
         bus: Option<&str>,
-    ) -> Result<Reading, AllocError>
-        ensures reading { IfOk result (λ x. x ≡ followed.reading_by self.old.station.claimer.held self.old.followed (said.Overflow time bus.entry)) }
-        ensures followed { OnOk result (self.new ≡ record self.old { followed = followed.with_bus bus.entry self.old.followed }) }
+    ) -> Result<Changes, AllocError>
+        ensures hears { OnOk result (Hears self.old self.new (said.Overflow time bus.entry)) }
+        ensures tells { IfOk result (λ c. HearsTold self.old self.new (said.Overflow time bus.entry) c) }
+        ensures err { OnErr result (self.new ≡ self.old) }
     {
-        if !self.is_watched(alloc, bus)? {
-            return Ok(Reading::Empty);
+        let named = self.bus_named(alloc, bus)?;
+        let reading = self.reading_of_overflow(time, bus);
+        let changes = self.take(alloc, reading)?;
+        self.name_bus(named);
+        Ok(changes)
+    }
+
+    fn reading_of_overflow(&mut self, time: Option<Time>, bus: Option<&str>) -> Reading
+        ensures reading { result ≡ followed.reading_by self.old.station.claimer.held self.old.followed (said.Overflow time bus.entry) }
+        ensures same { self.new ≡ self.old }
+    {
+        if !self.is_watched(bus) {
+            return Reading::Empty;
         }
         self.counts.error = self.counts.error.saturating_add(1);
-        self.pass(time);
-        Ok(Reading::Gap(1))
+        self.lists.pass(time);
+        Reading::Gap(1)
     }
 
     /// A bad line is one frame missed, unless bad lines are passed over.
@@ -157,43 +296,68 @@ impl Watch {
         alloc: Global,
         bus: Option<&str>,
         what: Foreign,
-    ) -> Result<(), AllocError>
-        ensures { OnOk result (self.new ≡ record self.old { followed = followed.with_bus bus.entry self.old.followed }) }
+    ) -> Result<Changes, AllocError>
+        ensures hears { OnOk result (Hears self.old self.new (said.Foreign bus.entry what)) }
+        ensures tells { IfOk result (λ c. HearsTold self.old self.new (said.Foreign bus.entry what) c) }
+        ensures err { OnErr result (self.new ≡ self.old) }
     {
-        if self.is_watched(alloc, bus)? {
-            self.counts.add_foreign(what);
-        }
-        Ok(())
+        let named = self.bus_named(alloc, bus)?;
+        self.count_foreign(bus, what);
+        let changes = self.take(alloc, Reading::Empty)?;
+        self.name_bus(named);
+        Ok(changes)
     }
 
-    /// Keeps the time of a line.
-    fn pass(&mut self, time: Option<Time>)
+    fn count_foreign(&mut self, bus: Option<&str>, what: Foreign)
         ensures { self.new ≡ self.old }
     {
-        if time.is_some() {
-            self.now = time;
+        if self.is_watched(bus) {
+            self.counts.add_foreign(what);
         }
     }
 
-    /// Whether a frame is of the watched bus. Where none is named yet, it is the frame's. A frame without a bus is of
-    /// none.
-    fn is_watched(&mut self, alloc: Global, bus: Option<&str>) -> Result<bool, AllocError>
-        ensures watched { IfOk result (λ x. x ≡ followed.is_watched self.old.followed.bus bus.entry) }
-        ensures followed { OnOk result (self.new ≡ record self.old { followed = followed.with_bus bus.entry self.old.followed }) }
+    fn count_note(&mut self)
+        ensures { self.new ≡ self.old }
+    {
+        self.counts.notes = self.counts.notes.saturating_add(1);
+    }
+
+    /// Whether a line is of the watched bus. Where none is named yet, it is the line's. A line without a bus is of none.
+    fn is_watched(&mut self, bus: Option<&str>) -> bool
+        ensures watched { result ≡ followed.is_watched self.old.followed.bus bus.entry }
+        ensures same { self.new ≡ self.old }
     {
         let Some(bus) = bus else {
-            self.counts.notes = self.counts.notes.saturating_add(1);
-            return Ok(false);
+            self.count_note();
+            return false;
         };
-        if let Some(watched) = &self.bus {
-            if watched.as_str() == bus {
-                return Ok(true);
-            }
-            self.counts.other_bus = self.counts.other_bus.saturating_add(1);
-            return Ok(false);
+        let Some(watched) = &self.bus else {
+            return true;
+        };
+        if watched.as_str() == bus {
+            return true;
         }
-        self.bus = Some(String::from_str(alloc, bus)?);
-        Ok(true)
+        self.counts.other_bus = self.counts.other_bus.saturating_add(1);
+        false
+    }
+
+    /// The name that a line gives the watched bus, where that has none yet.
+    fn bus_named(&self, alloc: Global, bus: Option<&str>) -> Result<Option<String>, AllocError>
+        ensures { IfOk result (λ o. followed.renamed (option_map string_bytes o) self.entry.now.followed.bus ≡ followed.bus_after self.entry.now.followed.bus bus.entry) }
+    {
+        match (&self.bus, bus) {
+            (None, Some(bus)) => Ok(Some(String::from_str(alloc, bus)?)),
+            _ => Ok(None),
+        }
+    }
+
+    /// Names the watched bus, where a name is given.
+    fn name_bus(&mut self, named: Option<String>)
+        ensures { self.new ≡ record self.old { followed = followed.with_name (option_map string_bytes named) self.old.followed } }
+    {
+        if named.is_some() {
+            self.bus = named;
+        }
     }
 
     /// Whether frames that were dropped may be of the watched bus.
@@ -204,72 +368,5 @@ impl Watch {
             (Some(watched), Some(bus)) => watched.as_str() == bus,
             _ => true,
         }
-    }
-
-    /// Whether a frame that says this is a packet that came too late for its message, or one of a message that has such a packet.
-    fn is_withheld(&mut self, group: &ParameterGroup<'_>, time: Option<Time>) -> bool
-        ensures withheld { result ≡ followed.is_withheld self.old.followed.silence self.old.station.claimer.held time (group_said group.now) self.old.followed }
-        ensures followed { self.new ≡ record self.old { followed = followed.after_frame self.old.followed.silence self.old.station.claimer.held time (group_said group.now) self.old.followed } }
-    {
-        let Some(most) = self.settings.silence else {
-            return false;
-        };
-        match *group {
-            ParameterGroup::ConnectionManagement {
-                source,
-                dest,
-                control,
-            } => {
-                self.hear_control(source, dest, control, time);
-                false
-            }
-            ParameterGroup::DataTransfer { source, dest, .. } => {
-                self.is_late(source, dest, time, most)
-            }
-            ParameterGroup::AddressClaimed { .. }
-            | ParameterGroup::CannotClaim { .. }
-            | ParameterGroup::Request(_)
-            | ParameterGroup::Acknowledgment(_)
-            | ParameterGroup::Diagnostic { .. }
-            | ParameterGroup::Other => false,
-        }
-    }
-
-    /// Whether a frame that says this is a packet of a session with the station that was given up; what the frame gives up is taken
-    /// note of.
-    fn is_given_up(&mut self, group: &ParameterGroup<'_>) -> bool
-        ensures given_up { result ≡ given_up.is_given_up self.old.station.claimer.held (group_said group.now) self.old.followed.given_up }
-        ensures followed { self.new ≡ record self.old { followed = followed.with_given_up self.old.station.claimer.held (group_said group.now) self.old.followed } }
-    {
-        let held = self.station.held();
-        let passes_over = self.given_up.passes_over(held, group);
-        self.given_up.hear(held, group);
-        passes_over
-    }
-
-    /// Takes note of a message that is announced to all or to the station.
-    fn hear_control(&mut self, source: u8, dest: u8, control: Control, time: Option<Time>)
-        ensures { (most : ℕ) → self.new ≡ record self.old { followed = followed.followed_by_group most self.old.station.claimer.held time (ConnectionManagement source dest control) self.old.followed } }
-    {
-        let to_station = self.station.held() == Some(dest);
-        match control {
-            Control::Bam { .. } if dest == GLOBAL_ADDRESS => self.broadcasts.announce(source, time),
-            Control::Rts { .. } if to_station => self.sessions.announce(source, time),
-            _ => {}
-        }
-    }
-
-    /// Whether a packet came too late.
-    fn is_late(&mut self, source: u8, dest: u8, time: Option<Time>, most: u64) -> bool
-        ensures late { (bytes : List ℕ) → result ≡ followed.is_late most self.old.station.claimer.held time (DataTransfer source dest bytes) self.old.followed }
-        ensures followed { (bytes : List ℕ) → self.new ≡ record self.old { followed = followed.followed_by_group most self.old.station.claimer.held time (DataTransfer source dest bytes) self.old.followed } }
-    {
-        if dest == GLOBAL_ADDRESS {
-            return self.broadcasts.hear(source, time, most);
-        }
-        if self.station.held() == Some(dest) {
-            return self.sessions.hear(source, time, most);
-        }
-        false
     }
 }

@@ -1,21 +1,13 @@
-use Rattle.bus_watch.proofs.Moving.{takes_change, tells_change}
-use Rattle.bus_watch.proofs.Steps.{if_ok, on_ok}
-use Rattle.bus_watch.specs.Tellings.{is_news, told_of}
-use Rattle.bus_watch.specs.WatchValue.{HasFollowed}
-use Rattle.bus_watch.specs.declared.change.Changes.{Changes}
-use Rattle.std.proofs.Common.{◌≡◌}
+use Rattle.bus_watch.proofs.Taking.{takes, tells}
 use Rattle.bus_watch.proofs.watch.Watch.take.Goals as goal
 
-pub returns-clause-takes : goal.returns-clause-takes
-returns-clause-takes c =
-    on_ok c.follow.result
-    (λ (f : HasFollowed c.read.new.self c.follow.new.self c.in-Ok.outcome.change).
-    takes_change c.args.self.now c.read.new.self c.follow.new.self c.args.reading c.in-Ok.outcome.change c.in-Ok.ensures.step c.in-Ok.ensures.change f)
-    c.follow.ensures.follows
+pub returns-in-Ok-clause-takes : goal.returns-in-Ok-clause-takes
+returns-in-Ok-clause-takes c =
+    let e = c.in-Ok.ensures in
+    takes _ _ _ c.take.new.self c.take.new.lists c.args.reading c.in-Ok.outcome.change c.self.view_is (record { stands = e.stands; heard = e.heard; listed = e.listed }) c.tell.ensures.noted
 
-pub returns-clause-tells : goal.returns-clause-tells
-returns-clause-tells c =
-    if_ok c.follow.result
-    (λ (told : Changes) (e : told ≡ told_of (is_news c.read.new.self.told c.read.new.self.lists c.follow.new.self.lists c.in-Ok.outcome.change) c.in-Ok.outcome.change).
-    tells_change c.args.self.now c.read.new.self c.follow.new.self c.args.reading c.in-Ok.outcome.change told c.in-Ok.ensures.step c.in-Ok.ensures.change e)
-    c.follow.ensures.told
+pub returns-in-Ok-clause-tells : goal.returns-in-Ok-clause-tells
+returns-in-Ok-clause-tells c =
+    let e = c.in-Ok.ensures in
+    tells _ _ _ c.take.new.self c.take.new.lists c.args.reading c.in-Ok.outcome.change _ _ c.self.view_is (record { stands = e.stands; heard = e.heard; listed = e.listed }) e.entry e.lists c.tell.ensures.noted
+    c.tell.ensures.told

@@ -60,14 +60,23 @@ fn hear_line<W: Write, E: Write>(
     number: u64,
 ) -> Result<bool, LogFault> {
     let said = read_line(line);
-    let mut is_bad = false;
-    if let Line::Bad(reason) = said {
-        is_bad = true;
-        if writeln!(errors, "line {number}: {reason}").is_err() {
-            return Err(LogFault::Write);
-        }
-    }
+    let is_bad = tell_where_bad(errors, number, &said)?;
     let changes = watch.hear(alloc, &said)?;
     write_changes(writer, alloc, watch, options.form, number, changes)?;
     Ok(is_bad)
+}
+
+/// Tells on `errors` why a line is bad, where it is. Tells whether it is.
+fn tell_where_bad<E: Write>(
+    errors: &mut E,
+    number: u64,
+    said: &Line<'_>,
+) -> Result<bool, LogFault> {
+    let Line::Bad(reason) = said else {
+        return Ok(false);
+    };
+    match writeln!(errors, "line {number}: {reason}") {
+        Ok(()) => Ok(true),
+        Err(_) => Err(LogFault::Write),
+    }
 }

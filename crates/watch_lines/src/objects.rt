@@ -1,12 +1,14 @@
-use crate::kinds::{KINDS, kind_word};
+use crate::kinds::{KINDS, address_of, kind_word};
 use crate::run::{Assumed, is_assumed};
 use bus_watch::{Change, Counts, Run, Watch};
+use can_frame::Pgn;
 use candump_line::Time;
 use dm_messages::Kind;
 use dm_words::{put_code, put_lamps, put_number};
 use json::Writer;
 use name_field::Name;
 use std::alloc::{AllocError, Global};
+use trouble_code::Dtc;
 
 /// A change as a JSON object: the number of its line, its time, what happened, and to whom.
 pub(crate) fn change_object(
@@ -17,8 +19,7 @@ pub(crate) fn change_object(
 ) -> Result<Vec<u8>, AllocError> {
     let mut json = Writer::new(Vec::new(alloc));
     json.begin_object()?;
-    json.key("line")?;
-    json.u64(number)?;
+    put_number(&mut json, "line", number)?;
     put_time(&mut json, alloc, "time", watch.now())?;
     json.key("event")?;
     put_event(&mut json, alloc, watch, change)?;
@@ -33,37 +34,45 @@ fn put_event(
     change: Change,
 ) -> Result<(), AllocError> {
     match change {
-        Change::At { name, address } => {
-            json.string("unit")?;
-            put_name(json, alloc, name)?;
-            put_number(json, "address", u64::from(address))
-        }
-        Change::NoAddress { name } => {
-            json.string("unit")?;
-            put_name(json, alloc, name)?;
-            json.key("address")?;
-            json.null()
-        }
+        Change::At { name, address } => put_unit(json, alloc, name, Some(address)),
+        Change::NoAddress { name } => put_unit(json, alloc, name, None),
         Change::Entry { name, kind } => put_entry(json, alloc, watch, name, kind),
-        Change::Missed { count } => {
-            json.string("missed")?;
-            put_number(json, "count", u64::from(count))
-        }
-        Change::Unowned { source } => {
-            json.string("unowned")?;
-            put_number(json, "address", u64::from(source))
-        }
-        Change::Ack { name, control, pgn } => {
-            json.string("ack")?;
-            put_name(json, alloc, name)?;
-            put_number(json, "control", u64::from(control))?;
-            put_number(json, "pgn", u64::from(pgn.number()))
-        }
-        Change::Unread => {
-            json.string("unread")?;
-            put_number(json, "count", watch.unread())
-        }
+        Change::Missed { count } => put_counted(json, "missed", "count", u64::from(count)),
+        Change::Unowned { source } => put_counted(json, "unowned", "address", u64::from(source)),
+        Change::Ack { name, control, pgn } => put_ack(json, alloc, name, control, pgn),
+        Change::Unread => put_counted(json, "unread", "count", watch.unread()),
     }
+}
+
+/// What happened, and a number under this key.
+fn put_counted(json: &mut Writer, event: &str, key: &str, number: u64) -> Result<(), AllocError> {
+    json.string(event)?;
+    put_number(json, key, number)
+}
+
+/// A NAME and the address that it holds.
+fn put_unit(
+    json: &mut Writer,
+    alloc: Global,
+    name: Name,
+    address: Option<u8>,
+) -> Result<(), AllocError> {
+    json.string("unit")?;
+    put_name(json, alloc, name)?;
+    put_address(json, address)
+}
+
+fn put_ack(
+    json: &mut Writer,
+    alloc: Global,
+    name: Name,
+    control: u8,
+    pgn: Pgn,
+) -> Result<(), AllocError> {
+    json.string("ack")?;
+    put_name(json, alloc, name)?;
+    put_number(json, "control", u64::from(control))?;
+    put_number(json, "pgn", u64::from(pgn.number()))
 }
 
 /// The newest entry of a NAME, with its number in the list, from 1.
@@ -76,7 +85,7 @@ fn put_entry(
 ) -> Result<(), AllocError> {
     json.string(kind_word(kind))?;
     put_name(json, alloc, name)?;
-    put_address(json, watch, name)?;
+    put_address(json, address_of(watch, name))?;
     if let Some(run) = watch.runs(name, kind).last() {
         put_shown(json, alloc, run)?;
     }
@@ -86,14 +95,28 @@ fn put_entry(
 /// The lamps, the codes, and whether the entry is contested.
 fn put_shown(json: &mut Writer, alloc: Global, run: &Run) -> Result<(), AllocError> {
     put_lamps(json, alloc, run.shown.lamps)?;
-    json.key("codes")?;
-    json.begin_array()?;
-    for code in run.shown.codes.as_slice() {
+    put_codes(json, run.shown.codes.as_slice())?;
+    put_flag(json, "contested", run.contested)
+}
+
+fn put_codes(json: &mut Writer, codes: &[Dtc]) -> Result<(), AllocError> {
+    begin_list(json, "codes")?;
+    for code in codes {
         put_code(json, *code, None)?;
     }
-    json.end_array()?;
-    json.key("contested")?;
-    json.boolean(run.contested)
+    json.end_array()
+}
+
+/// Writes a key, and begins the list that stands under it.
+fn begin_list(json: &mut Writer, key: &str) -> Result<(), AllocError> {
+    json.key(key)?;
+    json.begin_array()
+}
+
+/// Writes a key, and whether something holds.
+fn put_flag(json: &mut Writer, key: &str, holds: bool) -> Result<(), AllocError> {
+    json.key(key)?;
+    json.boolean(holds)
 }
 
 /// The report: a row for each NAME with its runs of entries, the counts of the station, and those of the lines.
@@ -106,19 +129,28 @@ pub(crate) fn report_object(
     json.begin_object()?;
     json.key("event")?;
     json.string("report")?;
-    json.key("rows")?;
-    json.begin_array()?;
-    for place in 0..watch.names() {
-        if let Some(name) = watch.name_at(place) {
-            put_row(&mut json, alloc, watch, name, is_assumed(assumed, name))?;
-        }
-    }
-    json.end_array()?;
+    put_rows(&mut json, alloc, watch, assumed)?;
     put_number(&mut json, "missed", watch.missed())?;
     put_number(&mut json, "unread", watch.unread())?;
     put_counts(&mut json, watch.counts())?;
     json.end_object()?;
     Ok(json.into_inner())
+}
+
+/// A row for each NAME.
+fn put_rows(
+    json: &mut Writer,
+    alloc: Global,
+    watch: &Watch,
+    assumed: &[Assumed],
+) -> Result<(), AllocError> {
+    begin_list(json, "rows")?;
+    for place in 0..watch.names() {
+        if let Some(name) = watch.name_at(place) {
+            put_row(json, alloc, watch, name, is_assumed(assumed, name))?;
+        }
+    }
+    json.end_array()
 }
 
 fn put_row(
@@ -130,36 +162,32 @@ fn put_row(
 ) -> Result<(), AllocError> {
     json.begin_object()?;
     put_name(json, alloc, name)?;
-    put_address(json, watch, name)?;
+    put_address(json, address_of(watch, name))?;
     if is_assumed {
-        json.key("assumed")?;
-        json.boolean(true)?;
+        put_flag(json, "assumed", true)?;
     }
     for kind in KINDS {
-        put_runs(json, alloc, watch, name, kind)?;
+        put_runs(json, alloc, kind_word(kind), watch.runs(name, kind))?;
     }
     json.end_object()
 }
 
 /// The runs of a kind, each with its number of entries and the times of the first and the last.
-fn put_runs(
-    json: &mut Writer,
-    alloc: Global,
-    watch: &Watch,
-    name: Name,
-    kind: Kind,
-) -> Result<(), AllocError> {
-    json.key(kind_word(kind))?;
-    json.begin_array()?;
-    for run in watch.runs(name, kind) {
-        json.begin_object()?;
-        put_number(json, "times", run.times)?;
-        put_time(json, alloc, "first", run.first)?;
-        put_time(json, alloc, "last", run.last)?;
-        put_shown(json, alloc, run)?;
-        json.end_object()?;
+fn put_runs(json: &mut Writer, alloc: Global, word: &str, runs: &[Run]) -> Result<(), AllocError> {
+    begin_list(json, word)?;
+    for run in runs {
+        put_run(json, alloc, run)?;
     }
     json.end_array()
+}
+
+fn put_run(json: &mut Writer, alloc: Global, run: &Run) -> Result<(), AllocError> {
+    json.begin_object()?;
+    put_number(json, "times", run.times)?;
+    put_time(json, alloc, "first", run.first)?;
+    put_time(json, alloc, "last", run.last)?;
+    put_shown(json, alloc, run)?;
+    json.end_object()
 }
 
 fn put_counts(json: &mut Writer, counts: Counts) -> Result<(), AllocError> {
@@ -183,18 +211,23 @@ fn put_counts(json: &mut Writer, counts: Counts) -> Result<(), AllocError> {
 
 fn put_name(json: &mut Writer, alloc: Global, name: Name) -> Result<(), AllocError> {
     let text = format!(in alloc; "{name}")?;
-    json.key("name")?;
-    json.string(text.as_str())
+    put_text(json, "name", text.as_str())
 }
 
-fn put_address(json: &mut Writer, watch: &Watch, name: Name) -> Result<(), AllocError> {
-    json.key("address")?;
-    match watch.row(name) {
-        Some(row) => match row.address {
-            Some(address) => json.u64(u64::from(address)),
-            None => json.null(),
-        },
-        None => json.null(),
+fn put_text(json: &mut Writer, key: &str, text: &str) -> Result<(), AllocError> {
+    json.key(key)?;
+    json.string(text)
+}
+
+fn put_null(json: &mut Writer, key: &str) -> Result<(), AllocError> {
+    json.key(key)?;
+    json.null()
+}
+
+fn put_address(json: &mut Writer, address: Option<u8>) -> Result<(), AllocError> {
+    match address {
+        Some(address) => put_number(json, "address", u64::from(address)),
+        None => put_null(json, "address"),
     }
 }
 
@@ -204,12 +237,11 @@ fn put_time(
     key: &str,
     time: Option<Time>,
 ) -> Result<(), AllocError> {
-    json.key(key)?;
     match time {
         Some(time) => {
             let text = format!(in alloc; "{time}")?;
-            json.string(text.as_str())
+            put_text(json, key, text.as_str())
         }
-        None => json.null(),
+        None => put_null(json, key),
     }
 }

@@ -1,4 +1,4 @@
-use crate::kinds::{KINDS, kind_word};
+use crate::kinds::{KINDS, address_of, kind_word};
 use bus_watch::{Run, Watch};
 use candump_line::Time;
 use csv::Writer;
@@ -6,7 +6,7 @@ use dm_messages::Kind;
 use dm_words::NO_COUNT;
 use name_field::Name;
 use std::alloc::{AllocError, Global};
-use trouble_code::Dtc;
+use trouble_code::{Dtc, Lamps};
 
 /// The names of the values.
 const HEADER: [&[u8]; 11] = [
@@ -51,16 +51,25 @@ fn put_row(rows: &mut Rows, fields: &[&[u8]]) -> Result<(), AllocError> {
 
 /// The rows of a NAME.
 fn put_name(rows: &mut Rows, alloc: Global, watch: &Watch, name: Name) -> Result<(), AllocError> {
-    let address = match watch.row(name) {
-        Some(row) => row.address,
-        None => None,
-    };
-    let address = match address {
-        Some(address) => format!(in alloc; "{address}")?,
-        None => String::new(alloc),
-    };
+    let address = address_text(alloc, address_of(watch, name))?;
     let name_text = format!(in alloc; "{name}")?;
-    let before = [name_text.as_bytes(), address.as_bytes()];
+    put_entries(
+        rows,
+        alloc,
+        [name_text.as_bytes(), address.as_bytes()],
+        watch,
+        name,
+    )
+}
+
+/// The rows of a NAME behind these two values.
+fn put_entries(
+    rows: &mut Rows,
+    alloc: Global,
+    before: [&[u8]; 2],
+    watch: &Watch,
+    name: Name,
+) -> Result<(), AllocError> {
     if !has_entries(watch, name) {
         let none: &[u8] = b"";
         return put_row(
@@ -110,10 +119,8 @@ fn put_run(
 ) -> Result<(), AllocError> {
     let first = time_text(alloc, run.first)?;
     let last = time_text(alloc, run.last)?;
-    let times = run.times;
-    let times = format!(in alloc; "{times}")?;
-    let [lamps, flashes] = run.shown.lamps.to_bytes();
-    let lamps = format!(in alloc; "{lamps:02X}{flashes:02X}")?;
+    let times = number_text(alloc, run.times)?;
+    let lamps = lamps_text(alloc, run.shown.lamps)?;
     let run_fields = [
         before[0],
         before[1],
@@ -124,12 +131,21 @@ fn put_run(
         lamps.as_bytes(),
         if run.contested { b"true" } else { b"false" },
     ];
-    let codes = run.shown.codes.as_slice();
+    put_codes(rows, alloc, run_fields, run.shown.codes.as_slice())
+}
+
+/// A row for each code; one without a code where there are none.
+fn put_codes(
+    rows: &mut Rows,
+    alloc: Global,
+    run: [&[u8]; 8],
+    codes: &[Dtc],
+) -> Result<(), AllocError> {
     if codes.is_empty() {
-        return put_code(rows, run_fields, [b"", b"", b""]);
+        return put_code(rows, run, [b"", b"", b""]);
     }
     for code in codes {
-        put_code_of(rows, alloc, run_fields, *code)?;
+        put_code_of(rows, alloc, run, *code)?;
     }
     Ok(())
 }
@@ -140,16 +156,9 @@ fn put_code_of(
     run: [&[u8]; 8],
     code: Dtc,
 ) -> Result<(), AllocError> {
-    let spn = code.spn();
-    let spn = format!(in alloc; "{spn}")?;
-    let fmi = code.fmi();
-    let fmi = format!(in alloc; "{fmi}")?;
-    let count = code.count();
-    let count = if count == NO_COUNT {
-        String::new(alloc)
-    } else {
-        format!(in alloc; "{count}")?
-    };
+    let spn = number_text(alloc, u64::from(code.spn()))?;
+    let fmi = number_text(alloc, u64::from(code.fmi()))?;
+    let count = count_text(alloc, code.count())?;
     put_code(
         rows,
         run,
@@ -170,4 +179,29 @@ fn time_text(alloc: Global, time: Option<Time>) -> Result<String, AllocError> {
         Some(time) => Ok(format!(in alloc; "{time}")?),
         None => Ok(String::new(alloc)),
     }
+}
+
+fn number_text(alloc: Global, number: u64) -> Result<String, AllocError> {
+    Ok(format!(in alloc; "{number}")?)
+}
+
+/// The occurrence count; nothing where it is not available.
+fn count_text(alloc: Global, count: u8) -> Result<String, AllocError> {
+    if count == NO_COUNT {
+        return Ok(String::new(alloc));
+    }
+    number_text(alloc, u64::from(count))
+}
+
+fn address_text(alloc: Global, address: Option<u8>) -> Result<String, AllocError> {
+    match address {
+        Some(address) => number_text(alloc, u64::from(address)),
+        None => Ok(String::new(alloc)),
+    }
+}
+
+/// The two bytes of lamps in four digits.
+fn lamps_text(alloc: Global, lamps: Lamps) -> Result<String, AllocError> {
+    let [lamps, flashes] = lamps.to_bytes();
+    Ok(format!(in alloc; "{lamps:02X}{flashes:02X}")?)
 }

@@ -55,27 +55,61 @@ pub fn watch<R: Read + Drop, W: Write + Drop, E: Write>(
     ) else {
         return Ended::failed(LogFault::Memory);
     };
-    match opened(alloc, &mut writer, options) {
-        Ok(mut watch) => {
-            let ended = read_lines(alloc, &mut reader, &mut writer, errors, &mut watch, options);
-            reported(alloc, &mut writer, &watch, options, ended)
-        }
-        Err(fault) => Ended::failed(fault),
+    watch_from(alloc, &mut reader, &mut writer, errors, options)
+}
+
+/// Watches with room to read and to write.
+fn watch_from<R: Read + Drop, W: Write + Drop, E: Write>(
+    alloc: Global,
+    reader: &mut BufReader<R>,
+    writer: &mut BufWriter<W>,
+    errors: &mut E,
+    options: &Options<'_>,
+) -> Ended {
+    match Watch::new(alloc, options.settings, options.bus) {
+        Ok(mut watch) => watch_with(alloc, reader, writer, errors, &mut watch, options),
+        Err(_) => Ended::failed(LogFault::Memory),
     }
 }
 
-/// A watch with its assumed owners, each of which is written as a change of the line 0.
-fn opened<W: Write>(
+/// Watches with a watch that has read nothing.
+fn watch_with<R: Read + Drop, W: Write + Drop, E: Write>(
+    alloc: Global,
+    reader: &mut BufReader<R>,
+    writer: &mut BufWriter<W>,
+    errors: &mut E,
+    watch: &mut Watch,
+    options: &Options<'_>,
+) -> Ended {
+    if let Err(fault) = assume_owners(alloc, writer, watch, options) {
+        return Ended::failed(fault);
+    }
+    let ended = read_lines(alloc, reader, writer, errors, watch, options);
+    reported(alloc, writer, watch, options, ended)
+}
+
+/// Takes in the assumed owners, and writes each as a change of the line 0.
+fn assume_owners<W: Write>(
     alloc: Global,
     writer: &mut W,
+    watch: &mut Watch,
     options: &Options<'_>,
-) -> Result<Watch, LogFault> {
-    let mut watch = Watch::new(alloc, options.settings, options.bus)?;
+) -> Result<(), LogFault> {
     for assumed in options.assumed {
-        let changes = watch.assume(alloc, assumed.name, assumed.address)?;
-        write_changes(writer, alloc, &watch, options.form, 0, changes)?;
+        assume_owner(alloc, writer, watch, options.form, assumed)?;
     }
-    Ok(watch)
+    Ok(())
+}
+
+fn assume_owner<W: Write>(
+    alloc: Global,
+    writer: &mut W,
+    watch: &mut Watch,
+    form: Form,
+    assumed: &Assumed,
+) -> Result<(), LogFault> {
+    let changes = watch.assume(alloc, assumed.name, assumed.address)?;
+    write_changes(writer, alloc, watch, form, 0, changes)
 }
 
 /// Writes the report, but where writing has failed.
@@ -89,12 +123,23 @@ fn reported<W: Write>(
     if ended.fault == Some(LogFault::Write) {
         return ended;
     }
-    let fault = match write_report(writer, alloc, watch, options) {
-        Ok(()) => match writer.flush() {
-            Ok(()) => ended.fault,
-            Err(_) => Some(LogFault::Write),
-        },
+    let fault = match written_out(alloc, writer, watch, options) {
+        Ok(()) => ended.fault,
         Err(fault) => Some(fault),
     };
     Ended { fault, ..ended }
+}
+
+/// Writes the report, and what is still to be written.
+fn written_out<W: Write>(
+    alloc: Global,
+    writer: &mut W,
+    watch: &Watch,
+    options: &Options<'_>,
+) -> Result<(), LogFault> {
+    write_report(writer, alloc, watch, options)?;
+    match writer.flush() {
+        Ok(()) => Ok(()),
+        Err(_) => Err(LogFault::Write),
+    }
 }

@@ -1,6 +1,6 @@
-use crate::kinds::{KINDS, kind_word};
+use crate::kinds::{KINDS, address_of, kind_word};
 use crate::run::{Assumed, is_assumed};
-use bus_watch::{Change, Counts, Watch};
+use bus_watch::{Change, Counts, Run, Watch};
 use candump_line::Time;
 use dm_messages::Kind;
 use dm_words::{CodeWords, LampWords};
@@ -46,14 +46,17 @@ fn write_entry<W: Write>(writer: &mut W, watch: &Watch, name: Name, kind: Kind) 
     let word = kind_word(kind);
     write!(writer, " {word} {name}")?;
     if let Some(run) = watch.runs(name, kind).last() {
-        let lamps = LampWords(run.shown.lamps);
-        let codes = CodeWords(run.shown.codes.as_slice());
-        write!(writer, " {lamps}; {codes}")?;
-        if run.contested {
-            write!(writer, " contested")?;
-        }
+        write_shown(writer, run)?;
     }
     writeln!(writer)
+}
+
+/// The lamps, the codes, and whether the entry is contested.
+fn write_shown<W: Write>(writer: &mut W, run: &Run) -> io::Result<()> {
+    let lamps = LampWords(run.shown.lamps);
+    let codes = CodeWords(run.shown.codes.as_slice());
+    let contested = if run.contested { " contested" } else { "" };
+    write!(writer, " {lamps}; {codes}{contested}")
 }
 
 /// Writes a line for each NAME, the counts of the station, and those of the lines.
@@ -64,11 +67,7 @@ pub fn write_report<W: Write>(
 ) -> io::Result<()> {
     for place in 0..watch.names() {
         if let Some(name) = watch.name_at(place) {
-            write_row(writer, watch, name)?;
-            if is_assumed(assumed, name) {
-                write!(writer, " assumed")?;
-            }
-            writeln!(writer)?;
+            write_row(writer, watch, name, is_assumed(assumed, name))?;
         }
     }
     let missed = watch.missed();
@@ -78,21 +77,37 @@ pub fn write_report<W: Write>(
 }
 
 /// The NAME, its address, how many messages of each kind stand under it, and the lamps and the number of codes of the
-/// newest DM1, without a line end.
-fn write_row<W: Write>(writer: &mut W, watch: &Watch, name: Name) -> io::Result<()> {
+/// newest DM1.
+fn write_row<W: Write>(
+    writer: &mut W,
+    watch: &Watch,
+    name: Name,
+    is_assumed: bool,
+) -> io::Result<()> {
     write!(writer, "{name} ")?;
-    match watch.row(name) {
-        Some(row) => match row.address {
-            Some(address) => write!(writer, "{address:>4} ")?,
-            None => write!(writer, "none ")?,
-        },
-        None => write!(writer, "none ")?,
-    }
+    write_address(writer, address_of(watch, name))?;
     for kind in KINDS {
-        let entries = watch.entries(name, kind);
-        write!(writer, "{entries:>6} ")?;
+        write_entries(writer, watch.entries(name, kind))?;
     }
-    match watch.runs(name, Kind::Dm1).last() {
+    write_newest(writer, watch.runs(name, Kind::Dm1).last())?;
+    let assumed = if is_assumed { " assumed" } else { "" };
+    writeln!(writer, "{assumed}")
+}
+
+fn write_address<W: Write>(writer: &mut W, address: Option<u8>) -> io::Result<()> {
+    match address {
+        Some(address) => write!(writer, "{address:>4} "),
+        None => write!(writer, "none "),
+    }
+}
+
+fn write_entries<W: Write>(writer: &mut W, entries: u64) -> io::Result<()> {
+    write!(writer, "{entries:>6} ")
+}
+
+/// The lamps and the number of codes of an entry.
+fn write_newest<W: Write>(writer: &mut W, newest: Option<&Run>) -> io::Result<()> {
+    match newest {
         Some(newest) => {
             let [lamps, flashes] = newest.shown.lamps.to_bytes();
             let codes = newest.shown.codes.as_slice().len();
@@ -118,8 +133,13 @@ fn write_counts<W: Write>(writer: &mut W, counts: Counts) -> io::Result<()> {
         "other bus {}; not attributed {}",
         counts.other_bus, counts.not_attributed
     )?;
-    if counts.withheld > 0 {
-        write!(writer, "; withheld {}", counts.withheld)?;
+    write_withheld(writer, counts.withheld)
+}
+
+/// How many packets were withheld, where any were, and a line end.
+fn write_withheld<W: Write>(writer: &mut W, withheld: u64) -> io::Result<()> {
+    if withheld > 0 {
+        write!(writer, "; withheld {withheld}")?;
     }
     writeln!(writer)
 }

@@ -31,17 +31,23 @@ pub enum Wanted {
 /// Follows `is`, and tells what a word should be.
 impl fmt::Display for Wanted {
     fn fmt<W: fmt::Write>(&self, f: &mut fmt::Formatter<W>) -> fmt::Result {
-        match self {
-            Wanted::Name => write!(f, "no NAME"),
-            Wanted::Number | Wanted::Count => write!(f, "no decimal number from 0 to 4294967295"),
-            Wanted::Small => write!(f, "no decimal number from 0 to 255"),
-            Wanted::Lamps => write!(f, "not four hexadecimal digits"),
-            Wanted::Identifier => write!(f, "not eight hexadecimal digits"),
-            Wanted::Bytes => write!(f, "not two hexadecimal digits"),
-            Wanted::Kind => write!(f, "not plain, guarded or flicker"),
-            Wanted::What => write!(f, "not dm1, dm2, dm3, dm6, dm11, claim or a decimal number"),
-            Wanted::Which => write!(f, "not dm1, dm2 or dm6"),
-        }
+        let words = words_of(*self);
+        write!(f, "{words}")
+    }
+}
+
+/// What a word is that is not what is wanted.
+fn words_of(wanted: Wanted) -> &'static str {
+    match wanted {
+        Wanted::Name => "no NAME",
+        Wanted::Number | Wanted::Count => "no decimal number from 0 to 4294967295",
+        Wanted::Small => "no decimal number from 0 to 255",
+        Wanted::Lamps => "not four hexadecimal digits",
+        Wanted::Identifier => "not eight hexadecimal digits",
+        Wanted::Bytes => "not two hexadecimal digits",
+        Wanted::Kind => "not plain, guarded or flicker",
+        Wanted::What => "not dm1, dm2, dm3, dm6, dm11, claim or a decimal number",
+        Wanted::Which => "not dm1, dm2 or dm6",
     }
 }
 
@@ -267,16 +273,29 @@ fn fits(word: &str, wanted: Wanted) -> bool {
         Wanted::Lamps => read_lamps(word).is_some(),
         Wanted::Identifier => read_hex(word, 8).is_some(),
         Wanted::Bytes => read_hex(word, 2).is_some(),
-        Wanted::Kind => word == "plain" || word == "guarded" || word == "flicker",
-        Wanted::What => {
-            word == "dm1"
-                || word == "dm2"
-                || word == "dm3"
-                || word == "dm6"
-                || word == "dm11"
-                || word == "claim"
-                || read_number(word).is_some()
-        }
-        Wanted::Which => word == "dm1" || word == "dm2" || word == "dm6",
+        Wanted::Kind => is_kind(word),
+        Wanted::What => is_what(word),
+        Wanted::Which => is_which(word),
+    }
+}
+
+fn is_kind(word: &str) -> bool {
+    match word {
+        "plain" | "guarded" | "flicker" => true,
+        _ => false,
+    }
+}
+
+fn is_what(word: &str) -> bool {
+    match word {
+        "dm1" | "dm2" | "dm3" | "dm6" | "dm11" | "claim" => true,
+        number => read_number(number).is_some(),
+    }
+}
+
+fn is_which(word: &str) -> bool {
+    match word {
+        "dm1" | "dm2" | "dm6" => true,
+        _ => false,
     }
 }

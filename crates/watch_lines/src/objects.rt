@@ -20,7 +20,7 @@ pub(crate) fn change_object(
     let mut json = Writer::new(Vec::new(alloc));
     json.begin_object()?;
     put_number(&mut json, "line", number)?;
-    put_time(&mut json, alloc, "time", watch.now())?;
+    put_time(&mut json, alloc, "time", &watch.now())?;
     json.key("event")?;
     put_event(&mut json, alloc, watch, change)?;
     json.end_object()?;
@@ -184,8 +184,8 @@ fn put_runs(json: &mut Writer, alloc: Global, word: &str, runs: &[Run]) -> Resul
 fn put_run(json: &mut Writer, alloc: Global, run: &Run) -> Result<(), AllocError> {
     json.begin_object()?;
     put_number(json, "times", run.times)?;
-    put_time(json, alloc, "first", run.first)?;
-    put_time(json, alloc, "last", run.last)?;
+    put_time(json, alloc, "first", &run.first)?;
+    put_time(json, alloc, "last", &run.last)?;
     put_shown(json, alloc, run)?;
     json.end_object()
 }
@@ -193,20 +193,29 @@ fn put_run(json: &mut Writer, alloc: Global, run: &Run) -> Result<(), AllocError
 fn put_counts(json: &mut Writer, counts: Counts) -> Result<(), AllocError> {
     json.key("lines")?;
     json.begin_object()?;
-    put_number(json, "all", counts.lines)?;
-    put_number(json, "frame", counts.frames)?;
-    put_number(json, "bad", counts.bad)?;
-    put_number(json, "short", counts.short)?;
-    put_number(json, "remote", counts.remote)?;
-    put_number(json, "fd", counts.fd)?;
-    put_number(json, "error", counts.error)?;
-    put_number(json, "other_bus", counts.other_bus)?;
-    put_number(json, "drop", counts.drops)?;
-    put_number(json, "note", counts.notes)?;
-    put_number(json, "withheld", counts.withheld)?;
+    for (key, count) in counts_of_lines(counts) {
+        put_number(json, key, count)?;
+    }
     json.end_object()?;
     put_number(json, "not_attributed", counts.not_attributed)?;
     put_number(json, "not_sent", counts.not_sent)
+}
+
+/// How many lines there were of each sort, each with its key.
+fn counts_of_lines(counts: Counts) -> [(&'static str, u64); 11] {
+    [
+        ("all", counts.lines),
+        ("frame", counts.frames),
+        ("bad", counts.bad),
+        ("short", counts.short),
+        ("remote", counts.remote),
+        ("fd", counts.fd),
+        ("error", counts.error),
+        ("other_bus", counts.other_bus),
+        ("drop", counts.drops),
+        ("note", counts.notes),
+        ("withheld", counts.withheld),
+    ]
 }
 
 fn put_name(json: &mut Writer, alloc: Global, name: Name) -> Result<(), AllocError> {
@@ -235,7 +244,7 @@ fn put_time(
     json: &mut Writer,
     alloc: Global,
     key: &str,
-    time: Option<Time>,
+    time: &Option<Time>,
 ) -> Result<(), AllocError> {
     match time {
         Some(time) => {

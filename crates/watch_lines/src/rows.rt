@@ -117,8 +117,8 @@ fn put_run(
     kind: &[u8],
     run: &Run,
 ) -> Result<(), AllocError> {
-    let first = time_text(alloc, run.first)?;
-    let last = time_text(alloc, run.last)?;
+    let first = time_text(alloc, &run.first)?;
+    let last = time_text(alloc, &run.last)?;
     let times = number_text(alloc, run.times)?;
     let lamps = lamps_text(alloc, run.shown.lamps)?;
     let run_fields = [
@@ -174,7 +174,7 @@ fn put_code(rows: &mut Rows, run: [&[u8]; 8], code: [&[u8]; 3]) -> Result<(), Al
     put_row(rows, &fields)
 }
 
-fn time_text(alloc: Global, time: Option<Time>) -> Result<String, AllocError> {
+fn time_text(alloc: Global, time: &Option<Time>) -> Result<String, AllocError> {
     match time {
         Some(time) => Ok(format!(in alloc; "{time}")?),
         None => Ok(String::new(alloc)),

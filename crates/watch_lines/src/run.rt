@@ -35,7 +35,12 @@ pub struct Options<'a> {
 
 /// Whether a NAME was taken to hold an address before the first line.
 pub(crate) fn is_assumed(assumed: &[Assumed], name: Name) -> bool {
-    assumed.iter().any(|one| one.name == name)
+    for one in assumed {
+        if one.name == name {
+            return true;
+        }
+    }
+    false
 }
 
 /// Reads lines to their end, writes what each of them changes, and then the report.
@@ -81,9 +86,21 @@ fn watch_with<R: Read + Drop, W: Write + Drop, E: Write>(
     watch: &mut Watch,
     options: &Options<'_>,
 ) -> Ended {
-    if let Err(fault) = assume_owners(alloc, writer, watch, options) {
-        return Ended::failed(fault);
+    match assume_owners(alloc, writer, watch, options) {
+        Ok(()) => read_and_report(alloc, reader, writer, errors, watch, options),
+        Err(fault) => Ended::failed(fault),
     }
+}
+
+/// Reads all lines, and writes the report.
+fn read_and_report<R: Read + Drop, W: Write + Drop, E: Write>(
+    alloc: Global,
+    reader: &mut BufReader<R>,
+    writer: &mut BufWriter<W>,
+    errors: &mut E,
+    watch: &mut Watch,
+    options: &Options<'_>,
+) -> Ended {
     let ended = read_lines(alloc, reader, writer, errors, watch, options);
     reported(alloc, writer, watch, options, ended)
 }

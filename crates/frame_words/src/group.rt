@@ -50,6 +50,24 @@ impl fmt::Display for AddressWords {
     }
 }
 
+/// What an acknowledgment says by its control byte.
+#[derive(Clone, Copy)]
+pub(crate) struct ControlWords(pub u8);
+
+impl fmt::Display for ControlWords {
+    fn fmt<W: fmt::Write>(&self, f: &mut fmt::Formatter<W>) -> fmt::Result {
+        let control = self.0;
+        let word = match control {
+            0 => "positive",
+            1 => "negative",
+            2 => "access denied",
+            3 => "cannot respond now",
+            _ => return write!(f, "control {control}"),
+        };
+        write!(f, "{word}")
+    }
+}
+
 /// Bytes in two digits each, with a space before each.
 #[derive(Clone, Copy)]
 pub(crate) struct ByteWords<'a>(pub &'a [u8]);

@@ -1,7 +1,7 @@
 use crate::group::AddressWords;
 use crate::message::write_message;
 use can_frame::{Frame, GLOBAL_ADDRESS};
-use candump_line::{Foreign, Line};
+use candump_line::{Foreign, Line, Time};
 use std::alloc::Global;
 use std::io;
 use std::io::Write;
@@ -17,24 +17,37 @@ pub fn write_line_words<W: Write>(
 ) -> io::Result<()> {
     match line {
         Line::Frame { time, bus, frame } => {
-            if let Some(time) = time {
-                write!(writer, "({time}) ")?;
-            }
-            if let Some(bus) = bus {
-                write!(writer, "{bus} ")?;
-            }
+            write_place(writer, *time, *bus)?;
             write_frame(writer, alloc, frame)
         }
         Line::Dropped { count, .. } => write!(writer, "dropped {count} frames"),
         Line::Overflow { .. } => write!(writer, "dropped a frame or more"),
-        Line::Foreign { what, .. } => match what {
-            Foreign::Short => write!(writer, "not J1939: 11-bit identifier"),
-            Foreign::Remote => write!(writer, "not J1939: remote frame"),
-            Foreign::Fd => write!(writer, "not J1939: CAN FD frame"),
-            Foreign::Error => write!(writer, "not J1939: error frame"),
-        },
+        Line::Foreign { what, .. } => {
+            let what = foreign_word(*what);
+            write!(writer, "not J1939: {what}")
+        }
         Line::Note => write!(writer, "-"),
         Line::Bad(reason) => write!(writer, "bad: {reason}"),
+    }
+}
+
+/// Writes the time and the bus, each where the line has it.
+fn write_place<W: Write>(writer: &mut W, time: Option<Time>, bus: Option<&str>) -> io::Result<()> {
+    if let Some(time) = time {
+        write!(writer, "({time}) ")?;
+    }
+    if let Some(bus) = bus {
+        write!(writer, "{bus} ")?;
+    }
+    Ok(())
+}
+
+fn foreign_word(what: Foreign) -> &'static str {
+    match what {
+        Foreign::Short => "11-bit identifier",
+        Foreign::Remote => "remote frame",
+        Foreign::Fd => "CAN FD frame",
+        Foreign::Error => "error frame",
     }
 }
 

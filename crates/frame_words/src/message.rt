@@ -1,8 +1,8 @@
-use crate::group::{AddressWords, ByteWords, GroupWords};
+use crate::group::{AddressWords, ByteWords, ControlWords, GroupWords, group_name};
 use can_frame::{Frame, Pgn};
-use dm_messages::{Kind, ReadError, read};
+use dm_messages::{Kind, ReadError, Shown, read};
 use dm_words::{CodeWords, LampWords};
-use name_field::Name;
+use name_field::{Name, NameFields};
 use parameter_group::ParameterGroup;
 use requests::Ack;
 use std::alloc::Global;
@@ -15,60 +15,71 @@ pub fn write_message<W: Write>(writer: &mut W, alloc: Global, frame: &Frame) -> 
     match ParameterGroup::read(frame) {
         ParameterGroup::AddressClaimed { name, .. } => write_name(writer, "claim", name),
         ParameterGroup::CannotClaim { name } => write_name(writer, "cannot claim", name),
-        ParameterGroup::Request(request) => {
-            let group = GroupWords(request.pgn);
-            write!(writer, "request: of {group}")
-        }
+        ParameterGroup::Request(request) => write_request(writer, request.pgn),
         ParameterGroup::Acknowledgment(ack) => write_acknowledgment(writer, ack),
         ParameterGroup::Diagnostic { kind, bytes, .. } => {
             write_diagnostic(writer, alloc, kind, bytes)
         }
-        ParameterGroup::ConnectionManagement { control, .. } => write_control(writer, control),
+        ParameterGroup::ConnectionManagement { control, .. } => write_control(writer, &control),
         ParameterGroup::DataTransfer { bytes, .. } => write_packet(writer, bytes),
-        ParameterGroup::Other => {
-            let name = crate::group::group_name(frame.id().pgn());
-            let data = ByteWords(frame.bytes());
-            write!(writer, "{name}: data{data}")
-        }
+        ParameterGroup::Other => write_data(writer, frame),
     }
+}
+
+fn write_request<W: Write>(writer: &mut W, pgn: Pgn) -> io::Result<()> {
+    let group = GroupWords(pgn);
+    write!(writer, "request: of {group}")
+}
+
+fn write_data<W: Write>(writer: &mut W, frame: &Frame) -> io::Result<()> {
+    let name = group_name(frame.id().pgn());
+    let data = ByteWords(frame.bytes());
+    write!(writer, "{name}: data{data}")
 }
 
 /// A NAME and its fields (SAE J1939-81).
 fn write_name<W: Write>(writer: &mut W, word: &str, name: Name) -> io::Result<()> {
     let fields = name.fields();
     write!(writer, "{word}: NAME {name}")?;
+    write_function(writer, &fields)?;
+    write_maker(writer, &fields)?;
+    write_system(writer, &fields)
+}
+
+fn write_function<W: Write>(writer: &mut W, fields: &NameFields) -> io::Result<()> {
+    let function = fields.function;
+    let instance = fields.function_instance;
+    let ecu = fields.ecu_instance;
+    write!(writer, ", function {function}.{instance}, ECU {ecu}")
+}
+
+fn write_maker<W: Write>(writer: &mut W, fields: &NameFields) -> io::Result<()> {
+    let manufacturer = fields.manufacturer;
+    let identity = fields.identity;
+    write!(writer, ", manufacturer {manufacturer}, identity {identity}")
+}
+
+/// The system, and whether the unit takes any address.
+fn write_system<W: Write>(writer: &mut W, fields: &NameFields) -> io::Result<()> {
+    let industry = fields.industry_group;
+    let system = fields.vehicle_system;
+    let instance = fields.system_instance;
+    let any = if fields.arbitrary_capable == 1 {
+        ", takes any address"
+    } else {
+        ""
+    };
     write!(
         writer,
-        ", function {}.{}, ECU {}",
-        fields.function, fields.function_instance, fields.ecu_instance
-    )?;
-    write!(
-        writer,
-        ", manufacturer {}, identity {}",
-        fields.manufacturer, fields.identity
-    )?;
-    write!(
-        writer,
-        ", industry {}, system {}.{}",
-        fields.industry_group, fields.vehicle_system, fields.system_instance
-    )?;
-    if fields.arbitrary_capable == 1 {
-        write!(writer, ", takes any address")?;
-    }
-    Ok(())
+        ", industry {industry}, system {system}.{instance}{any}"
+    )
 }
 
 fn write_acknowledgment<W: Write>(writer: &mut W, ack: Ack) -> io::Result<()> {
-    match ack.control {
-        0 => write!(writer, "ack: positive")?,
-        1 => write!(writer, "ack: negative")?,
-        2 => write!(writer, "ack: access denied")?,
-        3 => write!(writer, "ack: cannot respond now")?,
-        other => write!(writer, "ack: control {other}")?,
-    }
+    let control = ControlWords(ack.control);
     let to = AddressWords(ack.requester);
     let group = GroupWords(ack.pgn);
-    write!(writer, ", to {to}, of {group}")
+    write!(writer, "ack: {control}, to {to}, of {group}")
 }
 
 fn write_diagnostic<W: Write>(
@@ -77,62 +88,81 @@ fn write_diagnostic<W: Write>(
     kind: Kind,
     bytes: &[u8],
 ) -> io::Result<()> {
-    let word = match kind {
+    let word = kind_word(kind);
+    match read(alloc, bytes) {
+        Ok(shown) => write_shown(writer, word, &shown),
+        Err(error) => {
+            let reason = unread_word(error);
+            write!(writer, "{word}: cannot be read: {reason}")
+        }
+    }
+}
+
+fn write_shown<W: Write>(writer: &mut W, word: &str, shown: &Shown) -> io::Result<()> {
+    let lamps = LampWords(shown.lamps);
+    let codes = CodeWords(shown.codes.as_slice());
+    write!(writer, "{word}: {lamps}; {codes}")
+}
+
+fn kind_word(kind: Kind) -> &'static str {
+    match kind {
         Kind::Dm1 => "DM1",
         Kind::Dm2 => "DM2",
         Kind::Dm6 => "DM6",
-    };
-    match read(alloc, bytes) {
-        Ok(shown) => {
-            let lamps = LampWords(shown.lamps);
-            let codes = CodeWords(shown.codes.as_slice());
-            write!(writer, "{word}: {lamps}; {codes}")
-        }
-        Err(ReadError::BadLength) => write!(writer, "{word}: cannot be read: bad length"),
-        Err(ReadError::OldConversion) => write!(writer, "{word}: cannot be read: old conversion"),
-        Err(ReadError::NoCodeInside) => write!(writer, "{word}: cannot be read: a code of zeros"),
-        Err(ReadError::OutOfMemory) => write!(writer, "{word}: cannot be read: memory"),
+    }
+}
+
+/// Why a message cannot be read.
+fn unread_word(error: ReadError) -> &'static str {
+    match error {
+        ReadError::BadLength => "bad length",
+        ReadError::OldConversion => "old conversion",
+        ReadError::NoCodeInside => "a code of zeros",
+        ReadError::OutOfMemory => "memory",
     }
 }
 
 /// Connection management of the transport protocol (SAE J1939-21).
-fn write_control<W: Write>(writer: &mut W, control: Control) -> io::Result<()> {
+fn write_control<W: Write>(writer: &mut W, control: &Control) -> io::Result<()> {
     write!(writer, "TP.CM: ")?;
-    let group = GroupWords(write_step(writer, control)?);
+    write_step(writer, control)?;
+    let group = GroupWords(group_of(control));
     write!(writer, " of {group}")
 }
 
-/// Writes what a message of connection management tells, and answers the group that it is of.
-fn write_step<W: Write>(writer: &mut W, control: Control) -> io::Result<Pgn> {
+/// The group that a message of connection management is of.
+fn group_of(control: &Control) -> Pgn {
+    match control {
+        Control::Rts { pgn, .. } => *pgn,
+        Control::Cts { pgn, .. } => *pgn,
+        Control::EndAck { pgn, .. } => *pgn,
+        Control::Bam { pgn, .. } => *pgn,
+        Control::Abort { pgn, .. } => *pgn,
+    }
+}
+
+/// Writes what a message of connection management tells.
+fn write_step<W: Write>(writer: &mut W, control: &Control) -> io::Result<()> {
     match control {
         Control::Rts {
             size,
             packets,
             most,
-            pgn,
-        } => {
-            write!(
-                writer,
-                "RTS {size} bytes in {packets} packets, at most {most} at once,"
-            )?;
-            Ok(pgn)
+            ..
+        } => write!(
+            writer,
+            "RTS {size} bytes in {packets} packets, at most {most} at once,"
+        ),
+        Control::Cts { granted, next, .. } => {
+            write!(writer, "CTS {granted} packets from {next} on,")
         }
-        Control::Cts { granted, next, pgn } => {
-            write!(writer, "CTS {granted} packets from {next} on,")?;
-            Ok(pgn)
+        Control::EndAck { size, packets, .. } => {
+            write!(writer, "all {size} bytes in {packets} packets came,")
         }
-        Control::EndAck { size, packets, pgn } => {
-            write!(writer, "all {size} bytes in {packets} packets came,")?;
-            Ok(pgn)
+        Control::Bam { size, packets, .. } => {
+            write!(writer, "BAM {size} bytes in {packets} packets")
         }
-        Control::Bam { size, packets, pgn } => {
-            write!(writer, "BAM {size} bytes in {packets} packets")?;
-            Ok(pgn)
-        }
-        Control::Abort { reason, pgn } => {
-            write!(writer, "abort for reason {reason},")?;
-            Ok(pgn)
-        }
+        Control::Abort { reason, .. } => write!(writer, "abort for reason {reason},"),
     }
 }
 

@@ -8,6 +8,7 @@ use log_lines::{Ended, LogFault, ROOM, next_line};
 use parameter_group::ParameterGroup;
 use std::alloc::Global;
 use std::io::{BufReader, BufWriter, Read, Write};
+use trouble_code::Dtc;
 
 /// How a line is answered.
 #[derive(Clone, Copy, Debug, PartialEq, Eq)]
@@ -85,26 +86,43 @@ fn answer<W: Write, E: Write>(
     number: u64,
 ) -> Result<bool, LogFault> {
     let said = read_line(line);
-    let is_bad = match said {
-        Line::Bad(reason) => {
-            if writeln!(errors, "line {number}: {reason}").is_err() {
-                return Err(LogFault::Write);
-            }
-            true
-        }
-        _ => false,
-    };
+    let is_bad = tell_where_bad(errors, number, &said)?;
     match form {
         Form::Text => write_words(alloc, writer, texts, &said)?,
-        Form::Json => {
-            let mut object = line_object(alloc, texts, number, &said)?;
-            object.push(b'\n')?;
-            if writer.write_all(object.as_slice()).is_err() {
-                return Err(LogFault::Write);
-            }
-        }
+        Form::Json => write_object(alloc, writer, texts, number, &said)?,
     }
     Ok(is_bad)
+}
+
+/// Tells on `errors` why a line is bad, where it is. Tells whether it is.
+fn tell_where_bad<E: Write>(
+    errors: &mut E,
+    number: u64,
+    said: &Line<'_>,
+) -> Result<bool, LogFault> {
+    let Line::Bad(reason) = said else {
+        return Ok(false);
+    };
+    match writeln!(errors, "line {number}: {reason}") {
+        Ok(()) => Ok(true),
+        Err(_) => Err(LogFault::Write),
+    }
+}
+
+/// Writes a line as a JSON object.
+fn write_object<W: Write>(
+    alloc: Global,
+    writer: &mut W,
+    texts: &Texts,
+    number: u64,
+    line: &Line<'_>,
+) -> Result<(), LogFault> {
+    let mut object = line_object(alloc, texts, number, line)?;
+    object.push(b'\n')?;
+    match writer.write_all(object.as_slice()) {
+        Ok(()) => Ok(()),
+        Err(_) => Err(LogFault::Write),
+    }
 }
 
 /// Writes a line in words, with the texts of its codes in parentheses behind.
@@ -118,13 +136,24 @@ fn write_words<W: Write>(
         return Err(LogFault::Write);
     }
     if let Line::Frame { frame, .. } = line {
-        if let Some(shown) = shown_by(alloc, frame)? {
-            write_texts(alloc, writer, texts, &shown)?;
-        }
+        write_texts_of(alloc, writer, texts, frame)?;
     }
     match writeln!(writer) {
         Ok(()) => Ok(()),
         Err(_) => Err(LogFault::Write),
+    }
+}
+
+/// Writes the texts of the codes that a frame shows.
+fn write_texts_of<W: Write>(
+    alloc: Global,
+    writer: &mut W,
+    texts: &Texts,
+    frame: &Frame,
+) -> Result<(), LogFault> {
+    match shown_by(alloc, frame)? {
+        Some(shown) => write_texts(alloc, writer, texts, &shown),
+        None => Ok(()),
     }
 }
 
@@ -136,14 +165,26 @@ fn write_texts<W: Write>(
     shown: &Shown,
 ) -> Result<(), LogFault> {
     for code in shown.codes.as_slice() {
-        let Some(text) = texts.text_of(alloc, code.spn(), code.fmi())? else {
-            continue;
-        };
-        if write!(writer, " ({}/{}: {text})", code.spn(), code.fmi()).is_err() {
-            return Err(LogFault::Write);
-        }
+        write_text(alloc, writer, texts, *code)?;
     }
     Ok(())
+}
+
+fn write_text<W: Write>(
+    alloc: Global,
+    writer: &mut W,
+    texts: &Texts,
+    code: Dtc,
+) -> Result<(), LogFault> {
+    let spn = code.spn();
+    let fmi = code.fmi();
+    let Some(text) = texts.text_of(alloc, spn, fmi)? else {
+        return Ok(());
+    };
+    match write!(writer, " ({spn}/{fmi}: {text})") {
+        Ok(()) => Ok(()),
+        Err(_) => Err(LogFault::Write),
+    }
 }
 
 /// What a frame shows, where it is a diagnostic message that can be read.

@@ -27,9 +27,38 @@ impl<T: Drop> From<AllocFailed<T>> for TextsFault {
 /// The texts of a shop for SPNs, for FMIs, and for both together.
 #[derive(Debug, Drop)]
 pub struct Texts {
-    spns: IndexMap<u32, String>,
-    fmis: IndexMap<u32, String>,
-    codes: IndexMap<u64, String>,
+    spns: Numbered,
+    fmis: Numbered,
+    codes: Numbered,
+}
+
+/// A text for each of some numbers.
+#[derive(Debug, Drop)]
+struct Numbered {
+    texts: IndexMap<u64, String>,
+}
+
+impl Numbered {
+    fn new(alloc: Global) -> Numbered {
+        Numbered {
+            texts: IndexMap::new(alloc),
+        }
+    }
+
+    /// The text of a number becomes this one.
+    fn put(&mut self, number: u64, text: String) -> Result<(), TextsFault> {
+        match self.texts.insert(number, text) {
+            Ok(_) => Ok(()),
+            Err(_) => Err(TextsFault::Memory),
+        }
+    }
+
+    fn get(&self, number: u64) -> Option<&str> {
+        match self.texts.get(&number) {
+            Some(text) => Some(text.as_str()),
+            None => None,
+        }
+    }
 }
 
 /// One key for both numbers of a code.
@@ -41,9 +70,9 @@ impl Texts {
     /// No texts.
     pub fn new(alloc: Global) -> Texts {
         Texts {
-            spns: IndexMap::new(alloc),
-            fmis: IndexMap::new(alloc),
-            codes: IndexMap::new(alloc),
+            spns: Numbered::new(alloc),
+            fmis: Numbered::new(alloc),
+            codes: Numbered::new(alloc),
         }
     }
 
@@ -56,21 +85,24 @@ impl Texts {
     /// - `Memory`: memory was refused.
     pub fn read(alloc: Global, text: &[u8]) -> Result<Texts, TextsFault> {
         let mut texts = Texts::new(alloc);
+        match texts.add_all(alloc, text) {
+            Ok(()) => Ok(texts),
+            Err(fault) => Err(fault),
+        }
+    }
+
+    /// Adds the texts of all rows.
+    fn add_all(&mut self, alloc: Global, text: &[u8]) -> Result<(), TextsFault> {
         let mut rows = Reader::from_reader(alloc, text);
         let mut row = ByteRecord::new(alloc);
         for _ in 0..u64::MAX {
             match rows.read_byte_record(&mut row) {
-                Ok(true) => texts.add(alloc, &row)?,
+                Ok(true) => self.add(alloc, &row)?,
                 Ok(false) => break,
-                Err(error) => {
-                    return Err(match error.kind() {
-                        csv::ErrorKind::OutOfMemory => TextsFault::Memory,
-                        _ => TextsFault::Refused,
-                    });
-                }
+                Err(error) => return Err(fault_of(error)),
             }
         }
-        Ok(texts)
+        Ok(())
     }
 
     /// Adds the text of a row.
@@ -82,18 +114,11 @@ impl Texts {
         let fmi = number_at(row, 1, u32::from(GREATEST_FMI))?;
         let text = String::from_str(alloc, word_at(row, 2)?)?;
         match (spn, fmi) {
-            (Some(spn), Some(fmi)) => {
-                self.codes.insert(key(spn, fmi), text)?;
-            }
-            (Some(spn), None) => {
-                self.spns.insert(spn, text)?;
-            }
-            (None, Some(fmi)) => {
-                self.fmis.insert(fmi, text)?;
-            }
-            (None, None) => return Err(TextsFault::Refused),
+            (Some(spn), Some(fmi)) => self.codes.put(key(spn, fmi), text),
+            (Some(spn), None) => self.spns.put(u64::from(spn), text),
+            (None, Some(fmi)) => self.fmis.put(u64::from(fmi), text),
+            (None, None) => Err(TextsFault::Refused),
         }
-        Ok(())
     }
 
     /// The text of a code: its own, or that of its SPN and that of its FMI with a comma between, as far as there are any.
@@ -101,24 +126,40 @@ impl Texts {
     /// # Errors
     /// Memory was refused.
     pub fn text_of(&self, alloc: Global, spn: u32, fmi: u8) -> Result<Option<String>, AllocError> {
-        let fmi = u32::from(fmi);
-        if let Some(text) = self.codes.get(&key(spn, fmi)) {
-            return Ok(Some(String::from_str(alloc, text.as_str())?));
+        if let Some(text) = self.codes.get(key(spn, u32::from(fmi))) {
+            return copied(alloc, text);
         }
-        match (self.spns.get(&spn), self.fmis.get(&fmi)) {
-            (Some(spn), Some(fmi)) => Ok(Some(format!(in alloc; "{spn}, {fmi}")?)),
-            (Some(text), None) | (None, Some(text)) => {
-                Ok(Some(String::from_str(alloc, text.as_str())?))
-            }
+        match (self.spns.get(u64::from(spn)), self.fmis.get(u64::from(fmi))) {
+            (Some(spn), Some(fmi)) => joined(alloc, spn, fmi),
+            (Some(text), None) | (None, Some(text)) => copied(alloc, text),
             (None, None) => Ok(None),
         }
+    }
+}
+
+fn copied(alloc: Global, text: &str) -> Result<Option<String>, AllocError> {
+    Ok(Some(String::from_str(alloc, text)?))
+}
+
+fn joined(alloc: Global, spn: &str, fmi: &str) -> Result<Option<String>, AllocError> {
+    Ok(Some(format!(in alloc; "{spn}, {fmi}")?))
+}
+
+/// What an error of the reader of rows is.
+fn fault_of(error: csv::Error) -> TextsFault {
+    match error.kind() {
+        csv::ErrorKind::OutOfMemory => TextsFault::Memory,
+        _ => TextsFault::Refused,
     }
 }
 
 /// The word of a row at this place.
 fn word_at(row: &ByteRecord, place: usize) -> Result<&str, TextsFault> {
     match row.get(place) {
-        Some(bytes) => std::str::from_utf8(bytes).map_err(|_| TextsFault::Refused),
+        Some(bytes) => match std::str::from_utf8(bytes) {
+            Ok(word) => Ok(word),
+            Err(_) => Err(TextsFault::Refused),
+        },
         None => Err(TextsFault::Refused),
     }
 }

@@ -1,29 +1,22 @@
 -- What a call answers tells whether the station was asked and what it did.
-use Rattle.std.proofs.Common.{◌≡◌, Result, Ok, Err, is_ok, IfErr, OnOk, refl, sym, ◌∙◌}
+use Rattle.std.proofs.Common.{◌≡◌, Result, Ok, Err, IfErr, OnOk, refl, sym, ◌∙◌}
 use Rattle.station_table.specs.declared.error.StationError.{StationError}
 use Rattle.station_table.specs.declared.error.StationError.TheVariants as station
-use Rattle.station_table.specs.declared.reaction.Reaction.{Reaction}
 use Rattle.station_c.specs.Statuses.{status_number, status_of_station}
 use Rattle.station_c.specs.declared.status.Status.{Status}
-use Rattle.station_c.specs.declared.status.Status.TheVariants.{Done, IdTooLarge, TooLong, NotAnAddress, NoAddress, NotHeld, BadSetting, PgnTooLarge, NoStation, HasStation, NoPlace, NoKind, OutOfMemory}
+use Rattle.station_c.specs.declared.status.Status.TheVariants.{Done, IdTooLarge, TooLong, NotAnAddress, NoAddress, NotHeld, BadSetting, PgnTooLarge, NoStation, HasStation, NoPlace, NoKind, OutOfMemory, NotKept}
 
-refusal_is_not_done : (e : StationError) → status_of_station e ≡ Done → ⊥
+pub refusal_is_not_done : (e : StationError) → status_of_station e ≡ Done → ⊥
 refusal_is_not_done station.OutOfMemory h = cc
 refusal_is_not_done station.NotAnAddress h = cc
 refusal_is_not_done station.NoAddress h = cc
 refusal_is_not_done station.NotHeld h = cc
 
 -- where the call was done, the station answered
-pub done_is_ok : (P Q : Type 0) (answer : Result Reaction StationError) (status : Status)
-    → IfErr answer (λ e. (status ≡ status_of_station e) × Q) → status ≡ Done → OnOk answer P → P
-done_is_ok P Q (Ok x) status refused done ok = ok
-done_is_ok P Q (Err e) status refused done ok = absurd (refusal_is_not_done e (sym refused.0 ∙ done))
-
--- what holds at an answer holds at that answer's part
-pub ok_of_part : {T U E : Type 0} (P : Type 0) (whole : Result T E) (part : Result U E) → is_ok part ≡ is_ok whole → OnOk whole P → OnOk part P
-ok_of_part P (Ok x) (Ok y) same ok = ok
-ok_of_part P (Err e) (Ok y) same ok = absurd cc
-ok_of_part P whole (Err e) same ok = tt
+pub done_is_ok : {T : Type 0} (P Q R : Type 0) (answer : Result T StationError) (status : Status)
+    → IfErr answer (λ e. (status ≡ status_of_station e) × Q × R) → status ≡ Done → OnOk answer P → P
+done_is_ok P Q R (Ok x) status refused done ok = ok
+done_is_ok P Q R (Err e) status refused done ok = absurd (refusal_is_not_done e (sym refused.0 ∙ done))
 
 -- 0 is the number of nothing else
 pub done_by_number : (status : Status) → status_number status ≡ 0 → status ≡ Done
@@ -40,3 +33,4 @@ done_by_number HasStation h = absurd cc
 done_by_number NoPlace h = absurd cc
 done_by_number NoKind h = absurd cc
 done_by_number OutOfMemory h = absurd cc
+done_by_number NotKept h = absurd cc

@@ -1,5 +1,6 @@
 pub mod Answered
 pub mod HandleValues
+pub mod Keeping
 pub mod MachineValues
 pub mod Named
 pub mod Taken

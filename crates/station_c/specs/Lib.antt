@@ -1,5 +1,7 @@
 pub mod Handles
 pub mod Held
+pub mod ListedPosts
 pub mod Orders
+pub mod Places
 pub mod Records
 pub mod Statuses

@@ -3,11 +3,15 @@ use Rattle.std.specs.Prelude.{◌≡◌, ◌==◌, ℕ, Bool, true, false, List,
 use Rattle.std.specs.Option.{option_map}
 use Rattle.can_frame.specs.FrameValue.{FrameValue, frame}
 use Rattle.bus_model.specs.Heard.{RowHeard, AckHeard}
+use Rattle.bus_model.specs.declared.change.Change.{Change}
+use Rattle.bus_model.specs.declared.change.Change.TheVariants.{Nothing, Claimed, GaveUp, Acknowledged, Listed, Unreadable, Unowned, Missed}
+use Rattle.bus_model.specs.declared.change.Displaced.{Displaced}
 use Rattle.dm_messages.specs.declared.shown.Shown.{Shown}
 use Rattle.dm_messages.specs.declared.kind.Kind.{Kind}
 use Rattle.dm_messages.specs.declared.kind.Kind.TheVariants.{Dm1, Dm2, Dm6}
 use Rattle.trouble_code.specs.Code.{Code}
 use Rattle.station_table.specs.declared.reaction.Reaction.{Reaction}
+use Rattle.station_c.specs.declared.changes.ChangeRecord.{ChangeRecord}
 use Rattle.station_c.specs.declared.records.FrameRecord.{FrameRecord}
 use Rattle.station_c.specs.declared.records.ReplyRecord.{ReplyRecord}
 use Rattle.station_c.specs.declared.records.RowRecord.{RowRecord}
@@ -67,3 +71,33 @@ code_of (Some shown) place = option_map code_record (slice_get shown.codes place
 -- what is told of the code at a place of the entry at a place of a list
 abbrev pub code_told : List Shown → ℕ → ℕ → Option CodeRecord
 code_told entries entry place = code_of (slice_get entries entry) place
+
+-- the number of a kind
+abbrev pub kind_told : Kind → ℕ
+kind_told Dm1 = 1
+kind_told Dm2 = 2
+kind_told Dm6 = 6
+
+-- that nothing changed
+abbrev pub no_change : ChangeRecord
+no_change = record { name = 0; displaced = 0; pgn = 0; count = 0; what = 0; address = 0; kind = 0; control = 0; again = 0; has_displaced = 0; lost = 0 }
+
+-- the NAME whose address another one claimed, and whether it lost it
+abbrev pub with_displaced : Option Displaced → ChangeRecord → ChangeRecord
+with_displaced None told = told
+with_displaced (Some d) told = record told { has_displaced = 1; displaced = d.name; lost = flag d.lost }
+
+-- what is told of a change: each field that is not named is 0
+abbrev pub change_told : Change → ChangeRecord
+change_told Nothing = no_change
+change_told (Claimed name address displaced) = with_displaced displaced (record no_change { what = 1; name = name; address = address })
+change_told (GaveUp name) = record no_change { what = 2; name = name }
+change_told (Acknowledged name control pgn again) = record no_change { what = 3; name = name; control = control; pgn = pgn; again = flag again }
+change_told (Listed name kind source) = record no_change { what = 4; name = name; kind = kind_told kind; address = source }
+change_told (Unreadable name kind source) = record no_change { what = 5; name = name; kind = kind_told kind; address = source }
+change_told (Unowned kind source) = record no_change { what = 6; kind = kind_told kind; address = source }
+change_told (Missed count) = record no_change { what = 7; count = count }
+
+-- a record tells of this change
+abbrev pub TellsChange : ChangeRecord → Change → Type 0
+TellsChange told change = told ≡ change_told change

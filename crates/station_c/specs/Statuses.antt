@@ -5,7 +5,7 @@ use Rattle.can_frame.specs.declared.frame.FrameError.TheVariants as frame
 use Rattle.station_table.specs.declared.error.StationError.{StationError}
 use Rattle.station_table.specs.declared.error.StationError.TheVariants as station
 use Rattle.station_c.specs.declared.status.Status.{Status}
-use Rattle.station_c.specs.declared.status.Status.TheVariants.{Done, IdTooLarge, TooLong, NotAnAddress, NoAddress, NotHeld, BadSetting, PgnTooLarge, NoStation, HasStation, NoPlace, NoKind, OutOfMemory}
+use Rattle.station_c.specs.declared.status.Status.TheVariants.{Done, IdTooLarge, TooLong, NotAnAddress, NoAddress, NotHeld, BadSetting, PgnTooLarge, NoStation, HasStation, NoPlace, NoKind, OutOfMemory, NotKept}
 
 -- the number of each
 abbrev pub status_number : Status → ℕ
@@ -22,6 +22,7 @@ status_number HasStation = 30
 status_number NoPlace = 31
 status_number NoKind = 32
 status_number OutOfMemory = 33
+status_number NotKept = 34
 
 -- the refusal of a frame
 abbrev pub status_of_frame : FrameError → Status

@@ -1,10 +1,10 @@
 //! What a C program holds of its station.
 ghost use Rattle.std.specs.Prelude.{◌≡◌, ◌↔◌, true, false, not, IfSome, IsNone};
-ghost use Rattle.listening.specs.Posts.{PostValue};
+ghost use Rattle.station_c.specs.ListedPosts.{ListedPostValue};
 ghost use Rattle.station_c.specs.Held.{held, is_there};
 
+use crate::listed_post::ListedPost;
 use crate::raw_box::RawBox;
-use listening::Post;
 use std::alloc::Global;
 use std::marker::Model;
 
@@ -17,8 +17,8 @@ pub struct StationHandle {
     at: *mut u8,
     /// Whether the library put a station in. It is never looked at.
     full: bool,
-    /// The station, where there is one.
-    pub ghost value: { PostValue },
+    /// The station with its lists, where there is one.
+    pub ghost value: { ListedPostValue },
 }
 
 const _: () = prove!(size_of::<StationHandle>() == 16);
@@ -31,7 +31,7 @@ impl Model for StationHandle {
 
 impl StationHandle {
     /// The handle of this station.
-    fn of(station: RawBox<Post, Global>) -> StationHandle
+    fn of(station: RawBox<ListedPost, Global>) -> StationHandle
         ensures open { is_there result.at ≡ true }
         ensures value { result.value ≡ station.value }
     {
@@ -53,13 +53,13 @@ impl StationHandle {
     }
 
     /// The station of a handle that has one.
-    fn into_raw_box(self, alloc: Global) -> RawBox<Post, Global>
+    fn into_raw_box(self, alloc: Global) -> RawBox<ListedPost, Global>
         requires { is_there self.at ≡ true }
         ensures { result.value ≡ self.value }
     {
         let StationHandle { at, full: _ } = self;
         RawBox {
-            at: at as *mut Post,
+            at: at as *mut ListedPost,
             alloc,
         }
     }
@@ -75,7 +75,7 @@ impl StationHandle {
     }
 
     /// Takes the station out, where there is one; the handle is empty until `put`.
-    pub fn lift(&mut self, alloc: Global) -> Option<Box<Post>>
+    pub fn lift(&mut self, alloc: Global) -> Option<Box<ListedPost>>
         ensures value { IfSome result (λ b. b.value ≡ self.old.value) }
         ensures open { IfSome result (λ _. is_there self.old.at ≡ true) }
         ensures none { IsNone result ↔ (is_there self.old.at ≡ false) }
@@ -89,7 +89,7 @@ impl StationHandle {
     }
 
     /// Puts a station in.
-    pub fn put(&mut self, station: Box<Post>)
+    pub fn put(&mut self, station: Box<ListedPost>)
         ensures open { is_there self.new.at ≡ true }
         ensures value { self.new.value ≡ station.value }
     {

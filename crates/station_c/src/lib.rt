@@ -5,13 +5,17 @@
 //! C side's half.
 #![tactic(auto)]
 
+mod absent;
+mod changes;
 mod exports;
 mod handle;
+mod listed_post;
 mod raw_box;
 mod records;
 mod replies;
 mod status;
 
+pub use changes::ChangeRecord;
 pub use handle::StationHandle;
 pub use records::{CodeRecord, EntryRecord, FrameRecord, ReplyRecord, RowRecord};
 pub use status::Status;

@@ -26,12 +26,14 @@ pub enum Status {
     NoStation,
     /// The handle has a station already.
     HasStation,
-    /// There is no row, entry or code at that place.
+    /// There is no row at that place; no such entry came, or it has no such code.
     NoPlace,
     /// The kind is none of 1 (DM1), 2 (DM2) and 6 (DM6).
     NoKind,
     /// Memory was refused.
     OutOfMemory,
+    /// The entry at that place is none of the newest, and is kept no longer.
+    NotKept,
 }
 
 impl Status {
@@ -56,6 +58,7 @@ impl Status {
             Status::NoPlace => 31,
             Status::NoKind => 32,
             Status::OutOfMemory => 33,
+            Status::NotKept => 34,
         }
     }
 

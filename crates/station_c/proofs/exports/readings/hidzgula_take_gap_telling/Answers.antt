@@ -1,6 +1,6 @@
 use Rattle.std.proofs.Common.{sym, ◌∙◌}
 use Rattle.station_c.proofs.Answered.{done_by_number}
-use Rattle.station_c.proofs.exports.readings.hidzgula_take_gap.Goals as goal
+use Rattle.station_c.proofs.exports.readings.hidzgula_take_gap_telling.Goals as goal
 
 -- 0 is the number of no refusal
 pub returns-clause-taken : goal.returns-clause-taken

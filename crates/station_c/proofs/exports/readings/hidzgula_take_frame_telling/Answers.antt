@@ -4,10 +4,10 @@ use Rattle.can_frame.specs.declared.reading.Reading.TheVariants.{Frame}
 use Rattle.listening.specs.Posts.{reading_at}
 use Rattle.station_c.specs.Handles.{HoldsReadings}
 use Rattle.station_c.proofs.Answered.{done_by_number}
-use Rattle.station_c.proofs.exports.readings.hidzgula_take_frame.Goals as goal
+use Rattle.station_c.proofs.exports.readings.hidzgula_take_frame_telling.Goals as goal
 
 -- the frame that was taken is the one of the identifier and the bytes
 pub returns-in-Ok-clause-taken : goal.returns-in-Ok-clause-taken
 returns-in-Ok-clause-taken c = λ done r grant h held.
-    subst (λ (f : FrameValue). HoldsReadings r grant c.take.new.handle (reading_at c.args.handle.now.value (Frame f) ∷ h)) c.in-Ok.ensures.ok
+    subst (λ (f : FrameValue). HoldsReadings r grant c.take.new.handle (reading_at c.args.handle.now.value.post (Frame f) ∷ h)) c.in-Ok.ensures.ok
     (c.take.ensures.taken (done_by_number c.take.result (sym c.number.ensures ∙ done)) r grant h held)

@@ -1,14 +1,14 @@
-/* The proved diagnostic station for SAE J1939, for programs in C11 and C++.
+/* The proved diagnostic station for SAE J1939, for programs in C11 and C++: version 2.0.
  *
- * A program hands over the frames that it reads of one bus, in their order, sends what the station replies, and asks for the lists
- * by NAME. What each call does is proved of the library (crate station_c), as long as the C side does its part:
+ * A program hands over the frames that it reads of one bus, in their order, sends what the station replies, is told what each frame
+ * changed, and asks for the lists by NAME. What each call does is proved of the library (crate station_c), as long as the C side does its part:
  *
  *  - A station is held in a `hidzgula_station`, which begins as HIDZGULA_EMPTY (all its bytes 0). Its members are the library's:
  *    nobody else reads or writes them, and it is never copied or moved, from `hidzgula_open` or `hidzgula_open_listening` to
  *    `hidzgula_close`.
  *  - A station is given to one call at a time, and stays on the thread that opened it. Several stations are independent.
- *  - Each pointer points to what its type says: aligned, large enough, not NULL, and no two of one call overlap. Only `bytes` may
- *    be anything that is not NULL where `length` is 0. What is written to need not have been set.
+ *  - Each pointer points to what its type says: aligned, large enough, not NULL, and no two of one call overlap. Only `change` may be
+ *    NULL, and `bytes` anything that is not NULL where `length` is 0. What is written to need not have been set.
  *  - `malloc`, `realloc` and `free` are of one allocator, which aligns a block to each power of two up to 16 that divides its size, as
  *    the C library's does, and nobody else frees what it gave to a station.
  *  - No call comes from a signal handler, or from the forked child of a process with threads.
@@ -24,6 +24,9 @@
 #include <stdbool.h>
 #include <stddef.h>
 #include <stdint.h>
+
+#define HIDZGULA_VERSION_MAJOR 2
+#define HIDZGULA_VERSION_MINOR 0
 
 #ifdef __cplusplus
 extern "C" {
@@ -45,9 +48,10 @@ enum {
     HIDZGULA_PGN_TOO_LARGE = 28, /* a parameter group number of 2^24 or more */
     HIDZGULA_NO_STATION = 29,    /* the handle is empty: not opened, or closed */
     HIDZGULA_HAS_STATION = 30,   /* the handle has an open station */
-    HIDZGULA_NO_PLACE = 31,      /* no row, entry or code at that place */
+    HIDZGULA_NO_PLACE = 31,      /* no row at that place; no such entry came, or it has no such code */
     HIDZGULA_NO_KIND = 32,       /* a kind that is none of HIDZGULA_DM1, HIDZGULA_DM2, HIDZGULA_DM6 */
-    HIDZGULA_OUT_OF_MEMORY = 33  /* memory was refused */
+    HIDZGULA_OUT_OF_MEMORY = 33, /* memory was refused */
+    HIDZGULA_NOT_KEPT = 34       /* the entry at that place came, and is none of the newest, which are kept */
 };
 
 /* The kinds of diagnostic messages, numbered as the messages are; any other number is refused, NO_KIND. */
@@ -90,6 +94,38 @@ typedef struct {
     hidzgula_frame frames[3];
 } hidzgula_reply;
 
+/* What a frame or a gap changed of what the station shows. */
+enum {
+    HIDZGULA_NOTHING = 0,      /* nothing */
+    HIDZGULA_CLAIMED = 1,      /* `name` has `address`, 0 to 253, and had not before; see `has_displaced` */
+    HIDZGULA_GAVE_UP = 2,      /* `name` has no address: it cannot claim one */
+    HIDZGULA_ACKNOWLEDGED = 3, /* `name` acknowledged the group `pgn` to the station, with `control`; see `again` */
+    HIDZGULA_LISTED = 4,       /* a message of `name` from `address` is the newest entry of its list of `kind` */
+    HIDZGULA_UNREADABLE = 5,   /* a message of `name` and of `kind` from `address` could not be read: it is counted as unread */
+    HIDZGULA_UNOWNED = 6,      /* a message of `kind` to all began at `address`, which no NAME has claimed in what was read: it is not listed */
+    HIDZGULA_MISSED = 7        /* `count` frames were missed: no address has an owner until NAMEs claim again */
+};
+
+/* A change: `what` is one of the above, which names the fields that it sets; each other field is 0.
+ *
+ * One claim may change two rows: where `has_displaced` is 1, the NAME `displaced` claimed that address before. Where `lost` is 1 it was its
+ * address until now, so that it has none any more; else it has claimed another one since, or has none. `control` is 0 positive,
+ * 1 negative, 2 access denied, 3 cannot respond now, or another number. `again` is 1 where the last acknowledgment of that NAME was the
+ * same, else 0. `kind` is one of HIDZGULA_DM1, HIDZGULA_DM2, HIDZGULA_DM6. */
+typedef struct {
+    uint64_t name;
+    uint64_t displaced;
+    uint32_t pgn;
+    uint32_t count;
+    uint8_t what;
+    uint8_t address;
+    uint8_t kind;
+    uint8_t control;
+    uint8_t again;
+    uint8_t has_displaced;
+    uint8_t lost;
+} hidzgula_change;
+
 /* What is known of a NAME: its address where `has_address` is 1, 0 to 253, and its last acknowledgment to the station where `has_ack`
  * is 1: the control byte (0 positive, 1 negative, 2 access denied, 3 cannot respond now) and the parameter group. A flag that is not
  * 1 is 0, and so is what it stands for. */
@@ -127,6 +163,17 @@ HIDZGULA_LAYOUT(offsetof(hidzgula_frame, bytes) == 5);
 HIDZGULA_LAYOUT(sizeof(hidzgula_reply) == 52);
 HIDZGULA_LAYOUT(offsetof(hidzgula_reply, count) == 1);
 HIDZGULA_LAYOUT(offsetof(hidzgula_reply, frames) == 4);
+HIDZGULA_LAYOUT(sizeof(hidzgula_change) == 32);
+HIDZGULA_LAYOUT(offsetof(hidzgula_change, displaced) == 8);
+HIDZGULA_LAYOUT(offsetof(hidzgula_change, pgn) == 16);
+HIDZGULA_LAYOUT(offsetof(hidzgula_change, count) == 20);
+HIDZGULA_LAYOUT(offsetof(hidzgula_change, what) == 24);
+HIDZGULA_LAYOUT(offsetof(hidzgula_change, address) == 25);
+HIDZGULA_LAYOUT(offsetof(hidzgula_change, kind) == 26);
+HIDZGULA_LAYOUT(offsetof(hidzgula_change, control) == 27);
+HIDZGULA_LAYOUT(offsetof(hidzgula_change, again) == 28);
+HIDZGULA_LAYOUT(offsetof(hidzgula_change, has_displaced) == 29);
+HIDZGULA_LAYOUT(offsetof(hidzgula_change, lost) == 30);
 HIDZGULA_LAYOUT(sizeof(hidzgula_row_out) == 16);
 HIDZGULA_LAYOUT(offsetof(hidzgula_row_out, has_address) == 8);
 HIDZGULA_LAYOUT(offsetof(hidzgula_row_out, address) == 9);
@@ -142,30 +189,49 @@ HIDZGULA_LAYOUT(offsetof(hidzgula_code_out, count) == 5);
 #undef HIDZGULA_LAYOUT
 
 /* Opens a station of this NAME, which holds `address`, 0 to 253, and lets a sender send at most `grant` packets at once, 1 to 255.
+ * Of each list, one by NAME and kind, it keeps the newest `keep` messages and counts all; where that is 0 it keeps none, and UINT32_MAX
+ * keeps all that a program will see. So what it takes of memory is bounded by the NAMEs and by `keep`.
  * It has read nothing. A gateway that sends begins with the frame of `hidzgula_claim`.
  * BAD_SETTING, HAS_STATION, OUT_OF_MEMORY. */
-uint32_t hidzgula_open(hidzgula_station *station, uint64_t name, uint8_t address, uint8_t grant);
+uint32_t hidzgula_open(hidzgula_station *station, uint64_t name, uint8_t address, uint8_t grant, uint32_t keep);
 
 /* Opens a station of this NAME that only listens, for a program that sends nothing: who holds `address`, 0 to 253, is somebody else, or
  * nobody, and each reply says that nothing is to be withdrawn or sent. It joins the sessions that are sent to that address. What it
  * half joined of a source ends with the next request to send from there, whatever group that announces, and with an abort by either
- * side; packets that then come without a request to send for a diagnostic message are passed over. It has read nothing.
+ * side; packets that then come without a request to send for a diagnostic message are passed over. Of each list it keeps the newest
+ * `keep` messages, as above. It has read nothing.
  * BAD_SETTING, HAS_STATION, OUT_OF_MEMORY. */
-uint32_t hidzgula_open_listening(hidzgula_station *station, uint64_t name, uint8_t address);
+uint32_t hidzgula_open_listening(hidzgula_station *station, uint64_t name, uint8_t address, uint32_t keep);
 
 /* Closes a station and frees all its memory; does nothing where there is none. */
 void hidzgula_close(hidzgula_station *station);
 
+/* What the next two call, with a `change` that is not NULL: for programs that bind the archive's names without this header. */
+uint32_t hidzgula_take_frame_telling(
+    hidzgula_station *station, uint32_t id, const uint8_t *bytes, size_t length, hidzgula_reply *reply, hidzgula_change *change);
+uint32_t hidzgula_take_gap_telling(hidzgula_station *station, uint32_t count, hidzgula_reply *reply, hidzgula_change *change);
+
 /* The station takes a frame that was read of the bus: its 29-bit identifier, and `length` bytes. Frames with 11-bit identifiers,
- * remote frames and error frames are not handed over; nor are the station's own, which it knows.
+ * remote frames and error frames are not handed over; nor are the station's own, which it knows. `change` is what the frame changed,
+ * or NULL where nobody asks.
  * ID_TOO_LARGE, TOO_LONG, NO_STATION, OUT_OF_MEMORY. After OUT_OF_MEMORY the frame may be handed over again, or be counted as
  * missed by `hidzgula_take_gap`. */
-uint32_t hidzgula_take_frame(hidzgula_station *station, uint32_t id, const uint8_t *bytes, size_t length, hidzgula_reply *reply);
+static inline uint32_t hidzgula_take_frame(
+    hidzgula_station *station, uint32_t id, const uint8_t *bytes, size_t length, hidzgula_reply *reply, hidzgula_change *change)
+{
+    hidzgula_change unread;
+    return hidzgula_take_frame_telling(station, id, bytes, length, reply, change ? change : &unread);
+}
 
 /* The station is told that `count` frames of the bus were missed: it forgets which NAME owns which address, and all messages that
- * are half read, until units claim again. Its reply is a claim, and a request for the claims of all.
+ * are half read, until units claim again. Its reply is a claim, and a request for the claims of all. `change` says MISSED and how many,
+ * or is NULL.
  * NO_STATION, OUT_OF_MEMORY. */
-uint32_t hidzgula_take_gap(hidzgula_station *station, uint32_t count, hidzgula_reply *reply);
+static inline uint32_t hidzgula_take_gap(hidzgula_station *station, uint32_t count, hidzgula_reply *reply, hidzgula_change *change)
+{
+    hidzgula_change unread;
+    return hidzgula_take_gap_telling(station, count, reply, change ? change : &unread);
+}
 
 /* The station's claim of its address, or its cannot claim where it holds none: what a station sends first.
  * NO_STATION. */
@@ -196,17 +262,20 @@ uint32_t hidzgula_rows(hidzgula_station *station, size_t *count);
  * NO_STATION, NO_PLACE. */
 uint32_t hidzgula_row(hidzgula_station *station, size_t place, hidzgula_row_out *row);
 
-/* How many messages of a kind stand under a NAME; 0 for a NAME that has no row.
+/* How many messages of a kind came under a NAME, whatever is kept of them, up to the greatest 64-bit number; 0 for a NAME that has no
+ * row. The last of them, up to `keep`, are kept.
  * NO_KIND, NO_STATION. */
-uint32_t hidzgula_entries(hidzgula_station *station, uint64_t name, uint8_t kind, size_t *count);
+uint32_t hidzgula_entries(hidzgula_station *station, uint64_t name, uint8_t kind, uint64_t *count);
 
-/* The message at a place of that list, from 0, the oldest first.
- * NO_KIND, NO_STATION, NO_PLACE. */
-uint32_t hidzgula_entry(hidzgula_station *station, uint64_t name, uint8_t kind, size_t place, hidzgula_entry_out *entry);
+/* The message at a place of that list, from 0, the oldest of all that came first: the newest is at the count less one. A message keeps
+ * its place while others come.
+ * NO_KIND, NO_STATION, NOT_KEPT where it came and is none of the newest `keep`, NO_PLACE where it never came. */
+uint32_t hidzgula_entry(hidzgula_station *station, uint64_t name, uint8_t kind, uint64_t place, hidzgula_entry_out *entry);
 
 /* The trouble code at a place of the message at the place `entry`, both from 0, in the order of the message.
- * NO_KIND, NO_STATION, NO_PLACE. */
-uint32_t hidzgula_code(hidzgula_station *station, uint64_t name, uint8_t kind, size_t entry, size_t place, hidzgula_code_out *code);
+ * NO_KIND, NO_STATION, NOT_KEPT where that message came and is none of the newest `keep`, NO_PLACE where it never came, or has no such
+ * code. */
+uint32_t hidzgula_code(hidzgula_station *station, uint64_t name, uint8_t kind, uint64_t entry, size_t place, hidzgula_code_out *code);
 
 /* How many frames were missed, and how many messages ended that could not be read; each up to the greatest 64-bit number.
  * NO_STATION. */

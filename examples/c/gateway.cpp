@@ -1,5 +1,6 @@
-// A station in a C++ class, as a gateway would hold it: it is closed at the end of its life and cannot be copied. The program hands it
-// the frames of a few seconds of a bus, and writes what it sends, as candump writes it, and what it knows at the end.
+// A station in a C++ class, as a gateway would hold it: it is closed at the end of its life and cannot be copied. It keeps the newest 16
+// messages of each list. The program hands it the frames of a few seconds of a bus, and writes what it sends, as candump writes it, each
+// message that a frame listed, and what it knows at the end.
 #include "hidzgula_station.h"
 
 #include <cinttypes>
@@ -10,16 +11,16 @@
 
 class Station {
 public:
-    Station(std::uint64_t name, std::uint8_t address) { done(hidzgula_open(&held, name, address, 255)); }
+    Station(std::uint64_t name, std::uint8_t address) { done(hidzgula_open(&held, name, address, 255, 16)); }
     ~Station() { hidzgula_close(&held); }
     Station(const Station &) = delete;
     Station &operator=(const Station &) = delete;
 
-    std::vector<hidzgula_frame> take(std::uint32_t id, const std::vector<std::uint8_t> &bytes)
+    std::vector<hidzgula_frame> take(std::uint32_t id, const std::vector<std::uint8_t> &bytes, hidzgula_change &change)
     {
         static const std::uint8_t none = 0;
         hidzgula_reply reply;
-        done(hidzgula_take_frame(&held, id, bytes.empty() ? &none : bytes.data(), bytes.size(), &reply));
+        done(hidzgula_take_frame(&held, id, bytes.empty() ? &none : bytes.data(), bytes.size(), &reply, &change));
         return frames(reply);
     }
 
@@ -37,9 +38,9 @@ public:
         return frame;
     }
 
-    std::size_t entries(std::uint64_t name, std::uint8_t kind)
+    std::uint64_t entries(std::uint64_t name, std::uint8_t kind)
     {
-        std::size_t count = 0;
+        std::uint64_t count = 0;
         done(hidzgula_entries(&held, name, kind, &count));
         return count;
     }
@@ -70,9 +71,12 @@ int main()
     const std::vector<std::vector<std::uint8_t>> session = {
         { 0x10, 14, 0, 2, 255, 0xCA, 0xFE, 0 }, { 1, 0x04, 0xFF, 0xB8, 0x04, 3, 1, 0x6E }, { 2, 0, 0, 1, 0xAF, 0, 0, 1 },
     };
-    for (const auto &frame : station.take(0x18EEFF00, { 0xA0, 0, 0, 0, 0, 0, 0, 0 })) sent(frame);
-    for (const auto &bytes : session)
-        for (const auto &frame : station.take(bytes[0] == 0x10 ? 0x1CECF800 : 0x1CEBF800, bytes)) sent(frame);
-    std::printf("messages of 00000000000000A0: %zu\n", station.entries(0xA0, HIDZGULA_DM1));
+    hidzgula_change change;
+    for (const auto &frame : station.take(0x18EEFF00, { 0xA0, 0, 0, 0, 0, 0, 0, 0 }, change)) sent(frame);
+    for (const auto &bytes : session) {
+        for (const auto &frame : station.take(bytes[0] == 0x10 ? 0x1CECF800 : 0x1CEBF800, bytes, change)) sent(frame);
+        if (change.what == HIDZGULA_LISTED) std::printf("lists a DM%u of %016" PRIX64 " at %u\n", change.kind, change.name, change.address);
+    }
+    std::printf("messages of 00000000000000A0: %" PRIu64 "\n", station.entries(0xA0, HIDZGULA_DM1));
     return 0;
 }

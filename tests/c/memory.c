@@ -1,8 +1,9 @@
-/* Refuses each request for memory in turn, of a station that answers and of one that only listens. The calls are: open, the frames of the candump log on standard input with a gap and the
- * three orders after every 200, close. In run N the Nth request is refused: the call that made it must answer OUT_OF_MEMORY and write
- * nothing, and what the station tells after it must be what a station tells that did the calls before it alone. The call is then made
- * again, and the rest of the calls; at the end the station must tell the same as one that was refused nothing, and all memory must
- * have been given back.
+/* Refuses each request for memory in turn, of a station that answers and keeps all entries, of one that only listens and keeps the
+ * newest three of each list, and of one that keeps none. The calls are: open, the frames of the candump log on standard input with a gap
+ * after every 1000 and the three orders after every 200, close. In run N the Nth request is refused: the call that made it must answer
+ * OUT_OF_MEMORY and write nothing, and what the station tells after it, lists and all, must be what a station tells that did the calls
+ * before it alone. The call is then made again, and the rest of the calls; at the end the station must tell the same as one that was
+ * refused nothing, each call must have told the same change, and all memory must have been given back.
  *
  * Linked with --wrap for malloc, realloc and free, which the archive calls. */
 #include "hidzgula_station.h"
@@ -58,16 +59,16 @@ static struct step {
 
 static size_t step_count;
 
-static uint32_t done(hidzgula_station *station, const struct step *step, hidzgula_reply *reply)
+static uint32_t done(hidzgula_station *station, const struct step *step, hidzgula_reply *reply, hidzgula_change *change)
 {
     uint32_t answer = HIDZGULA_DONE;
     counts = true;
     switch (step->what) {
     case FRAME:
-        answer = hidzgula_take_frame(station, step->id, step->bytes, step->length, reply);
+        answer = hidzgula_take_frame(station, step->id, step->bytes, step->length, reply, change);
         break;
     case GAP:
-        answer = hidzgula_take_gap(station, 1, reply);
+        answer = hidzgula_take_gap(station, 1, reply, change);
         break;
     case ASK:
         answer = hidzgula_ask(station, 0x1000000001419907, HIDZGULA_PGN_DM2, reply);
@@ -94,10 +95,10 @@ static void add(uint64_t value)
 
 static void add_list(hidzgula_station *station, uint64_t name, uint8_t kind)
 {
-    size_t entries = 0;
+    uint64_t entries = 0;
     hidzgula_entries(station, name, kind, &entries);
     add(entries);
-    for (size_t i = 0; i < entries; i++) {
+    for (uint64_t i = 0; i <= entries; i++) {
         hidzgula_entry_out entry = { 0, 0, 0 };
         add(hidzgula_entry(station, name, kind, i, &entry));
         add(entry.lamps * 256u + entry.flashes);
@@ -143,11 +144,22 @@ static uint64_t all_told(hidzgula_station *station)
     return sum;
 }
 
+/* a sum over what was told of changes in a run */
+static uint64_t changes;
+
+static void add_change(const hidzgula_change *change)
+{
+    const uint64_t fields[] = { change->name, change->displaced, change->pgn, change->count, change->what, change->address, change->kind,
+        change->control, change->again, change->has_displaced, change->lost };
+    for (size_t i = 0; i < sizeof fields / sizeof fields[0]; i++) changes = (changes ^ fields[i]) * 0x100000001B3u;
+}
+
 static bool listens;
+static uint32_t keep = UINT32_MAX;
 
 static uint32_t opened_of(hidzgula_station *station)
 {
-    return listens ? hidzgula_open_listening(station, 1, 248) : hidzgula_open(station, 1, 248, 255);
+    return listens ? hidzgula_open_listening(station, 1, 248, keep) : hidzgula_open(station, 1, 248, 255, keep);
 }
 
 /* what a station tells that did the first calls, and was refused nothing */
@@ -158,7 +170,7 @@ static uint64_t told_after(size_t calls)
     size_t one = refused_one;
     refused_one = 0;
     if (opened_of(&station) != HIDZGULA_DONE) abort();
-    for (size_t i = 0; i < calls; i++) done(&station, &steps[i], &reply);
+    for (size_t i = 0; i < calls; i++) done(&station, &steps[i], &reply, NULL);
     uint64_t result = all_told(&station);
     hidzgula_close(&station);
     refused_one = one;
@@ -178,10 +190,13 @@ static const char *run(size_t one, uint64_t *all, size_t *at)
 {
     hidzgula_station station = HIDZGULA_EMPTY;
     hidzgula_reply reply, filled;
+    hidzgula_change change, unchanged;
     requests = live = 0;
     refused_one = one;
     was_refused = false;
     memset(&filled, 0xA5, sizeof filled);
+    memset(&unchanged, 0xA5, sizeof unchanged);
+    changes = 0xCBF29CE484222325u;
     *at = 0;
     if (opened(&station) != HIDZGULA_DONE) {
         if (!was_refused || station.full || station.at) return "open was refused otherwise, or wrote to the handle";
@@ -193,15 +208,18 @@ static const char *run(size_t one, uint64_t *all, size_t *at)
     bool seen = was_refused;
     for (size_t i = 0; i < step_count; i++) {
         reply = filled;
-        uint32_t answer = done(&station, &steps[i], &reply);
+        memcpy(&change, &unchanged, sizeof change);
+        uint32_t answer = done(&station, &steps[i], &reply, &change);
         if (was_refused && !seen) {
             seen = true;
             *at = i;
             if (answer != HIDZGULA_OUT_OF_MEMORY) return "a call without memory answers something else";
             if (memcmp(&reply, &filled, sizeof reply) != 0) return "a refused call writes to the reply";
+            if (memcmp(&change, &unchanged, sizeof change) != 0) return "a refused call writes to the change";
             if (all_told(&station) != told_after(i)) return "a refused call changes what is told";
-            answer = done(&station, &steps[i], &reply);
+            answer = done(&station, &steps[i], &reply, &change);
         }
+        if (steps[i].what <= GAP) add_change(&change);
         if (answer == HIDZGULA_OUT_OF_MEMORY) return "memory was refused by nobody";
     }
     refused_one = 0;
@@ -234,6 +252,7 @@ static void refuse_each(void)
     size_t at = 0;
     const char *wrong = run(0, &whole, &at);
     size_t total = requests;
+    uint64_t all_changes = changes;
     if (wrong) printf("without refusal: %s\n", wrong);
     if (wrong || total < 50 || whole != told_after(step_count)) failed++;
     else passed++;
@@ -241,6 +260,7 @@ static void refuse_each(void)
         wrong = run(one, &all, &at);
         if (!wrong && !was_refused) wrong = "the request was not made";
         if (!wrong && all != whole) wrong = "the end differs";
+        if (!wrong && changes != all_changes) wrong = "what was told of changes differs";
         if (wrong) printf("request %zu, at call %zu: %s\n", one, at, wrong);
         if (wrong) failed++;
         else passed++;
@@ -252,6 +272,10 @@ int main(void)
     read_log();
     refuse_each();
     listens = true;
+    keep = 3;
+    refuse_each();
+    listens = false;
+    keep = 0;
     refuse_each();
     printf("%zu passed, %zu failed\n", passed, failed);
     return failed != 0;

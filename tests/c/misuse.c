@@ -1,35 +1,22 @@
 /* What a C program may do wrong with the numbers that it hands over and the state of its station: each call answers why it was
  * refused, and nothing is changed. Writes a line for each that is otherwise, and then the sums. */
-#include "hidzgula_station.h"
-
-#include <stdio.h>
-#include <string.h>
-
-static unsigned passed, failed;
-
-static void is(const char *what, unsigned long got, unsigned long wanted)
-{
-    if (got == wanted) {
-        passed++;
-    } else {
-        failed++;
-        printf("%s: %lu, wanted %lu\n", what, got, wanted);
-    }
-}
+#include "tries.h"
 
 static hidzgula_station station = HIDZGULA_EMPTY;
 static const uint8_t bytes[9] = { 0xA0, 0, 0, 0, 0, 0, 0, 0, 0 };
 static const size_t many = (size_t)-1;
+static const uint32_t all = UINT32_MAX; /* kept of each list */
 
 /* everything that a call can write, filled with bytes that no call writes */
 static struct written {
     hidzgula_reply reply;
+    hidzgula_change change;
     hidzgula_frame frame;
     hidzgula_row_out row;
     hidzgula_entry_out entry;
     hidzgula_code_out code;
     size_t count;
-    uint64_t missed, unread;
+    uint64_t entries, missed, unread;
     uint8_t has, address;
 } out, before;
 
@@ -45,8 +32,8 @@ static void nothing_written(const char *what) { is(what, (unsigned long)memcmp(&
 static void on_empty(const char *when)
 {
     fill();
-    is(when, hidzgula_take_frame(&station, 0x18EEFF00, bytes, 8, &out.reply), HIDZGULA_NO_STATION);
-    is(when, hidzgula_take_gap(&station, 1, &out.reply), HIDZGULA_NO_STATION);
+    is(when, hidzgula_take_frame(&station, 0x18EEFF00, bytes, 8, &out.reply, &out.change), HIDZGULA_NO_STATION);
+    is(when, hidzgula_take_gap(&station, 1, &out.reply, &out.change), HIDZGULA_NO_STATION);
     is(when, hidzgula_claim(&station, &out.frame), HIDZGULA_NO_STATION);
     is(when, hidzgula_held(&station, &out.has, &out.address), HIDZGULA_NO_STATION);
     is(when, hidzgula_ask(&station, 0xA0, HIDZGULA_PGN_DM1, &out.reply), HIDZGULA_NO_STATION);
@@ -54,14 +41,14 @@ static void on_empty(const char *when)
     is(when, hidzgula_command(&station, 0xA0, 254, &out.reply), HIDZGULA_NO_STATION);
     is(when, hidzgula_rows(&station, &out.count), HIDZGULA_NO_STATION);
     is(when, hidzgula_row(&station, 0, &out.row), HIDZGULA_NO_STATION);
-    is(when, hidzgula_entries(&station, 0xA0, HIDZGULA_DM1, &out.count), HIDZGULA_NO_STATION);
-    is(when, hidzgula_entry(&station, 0xA0, HIDZGULA_DM2, many, &out.entry), HIDZGULA_NO_STATION);
+    is(when, hidzgula_entries(&station, 0xA0, HIDZGULA_DM1, &out.entries), HIDZGULA_NO_STATION);
+    is(when, hidzgula_entry(&station, 0xA0, HIDZGULA_DM2, UINT64_MAX, &out.entry), HIDZGULA_NO_STATION);
     is(when, hidzgula_code(&station, 0xA0, HIDZGULA_DM1, 0, 0, &out.code), HIDZGULA_NO_STATION);
     is(when, hidzgula_counts(&station, &out.missed, &out.unread), HIDZGULA_NO_STATION);
     /* what is wrong with the arguments is told first */
-    is(when, hidzgula_take_frame(&station, 1u << 29, bytes, 9, &out.reply), HIDZGULA_ID_TOO_LARGE);
-    is(when, hidzgula_take_frame(&station, 0, bytes, 9, &out.reply), HIDZGULA_TOO_LONG);
-    is(when, hidzgula_entries(&station, 0xA0, 3, &out.count), HIDZGULA_NO_KIND);
+    is(when, hidzgula_take_frame(&station, 1u << 29, bytes, 9, &out.reply, &out.change), HIDZGULA_ID_TOO_LARGE);
+    is(when, hidzgula_take_frame(&station, 0, bytes, 9, &out.reply, &out.change), HIDZGULA_TOO_LONG);
+    is(when, hidzgula_entries(&station, 0xA0, 3, &out.entries), HIDZGULA_NO_KIND);
     is(when, hidzgula_ask_all(&station, 1u << 24, &out.reply), HIDZGULA_PGN_TOO_LARGE);
     nothing_written(when);
     hidzgula_close(&station);
@@ -71,14 +58,14 @@ static void on_empty(const char *when)
 static void refused_by_arguments(void)
 {
     fill();
-    is("opened twice", hidzgula_open(&station, 2, 1, 1), HIDZGULA_HAS_STATION);
-    is("address 254", hidzgula_open(&station, 2, 254, 1), HIDZGULA_BAD_SETTING);
-    is("grant 0", hidzgula_open(&station, 2, 1, 0), HIDZGULA_BAD_SETTING);
-    is("opened twice, listening", hidzgula_open_listening(&station, 2, 1), HIDZGULA_HAS_STATION);
-    is("address 255, listening", hidzgula_open_listening(&station, 2, 255), HIDZGULA_BAD_SETTING);
-    is("identifier 2^29", hidzgula_take_frame(&station, 1u << 29, bytes, 8, &out.reply), HIDZGULA_ID_TOO_LARGE);
-    is("identifier 2^32 - 1", hidzgula_take_frame(&station, 0xFFFFFFFF, bytes, 9, &out.reply), HIDZGULA_ID_TOO_LARGE);
-    is("nine bytes", hidzgula_take_frame(&station, (1u << 29) - 1, bytes, 9, &out.reply), HIDZGULA_TOO_LONG);
+    is("opened twice", hidzgula_open(&station, 2, 1, 1, 1), HIDZGULA_HAS_STATION);
+    is("address 254", hidzgula_open(&station, 2, 254, 1, 1), HIDZGULA_BAD_SETTING);
+    is("grant 0", hidzgula_open(&station, 2, 1, 0, 1), HIDZGULA_BAD_SETTING);
+    is("opened twice, listening", hidzgula_open_listening(&station, 2, 1, 1), HIDZGULA_HAS_STATION);
+    is("address 255, listening", hidzgula_open_listening(&station, 2, 255, 1), HIDZGULA_BAD_SETTING);
+    is("identifier 2^29", hidzgula_take_frame(&station, 1u << 29, bytes, 8, &out.reply, &out.change), HIDZGULA_ID_TOO_LARGE);
+    is("identifier 2^32 - 1", hidzgula_take_frame(&station, 0xFFFFFFFF, bytes, 9, &out.reply, &out.change), HIDZGULA_ID_TOO_LARGE);
+    is("nine bytes", hidzgula_take_frame(&station, (1u << 29) - 1, bytes, 9, &out.reply, &out.change), HIDZGULA_TOO_LONG);
     is("group 2^24", hidzgula_ask(&station, 0xA0, 1u << 24, &out.reply), HIDZGULA_PGN_TOO_LARGE);
     is("group 2^24 of all", hidzgula_ask_all(&station, 1u << 24, &out.reply), HIDZGULA_PGN_TOO_LARGE);
     is("a NAME that is not known", hidzgula_ask(&station, 0xA1, HIDZGULA_PGN_DM1, &out.reply), HIDZGULA_NO_ADDRESS);
@@ -86,13 +73,13 @@ static void refused_by_arguments(void)
     is("to address 255", hidzgula_command(&station, 0xA0, 255, &out.reply), HIDZGULA_NOT_AN_ADDRESS);
     is("row 1", hidzgula_row(&station, 1, &out.row), HIDZGULA_NO_PLACE);
     is("row 2^64 - 1", hidzgula_row(&station, many, &out.row), HIDZGULA_NO_PLACE);
-    is("kind 0", hidzgula_entries(&station, 0xA0, 0, &out.count), HIDZGULA_NO_KIND);
+    is("kind 0", hidzgula_entries(&station, 0xA0, 0, &out.entries), HIDZGULA_NO_KIND);
     is("kind 3", hidzgula_entry(&station, 0xA0, 3, 0, &out.entry), HIDZGULA_NO_KIND);
     is("kind 5", hidzgula_entry(&station, 0xA0, 5, 0, &out.entry), HIDZGULA_NO_KIND);
-    is("kind 7", hidzgula_entries(&station, 0xA0, 7, &out.count), HIDZGULA_NO_KIND);
+    is("kind 7", hidzgula_entries(&station, 0xA0, 7, &out.entries), HIDZGULA_NO_KIND);
     is("kind 255", hidzgula_code(&station, 0xA0, 255, 0, 0, &out.code), HIDZGULA_NO_KIND);
     is("entry 1", hidzgula_entry(&station, 0xA0, HIDZGULA_DM1, 1, &out.entry), HIDZGULA_NO_PLACE);
-    is("entry 2^64 - 1", hidzgula_entry(&station, 0xA0, HIDZGULA_DM1, many, &out.entry), HIDZGULA_NO_PLACE);
+    is("entry 2^64 - 1", hidzgula_entry(&station, 0xA0, HIDZGULA_DM1, UINT64_MAX, &out.entry), HIDZGULA_NO_PLACE);
     is("entry of an unknown NAME", hidzgula_entry(&station, 0xA1, HIDZGULA_DM1, 0, &out.entry), HIDZGULA_NO_PLACE);
     is("code 1", hidzgula_code(&station, 0xA0, HIDZGULA_DM1, 0, 1, &out.code), HIDZGULA_NO_PLACE);
     is("code of entry 1", hidzgula_code(&station, 0xA0, HIDZGULA_DM1, 1, 0, &out.code), HIDZGULA_NO_PLACE);
@@ -106,14 +93,14 @@ static void fields(void)
     static const uint8_t dm6[8] = { 0x00, 0xFF, 0x64, 0x00, 0x01, 0x02, 0xFF, 0xFF };
     static const uint8_t ack[8] = { 1, 0xFF, 0xFF, 0xFF, 248, 0xCC, 0xFE, 0x00 };
     static const uint8_t request[3] = { 0x00, 0xEE, 0x00 };
-    is("a claim", hidzgula_take_frame(&station, 0x18EEFF07, bytes, 8, &out.reply), HIDZGULA_DONE);
+    is("a claim", hidzgula_take_frame(&station, 0x18EEFF07, bytes, 8, &out.reply, &out.change), HIDZGULA_DONE);
     is("is not answered", out.reply.count, 0);
-    is("no bytes", hidzgula_take_frame(&station, 0x18FECA07, bytes, 0, &out.reply), HIDZGULA_DONE);
+    is("no bytes", hidzgula_take_frame(&station, 0x18FECA07, bytes, 0, &out.reply, &out.change), HIDZGULA_DONE);
     /* no pointer for no bytes: nothing is proved of it, and nothing is read */
-    is("no bytes at NULL", hidzgula_take_frame(&station, 0x18FEF107, NULL, 0, &out.reply), HIDZGULA_DONE);
-    is("a DM1", hidzgula_take_frame(&station, 0x18FECA07, dm1, 8, &out.reply), HIDZGULA_DONE);
-    is("a DM6", hidzgula_take_frame(&station, 0x18FECF07, dm6, 8, &out.reply), HIDZGULA_DONE);
-    is("an acknowledgment", hidzgula_take_frame(&station, 0x18E8FF07, ack, 8, &out.reply), HIDZGULA_DONE);
+    is("no bytes at NULL", hidzgula_take_frame(&station, 0x18FEF107, NULL, 0, &out.reply, &out.change), HIDZGULA_DONE);
+    is("a DM1", hidzgula_take_frame(&station, 0x18FECA07, dm1, 8, &out.reply, &out.change), HIDZGULA_DONE);
+    is("a DM6", hidzgula_take_frame(&station, 0x18FECF07, dm6, 8, &out.reply, &out.change), HIDZGULA_DONE);
+    is("an acknowledgment", hidzgula_take_frame(&station, 0x18E8FF07, ack, 8, &out.reply, &out.change), HIDZGULA_DONE);
     is("rows", hidzgula_rows(&station, &out.count), HIDZGULA_DONE);
     is("rows", out.count, 1);
     is("row 0", hidzgula_row(&station, 0, &out.row), HIDZGULA_DONE);
@@ -121,12 +108,12 @@ static void fields(void)
     is("its address", out.row.has_address * 256u + out.row.address, 256 + 7);
     is("its acknowledgment", out.row.has_ack * 256u + out.row.ack_control, 256 + 1);
     is("of DM3", out.row.ack_pgn, HIDZGULA_PGN_DM3);
-    is("entries", hidzgula_entries(&station, 0xA0, HIDZGULA_DM1, &out.count), HIDZGULA_DONE);
-    is("entries", out.count, 1);
-    is("of DM2", hidzgula_entries(&station, 0xA0, HIDZGULA_DM2, &out.count), HIDZGULA_DONE);
-    is("of DM2", out.count, 0);
-    is("of DM6", hidzgula_entries(&station, 0xA0, HIDZGULA_DM6, &out.count), HIDZGULA_DONE);
-    is("of DM6", out.count, 1);
+    is("entries", hidzgula_entries(&station, 0xA0, HIDZGULA_DM1, &out.entries), HIDZGULA_DONE);
+    is("entries", out.entries, 1);
+    is("of DM2", hidzgula_entries(&station, 0xA0, HIDZGULA_DM2, &out.entries), HIDZGULA_DONE);
+    is("of DM2", out.entries, 0);
+    is("of DM6", hidzgula_entries(&station, 0xA0, HIDZGULA_DM6, &out.entries), HIDZGULA_DONE);
+    is("of DM6", out.entries, 1);
     is("the entry", hidzgula_entry(&station, 0xA0, HIDZGULA_DM1, 0, &out.entry), HIDZGULA_DONE);
     is("its lamps", out.entry.lamps * 256u + out.entry.flashes, 0x04FF);
     is("its codes", out.entry.codes, 1);
@@ -145,7 +132,7 @@ static void fields(void)
     is("its claim", hidzgula_claim(&station, &out.frame), HIDZGULA_DONE);
     is("its claim", out.frame.id, 0x18EEFFF8);
     is("of its NAME", out.frame.length * 256u + out.frame.bytes[0], 8 * 256 + 1);
-    is("a request for claims", hidzgula_take_frame(&station, 0x18EAFFF9, request, 3, &out.reply), HIDZGULA_DONE);
+    is("a request for claims", hidzgula_take_frame(&station, 0x18EAFFF9, request, 3, &out.reply, &out.change), HIDZGULA_DONE);
     is("is answered", out.reply.count * 256u + out.reply.withdraw, 256);
     is("by the claim", (unsigned long)memcmp(&out.reply.frames[0], &out.frame, sizeof out.frame), 0);
 }
@@ -165,7 +152,7 @@ static void orders(void)
     is("announced", out.reply.frames[0].id, out.reply.frames[1].id + 0x10000);
     is("in two packets", out.reply.frames[1].bytes[0] * 256u + out.reply.frames[2].bytes[0], 256 + 2);
     is("to this address", out.reply.frames[2].bytes[2], 9);
-    is("misses frames", hidzgula_take_gap(&station, 5, &out.reply), HIDZGULA_DONE);
+    is("misses frames", hidzgula_take_gap(&station, 5, &out.reply, &out.change), HIDZGULA_DONE);
     is("and claims again", out.reply.count * 256u + out.reply.withdraw, 2 * 256 + 1);
     is("and asks for claims", out.reply.frames[1].id, 0x18EAFFF8);
     is("counts", hidzgula_counts(&station, &out.missed, &out.unread), HIDZGULA_DONE);
@@ -174,7 +161,7 @@ static void orders(void)
     is("row 0", hidzgula_row(&station, 0, &out.row), HIDZGULA_DONE);
     is("without address", out.row.has_address * 256u + out.row.address, 0);
     /* a lower NAME takes the station's address, and then each that it could move to is of no use: its NAME is no arbitrary one */
-    is("loses its address", hidzgula_take_frame(&station, 0x18EEFFF8, (const uint8_t[8]){ 0 }, 8, &out.reply), HIDZGULA_DONE);
+    is("loses its address", hidzgula_take_frame(&station, 0x18EEFFF8, (const uint8_t[8]){ 0 }, 8, &out.reply, &out.change), HIDZGULA_DONE);
     is("says so", out.reply.frames[0].id, 0x18EEFFFE);
     is("holds none", hidzgula_held(&station, &out.has, &out.address), HIDZGULA_DONE);
     is("holds none", out.has * 256u + out.address, 0);
@@ -187,7 +174,7 @@ static void orders(void)
 static void hears(uint32_t id, const uint8_t data[8])
 {
     memset(&out.reply, 0xA5, sizeof out.reply);
-    is("is heard", hidzgula_take_frame(&station, id, data, 8, &out.reply), HIDZGULA_DONE);
+    is("is heard", hidzgula_take_frame(&station, id, data, 8, &out.reply, &out.change), HIDZGULA_DONE);
     is("is not answered", out.reply.count * 256u + out.reply.withdraw, 0);
 }
 
@@ -200,20 +187,20 @@ static void gives_up(uint32_t id, const uint8_t data[8], size_t wanted)
     hears(id, data);
     hears(0x1CEBF807, first);
     hears(0x1CEBF807, last);
-    is("packets after it", hidzgula_entries(&station, 0xA0, HIDZGULA_DM2, &out.count), HIDZGULA_DONE);
-    is("packets after it", out.count, wanted);
+    is("packets after it", hidzgula_entries(&station, 0xA0, HIDZGULA_DM2, &out.entries), HIDZGULA_DONE);
+    is("packets after it", out.entries, wanted);
     hears(0x1CECF807, dm2);
     hears(0x1CEBF807, first);
     hears(0x1CEBF807, last);
-    is("a whole session", hidzgula_entries(&station, 0xA0, HIDZGULA_DM2, &out.count), HIDZGULA_DONE);
-    is("a whole session", out.count, wanted + 1);
+    is("a whole session", hidzgula_entries(&station, 0xA0, HIDZGULA_DM2, &out.entries), HIDZGULA_DONE);
+    is("a whole session", out.entries, wanted + 1);
 }
 
 static void listens(void)
 {
     static const uint8_t other[8] = { 16, 10, 0, 2, 0xFF, 0xEB, 0xFE, 0 }, abort_of_dm2[8] = { 255, 2, 0xFF, 0xFF, 0xFF, 0xCB, 0xFE, 0 };
     static const uint8_t abort_of_other[8] = { 255, 2, 0xFF, 0xFF, 0xFF, 0xEB, 0xFE, 0 }, grant[8] = { 17, 2, 1, 0xFF, 0xFF, 0xCB, 0xFE, 0 };
-    is("opens, listening", hidzgula_open_listening(&station, 1, 248), HIDZGULA_DONE);
+    is("opens, listening", hidzgula_open_listening(&station, 1, 248, all), HIDZGULA_DONE);
     hears(0x18EEFF07, bytes);
     gives_up(0x1CECF807, other, 0);
     gives_up(0x1CECF807, abort_of_dm2, 1);
@@ -221,7 +208,7 @@ static void listens(void)
     gives_up(0x1CEC07F8, abort_of_dm2, 3);
     gives_up(0x1CEC07F8, grant, 5); /* which gives nothing up, nor does an abort between others */
     gives_up(0x1CEC08F8, abort_of_dm2, 7);
-    is("misses frames", hidzgula_take_gap(&station, 1, &out.reply), HIDZGULA_DONE);
+    is("misses frames", hidzgula_take_gap(&station, 1, &out.reply, &out.change), HIDZGULA_DONE);
     is("is not answered", out.reply.count * 256u + out.reply.withdraw, 0);
     hidzgula_close(&station);
 }
@@ -234,23 +221,22 @@ int main(void)
     memset(&station, 0xFF, sizeof station);
     station.at = NULL;
     on_empty("no pointer");
-    is("address 254", hidzgula_open(&station, 1, 254, 1), HIDZGULA_BAD_SETTING);
-    is("grant 0", hidzgula_open(&station, 1, 253, 0), HIDZGULA_BAD_SETTING);
+    is("address 254", hidzgula_open(&station, 1, 254, 1, all), HIDZGULA_BAD_SETTING);
+    is("grant 0", hidzgula_open(&station, 1, 253, 0, all), HIDZGULA_BAD_SETTING);
     on_empty("refused");
-    is("opens", hidzgula_open(&station, 1, 248, 255), HIDZGULA_DONE);
+    is("opens", hidzgula_open(&station, 1, 248, 255, all), HIDZGULA_DONE);
     fields();
     refused_by_arguments();
     orders();
     hidzgula_close(&station);
     on_empty("closed");
-    is("opens again", hidzgula_open(&station, 1, 248, 255), HIDZGULA_DONE);
+    is("opens again", hidzgula_open(&station, 1, 248, 255, all), HIDZGULA_DONE);
     is("has read nothing", hidzgula_rows(&station, &out.count), HIDZGULA_DONE);
     is("has read nothing", out.count, 0);
     hidzgula_close(&station);
-    is("address 254, listening", hidzgula_open_listening(&station, 1, 254), HIDZGULA_BAD_SETTING);
+    is("address 254, listening", hidzgula_open_listening(&station, 1, 254, all), HIDZGULA_BAD_SETTING);
     on_empty("refused, listening");
     listens();
     on_empty("closed again");
-    printf("%u passed, %u failed\n", passed, failed);
-    return failed != 0;
+    return sums();
 }

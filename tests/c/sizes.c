@@ -1,5 +1,6 @@
 /* What a station takes: the stack of each call, seen on a thread's stack that was painted before, and the memory, by counting what
- * malloc and realloc give. The candump log comes on standard input. A line for each figure. */
+ * malloc and realloc give. The candump log comes on standard input; the word that the program is given is how many entries of each list are
+ * kept, all where there is none. A line for each figure. */
 #define _GNU_SOURCE
 #include "hidzgula_station.h"
 
@@ -42,6 +43,7 @@ void __wrap_free(void *block)
 enum { MOST = 1 << 13, STACK = 1 << 20 };
 
 static hidzgula_station station = HIDZGULA_EMPTY;
+static uint32_t keep = UINT32_MAX;
 static struct {
     uint32_t id;
     size_t length;
@@ -53,15 +55,16 @@ static void *nothing(void *unused) { return unused; }
 
 static void *open_one(void *unused)
 {
-    if (hidzgula_open(&station, 1, 248, 255) != HIDZGULA_DONE) abort();
+    if (hidzgula_open(&station, 1, 248, 255, keep) != HIDZGULA_DONE) abort();
     return unused;
 }
 
 static void *take_all(void *unused)
 {
     hidzgula_reply reply;
+    hidzgula_change change;
     for (size_t i = 0; i < frame_count; i++)
-        if (hidzgula_take_frame(&station, frames[i].id, frames[i].bytes, frames[i].length, &reply) != HIDZGULA_DONE) abort();
+        if (hidzgula_take_frame(&station, frames[i].id, frames[i].bytes, frames[i].length, &reply, &change) != HIDZGULA_DONE) abort();
     return unused;
 }
 
@@ -79,16 +82,19 @@ static void *ask_for_lists(void *unused)
     hidzgula_row_out row;
     hidzgula_entry_out entry;
     hidzgula_code_out code;
+    uint64_t count = 0;
     hidzgula_row(&station, 0, &row);
-    hidzgula_entry(&station, row.name, HIDZGULA_DM1, 0, &entry);
-    hidzgula_code(&station, row.name, HIDZGULA_DM1, 0, 0, &code);
+    hidzgula_entries(&station, row.name, HIDZGULA_DM1, &count);
+    hidzgula_entry(&station, row.name, HIDZGULA_DM1, count - 1, &entry);
+    hidzgula_code(&station, row.name, HIDZGULA_DM1, count - 1, 0, &code);
     return unused;
 }
 
 static void *miss(void *unused)
 {
     hidzgula_reply reply;
-    if (hidzgula_take_gap(&station, 1, &reply) != HIDZGULA_DONE) abort();
+    hidzgula_change change;
+    if (hidzgula_take_gap(&station, 1, &reply, &change) != HIDZGULA_DONE) abort();
     return unused;
 }
 
@@ -115,13 +121,14 @@ static size_t stack_of(void *(*work)(void *))
     return STACK - untouched;
 }
 
-int main(void)
+int main(int argc, char **argv)
 {
     static const struct {
         const char *name;
         void *(*work)(void *);
     } works[] = { { "open", open_one }, { "take_frame", take_all }, { "queries", ask_for_lists }, { "orders", order }, { "take_gap", miss }, { "close", close_it } };
     char line[512], digits[17];
+    if (argc > 1) keep = (uint32_t)strtoul(argv[1], NULL, 10);
     while (fgets(line, sizeof line, stdin) && frame_count < MOST) {
         size_t length = 0;
         digits[0] = 0;

@@ -11,6 +11,7 @@ use crate::garage::Garage;
 use crate::queueing::react;
 use crate::room::make_room;
 use can_frame::Reading;
+use station_table::Outcome;
 use std::alloc::Global;
 
 /// The most frames that a station puts at a reading: its claim and a request.
@@ -80,9 +81,9 @@ impl Garage {
         make_room(&mut self.journal, self.live + 1, self.limit)?;
         self.bus.reserve(station, MOST_ANSWERS)?;
         let post = &mut self.posts[station as usize];
-        let outcome = post.station.take(alloc, *reading, &mut post.lists)?;
+        let Outcome { reaction, .. } = post.station.take(alloc, *reading, &mut post.lists)?;
         self.bus.tap_pass_at(station);
-        react(&mut self.bus, station, &outcome.reaction);
+        react(&mut self.bus, station, &reaction);
         self.journal.note_read(station as u8, *reading);
         Ok(())
     }

@@ -1,9 +1,9 @@
 -- What a reading changes by the tables is what was heard to change.
-use Rattle.std.proofs.Common.{◌≡◌, ℕ, ◌<◌, ◌≤◌, Bool, ◌||◌, ◌==◌, List, ◌∷◌, Option, Some, None, if◌then◌else◌, length, refl, sym, ap, ◌∙◌, subst}
-use Rattle.std.specs.Prelude.{Result, Ok, Err, IfOk, OnOk}
+use Rattle.std.proofs.Common.{◌≡◌, ℕ, ◌<◌, Bool, ◌||◌, ◌==◌, List, ◌∷◌, Option, Some, None, if◌then◌else◌, refl, sym, ap, ◌∙◌, subst}
 use Rattle.address_claim.specs.Claiming.{is_held}
 use Rattle.bus_model.specs.Changed.{announced_change, answer_change, change_heard, claim_change, displaced_by, ended_change, giving_up, group_change, has_answered, is_again, single_change, still_has}
 use Rattle.bus_model.specs.Heard.{Joining, RowHeard, StationSettings, ack_in_row, address_heard, address_in_row, address_known, broadcast_heard, ended_by, finished, kind_of, owner_heard}
+use Rattle.bus_model.specs.declared.change.Change.{Change}
 use Rattle.bus_model.specs.declared.change.Change.TheVariants.{Nothing}
 use Rattle.can_frame.specs.FrameValue.{FrameValue}
 use Rattle.can_frame.specs.declared.reading.Reading.{Reading}
@@ -19,10 +19,7 @@ use Rattle.station_table.specs.Orders.{address_in}
 use Rattle.station_table.specs.StandsFor.{StandsFor, row_known, row_of}
 use Rattle.station_table.specs.StationValue.{StationValue}
 use Rattle.station_table.proofs.Lines.{held_same}
-use Rattle.station_table.specs.Reactions.{group_reaction}
 use Rattle.station_table.specs.Steps.{after_group}
-use Rattle.station_table.specs.declared.outcome.Outcome.{Outcome}
-use Rattle.station_table.proofs.Few.{few_by_group}
 use Rattle.station_table.proofs.Stands.{stands_after, sender, sender_below}
 
 address_words : (owners : List (Option ℕ)) (name : ℕ) (k : Option KeptValue) → address_in (row_of owners name k) ≡ address_in_row (row_known owners name k)
@@ -77,23 +74,15 @@ reading_same r grant s h Empty st = refl
 reading_same r grant s h (Gap n) st = refl
 reading_same r grant s h (Frame f) st = group_same r grant s h (group_of f) (sender_below f) st
 
--- at a call's answer
-pub heard_on_ok : {E : Type 0} (result : Result Outcome E) (s : StationValue) (x : Reading) → IfOk result (λ o. o.change ≡ reading_changes s x)
-    → IfOk result (λ o. (r : StationSettings) (grant : ℕ) (h : List Reading) → StandsFor r grant s h → o.change ≡ change_heard r x h)
-heard_on_ok (Ok o) s x e = λ r grant h st. e ∙ reading_same r grant s h x st
-heard_on_ok (Err y) s x e = tt
+-- what a call tells that takes a reading
+pub heard_by_reading : (r : StationSettings) (grant : ℕ) (s : StationValue) (h : List Reading) (x : Reading) (c : Change) → c ≡ reading_changes s x → StandsFor r grant s h → c ≡ change_heard r x h
+heard_by_reading r grant s h x c e st = e ∙ reading_same r grant s h x st
 
--- and at that of a call that takes what a frame says
-pub group_on_ok : {E : Type 0} (result : Result Outcome E) (s : StationValue) (g : Group) → IfOk result (λ o. o.change ≡ group_changes s g)
-    → IfOk result (λ o. (f : FrameValue) → group_of f ≡ g → (r : StationSettings) (grant : ℕ) (h : List Reading) → StandsFor r grant s h → o.change ≡ change_heard r (Frame f) h)
-group_on_ok (Ok o) s g e = λ f is r grant h st. e ∙ (ap (group_changes s) (sym is) ∙ reading_same r grant s h (Frame f) st)
-group_on_ok (Err y) s g e = tt
+-- and one that takes what a frame says
+pub heard_by_group : (r : StationSettings) (grant : ℕ) (s : StationValue) (h : List Reading) (f : FrameValue) (g : Group) (c : Change) → group_of f ≡ g → c ≡ group_changes s g → StandsFor r grant s h
+    → c ≡ change_heard r (Frame f) h
+heard_by_group r grant s h f g c is e st = e ∙ (ap (group_changes s) (sym is) ∙ reading_same r grant s h (Frame f) st)
 
-pub group_stands_on_ok : {T E : Type 0} (result : Result T E) (s t : StationValue) (g : Group) → OnOk result (t ≡ after_group s g)
-    → OnOk result ((f : FrameValue) → group_of f ≡ g → (r : StationSettings) (grant : ℕ) (h : List Reading) → StandsFor r grant s h → StandsFor r grant t (Frame f ∷ h))
-group_stands_on_ok (Ok y) s t g e = λ f is r grant h st. subst (λ (v : StationValue). StandsFor r grant v (Frame f ∷ h)) (ap (after_group s) is ∙ sym e) (stands_after r grant s h (Frame f) st)
-group_stands_on_ok (Err y) s t g e = tt
-
-pub group_few_on_ok : {E : Type 0} (result : Result Outcome E) (s : StationValue) (g : Group) → IfOk result (λ o. o.reaction ≡ group_reaction s g) → IfOk result (λ o. length o.reaction.put ≤ 2)
-group_few_on_ok (Ok o) s g e = few_by_group s g o.reaction e
-group_few_on_ok (Err y) s g e = tt
+pub stands_by_group : (r : StationSettings) (grant : ℕ) (s t : StationValue) (h : List Reading) (f : FrameValue) (g : Group) → group_of f ≡ g → t ≡ after_group s g → StandsFor r grant s h
+    → StandsFor r grant t (Frame f ∷ h)
+stands_by_group r grant s t h f g is e st = subst (λ (v : StationValue). StandsFor r grant v (Frame f ∷ h)) (ap (after_group s) is ∙ sym e) (stands_after r grant s h (Frame f) st)

@@ -1,6 +1,6 @@
 -- The entry that a reading lists by the tables is the one that was heard; the change says it; and what becomes of the lists.
 use Rattle.std.proofs.Common.{◌≡◌, ℕ, ◌<◌, Bool, true, false, ◌==◌, ◌&&◌, ◌||◌, List, [], ◌∷◌, ◌++◌, Option, Some, None, if◌then◌else◌, is_some, reverse, refl, sym, ap, ◌∙◌, subst}
-use Rattle.std.specs.Prelude.{Result, Ok, Err, IfOk, OnOk}
+use Rattle.std.specs.Prelude.{Result, Ok, Err, OnOk}
 use Rattle.std.proofs.lemmas.Grind.{reverse_onto}
 use Rattle.address_claim.specs.Claiming.{is_held}
 use Rattle.bus_model.specs.Changed.{announced_change, answer_change, ended_change, giving_up, single_change}
@@ -24,7 +24,6 @@ use Rattle.station_table.specs.Listing.{SaysEntry, entry_heard, entry_if_read, e
 use Rattle.station_table.specs.StandsFor.{StandsFor, row_known}
 use Rattle.station_table.specs.StationValue.{StationValue}
 use Rattle.station_table.specs.Steps.{ended_shown}
-use Rattle.station_table.specs.declared.outcome.Outcome.{Outcome}
 use Rattle.station_table.proofs.Changing.{packet_same}
 use Rattle.station_table.proofs.Stands.{sender, sender_below}
 
@@ -139,28 +138,27 @@ lists_after r (Frame f) h n k = group_after r h n k (group_of f)
 
 -- ---- at a call's answer
 
+pub listed_by_reading : {L : Type 0} (takes : L → NewEntry → L → Type 0) (before after : L) (r : StationSettings) (grant : ℕ) (s : StationValue) (h : List Reading) (x : Reading)
+    → HasPut takes before (reading_entry s x) after → StandsFor r grant s h → HasPut takes before (entry_heard r x h) after
+listed_by_reading takes before after r grant s h x put st = subst (λ (e : Option NewEntry). HasPut takes before e after) (entry_same r grant s h x st) put
+
+pub listed_by_group : {L : Type 0} (takes : L → NewEntry → L → Type 0) (before after : L) (r : StationSettings) (grant : ℕ) (s : StationValue) (h : List Reading) (f : FrameValue) (g : Group)
+    → group_of f ≡ g → HasPut takes before (group_entry s g) after → StandsFor r grant s h → HasPut takes before (entry_heard r (Frame f) h) after
+listed_by_group takes before after r grant s h f g is put st =
+    subst (λ (e : Option NewEntry). HasPut takes before e after) (ap (group_entry s) (sym is) ∙ entry_same r grant s h (Frame f) st) put
+
+-- the same at a call that may be refused
 pub listed_on_ok : {T E L : Type 0} (result : Result T E) (takes : L → NewEntry → L → Type 0) (before after : L) (s : StationValue) (x : Reading)
     → OnOk result (HasPut takes before (reading_entry s x) after)
     → OnOk result ((r : StationSettings) (grant : ℕ) (h : List Reading) → StandsFor r grant s h → HasPut takes before (entry_heard r x h) after)
-listed_on_ok (Ok y) takes before after s x put = λ r grant h st. subst (λ (e : Option NewEntry). HasPut takes before e after) (entry_same r grant s h x st) put
+listed_on_ok (Ok y) takes before after s x put = λ r grant h st. listed_by_reading takes before after r grant s h x put st
 listed_on_ok (Err y) takes before after s x put = tt
 
-pub group_listed_on_ok : {T E L : Type 0} (result : Result T E) (takes : L → NewEntry → L → Type 0) (before after : L) (s : StationValue) (g : Group)
-    → OnOk result (HasPut takes before (group_entry s g) after)
-    → OnOk result ((f : FrameValue) → group_of f ≡ g → (r : StationSettings) (grant : ℕ) (h : List Reading) → StandsFor r grant s h → HasPut takes before (entry_heard r (Frame f) h) after)
-group_listed_on_ok (Ok y) takes before after s g put = λ f is r grant h st.
-    subst (λ (e : Option NewEntry). HasPut takes before e after) (ap (group_entry s) (sym is) ∙ entry_same r grant s h (Frame f) st) put
-group_listed_on_ok (Err y) takes before after s g put = tt
+pub says_by_reading : (s : StationValue) (x : Reading) (c : Change) → c ≡ reading_changes s x → SaysEntry c (reading_entry s x)
+says_by_reading s x c e = subst (λ (d : Change). SaysEntry d (reading_entry s x)) (sym e) (says_reading s x)
 
-pub says_on_ok : {E : Type 0} (result : Result Outcome E) (s : StationValue) (x : Reading) → IfOk result (λ o. o.change ≡ reading_changes s x)
-    → IfOk result (λ o. SaysEntry o.change (reading_entry s x))
-says_on_ok (Ok o) s x e = subst (λ (c : Change). SaysEntry c (reading_entry s x)) (sym e) (says_reading s x)
-says_on_ok (Err y) s x e = tt
-
-pub group_says_on_ok : {E : Type 0} (result : Result Outcome E) (s : StationValue) (g : Group) → IfOk result (λ o. o.change ≡ group_changes s g)
-    → IfOk result (λ o. SaysEntry o.change (group_entry s g))
-group_says_on_ok (Ok o) s g e = subst (λ (c : Change). SaysEntry c (group_entry s g)) (sym e) (says_group s g)
-group_says_on_ok (Err y) s g e = tt
+pub says_by_group : (s : StationValue) (g : Group) (c : Change) → c ≡ group_changes s g → SaysEntry c (group_entry s g)
+says_by_group s g c e = subst (λ (d : Change). SaysEntry d (group_entry s g)) (sym e) (says_group s g)
 
 -- what a frame lists, told by its group
 pub entry_same_said : {L : Type 0} (takes : L → NewEntry → L → Type 0) (before after : L) (s : StationValue) (g said : Group) → said ≡ g

@@ -1,6 +1,6 @@
 -- The tables stand for the readings: at first for none, and after each reading for that one in front of the others.
 use Rattle.std.proofs.Common.{◌≡◌, ℕ, ◌+◌, ◌<◌, ◌≤◌, Bool, true, false, ◌==◌, ◌&&◌, List, [], ◌∷◌, Option, Some, None, if◌then◌else◌, length, refl, sym, ap, ◌∙◌, subst, arith}
-use Rattle.std.specs.Prelude.{Result, Ok, Err, OnOk, nat_lt, nat_le, slice_index}
+use Rattle.std.specs.Prelude.{nat_lt, nat_le, slice_index}
 use Rattle.std.proofs.lemmas.List.{get_or-replicate, length-replicate}
 use Rattle.std.proofs.lemmas.Bool.{ne_eqb}
 use Rattle.address_claim.specs.Claiming.{ClaimerValue, new_claimer}
@@ -156,9 +156,3 @@ stands_always r grant below (x ∷ older) = stands_after r grant (station_after 
 -- a reading, with the tables after it named
 pub stands_read : (r : StationSettings) (grant : ℕ) (s t : StationValue) (h : List Reading) (x : Reading) → t ≡ after_reading s x → StandsFor r grant s h → StandsFor r grant t (x ∷ h)
 stands_read r grant s t h x e st = subst (λ (v : StationValue). StandsFor r grant v (x ∷ h)) (sym e) (stands_after r grant s h x st)
-
--- the same at a call's answer
-pub stands_on_ok : {T E : Type 0} (result : Result T E) (s t : StationValue) (x : Reading) → OnOk result (t ≡ after_reading s x)
-    → OnOk result ((r : StationSettings) (grant : ℕ) (h : List Reading) → StandsFor r grant s h → StandsFor r grant t (x ∷ h))
-stands_on_ok (Ok y) s t x e = λ r grant h st. stands_read r grant s t h x e st
-stands_on_ok (Err y) s t x e = tt

@@ -1,4 +1,4 @@
-ghost use Rattle.std.specs.Prelude.{◌≡◌, Some, IfOk};
+ghost use Rattle.std.specs.Prelude.{◌≡◌, Some, OnOk};
 ghost use Rattle.parameter_group.specs.Group as group;
 ghost use Rattle.station_table.specs.Reactions as reactions;
 
@@ -9,7 +9,7 @@ use bus_model::Change;
 use can_frame::{GLOBAL_ADDRESS, NULL_ADDRESS, Pgn};
 use name_field::Name;
 use requests::{Ack, Request};
-use std::alloc::{AllocError, Global};
+use std::alloc::AllocError;
 
 impl Station {
     ghost use Rattle.station_table.specs.Changing.{answers_again, group_changes};
@@ -19,15 +19,16 @@ impl Station {
     /// can be held, a negative acknowledgment.
     pub(super) fn hear_request(
         &self,
-        alloc: Global,
         request: Request,
-    ) -> Result<Reaction, AllocError>
-        ensures { IfOk result (λ x. x ≡ reactions.request_reaction self.now.claimer request.pgn request.dest request.source) }
+        reaction: &mut Reaction,
+    ) -> Result<(), AllocError>
+        requires silent { reaction.old ≡ reactions.silent }
+        ensures { OnOk result (reaction.new ≡ reactions.request_reaction self.now.claimer request.pgn request.dest request.source) }
     {
         let to_it = self.claimer.held() == Some(request.dest);
         if request.pgn == Pgn::ADDRESS_CLAIMED {
             if to_it || request.dest == GLOBAL_ADDRESS {
-                return Reaction::answering(alloc, self.start());
+                reaction.put.push(self.start())?;
             }
         } else if to_it && request.source < NULL_ADDRESS {
             let refusal = Ack {
@@ -37,33 +38,34 @@ impl Station {
                 dest: GLOBAL_ADDRESS,
                 source: request.dest,
             };
-            return Reaction::answering(alloc, refusal.frame());
+            reaction.put.push(refusal.frame())?;
         }
-        Ok(Reaction::silent(alloc))
+        Ok(())
     }
 
     /// An acknowledgment that names the station's address or goes to it, from an address with an owner: it is kept.
-    pub(super) fn hear_acknowledgment(&mut self, ack: Ack) -> Change
+    pub(super) fn hear_acknowledgment(&mut self, ack: Ack, change: &mut Change)
+        requires nothing { change.old ≡ Change.Nothing }
         ensures step { self.new ≡ after_group self.old (group.Acknowledgment ack.control ack.requester ack.pgn ack.dest ack.source) }
-        ensures change { result ≡ group_changes self.old (group.Acknowledgment ack.control ack.requester ack.pgn ack.dest ack.source) }
+        ensures change { change.new ≡ group_changes self.old (group.Acknowledgment ack.control ack.requester ack.pgn ack.dest ack.source) }
     {
         let held = self.claimer.held();
         if held != Some(ack.requester) && held != Some(ack.dest) {
-            return Change::Nothing;
+            return;
         }
         let Some(name) = self.owner(ack.source) else {
-            return Change::Nothing;
+            return;
         };
         let control = ack.control;
         let pgn = ack.pgn;
         let again = self.has_answered(name, control, pgn);
         self.rows.acknowledge(name, AckSeen { control, pgn });
-        Change::Acknowledged {
+        *change = Change::Acknowledged {
             name,
             control,
             pgn,
             again,
-        }
+        };
     }
 
     /// Whether the NAME's last acknowledgment to the station is the same.

@@ -35,44 +35,46 @@ impl Station {
         alloc: Global,
         source: u8,
         name: Name,
-    ) -> Result<Outcome, StationError>
+        outcome: &mut Outcome,
+    ) -> Result<(), StationError>
         ensures ok { OnOk result (self.new ≡ with_claim self.old source name) }
-        ensures change { IfOk result (λ x. x.change ≡ group_changes self.old (group.AddressClaimed source name)) }
-        ensures reaction { IfOk result (λ x. x.reaction ≡ reactions.claim_reaction (claim_step source name self.old.claimer) self.old.claimer) }
+        ensures change { OnOk result (outcome.new.change ≡ group_changes self.old (group.AddressClaimed source name)) }
+        ensures reaction { OnOk result (outcome.new.reaction ≡ reactions.claim_reaction (claim_step source name self.old.claimer) self.old.claimer) }
         ensures err { OnErr result (self.new ≡ self.old) }
         ensures only_memory { IsOkUnless result StationError.OutOfMemory }
     {
-        let change = self.claim_change(source, name);
+        outcome.change = self.claim_change(source, name);
         let step = self.claimer.answer(source, name);
-        let reaction = self.answer_to_claim(alloc, step)?;
+        outcome.reaction = self.answer_to_claim(alloc, step)?;
         self.owners.make()?;
         note_claim(alloc, &mut self.rows, &mut self.claimer, source, name)?;
         self.rows.claim(name, Some(source));
         self.owners.put(source, name);
         keep_under(&mut self.broadcasts, source, name);
         keep_sessions(&mut self.sessions, step, source, name);
-        Ok(Outcome { reaction, change })
+        Ok(())
     }
 
     /// What a claim of an address by a NAME changes: nothing where the NAME has it.
     fn claim_change(&self, source: u8, name: Name) -> Change
         ensures { result ≡ group_changes self.now (group.AddressClaimed source name) }
     {
-        if self.address_of(name) == Some(source) {
+        let owner = self.owner(source);
+        if owner == Some(name) && self.address_of(name) == Some(source) {
             return Change::Nothing;
         }
         Change::Claimed {
             name,
             address: source,
-            displaced: self.displaced(source, name),
+            displaced: self.displaced(owner, source, name),
         }
     }
 
-    /// The other NAME that claimed the address last, if one did.
-    fn displaced(&self, address: u8, name: Name) -> Option<Displaced>
-        ensures { result ≡ displaced_by name (at self.now.owners address) (keeps_address self.now (at self.now.owners address) address) }
+    /// The owner of an address, where it is another NAME.
+    fn displaced(&self, owner: Option<Name>, address: u8, name: Name) -> Option<Displaced>
+        ensures { result ≡ displaced_by name owner (keeps_address self.now owner address) }
     {
-        let other = self.owner(address)?;
+        let other = owner?;
         if other == name {
             return None;
         }
@@ -111,27 +113,34 @@ impl Station {
         &mut self,
         alloc: Global,
         name: Name,
-    ) -> Result<Change, StationError>
+        change: &mut Change,
+    ) -> Result<(), StationError>
+        requires nothing { change.old ≡ Change.Nothing }
         ensures ok { OnOk result (self.new ≡ after_group self.old (group.CannotClaim name)) }
-        ensures change { IfOk result (λ c. c ≡ group_changes self.old (group.CannotClaim name)) }
+        ensures change { OnOk result (change.new ≡ group_changes self.old (group.CannotClaim name)) }
         ensures err { OnErr result (self.new ≡ self.old) }
         ensures only_memory { IsOkUnless result StationError.OutOfMemory }
     {
-        let change = match self.row(name) {
-            Some(Row { address: None, .. }) => Change::Nothing,
-            _ => Change::GaveUp { name },
-        };
+        match self.row(name) {
+            Some(Row { address: None, .. }) => {}
+            _ => *change = Change::GaveUp { name },
+        }
         self.rows.add(name)?;
         self.rows.claim(name, None);
-        Ok(change)
+        Ok(())
     }
 
     /// Frames were missed: owners and all that is half joined are forgotten, and the station claims again and asks all for
     /// their claims.
-    pub(super) fn hear_gap(&mut self, alloc: Global, count: u32) -> Result<Outcome, StationError>
+    pub(super) fn hear_gap(
+        &mut self,
+        alloc: Global,
+        count: u32,
+        outcome: &mut Outcome,
+    ) -> Result<(), StationError>
         ensures ok { OnOk result (self.new ≡ after_gap self.old count) }
-        ensures change { IfOk result (λ x. x.change ≡ Change.Missed count) }
-        ensures reaction { IfOk result (λ x. x.reaction ≡ reactions.station_reaction self.old (Gap count)) }
+        ensures change { OnOk result (outcome.new.change ≡ Change.Missed count) }
+        ensures reaction { OnOk result (outcome.new.reaction ≡ reactions.station_reaction self.old (Gap count)) }
         ensures err { OnErr result (self.new ≡ self.old) }
         ensures only_memory { IsOkUnless result StationError.OutOfMemory }
     {
@@ -147,13 +156,12 @@ impl Station {
         self.broadcasts.clear();
         self.sessions.clear();
         self.missed = self.missed.saturating_add(u64::from(count));
-        Ok(Outcome {
-            reaction: Reaction {
-                withdraw: true,
-                put,
-            },
-            change: Change::Missed { count },
-        })
+        outcome.reaction = Reaction {
+            withdraw: true,
+            put,
+        };
+        outcome.change = Change::Missed { count };
+        Ok(())
     }
 }
 

@@ -44,16 +44,18 @@ impl Station {
         source: u8,
         ended: Option<Ended>,
         lists: &mut L,
-    ) -> Result<Change, StationError>
+        change: &mut Change,
+    ) -> Result<(), StationError>
+        requires nothing { change.old ≡ Change.Nothing }
         ensures ok { OnOk result (self.new ≡ with_read self.old ended) }
-        ensures change { IfOk result (λ c. c ≡ read_change source ended) }
+        ensures change { OnOk result (change.new ≡ read_change source ended) }
         ensures lists { OnOk result (HasPut L.Takes lists.old (entry_of_read source ended) lists.new) }
         ensures err { OnErr result (self.new ≡ self.old) }
         ensures err_lists { OnErr result (lists.new ≡ lists.old) }
         ensures only_memory { IsOkUnless result StationError.OutOfMemory }
     {
         let Some(Ended { origin, shown }) = ended else {
-            return Ok(Change::Nothing);
+            return Ok(());
         };
         let name = origin.owner();
         let kind = origin.kind();
@@ -66,13 +68,14 @@ impl Station {
                     shown,
                 };
                 lists.put(alloc, entry)?;
-                Ok(Change::Listed { name, kind, source })
+                *change = Change::Listed { name, kind, source };
             }
             None => {
                 self.unread = self.unread.saturating_add(1);
-                Ok(Change::Unreadable { name, kind, source })
+                *change = Change::Unreadable { name, kind, source };
             }
         }
+        Ok(())
     }
 
     /// A diagnostic message in one frame, from an address with an owner.
@@ -83,23 +86,26 @@ impl Station {
         source: u8,
         bytes: &[u8],
         lists: &mut L,
-    ) -> Result<Change, StationError>
+        change: &mut Change,
+    ) -> Result<(), StationError>
+        requires nothing { change.old ≡ Change.Nothing }
         ensures ok { OnOk result (self.new ≡ after_group self.old (group.Diagnostic kind source bytes.now)) }
-        ensures change { IfOk result (λ c. c ≡ group_changes self.old (group.Diagnostic kind source bytes.now)) }
+        ensures change { OnOk result (change.new ≡ group_changes self.old (group.Diagnostic kind source bytes.now)) }
         ensures lists { OnOk result (HasPut L.Takes lists.old (group_entry self.old (group.Diagnostic kind source bytes.now)) lists.new) }
         ensures err { OnErr result (self.new ≡ self.old) }
         ensures err_lists { OnErr result (lists.new ≡ lists.old) }
         ensures only_memory { IsOkUnless result StationError.OutOfMemory }
     {
         let Some(owner) = self.owner(source) else {
-            return Ok(Change::Unowned { kind, source });
+            *change = Change::Unowned { kind, source };
+            return Ok(());
         };
         let shown = shown_by(alloc, bytes)?;
         let ended = Ended {
             origin: Origin::new(owner, kind),
             shown,
         };
-        self.keep(alloc, source, Some(ended), lists)
+        self.keep(alloc, source, Some(ended), lists, change)
     }
 
     /// Whose a message is that an announcement of this group starts: of an address with an owner, if it is a diagnostic one.
@@ -119,14 +125,15 @@ impl Station {
         source: u8,
         size: u16,
         pgn: Pgn,
-    ) -> Result<Change, StationError>
+        change: &mut Change,
+    ) -> Result<(), StationError>
         requires least { 9 ≤ size }
         requires most { size ≤ 1785 }
         ensures ok { OnOk result (self.new ≡ record self.old {
           broadcasts =
               slice_set self.old.broadcasts source (heard.started (heard.kind_of pgn) size (at self.old.owners source));
         }) }
-        ensures change { IfOk result (λ c. c ≡ announced_change (heard.kind_of pgn) source (at self.old.owners source)) }
+        ensures change { OnOk result (change.new ≡ announced_change (heard.kind_of pgn) source (at self.old.owners source)) }
         ensures err { OnErr result (self.new ≡ self.old) }
         ensures only_memory { IsOkUnless result StationError.OutOfMemory }
     {
@@ -134,7 +141,8 @@ impl Station {
             Some(origin) => self.broadcasts.start(alloc, source, origin, size, pgn)?,
             None => self.broadcasts.forget(source),
         }
-        Ok(self.announced(source, pgn))
+        *change = self.announced(source, pgn);
+        Ok(())
     }
 
     /// What the announcement of a broadcast changes: nothing, but that a diagnostic message begins at an address without an owner.
@@ -155,11 +163,13 @@ impl Station {
         source: u8,
         dest: u8,
         announced: Announced,
-    ) -> Result<Reaction, StationError>
+        reaction: &mut Reaction,
+    ) -> Result<(), StationError>
+        requires silent { reaction.old ≡ reactions.silent }
         requires least { 9 ≤ announced.size }
         requires most { announced.size ≤ 1785 }
         ensures ok { OnOk result (self.new ≡ with_session self.old source announced.most (heard.started (heard.kind_of announced.pgn) announced.size (at self.old.owners source))) }
-        ensures reaction { IfOk result (λ x. x ≡ (if nat_lt source NULL_ADDRESS then reactions.answering (message.control_frame
+        ensures reaction { OnOk result (reaction.new ≡ (if nat_lt source NULL_ADDRESS then reactions.answering (message.control_frame
             (reactions.start_reaction (heard.started (heard.kind_of announced.pgn) announced.size (at self.old.owners source)) (packets_at_once self.old.grant announced.most) announced.packets announced.pgn)
             dest source) else reactions.silent)) }
         ensures err { OnErr result (self.new ≡ self.old) }
@@ -177,17 +187,15 @@ impl Station {
                 pgn: announced.pgn,
             },
         };
-        let reaction = if source < NULL_ADDRESS {
-            Reaction::answering(alloc, control_frame(answer, dest, source))?
-        } else {
-            Reaction::silent(alloc)
-        };
+        if source < NULL_ADDRESS {
+            reaction.put.push(control_frame(answer, dest, source))?;
+        }
         if let Some(origin) = origin {
             self.sessions
                 .start(alloc, source, origin, announced.size, announced.pgn)?;
             self.most[usize::from(source)] = announced.most;
         }
-        Ok(reaction)
+        Ok(())
     }
 
     /// A session with the station is aborted: the one of that kind is dropped.
@@ -207,24 +215,24 @@ impl Station {
         source: u8,
         bytes: &[u8],
         lists: &mut L,
-    ) -> Result<Change, StationError>
+        change: &mut Change,
+    ) -> Result<(), StationError>
+        requires nothing { change.old ≡ Change.Nothing }
         ensures ok { OnOk result (self.new ≡ with_broadcast_packet self.old source bytes.now) }
-        ensures change { IfOk result (λ c. c ≡ ended_change source (heard.finished (with_packet bytes.now (at self.old.broadcasts source)))) }
+        ensures change { OnOk result (change.new ≡ ended_change source (heard.finished (with_packet bytes.now (at self.old.broadcasts source)))) }
         ensures lists { OnOk result (HasPut L.Takes lists.old (entry_of_ended source (heard.finished (with_packet bytes.now (at self.old.broadcasts source)))) lists.new) }
         ensures err { OnErr result (self.new ≡ self.old) }
         ensures err_lists { OnErr result (lists.new ≡ lists.old) }
         ensures only_memory { IsOkUnless result StationError.OutOfMemory }
     {
         let Some(took) = self.broadcasts.answer(source, bytes) else {
-            return Ok(Change::Nothing);
+            return Ok(());
         };
         match took {
-            Took::Whole => self.end_broadcast(alloc, source, bytes, lists),
-            Took::More | Took::Broken => {
-                self.broadcasts.take(source, bytes, took);
-                Ok(Change::Nothing)
-            }
+            Took::Whole => self.end_broadcast(alloc, source, bytes, lists, change)?,
+            Took::More | Took::Broken => self.broadcasts.take(source, bytes, took),
         }
+        Ok(())
     }
 
     /// The last packet of a broadcast.
@@ -234,19 +242,21 @@ impl Station {
         source: u8,
         bytes: &[u8],
         lists: &mut L,
-    ) -> Result<Change, StationError>
-        requires { answer_to bytes.now (at self.old.broadcasts source) ≡ Some Took.Whole }
+        change: &mut Change,
+    ) -> Result<(), StationError>
+        requires nothing { change.old ≡ Change.Nothing }
+        requires whole { answer_to bytes.now (at self.old.broadcasts source) ≡ Some Took.Whole }
         ensures ok { OnOk result (self.new ≡ with_broadcast_packet self.old source bytes.now) }
-        ensures change { IfOk result (λ c. c ≡ ended_change source (heard.finished (with_packet bytes.now (at self.old.broadcasts source)))) }
+        ensures change { OnOk result (change.new ≡ ended_change source (heard.finished (with_packet bytes.now (at self.old.broadcasts source)))) }
         ensures lists { OnOk result (HasPut L.Takes lists.old (entry_of_ended source (heard.finished (with_packet bytes.now (at self.old.broadcasts source)))) lists.new) }
         ensures err { OnErr result (self.new ≡ self.old) }
         ensures err_lists { OnErr result (lists.new ≡ lists.old) }
         ensures only_memory { IsOkUnless result StationError.OutOfMemory }
     {
         let ended = ended_with(alloc, &mut self.broadcasts, source, bytes)?;
-        let change = self.keep(alloc, source, ended, lists)?;
+        self.keep(alloc, source, ended, lists, change)?;
         self.broadcasts.take(source, bytes, Took::Whole);
-        Ok(change)
+        Ok(())
     }
 
     /// A packet of a session with the station.
@@ -257,24 +267,25 @@ impl Station {
         dest: u8,
         bytes: &[u8],
         lists: &mut L,
-    ) -> Result<Outcome, StationError>
+        outcome: &mut Outcome,
+    ) -> Result<(), StationError>
+        requires quiet { outcome.old ≡ record { reaction = reactions.silent; change = Change.Nothing } }
         ensures ok { OnOk result (self.new ≡ with_session_packet self.old source bytes.now) }
-        ensures change { IfOk result (λ x. x.change ≡ ended_change source (heard.finished (with_packet bytes.now (at self.old.sessions source)))) }
-        ensures reaction { IfOk result (λ x. x.reaction ≡ reactions.replying (reactions.reply_to (reactions.granted_at_once self.old source) (at self.old.sessions source) bytes.now) dest source) }
+        ensures change { OnOk result (outcome.new.change ≡ ended_change source (heard.finished (with_packet bytes.now (at self.old.sessions source)))) }
+        ensures reaction { OnOk result (outcome.new.reaction ≡ reactions.replying (reactions.reply_to (reactions.granted_at_once self.old source) (at self.old.sessions source) bytes.now) dest source) }
         ensures lists { OnOk result (HasPut L.Takes lists.old (entry_of_ended source (heard.finished (with_packet bytes.now (at self.old.sessions source)))) lists.new) }
         ensures err { OnErr result (self.new ≡ self.old) }
         ensures err_lists { OnErr result (lists.new ≡ lists.old) }
         ensures only_memory { IsOkUnless result StationError.OutOfMemory }
     {
         let Some(took) = self.sessions.answer(source, bytes) else {
-            return Ok(Outcome::quiet(alloc, Change::Nothing));
+            return Ok(());
         };
-        let reaction = match self.reply(source, bytes, took) {
-            Some(reply) => Reaction::answering(alloc, control_frame(reply, dest, source))?,
-            None => Reaction::silent(alloc),
-        };
-        let change = self.take_session_packet(alloc, source, bytes, took, lists)?;
-        Ok(Outcome { reaction, change })
+        if let Some(reply) = self.reply(source, bytes, took) {
+            let answer = control_frame(reply, dest, source);
+            outcome.reaction.put.push(answer)?;
+        }
+        self.take_session_packet(alloc, source, bytes, took, lists, &mut outcome.change)
     }
 
     /// Reads a packet of a session, which was answered so.
@@ -285,22 +296,22 @@ impl Station {
         bytes: &[u8],
         took: Took,
         lists: &mut L,
-    ) -> Result<Change, StationError>
-        requires { answer_to bytes.now (at self.old.sessions source) ≡ Some took }
+        change: &mut Change,
+    ) -> Result<(), StationError>
+        requires nothing { change.old ≡ Change.Nothing }
+        requires took { answer_to bytes.now (at self.old.sessions source) ≡ Some took }
         ensures ok { OnOk result (self.new ≡ with_session_packet self.old source bytes.now) }
-        ensures change { IfOk result (λ c. c ≡ ended_change source (heard.finished (with_packet bytes.now (at self.old.sessions source)))) }
+        ensures change { OnOk result (change.new ≡ ended_change source (heard.finished (with_packet bytes.now (at self.old.sessions source)))) }
         ensures lists { OnOk result (HasPut L.Takes lists.old (entry_of_ended source (heard.finished (with_packet bytes.now (at self.old.sessions source)))) lists.new) }
         ensures err { OnErr result (self.new ≡ self.old) }
         ensures err_lists { OnErr result (lists.new ≡ lists.old) }
         ensures only_memory { IsOkUnless result StationError.OutOfMemory }
     {
         match took {
-            Took::Whole => self.end_session(alloc, source, bytes, lists),
-            Took::More | Took::Broken => {
-                self.sessions.take(source, bytes, took);
-                Ok(Change::Nothing)
-            }
+            Took::Whole => self.end_session(alloc, source, bytes, lists, change)?,
+            Took::More | Took::Broken => self.sessions.take(source, bytes, took),
         }
+        Ok(())
     }
 
     /// The last packet of a session.
@@ -310,19 +321,21 @@ impl Station {
         source: u8,
         bytes: &[u8],
         lists: &mut L,
-    ) -> Result<Change, StationError>
-        requires { answer_to bytes.now (at self.old.sessions source) ≡ Some Took.Whole }
+        change: &mut Change,
+    ) -> Result<(), StationError>
+        requires nothing { change.old ≡ Change.Nothing }
+        requires whole { answer_to bytes.now (at self.old.sessions source) ≡ Some Took.Whole }
         ensures ok { OnOk result (self.new ≡ with_session_packet self.old source bytes.now) }
-        ensures change { IfOk result (λ c. c ≡ ended_change source (heard.finished (with_packet bytes.now (at self.old.sessions source)))) }
+        ensures change { OnOk result (change.new ≡ ended_change source (heard.finished (with_packet bytes.now (at self.old.sessions source)))) }
         ensures lists { OnOk result (HasPut L.Takes lists.old (entry_of_ended source (heard.finished (with_packet bytes.now (at self.old.sessions source)))) lists.new) }
         ensures err { OnErr result (self.new ≡ self.old) }
         ensures err_lists { OnErr result (lists.new ≡ lists.old) }
         ensures only_memory { IsOkUnless result StationError.OutOfMemory }
     {
         let ended = ended_with(alloc, &mut self.sessions, source, bytes)?;
-        let change = self.keep(alloc, source, ended, lists)?;
+        self.keep(alloc, source, ended, lists, change)?;
         self.sessions.take(source, bytes, Took::Whole);
-        Ok(change)
+        Ok(())
     }
 
     /// What is answered to a packet of a session, which was answered so.

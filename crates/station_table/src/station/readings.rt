@@ -35,6 +35,7 @@ impl Station {
     ///
     /// The change is all that the reading does to rows, NAMEs, lists and counts (`bus_model`): who follows the changes need not ask for them.
     /// A diagnostic message that ends, and can be read, is put into the lists; they are asked before anything is changed.
+    #[inline]
     #[tactic(auto, using(crate::proofs::Few::few_frames))]
     pub fn take<L: Lists>(
         &mut self,
@@ -57,11 +58,9 @@ impl Station {
         ensures not_empty { OnErr result (reading ≢ Reading.Empty) }
         ensures only_memory { IsOkUnless result StationError.OutOfMemory }
     {
-        match reading {
-            Reading::Empty => Ok(Outcome::quiet(alloc, Change::Nothing)),
-            Reading::Gap(count) => self.hear_gap(alloc, count),
-            Reading::Frame(frame) => self.hear_frame(alloc, &frame, lists),
-        }
+        let mut outcome = Outcome::quiet(alloc, Change::Nothing);
+        self.hear(alloc, &reading, lists, &mut outcome)?;
+        Ok(outcome)
     }
 
     /// Takes what one frame says, as `take` takes the frame.
@@ -88,7 +87,35 @@ impl Station {
         ensures err_lists { OnErr result (lists.new ≡ lists.old) }
         ensures only_memory { IsOkUnless result StationError.OutOfMemory }
     {
-        self.hear_group(alloc, group, lists)
+        let mut outcome = Outcome::quiet(alloc, Change::Nothing);
+        self.hear_group(alloc, group, lists, &mut outcome)?;
+        Ok(outcome)
+    }
+
+    /// A reading. What comes of it is put into the outcome, which is quiet before: if it were returned, each call on the way would copy it.
+    #[inline(never)]
+    fn hear<L: Lists>(
+        &mut self,
+        alloc: Global,
+        reading: &Reading,
+        lists: &mut L,
+        outcome: &mut Outcome,
+    ) -> Result<(), StationError>
+        requires quiet { outcome.old ≡ record { reaction = reactions.silent; change = Change.Nothing } }
+        ensures ok { OnOk result (self.new ≡ after_reading self.old reading.now) }
+        ensures reaction { OnOk result (outcome.new.reaction ≡ reactions.station_reaction self.old reading.now) }
+        ensures change { OnOk result (outcome.new.change ≡ reading_changes self.old reading.now) }
+        ensures lists { OnOk result (HasPut L.Takes lists.old (reading_entry self.old reading.now) lists.new) }
+        ensures err { OnErr result (self.new ≡ self.old) }
+        ensures err_lists { OnErr result (lists.new ≡ lists.old) }
+        ensures not_empty { OnErr result (reading.now ≢ Reading.Empty) }
+        ensures only_memory { IsOkUnless result StationError.OutOfMemory }
+    {
+        match reading {
+            Reading::Empty => Ok(()),
+            Reading::Gap(count) => self.hear_gap(alloc, *count, outcome),
+            Reading::Frame(frame) => self.hear_frame(alloc, frame, lists, outcome),
+        }
     }
 
     /// A frame.
@@ -98,66 +125,70 @@ impl Station {
         alloc: Global,
         frame: &Frame,
         lists: &mut L,
-    ) -> Result<Outcome, StationError>
+        outcome: &mut Outcome,
+    ) -> Result<(), StationError>
+        requires quiet { outcome.old ≡ record { reaction = reactions.silent; change = Change.Nothing } }
         ensures ok { OnOk result (self.new ≡ after_group self.old (group_of frame.now)) }
-        ensures reaction { IfOk result (λ x. x.reaction ≡ reactions.group_reaction self.old (group_of frame.now)) }
-        ensures change { IfOk result (λ x. x.change ≡ group_changes self.old (group_of frame.now)) }
+        ensures reaction { OnOk result (outcome.new.reaction ≡ reactions.group_reaction self.old (group_of frame.now)) }
+        ensures change { OnOk result (outcome.new.change ≡ group_changes self.old (group_of frame.now)) }
         ensures lists { OnOk result (HasPut L.Takes lists.old (group_entry self.old (group_of frame.now)) lists.new) }
         ensures err { OnErr result (self.new ≡ self.old) }
         ensures err_lists { OnErr result (lists.new ≡ lists.old) }
         ensures only_memory { IsOkUnless result StationError.OutOfMemory }
     {
-        self.hear_group(alloc, &ParameterGroup::read(frame), lists)
+        self.hear_group(alloc, &ParameterGroup::read(frame), lists, outcome)
     }
 
     /// What one frame says.
+    #[inline(always)]
     fn hear_group<L: Lists>(
         &mut self,
         alloc: Global,
         group: &ParameterGroup<'_>,
         lists: &mut L,
-    ) -> Result<Outcome, StationError>
-        requires { IsLawfulGroup group.now }
+        outcome: &mut Outcome,
+    ) -> Result<(), StationError>
+        requires lawful { IsLawfulGroup group.now }
+        requires quiet { outcome.old ≡ record { reaction = reactions.silent; change = Change.Nothing } }
         ensures ok { OnOk result (self.new ≡ after_group self.old (said group.now)) }
-        ensures reaction { IfOk result (λ x. x.reaction ≡ reactions.group_reaction self.old (said group.now)) }
-        ensures change { IfOk result (λ x. x.change ≡ group_changes self.old (said group.now)) }
+        ensures reaction { OnOk result (outcome.new.reaction ≡ reactions.group_reaction self.old (said group.now)) }
+        ensures change { OnOk result (outcome.new.change ≡ group_changes self.old (said group.now)) }
         ensures lists { OnOk result (HasPut L.Takes lists.old (group_entry self.old (said group.now)) lists.new) }
         ensures err { OnErr result (self.new ≡ self.old) }
         ensures err_lists { OnErr result (lists.new ≡ lists.old) }
         ensures only_memory { IsOkUnless result StationError.OutOfMemory }
     {
         match *group {
-            ParameterGroup::AddressClaimed { source, name } => self.hear_claim(alloc, source, name),
+            ParameterGroup::AddressClaimed { source, name } => {
+                self.hear_claim(alloc, source, name, outcome)
+            }
             ParameterGroup::CannotClaim { name } => {
-                let change = self.hear_cannot_claim(alloc, name)?;
-                Ok(Outcome::quiet(alloc, change))
+                self.hear_cannot_claim(alloc, name, &mut outcome.change)
             }
             ParameterGroup::Request(request) => {
-                Ok(Outcome::answer(self.hear_request(alloc, request)?))
+                self.hear_request(request, &mut outcome.reaction)?;
+                Ok(())
             }
             ParameterGroup::Acknowledgment(ack) => {
-                let change = self.hear_acknowledgment(ack);
-                Ok(Outcome::quiet(alloc, change))
+                self.hear_acknowledgment(ack, &mut outcome.change);
+                Ok(())
             }
             ParameterGroup::Diagnostic {
                 kind,
                 source,
                 bytes,
-            } => {
-                let change = self.hear_single(alloc, kind, source, bytes, lists)?;
-                Ok(Outcome::quiet(alloc, change))
-            }
+            } => self.hear_single(alloc, kind, source, bytes, lists, &mut outcome.change),
             ParameterGroup::ConnectionManagement {
                 source,
                 dest,
                 control,
-            } => self.hear_control(alloc, source, dest, control),
+            } => self.hear_control(alloc, source, dest, control, outcome),
             ParameterGroup::DataTransfer {
                 source,
                 dest,
                 bytes,
-            } => self.hear_packet(alloc, source, dest, bytes, lists),
-            ParameterGroup::Other => Ok(Outcome::quiet(alloc, Change::Nothing)),
+            } => self.hear_packet(alloc, source, dest, bytes, lists, outcome),
+            ParameterGroup::Other => Ok(()),
         }
     }
 
@@ -168,19 +199,20 @@ impl Station {
         source: u8,
         dest: u8,
         control: Control,
-    ) -> Result<Outcome, StationError>
-        requires { HasLawfulSize control }
+        outcome: &mut Outcome,
+    ) -> Result<(), StationError>
+        requires size { HasLawfulSize control }
+        requires quiet { outcome.old ≡ record { reaction = reactions.silent; change = Change.Nothing } }
         ensures ok { OnOk result (self.new ≡ after_group self.old (group.ConnectionManagement source dest control)) }
-        ensures reaction { IfOk result (λ x. x.reaction ≡ reactions.group_reaction self.old (group.ConnectionManagement source dest control)) }
-        ensures change { IfOk result (λ x. x.change ≡ group_changes self.old (group.ConnectionManagement source dest control)) }
+        ensures reaction { OnOk result (outcome.new.reaction ≡ reactions.group_reaction self.old (group.ConnectionManagement source dest control)) }
+        ensures change { OnOk result (outcome.new.change ≡ group_changes self.old (group.ConnectionManagement source dest control)) }
         ensures err { OnErr result (self.new ≡ self.old) }
         ensures only_memory { IsOkUnless result StationError.OutOfMemory }
     {
         let to_it = self.claimer.held() == Some(dest);
         match control {
             Control::Bam { size, pgn, .. } if dest == GLOBAL_ADDRESS => {
-                let change = self.hear_bam(alloc, source, size, pgn)?;
-                Ok(Outcome::quiet(alloc, change))
+                self.hear_bam(alloc, source, size, pgn, &mut outcome.change)
             }
             Control::Rts {
                 size,
@@ -194,14 +226,13 @@ impl Station {
                     most,
                     pgn,
                 };
-                let reaction = self.hear_rts(alloc, source, dest, announced)?;
-                Ok(Outcome::answer(reaction))
+                self.hear_rts(alloc, source, dest, announced, &mut outcome.reaction)
             }
             Control::Abort { pgn, .. } if to_it => {
                 self.hear_abort(source, pgn);
-                Ok(Outcome::quiet(alloc, Change::Nothing))
+                Ok(())
             }
-            _ => Ok(Outcome::quiet(alloc, Change::Nothing)),
+            _ => Ok(()),
         }
     }
 
@@ -213,22 +244,23 @@ impl Station {
         dest: u8,
         bytes: &[u8],
         lists: &mut L,
-    ) -> Result<Outcome, StationError>
+        outcome: &mut Outcome,
+    ) -> Result<(), StationError>
+        requires quiet { outcome.old ≡ record { reaction = reactions.silent; change = Change.Nothing } }
         ensures ok { OnOk result (self.new ≡ after_group self.old (group.DataTransfer source dest bytes.now)) }
-        ensures reaction { IfOk result (λ x. x.reaction ≡ reactions.group_reaction self.old (group.DataTransfer source dest bytes.now)) }
-        ensures change { IfOk result (λ x. x.change ≡ group_changes self.old (group.DataTransfer source dest bytes.now)) }
+        ensures reaction { OnOk result (outcome.new.reaction ≡ reactions.group_reaction self.old (group.DataTransfer source dest bytes.now)) }
+        ensures change { OnOk result (outcome.new.change ≡ group_changes self.old (group.DataTransfer source dest bytes.now)) }
         ensures lists { OnOk result (HasPut L.Takes lists.old (group_entry self.old (group.DataTransfer source dest bytes.now)) lists.new) }
         ensures err { OnErr result (self.new ≡ self.old) }
         ensures err_lists { OnErr result (lists.new ≡ lists.old) }
         ensures only_memory { IsOkUnless result StationError.OutOfMemory }
     {
         if dest == GLOBAL_ADDRESS {
-            let change = self.hear_broadcast_packet(alloc, source, bytes, lists)?;
-            return Ok(Outcome::quiet(alloc, change));
+            return self.hear_broadcast_packet(alloc, source, bytes, lists, &mut outcome.change);
         }
         if self.claimer.held() == Some(dest) {
-            return self.hear_session_packet(alloc, source, dest, bytes, lists);
+            return self.hear_session_packet(alloc, source, dest, bytes, lists, outcome);
         }
-        Ok(Outcome::quiet(alloc, Change::Nothing))
+        Ok(())
     }
 }

@@ -63,8 +63,8 @@ invariant_of-self-2 c =
     let r = c.args.reading.now in
     let t = a.bus.traffic in
     let s = state a in
-    let rx = c.in_ok-outcome.outcome.reaction in
-    let few = c.in_ok-outcome.ensures.few in
+    let rx = c.in_ok-reaction.field-0.reaction in
+    let few = c.in_ok-reaction.ensures.few in
     let kept = c.reserve.ensures.traffic in
     let below = station_below a c.args.self.now y c.self.view_is stands c.requires.station in
     let x = c.index_mut-post.result.now in
@@ -86,18 +86,18 @@ invariant_of-self-2 c =
     let n = c.note_read.ensures.room in
     let p : Post = (record { setting = x.setting; station = c.take.new.self; lists = c.take.new.lists }) in
     let heard = reading_heard a y x stands below read in
-    let lists = listed_now (station_of_at (settings_of a) y) r (readings_at y (reverse a.journal.items)) x.lists c.take.new.lists (c.in_ok-outcome.ensures.listed _ _ _ heard.0) heard.1 in
+    let lists = listed_now (station_of_at (settings_of a) y) r (readings_at y (reverse a.journal.items)) x.lists c.take.new.lists (c.in_ok-reaction.ensures.listed _ _ _ heard.0) heard.1 in
     stands_more a _ (Read y r) stands (record {
       settings = ap (λ (l : List StationSetting). let z : Settings = record { stations = l; limit = a.limit } in z) (set_settings a.posts.items y x p in' read refl);
       journal = c.note_read.ensures.items ∙ ap (λ (l : List Event). l ++ Read y r ∷ []) c.make_room.ensures.items;
       fits = (station_there a y stands below, fit, c.requires.some);
-      traffic = now ∙ (ap (λ (z : Reaction). reacted y z (reading_taken y r t)) c.in_ok-outcome.ensures.reaction ∙ (ap (λ (z : StationValue). reacted y (station_reaction z r) (reading_taken y r t)) table
+      traffic = now ∙ (ap (λ (z : Reaction). reacted y z (reading_taken y r t)) c.in_ok-reaction.ensures.reaction ∙ (ap (λ (z : StationValue). reacted y (station_reaction z r) (reading_taken y r t)) table
           ∙ (ap (λ (u : Traffic). reacted y (station_reaction (table_at s y) r) (reading_taken y r u)) stands.traffic ∙ sym (ap (λ (v : State). v.traffic) is))));
       stations = refl;
       posts = λ j h. elim (same_or_not j y) [
         | inl e ↦
             ap (λ (i : ℕ). (post_at (set a.posts.items y p) i).station) e ∙ (ap (λ (q : Post). q.station) (own_post a.posts.items y p in')
-            ∙ (c.in_ok-outcome.ensures.step ∙ (ap (λ (z : StationValue). station_after z r) table ∙ (sym (read_table a y r stands below) ∙ ap (λ (i : ℕ). table_at (after (Read y r) s) i) (sym e)))))
+            ∙ (c.in_ok-reaction.ensures.step ∙ (ap (λ (z : StationValue). station_after z r) table ∙ (sym (read_table a y r stands below) ∙ ap (λ (i : ℕ). table_at (after (Read y r) s) i) (sym e)))))
         | inr z ↦ ap (λ (q : Post). q.station) (other_post a.posts.items y j p z) ∙ (stands.posts j h ∙ sym (other_table a y j r z))
       ];
       lists = λ j n k h. elim (same_or_not j y) [

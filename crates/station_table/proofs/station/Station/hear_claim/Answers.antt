@@ -7,4 +7,4 @@ returns-clause-ok c =
     rw (← c.self.view_is, c.in_ok-note_claim.ensures.claim, c.claim.ensures, c.in_ok-note_claim.ensures.row, c.put.ensures, c.make.ensures.slots, c.keep_under.ensures, c.keep_sessions.ensures, c.answer-step.ensures.step) refl
 
 pub returns-clause-reaction : goal.returns-clause-reaction
-returns-clause-reaction c = c.in_ok-reaction.ensures ∙ (rw (c.answer-step.ensures.step, ← c.self.view_is) refl)
+returns-clause-reaction c = c.in_ok-outcome.ensures ∙ (rw (c.answer-step.ensures.step, ← c.self.view_is) refl)

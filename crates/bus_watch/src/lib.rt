@@ -1,8 +1,8 @@
 //! A diagnostic reader over the lines of a log or of a live bus: the station reads them, and what changes is told.
 //!
 //! Each line is at most one reading of the station: its frame, or frames that were missed. What a reading lists under a
-//! NAME is taken out of the station and kept as runs of equal entries, so memory grows by what changes. After every line
-//! each list is what was heard of the readings of the lines so far.
+//! NAME goes to lists of runs of equal entries (`entry_lists`), so memory grows by what changes. After every line each list
+//! is what was heard of the readings of the lines so far.
 #![tactic(auto)]
 
 mod change;

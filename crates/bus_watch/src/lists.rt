@@ -114,16 +114,17 @@ impl Lists {
         ensures begins { IfOk result (λ b. b ≡ has_begun (runs_under self.old entry.name entry.kind) (runs_under self.new entry.name entry.kind)) }
         ensures err { OnErr result (self.new ≡ self.old) }
     {
-        match entry.kind {
-            Kind::Dm1 => self
-                .dm1
-                .add(alloc, entry.name, entry.shown, self.newest, contested),
-            Kind::Dm2 => self
-                .dm2
-                .add(alloc, entry.name, entry.shown, self.newest, contested),
-            Kind::Dm6 => self
-                .dm6
-                .add(alloc, entry.name, entry.shown, self.newest, contested),
+        let NewEntry {
+            name,
+            kind,
+            shown,
+            ..
+        } = entry;
+        let time = self.newest;
+        match kind {
+            Kind::Dm1 => self.dm1.add(alloc, name, shown, time, contested),
+            Kind::Dm2 => self.dm2.add(alloc, name, shown, time, contested),
+            Kind::Dm6 => self.dm6.add(alloc, name, shown, time, contested),
         }
     }
 

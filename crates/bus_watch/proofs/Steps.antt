@@ -13,7 +13,7 @@ use Rattle.bus_watch.specs.Tellings.{is_news, none_told, told_of}
 use Rattle.bus_watch.specs.declared.change.Changes.{Changes}
 use Rattle.bus_watch.specs.Told.{Assumed, Beginning, IsToldAs, Read, StandsForAll, Told, all_said, nothing_said}
 use Rattle.bus_watch.specs.Runs.{ListsValue, entries_in, no_runs}
-use Rattle.bus_watch.specs.WatchValue.{Hears, HearsTold, StandsInRuns, Takes, Tells, WatchValue}
+use Rattle.bus_watch.specs.WatchValue.{HearsLine, TellsLine, StandsInRuns, Takes, Tells, WatchValue}
 use Rattle.bus_watch.proofs.Taking.{nothing_listed}
 
 -- the address that the station holds is the one that it heard of
@@ -36,7 +36,7 @@ reading_said b ts w l s =
     ap (λ k. reading_by k w.followed l) (held_as_said b ts w s) ∙ ap (λ f. reading_by (address_heard b.station (all_said b ts).readings) f l) s.followed
 
 -- a line: its reading is taken, and what is known of the bus goes on
-pub stands_for_line : (old new : WatchValue) (l : Line) → Hears old new l → (b : Beginning) (ts : List Told) → StandsForAll b ts old → StandsForAll b (Read l ∷ ts) new
+pub stands_for_line : (old new : WatchValue) (l : Line) → HearsLine old new l → (b : Beginning) (ts : List Told) → StandsForAll b ts old → StandsForAll b (Read l ∷ ts) new
 stands_for_line old new l hears b ts s = record {
   heard = subst (λ y. StandsInRuns b.station new (y ∷ (all_said b ts).readings)) (reading_said b ts old l s) (hears.stands b.station (all_said b ts).readings s.heard);
   followed = hears.followed
@@ -51,19 +51,19 @@ told_same : (old new : WatchValue) (r : StationSettings) (h : List Reading) (x y
 told_same old new r h x y c e is = is ∙ ap (λ (z : Reading). told_of (is_news old.told old.lists new.lists (change_heard r z h)) (change_heard r z h)) e
 
 -- and what is told is of what the line changed
-pub told_of_line : (old new : WatchValue) (l : Line) (c : Changes) → HearsTold old new l c → IsToldAs (Read l) old new c
+pub told_of_line : (old new : WatchValue) (l : Line) (c : Changes) → TellsLine old new l c → IsToldAs (Read l) old new c
 told_of_line old new l c tells b ts s =
     told_same old new b.station (all_said b ts).readings _ _ c (reading_said b ts old l s) (tells b.station (all_said b ts).readings s.heard)
 
 -- the same at a call's answer
-pub stands_line_ok : {T E : Type 0} (result : Result T E) (start old new : WatchValue) (l : Line) → start ≡ old → OnOk result (Hears start new l)
+pub stands_line_ok : {T E : Type 0} (result : Result T E) (start old new : WatchValue) (l : Line) → start ≡ old → OnOk result (HearsLine start new l)
     → OnOk result ((b : Beginning) (ts : List Told) → StandsForAll b ts old → StandsForAll b (Read l ∷ ts) new)
-stands_line_ok (Ok v) start old new l same hears = stands_for_line old new l (subst (λ (w : WatchValue). Hears w new l) same hears)
+stands_line_ok (Ok v) start old new l same hears = stands_for_line old new l (subst (λ (w : WatchValue). HearsLine w new l) same hears)
 stands_line_ok (Err e) start old new l same hears = tt
 
-pub told_line_ok : {E : Type 0} (result : Result Changes E) (start old new : WatchValue) (l : Line) → start ≡ old → IfOk result (λ c. HearsTold start new l c)
+pub told_line_ok : {E : Type 0} (result : Result Changes E) (start old new : WatchValue) (l : Line) → start ≡ old → IfOk result (λ c. TellsLine start new l c)
     → IfOk result (λ c. IsToldAs (Read l) old new c)
-told_line_ok (Ok v) start old new l same tells = told_of_line old new l v (subst (λ (w : WatchValue). HearsTold w new l v) same tells)
+told_line_ok (Ok v) start old new l same tells = told_of_line old new l v (subst (λ (w : WatchValue). TellsLine w new l v) same tells)
 told_line_ok (Err e) start old new l same tells = tt
 
 -- an assumed claim is read, and nothing else

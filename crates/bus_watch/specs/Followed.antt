@@ -49,8 +49,8 @@ abbrev pub renamed : Option (List ℕ) → Option (List ℕ) → Option (List �
 renamed None followed = followed
 renamed (Some name) followed = Some name
 
-abbrev pub with_name : Option (List ℕ) → Followed → Followed
-with_name name f = record f { bus = renamed name f.bus }
+abbrev pub with_bus_name : Option (List ℕ) → Followed → Followed
+with_bus_name name f = record f { bus = renamed name f.bus }
 
 abbrev pub with_bus : Option (Bor (List ℕ)) → Followed → Followed
 with_bus bus f = record f { bus = bus_after f.bus bus }

@@ -39,9 +39,9 @@ pub record Takes (old new : WatchValue) (reading : Reading) (known : Followed) :
   pub followed : new.followed ≡ known
 
 -- the reading that a line is is taken, and it is known of the bus what the line says
-abbrev pub Hears : WatchValue → WatchValue → Line → Type 0
-Hears old new line = Takes old new (reading_by old.station.claimer.held old.followed line) (followed_after old.station.claimer.held old.followed line)
+abbrev pub HearsLine : WatchValue → WatchValue → Line → Type 0
+HearsLine old new line = Takes old new (reading_by old.station.claimer.held old.followed line) (followed_after old.station.claimer.held old.followed line)
 
 -- and what is told is of what that reading changed
-abbrev pub HearsTold : WatchValue → WatchValue → Line → Changes → Type 0
-HearsTold old new line told = Tells old new (reading_by old.station.claimer.held old.followed line) told
+abbrev pub TellsLine : WatchValue → WatchValue → Line → Changes → Type 0
+TellsLine old new line told = Tells old new (reading_by old.station.claimer.held old.followed line) told

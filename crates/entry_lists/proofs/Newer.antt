@@ -13,7 +13,7 @@ use Rattle.dm_messages.specs.declared.kind.Kind.{Kind}
 use Rattle.dm_messages.specs.declared.kind.Kind.TheVariants.{Dm1, Dm2, Dm6}
 use Rattle.dm_messages.specs.declared.shown.Shown.{Shown}
 use Rattle.entry_lists.specs.Entries.{with_new}
-use Rattle.entry_lists.specs.Newest.{AreNewest, HasNewest, KeepsNewest, NewestKinds, NewestLists, NewestValue, newest_of, no_kinds, one_newer, with_newer, with_newest}
+use Rattle.entry_lists.specs.Newest.{AreNewest, HasNewest, KeepsNewest, NewestKinds, NewestLists, NewestValue, newest_in, no_kinds, one_newer, with_newer, with_newest}
 use Rattle.entry_lists.specs.declared.entry.NewEntry.{NewEntry}
 use Rattle.entry_lists.proofs.Rows.{insert_new, lookup-last}
 
@@ -49,7 +49,7 @@ one_more keep v all kept a = record {
 }
 
 -- of each kind
-kinds_more : (keep : ℕ) (k l : Kind) (v : Shown) (x : NewestKinds) → newest_of (with_newer keep k v x) l ≡ (if same_kind k l then one_newer keep v (newest_of x l) else newest_of x l)
+kinds_more : (keep : ℕ) (k l : Kind) (v : Shown) (x : NewestKinds) → newest_in (with_newer keep k v x) l ≡ (if same_kind k l then one_newer keep v (newest_in x l) else newest_in x l)
 kinds_more keep Dm1 Dm1 v x = refl
 kinds_more keep Dm1 Dm2 v x = refl
 kinds_more keep Dm1 Dm6 v x = refl
@@ -78,17 +78,17 @@ put_newest before rows e found = record { keep = refl; lists = λ all kept n k. 
     kinds n = unwrap_or (lookup (nat_eq n) before.rows) no_kinds
 
     of_kind : (b : Bool) (n : ℕ) (k : Kind)
-        → newest_of (if b then with_newer before.keep e.kind e.shown (kinds n) else kinds n) k
-        ≡ (if b then (if same_kind e.kind k then one_newer before.keep e.shown (newest_of (kinds n) k) else newest_of (kinds n) k) else newest_of (kinds n) k)
+        → newest_in (if b then with_newer before.keep e.kind e.shown (kinds n) else kinds n) k
+        ≡ (if b then (if same_kind e.kind k then one_newer before.keep e.shown (newest_in (kinds n) k) else newest_in (kinds n) k) else newest_in (kinds n) k)
     of_kind true n k = kinds_more before.keep e.kind k e.shown (kinds n)
     of_kind false n k = refl
 
     here : (all : ℕ → Kind → List Shown) → KeepsNewest before all → (n : ℕ) (k : Kind)
-        → AreNewest before.keep (with_new e all n k) (newest_of (unwrap_or (lookup (nat_eq n) rows) no_kinds) k)
+        → AreNewest before.keep (with_new e all n k) (newest_in (unwrap_or (lookup (nat_eq n) rows) no_kinds) k)
     here all kept n k =
         subst (λ (x : NewestValue). AreNewest before.keep (with_new e all n k) x)
-        (sym (ap (λ (x : NewestKinds). newest_of x k) (found n) ∙ of_kind (e.name == n) n k))
-        (of_list before.keep (e.name == n) (same_kind e.kind k) e.shown (all n k) (newest_of (kinds n) k) (kept n k))
+        (sym (ap (λ (x : NewestKinds). newest_in x k) (found n) ∙ of_kind (e.name == n) n k))
+        (of_list before.keep (e.name == n) (same_kind e.kind k) e.shown (all n k) (newest_in (kinds n) k) (kept n k))
 
 -- a NAME that had no lists
 pub begun : (before : NewestLists) (rows : List (ℕ × NewestKinds)) (e : NewEntry) (kinds : NewestKinds) → lookup (nat_eq e.name) before.rows ≡ None
@@ -132,7 +132,7 @@ empty (suc n) = refl
 pub none_newest : (keep : ℕ) → KeepsNewest (record { keep = keep; rows = [] }) (λ n k. [])
 none_newest keep = λ n k. go k
   where
-    go : (k : Kind) → AreNewest keep [] (newest_of no_kinds k)
+    go : (k : Kind) → AreNewest keep [] (newest_in no_kinds k)
     go Dm1 = record { entries = empty (0 - keep); count = refl }
     go Dm2 = record { entries = empty (0 - keep); count = refl }
     go Dm6 = record { entries = empty (0 - keep); count = refl }

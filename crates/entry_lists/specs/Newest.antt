@@ -37,10 +37,10 @@ pub record NewestKinds : Type 0 where
 abbrev pub no_kinds : NewestKinds
 no_kinds = record { dm1 = none_came; dm2 = none_came; dm6 = none_came }
 
-abbrev pub newest_of : NewestKinds → Kind → NewestValue
-newest_of kinds Dm1 = kinds.dm1
-newest_of kinds Dm2 = kinds.dm2
-newest_of kinds Dm6 = kinds.dm6
+abbrev pub newest_in : NewestKinds → Kind → NewestValue
+newest_in kinds Dm1 = kinds.dm1
+newest_in kinds Dm2 = kinds.dm2
+newest_in kinds Dm6 = kinds.dm6
 
 abbrev pub with_newer : ℕ → Kind → Shown → NewestKinds → NewestKinds
 with_newer keep Dm1 shown kinds = record kinds { dm1 = one_newer keep shown kinds.dm1 }
@@ -54,7 +54,7 @@ pub record NewestLists : Type 0 where
 
 -- what is kept of the list of a kind under a NAME
 abbrev pub newest_under : NewestLists → ℕ → Kind → NewestValue
-newest_under lists name kind = newest_of (unwrap_or (lookup (nat_eq name) lists.rows) no_kinds) kind
+newest_under lists name kind = newest_in (unwrap_or (lookup (nat_eq name) lists.rows) no_kinds) kind
 
 -- of each of these lists the newest entries are kept
 abbrev pub KeepsNewest : NewestLists → (ℕ → Kind → List Shown) → Type 0

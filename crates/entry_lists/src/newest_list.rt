@@ -96,7 +96,7 @@ impl Model for NewestOfKinds {
 }
 
 impl NewestOfKinds {
-    ghost use Rattle.entry_lists.specs.Newest.{newest_of, no_kinds, with_newer};
+    ghost use Rattle.entry_lists.specs.Newest.{newest_in, no_kinds, with_newer};
 
     /// None came.
     pub(crate) fn new(alloc: Global) -> NewestOfKinds
@@ -123,7 +123,7 @@ impl NewestOfKinds {
 
     /// What is kept of the list of a kind.
     pub(crate) fn list(&self, kind: Kind) -> &NewestList
-        ensures { result.now ≡ newest_of self.now kind }
+        ensures { result.now ≡ newest_in self.now kind }
     {
         match kind {
             Kind::Dm1 => &self.dm1,

@@ -3,7 +3,7 @@ ghost use Rattle.address_claim.specs.Frames.{claim_frame_value};
 ghost use Rattle.bus_watch.specs.Followed as followed;
 ghost use Rattle.bus_watch.specs.Told.{Told, Beginning, IsToldAs, StandsForAll};
 ghost use Rattle.bus_watch.specs.Told as told;
-ghost use Rattle.bus_watch.specs.WatchValue.{Hears, HearsTold, Takes, Tells};
+ghost use Rattle.bus_watch.specs.WatchValue.{HearsLine, TellsLine, Takes, Tells};
 ghost use Rattle.can_frame.specs.FrameValue.{FrameValue};
 ghost use Rattle.can_frame.specs.declared.address.TheConstants.{GREATEST_ADDRESS};
 ghost use Rattle.can_frame.specs.declared.reading.Reading.TheVariants.{Frame as FrameRead};
@@ -58,8 +58,8 @@ impl Watch {
 
     /// Has the station take the reading that a line is, and tells what it changed.
     fn hear_line(&mut self, alloc: Global, line: &Line<'_>) -> Result<Changes, AllocError>
-        ensures hears { OnOk result (Hears self.old self.new line.now) }
-        ensures tells { IfOk result (λ c. HearsTold self.old self.new line.now c) }
+        ensures hears { OnOk result (HearsLine self.old self.new line.now) }
+        ensures tells { IfOk result (λ c. TellsLine self.old self.new line.now c) }
         ensures err { OnErr result (self.new ≡ self.old) }
     {
         match line {
@@ -89,8 +89,8 @@ impl Watch {
         bus: Option<&str>,
         frame: &Frame,
     ) -> Result<Changes, AllocError>
-        ensures hears { OnOk result (Hears self.old self.new (said.Frame time bus.entry frame.now)) }
-        ensures tells { IfOk result (λ c. HearsTold self.old self.new (said.Frame time bus.entry frame.now) c) }
+        ensures hears { OnOk result (HearsLine self.old self.new (said.Frame time bus.entry frame.now)) }
+        ensures tells { IfOk result (λ c. TellsLine self.old self.new (said.Frame time bus.entry frame.now) c) }
         ensures err { OnErr result (self.new ≡ self.old) }
     {
         if !self.is_watched(bus) {
@@ -112,7 +112,7 @@ impl Watch {
         frame: &Frame,
     ) -> Result<Changes, AllocError>
         ensures takes { OnOk result (Takes self.old self.new (followed.frame_reading self.old.station.claimer.held time self.old.followed frame.now)
-            (followed.followed_with self.old.station.claimer.held time (group_of frame.now) (followed.with_name (option_map string_bytes named) self.old.followed))) }
+            (followed.followed_with self.old.station.claimer.held time (group_of frame.now) (followed.with_bus_name (option_map string_bytes named) self.old.followed))) }
         ensures tells { IfOk result (λ c. Tells self.old self.new (followed.frame_reading self.old.station.claimer.held time self.old.followed frame.now) c) }
         ensures err { OnErr result (self.new ≡ self.old) }
     {
@@ -255,8 +255,8 @@ impl Watch {
         time: Option<Time>,
         bus: Option<&str>,
     ) -> Result<Changes, AllocError>
-        ensures hears { OnOk result (Hears self.old self.new (said.Overflow time bus.entry)) }
-        ensures tells { IfOk result (λ c. HearsTold self.old self.new (said.Overflow time bus.entry) c) }
+        ensures hears { OnOk result (HearsLine self.old self.new (said.Overflow time bus.entry)) }
+        ensures tells { IfOk result (λ c. TellsLine self.old self.new (said.Overflow time bus.entry) c) }
         ensures err { OnErr result (self.new ≡ self.old) }
     {
         let named = self.bus_named(alloc, bus)?;
@@ -297,8 +297,8 @@ impl Watch {
         bus: Option<&str>,
         what: Foreign,
     ) -> Result<Changes, AllocError>
-        ensures hears { OnOk result (Hears self.old self.new (said.Foreign bus.entry what)) }
-        ensures tells { IfOk result (λ c. HearsTold self.old self.new (said.Foreign bus.entry what) c) }
+        ensures hears { OnOk result (HearsLine self.old self.new (said.Foreign bus.entry what)) }
+        ensures tells { IfOk result (λ c. TellsLine self.old self.new (said.Foreign bus.entry what) c) }
         ensures err { OnErr result (self.new ≡ self.old) }
     {
         let named = self.bus_named(alloc, bus)?;
@@ -353,7 +353,7 @@ impl Watch {
 
     /// Names the watched bus, where a name is given.
     fn name_bus(&mut self, named: Option<String>)
-        ensures { self.new ≡ record self.old { followed = followed.with_name (option_map string_bytes named) self.old.followed } }
+        ensures { self.new ≡ record self.old { followed = followed.with_bus_name (option_map string_bytes named) self.old.followed } }
     {
         if named.is_some() {
             self.bus = named;

@@ -1,5 +1,6 @@
 -- What a reading changes by the tables is what was heard to change.
-use Rattle.std.proofs.Common.{◌≡◌, ℕ, ◌<◌, Bool, ◌||◌, ◌==◌, List, ◌∷◌, Option, Some, None, if◌then◌else◌, refl, sym, ap, ◌∙◌, subst}
+use Rattle.std.proofs.Common.{◌≡◌, ℕ, ◌<◌, Bool, true, false, ◌||◌, ◌==◌, List, ◌∷◌, Option, Some, None, if◌then◌else◌, refl, sym, ap, ◌∙◌, subst}
+use Rattle.std.proofs.lemmas.Bool.{eq-eqb, eqb-true}
 use Rattle.address_claim.specs.Claiming.{is_held}
 use Rattle.bus_model.specs.Changed.{announced_change, answer_change, change_heard, claim_change, displaced_by, ended_change, giving_up, group_change, has_answered, is_again, single_change, still_has}
 use Rattle.bus_model.specs.Heard.{Joining, RowHeard, StationSettings, ack_in_row, address_heard, address_in_row, address_known, broadcast_heard, ended_by, finished, kind_of, owner_heard}
@@ -14,9 +15,9 @@ use Rattle.reassembly.specs.Tables.{at}
 use Rattle.transport.specs.declared.control.Control.{Control}
 use Rattle.transport.specs.declared.control.Control.TheVariants.{Bam}
 use Rattle.station_table.specs.Changing.{address_by, answers_again, ended_by_packet, group_changes, keeps_address, reading_changes}
-use Rattle.station_table.specs.KeptValue.{KeptValue, kept_under}
+use Rattle.station_table.specs.KeptValue.{KeptValue, claimed_in, kept_under}
 use Rattle.station_table.specs.Orders.{address_in}
-use Rattle.station_table.specs.StandsFor.{StandsFor, row_known, row_of}
+use Rattle.station_table.specs.StandsFor.{StandsFor, row_known, row_of, still_owned}
 use Rattle.station_table.specs.StationValue.{StationValue}
 use Rattle.station_table.proofs.Lines.{held_same}
 use Rattle.station_table.specs.Steps.{after_group}
@@ -86,3 +87,25 @@ heard_by_group r grant s h f g c is e st = e ∙ (ap (group_changes s) (sym is) 
 pub stands_by_group : (r : StationSettings) (grant : ℕ) (s t : StationValue) (h : List Reading) (f : FrameValue) (g : Group) → group_of f ≡ g → t ≡ after_group s g → StandsFor r grant s h
     → StandsFor r grant t (Frame f ∷ h)
 stands_by_group r grant s t h f g is e st = subst (λ (v : StationValue). StandsFor r grant v (Frame f ∷ h)) (ap (after_group s) is ∙ sym e) (stands_after r grant s h (Frame f) st)
+
+-- the owner of an address has it still where it claimed that last
+owner_has : (owners : List (Option ℕ)) (name address : ℕ) (o : Option KeptValue) → at owners address ≡ Some name → is_held (address_in (row_of owners name o)) address ≡ is_held (claimed_in o) address
+owner_has owners name address None owned = refl
+owner_has owners name address (Some kept) owned = of_claim kept.claimed
+  where
+    of_claim : (c : Option ℕ) → is_held (still_owned owners name c) address ≡ is_held c address
+    of_claim None = refl
+    of_claim (Some a) = go (a == address) (is_held (at owners a) name) refl refl
+      where
+        go : (b c : Bool) → (a == address) ≡ b → is_held (at owners a) name ≡ c → is_held (if c then Some a else None) address ≡ (a == address)
+        go b true i j = refl
+        go false false i j = sym i
+        go true false i j =
+            let here : at owners a ≡ Some name = ap (at owners) (eqb-true a address i) ∙ owned in
+            let held : is_held (at owners a) name ≡ true = rw here (eq-eqb name name refl) in
+            absurd cc
+
+pub lost_by_claim : (s : StationValue) (name address : ℕ) (owner : Option ℕ) → owner ≡ at s.owners address → owner ≡ Some name
+    → is_held (claimed_in (kept_under s.rows name)) address ≡ keeps_address s owner address
+lost_by_claim s name address owner here is =
+    sym (owner_has s.owners name address (kept_under s.rows name) (sym here ∙ is)) ∙ ap (λ (o : Option ℕ). keeps_address s o address) (sym is)

@@ -25,6 +25,11 @@ with_ack ack kept = record kept { ack = Some ack }
 abbrev pub kept_under : List (ℕ × KeptValue) → ℕ → Option KeptValue
 kept_under rows name = lookup (nat_eq name) rows
 
+-- the address last claimed in a row, if there is one
+abbrev pub claimed_in : Option KeptValue → Option ℕ
+claimed_in None = None
+claimed_in (Some kept) = kept.claimed
+
 -- with an empty row of the NAME at the end, where it has none
 abbrev pub with_row : List (ℕ × KeptValue) → ℕ → List (ℕ × KeptValue)
 with_row rows name = if is_some (kept_under rows name) then rows else rows ++ (name, nothing_kept) ∷ []

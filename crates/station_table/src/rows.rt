@@ -24,7 +24,7 @@ impl Model for Rows {
 }
 
 impl Rows {
-    ghost use Rattle.station_table.specs.KeptValue.{KeptValue, kept_under, with_claimed, with_ack, with_row, changed_under};
+    ghost use Rattle.station_table.specs.KeptValue.{KeptValue, claimed_in, kept_under, with_claimed, with_ack, with_row, changed_under};
 
     /// No rows.
     pub fn new(alloc: Global) -> Rows
@@ -89,6 +89,16 @@ impl Rows {
     {
         if let Some(kept) = self.rows.get_mut(&name) {
             kept.acknowledge(ack);
+        }
+    }
+
+    /// The address last claimed under the NAME, if it has a row and claimed one.
+    pub fn claimed(&self, name: Name) -> Option<u8>
+        ensures { result ≡ claimed_in (kept_under self.now name) }
+    {
+        match self.rows.get(&name) {
+            Some(kept) => kept.claimed(),
+            None => None,
         }
     }
 

@@ -70,8 +70,10 @@ impl Station {
         }
     }
 
-    /// The owner of an address, where it is another NAME.
+    /// The owner of an address, where it is another NAME; lost where the address is the one that it claimed last.
+    #[tactic(auto, using(crate::proofs::Changing::lost_by_claim))]
     fn displaced(&self, owner: Option<Name>, address: u8, name: Name) -> Option<Displaced>
+        requires { owner ≡ at self.now.owners address }
         ensures { result ≡ displaced_by name owner (keeps_address self.now owner address) }
     {
         let other = owner?;
@@ -80,7 +82,7 @@ impl Station {
         }
         Some(Displaced {
             name: other,
-            lost: self.address_of(other) == Some(address),
+            lost: self.rows.claimed(other) == Some(address),
         })
     }
 

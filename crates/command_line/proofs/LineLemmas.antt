@@ -1,5 +1,5 @@
 -- What `clap` makes of the program's command.
-use Rattle.std.proofs.Common.{◌≡◌, ◌&&◌, ◌⊎◌, inl, inr, ◌∷◌, [], List, Option, Some, None, Result, Ok, Err, IsErrAnd, OnOk, option_map, true, refl, sym, ◌∙◌, ap, subst, codes, Box}
+use Rattle.std.proofs.Common.{◌≡◌, ◌&&◌, ◌⊎◌, inl, inr, ◌∷◌, [], List, Option, Some, None, Result, Ok, Err, IfErr, OnOk, option_map, true, refl, sym, ◌∙◌, ap, subst, codes, Box}
 use Rattle.std.specs.Box.{box_value}
 use Rattle.clap.specs.Walk.{Text, nothing_held, stop_after}
 use Rattle.clap.specs.Simple.{App, app_of, built, entered, is_simple, names_of, subcommand_of, subcommand_rows, subcommand_rows_of}
@@ -11,13 +11,13 @@ use Rattle.clap.specs.Matches.{subcommand_name_of}
 use Rattle.clap.specs.declared.builder.command.Command.{Command}
 use Rattle.clap.specs.declared.error.Error.{Error}
 use Rattle.clap.specs.declared.error.kind.ErrorKind.{ErrorKind}
-use Rattle.clap.specs.declared.error.kind.ErrorKind.TheVariants.{InvalidValue, UnknownArgument, InvalidSubcommand, NoEquals, ValueValidation, TooManyValues, TooFewValues, WrongNumberOfValues, ArgumentConflict, MissingRequiredArgument, MissingSubcommand, DisplayHelp, DisplayHelpOnMissingArgumentOrSubcommand, DisplayVersion, Io, Format, OutOfMemory}
+use Rattle.clap.specs.declared.error.kind.ErrorKind.TheVariants.{DisplayHelp, DisplayVersion, OutOfMemory}
 use Rattle.clap.specs.declared.parser.matches.ArgMatches.{ArgMatches}
 use Rattle.clap.specs.declared.parser.matches.ArgMatches.TheViews.{out-ArgMatches, out-SubCommand}
 use Rattle.clap.specs.declared.parser.matches.SubCommand.{SubCommand}
 use Rattle.clap.proofs.OnLiterals.{clap_on_literals}
-use Rattle.command_line.specs.CommandLine.{AsksForHelp, AsksForScript, bench_app, faults_in, line_fault_of}
-use Rattle.command_line.specs.declared.fault.LineFault.TheVariants.{Help, Memory, Refused}
+use Rattle.command_line.specs.CommandLine.{AsksForHelp, AsksForScript, IsHelp, bench_app, faults_in}
+use Rattle.command_line.specs.declared.fault.LineFault.{LineFault}
 
 pub is_exact : is_simple_and_free bench_app ≡ true
 unfolding clap_on_literals
@@ -64,9 +64,9 @@ names_job command words m same rows asks =
 -- and one that gives an error ran out of memory
 pub only_memory : (command : Command) (words : List Text) (e : Error) → app_of command ≡ bench_app
     → (takes (app_of command) words ≡ true → kind_of e ≡ OutOfMemory)
-    → AsksForScript words → line_fault_of (kind_of e) ≡ Memory
+    → AsksForScript words → kind_of e ≡ OutOfMemory
 only_memory command words e same passes asks =
-    ap line_fault_of (passes (ap (λ a. takes a words) same ∙ takes_script words asks))
+    passes (ap (λ a. takes a words) same ∙ takes_script words asks)
 
 -- a parse that gives matches found no fault
 pub no_fault : (command : Command) (words : List Text) → app_of command ≡ bench_app
@@ -79,47 +79,24 @@ pub on_ok : {T E P : Type 0} (r : Result T E) → P → OnOk r P
 on_ok (Ok v) h = h
 on_ok (Err e) h = tt
 
-pub is_err_of : {T E : Type 0} (r : Result T E) (e : E) → IsErrAnd r (λ f. f ≡ e) → r ≡ Err e
-is_err_of (Ok v) e h = absurd h
-is_err_of (Err f) e h = ap Err h
+help_no_memory : DisplayHelp ≡ OutOfMemory → ⊥
+help_no_memory e = cc
 
-refused_no_help : Refused ≡ Help → ⊥
-refused_no_help e = cc
+version_no_memory : DisplayVersion ≡ OutOfMemory → ⊥
+version_no_memory e = cc
 
-memory_no_help : Memory ≡ Help → ⊥
-memory_no_help e = cc
+-- of a kind of error that asks for a page, the words ask for one
+help_found : (k : ErrorKind) (ks : Kinds) → (k ≡ DisplayHelp) ⊎ (k ≡ DisplayVersion) → (k ≡ OutOfMemory) ⊎ IsAmong k ks
+    → IsAmong DisplayHelp ks ⊎ IsAmong DisplayVersion ks
+help_found k ks (inl h) (inl e) = absurd (help_no_memory (sym h ∙ e))
+help_found k ks (inr h) (inl e) = absurd (version_no_memory (sym h ∙ e))
+help_found k ks (inl h) (inr a) = inl (subst (λ k. IsAmong k ks) h a)
+help_found k ks (inr h) (inr a) = inr (subst (λ k. IsAmong k ks) h a)
 
--- of the kinds of error, the two that ask for help alone are taken as such
-help_among : (k : ErrorKind) (ks : Kinds) → line_fault_of k ≡ Help → IsAmong k ks → IsAmong DisplayHelp ks ⊎ IsAmong DisplayVersion ks
-help_among DisplayHelp ks h a = inl a
-help_among DisplayVersion ks h a = inr a
-help_among OutOfMemory ks h a = absurd (memory_no_help h)
-help_among InvalidValue ks h a = absurd (refused_no_help h)
-help_among UnknownArgument ks h a = absurd (refused_no_help h)
-help_among InvalidSubcommand ks h a = absurd (refused_no_help h)
-help_among NoEquals ks h a = absurd (refused_no_help h)
-help_among ValueValidation ks h a = absurd (refused_no_help h)
-help_among TooManyValues ks h a = absurd (refused_no_help h)
-help_among TooFewValues ks h a = absurd (refused_no_help h)
-help_among WrongNumberOfValues ks h a = absurd (refused_no_help h)
-help_among ArgumentConflict ks h a = absurd (refused_no_help h)
-help_among MissingRequiredArgument ks h a = absurd (refused_no_help h)
-help_among MissingSubcommand ks h a = absurd (refused_no_help h)
-help_among DisplayHelpOnMissingArgumentOrSubcommand ks h a = absurd (refused_no_help h)
-help_among Io ks h a = absurd (refused_no_help h)
-help_among Format ks h a = absurd (refused_no_help h)
-
-help_found : (k : ErrorKind) (ks : Kinds) → line_fault_of k ≡ Help → (k ≡ OutOfMemory) ⊎ IsAmong k ks → IsAmong DisplayHelp ks ⊎ IsAmong DisplayVersion ks
-help_found k ks h (inl e) = absurd (memory_no_help (sym (ap line_fault_of e) ∙ h))
-help_found k ks h (inr a) = help_among k ks h a
-
--- an error that is taken as a call for help is one of the words
+-- an error that holds a page is one that the words ask for
 pub only_help : (command : Command) (words : List Text) (e : Error) → app_of command ≡ bench_app
     → (is_simple_and_free (app_of command) ≡ true → HasKind (fault_of (app_of command) words) e)
-    → line_fault_of (kind_of e) ≡ Help → AsksForHelp words
+    → (kind_of e ≡ DisplayHelp) ⊎ (kind_of e ≡ DisplayVersion) → AsksForHelp words
 only_help command words e same exact help =
     let P : App → Type 0 = λ a. HasKind (fault_of a words) e in
     help_found (kind_of e) (faults_in words) help (subst P same (exact (ap is_simple_and_free same ∙ is_exact)))
-
-pub same_err : {T E : Type 0} (r : Result T E) (e f : E) → r ≡ Err e → r ≡ Err f → e ≡ f
-same_err r e f g h = cc

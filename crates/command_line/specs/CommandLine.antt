@@ -5,12 +5,14 @@ use Rattle.clap.specs.Faults.{fault_of}
 use Rattle.clap.specs.Kinds.{Kinds, IsAmong}
 use Rattle.clap.specs.Walk.{Rule, Text}
 use Rattle.clap.specs.declared.builder.action.ArgAction.TheVariants.{Append, Set, SetTrue}
-use Rattle.clap.specs.declared.error.kind.ErrorKind.{ErrorKind}
-use Rattle.clap.specs.declared.error.kind.ErrorKind.TheVariants.{OutOfMemory, DisplayHelp, DisplayVersion}
-use Rattle.command_line.specs.declared.Job.{Job}
-use Rattle.command_line.specs.declared.Job.TheVariants.{Threads}
+use Rattle.clap.specs.declared.error.kind.ErrorKind.TheVariants.{DisplayHelp, DisplayVersion}
+use Rattle.command_words.specs.declared.Job.{Job}
+use Rattle.command_words.specs.declared.Job.TheVariants.{Threads}
 use Rattle.command_line.specs.declared.fault.LineFault.{LineFault}
-use Rattle.command_line.specs.declared.fault.LineFault.TheVariants.{Memory, Help, Refused}
+use Rattle.command_line.specs.declared.fault.LineFault.TheVariants.{Help}
+use Rattle.command_line.specs.declared.options.CommandOption.{CommandOption}
+use Rattle.command_line.specs.declared.options.Given.{Given}
+use Rattle.command_line.specs.declared.options.Given.TheVariants.{Always, Flag, Often, Once}
 
 -- `--NAME N`, which must be given
 abbrev pub count_rule : Text → Rule
@@ -28,43 +30,41 @@ value_rule name = record (new_rule name) { long = Some name; action = Some Set; 
 abbrev pub list_rule : Text → Rule
 list_rule name = record (new_rule name) { long = Some name; action = Some Append; value_names = 1 }
 
+-- what an option of a subcommand is to `clap`
+abbrev pub given_rule : Given → Text → Rule
+given_rule Flag name = flag_rule name
+given_rule Once name = value_rule name
+given_rule Often name = list_rule name
+given_rule Always name = count_rule name
+
+abbrev pub option_rule : CommandOption → Rule
+option_rule option = given_rule option.given option.name.now
+
+-- a subcommand of this name, with these options
+abbrev pub subcommand_shape : Text → List Rule → Shape
+subcommand_shape name rules = record (new_shape name) { rules = rules }
+
 abbrev pub script_shape : Shape
-script_shape = new_shape (codes "script")
+script_shape = subcommand_shape (codes "script") []
 
 abbrev pub threads_shape : Shape
-threads_shape = record (new_shape (codes "threads")) {
-  rules = count_rule (codes "turns") ∷ count_rule (codes "reads") ∷ flag_rule (codes "report") ∷ [];
-}
-
--- `watch`: with the words of its station, with those on its lines, and with those on what is written
-abbrev pub watch_station_shape : Shape
-watch_station_shape = record (new_shape (codes "watch")) {
-  rules = value_rule (codes "bus") ∷ value_rule (codes "address") ∷ value_rule (codes "name") ∷ [];
-}
-
-abbrev pub watch_lines_shape : Shape
-watch_lines_shape = record watch_station_shape {
-  rules = watch_station_shape.rules
-      ++ list_rule (codes "assume") ∷ value_rule (codes "bad") ∷ value_rule (codes "silence") ∷ [];
-}
+threads_shape = subcommand_shape (codes "threads")
+    (count_rule (codes "turns") ∷ count_rule (codes "reads") ∷ flag_rule (codes "report") ∷ [])
 
 abbrev pub watch_shape : Shape
-watch_shape = record watch_lines_shape {
-  rules = watch_lines_shape.rules ++ value_rule (codes "format") ∷ flag_rule (codes "strict") ∷ [];
-}
+watch_shape = subcommand_shape (codes "watch")
+    (value_rule (codes "bus") ∷ value_rule (codes "address") ∷ value_rule (codes "name")
+    ∷ list_rule (codes "assume") ∷ value_rule (codes "bad") ∷ value_rule (codes "silence")
+    ∷ value_rule (codes "format") ∷ flag_rule (codes "strict") ∷ [])
 
 abbrev pub log_shape : Shape
-log_shape = record (new_shape (codes "log")) {
-  rules = value_rule (codes "bus") ∷ value_rule (codes "period") ∷ [];
-}
+log_shape = subcommand_shape (codes "log") (value_rule (codes "bus") ∷ value_rule (codes "period") ∷ [])
 
 abbrev pub decode_shape : Shape
-decode_shape = record (new_shape (codes "decode")) {
-  rules = value_rule (codes "format") ∷ value_rule (codes "texts") ∷ [];
-}
+decode_shape = subcommand_shape (codes "decode") (value_rule (codes "format") ∷ value_rule (codes "texts") ∷ [])
 
 abbrev pub check_shape : Shape
-check_shape = new_shape (codes "check")
+check_shape = subcommand_shape (codes "check") []
 
 -- the command `j1939bench`: it has a version, and wants one of its subcommands
 abbrev pub garage_app : App
@@ -104,9 +104,7 @@ abbrev pub IsThreads : Job → Type 0
 IsThreads (Threads turns reads report) = IsCount turns × IsCount reads
 IsThreads _ = ⊥
 
--- what an error of `clap` is to the program
-abbrev pub line_fault_of : ErrorKind → LineFault
-line_fault_of OutOfMemory = Memory
-line_fault_of DisplayHelp = Help
-line_fault_of DisplayVersion = Help
-line_fault_of _ = Refused
+-- the words ask for a page of help
+abbrev pub IsHelp : LineFault → Type 0
+IsHelp (Help page) = Unit {0}
+IsHelp _ = ⊥

@@ -1,17 +1,17 @@
-ghost use Rattle.std.specs.Prelude.{◌≡◌};
+ghost use Rattle.std.specs.Prelude.{◌≡◌, ◌⊎◌};
 ghost use Rattle.clap.specs.Words.{kind_of};
-ghost use Rattle.command_line.specs.CommandLine.{line_fault_of};
-ghost use Rattle.command_line.specs.declared.fault.LineFault.TheVariants.{Memory};
+ghost use Rattle.clap.specs.declared.error.kind.ErrorKind.TheVariants.{DisplayHelp, DisplayVersion, OutOfMemory};
+ghost use Rattle.command_line.specs.CommandLine.{IsHelp};
 
 use clap::Error;
 use clap::error::ErrorKind;
-use std::alloc::AllocError;
+use std::alloc::{AllocError, Global};
 
 /// Why the command line gives no job.
-#[derive(Clone, Copy, Debug, PartialEq, Eq)]
+#[derive(Drop)]
 pub enum LineFault {
-    /// It asks for help, or for the version; `page` has the text.
-    Help,
+    /// It asks for help, or for the version: the page that it asks for.
+    Help(String),
     /// Its words are none of the program's.
     Refused,
     /// Memory ran out while it was read.
@@ -19,6 +19,8 @@ pub enum LineFault {
 }
 
 impl From<AllocError> for LineFault {
+    ghost use Rattle.command_line.specs.declared.fault.LineFault.TheVariants.{Memory};
+
     ghost from_gives = { λ _ fault. fault ≡ Memory };
 
     fn from(_: AllocError) -> LineFault {
@@ -26,14 +28,23 @@ impl From<AllocError> for LineFault {
     }
 }
 
-impl From<Error> for LineFault {
-    ghost from_gives = { λ e fault. fault ≡ line_fault_of (kind_of e) };
-
-    fn from(error: Error) -> LineFault {
-        match error.kind() {
-            ErrorKind::OutOfMemory => LineFault::Memory,
-            ErrorKind::DisplayHelp | ErrorKind::DisplayVersion => LineFault::Help,
-            _ => LineFault::Refused,
-        }
+/// What an error of `clap` is to the program.
+pub(crate) fn fault_of(alloc: Global, error: &Error) -> LineFault
+    ensures memory { kind_of error.now ≡ OutOfMemory → result ≡ LineFault.Memory }
+    ensures asked { (kind_of error.now ≡ DisplayHelp) ⊎ (kind_of error.now ≡ DisplayVersion) → IsHelp result ⊎ (result ≡ LineFault.Memory) }
+    ensures help { IsHelp result → (kind_of error.now ≡ DisplayHelp) ⊎ (kind_of error.now ≡ DisplayVersion) }
+{
+    match error.kind() {
+        ErrorKind::OutOfMemory => LineFault::Memory,
+        ErrorKind::DisplayHelp | ErrorKind::DisplayVersion => match page_of(alloc, error) {
+            Ok(page) => LineFault::Help(page),
+            Err(_) => LineFault::Memory,
+        },
+        _ => LineFault::Refused,
     }
+}
+
+/// The page that an error of `clap` holds.
+fn page_of(alloc: Global, error: &Error) -> Result<String, AllocError> {
+    format!(in alloc; "{error}")
 }

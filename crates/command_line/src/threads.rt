@@ -1,18 +1,20 @@
-ghost use Rattle.std.specs.Prelude.{◌≡◌, IfErr, IfOk, false};
+ghost use Rattle.std.specs.Prelude.{◌≡◌, IfErr, IfOk, IfSome, false};
 ghost use Rattle.clap.specs.declared.builder.command.Command.TheViews.{out-Command as fields_of};
 ghost use Rattle.clap.specs.Simple.{shape_of};
-ghost use Rattle.clap.specs.Walk.{rule_of};
-ghost use Rattle.command_line.specs.CommandLine.{IsThreads, count_rule, threads_shape};
+ghost use Rattle.command_line.specs.CommandLine.{IsCount, IsThreads, threads_shape};
 
-use crate::Job;
-use crate::args::flag_arg;
-use crate::counts::count;
 use crate::fault::LineFault;
-use clap::{Arg, ArgAction, ArgMatches, Command};
+use crate::options::{CommandOption, Given, subcommand};
+use clap::{ArgMatches, Command};
+use command_words::Job;
 use std::alloc::{AllocError, Global};
 
+/// The most turns and the most readings that can be asked for.
+const MOST: u32 = 100_000;
+
 /// A vehicle, as it stands in a file.
-pub(crate) const VEHICLE: &str = "\
+pub(crate) fn vehicle() -> &'static str {
+    "\
 A vehicle file:
 
   [station]                     # the diagnostic station
@@ -38,61 +40,61 @@ A vehicle file:
   address = 1
   kind = \"flicker\"              # plain, but for a code that comes and goes as it works
   spn = 100                     # 0 to 524287
-  fmi = 1                       # 0 to 31";
+  fmi = 1                       # 0 to 31"
+}
 
 /// The subcommand `threads`.
 pub(crate) fn command<'a>(alloc: Global) -> Result<Command<'a>, AllocError>
     ensures shape { IfOk result (λ c. shape_of c ≡ threads_shape) }
     ensures local { IfOk result (λ c. (fields_of c).has_globals ≡ false) }
 {
-    let turns = count_arg(
-        alloc,
-        "turns",
-        "N",
-        "How many turns each unit has, 1 to 100000",
-    );
-    let reads = count_arg(
-        alloc,
-        "reads",
-        "M",
-        "How often the station reads, 1 to 100000",
-    );
-    let report = flag_arg(
-        alloc,
-        "report",
-        "Writes the station's report after the units' lines",
-    );
-    Command::new(alloc, "threads")
-        .about(
-            "Reads a vehicle from standard input and runs each of its units in a thread of its own",
-        )
-        .after_help(VEHICLE)
-        .arg(turns)?
-        .arg(reads)?
-        .arg(report)
+    let about =
+        "Reads a vehicle from standard input and runs each of its units in a thread of its own";
+    let options = [
+        CommandOption {
+            name: "turns",
+            value: "N",
+            help: "How many turns each unit has, 1 to 100000",
+            given: Given::Always,
+        },
+        CommandOption {
+            name: "reads",
+            value: "M",
+            help: "How often the station reads, 1 to 100000",
+            given: Given::Always,
+        },
+        CommandOption {
+            name: "report",
+            value: "",
+            help: "Writes the station's report after the units' lines",
+            given: Given::Flag,
+        },
+    ];
+    subcommand(alloc, "threads", about, vehicle(), &options)
 }
 
-/// `--NAME N`, which must be given.
-fn count_arg<'a>(alloc: Global, name: &'a str, value: &'a str, help: &'a str) -> Arg<'a>
-    ensures rule { rule_of result ≡ count_rule name.entry.now }
-    ensures local { result.global ≡ false }
-{
-    Arg::new(alloc, name)
-        .long(name)
-        .value_name(value)
-        .required(true)
-        .action(ArgAction::Set)
-        .help(help)
-}
-
-/// The job that the words after `threads` ask for.
-pub(crate) fn job(found: &ArgMatches<'_>) -> Result<Job, LineFault>
+/// The job of the words behind `threads`.
+pub(crate) fn job<'a>(found: &ArgMatches<'_>) -> Result<Job<'a>, LineFault>
     ensures range { IfOk result IsThreads }
     ensures refused { IfErr result (λ fault. fault ≡ LineFault.Refused) }
 {
+    let (Some(turns), Some(reads)) = (count(found.get_str("turns")), count(found.get_str("reads")))
+    else {
+        return Err(LineFault::Refused);
+    };
     Ok(Job::Threads {
-        turns: count(found.get_str("turns"))?,
-        reads: count(found.get_str("reads"))?,
+        turns,
+        reads,
         report: found.get_flag("report"),
     })
+}
+
+/// The number that a word spells, 1 to 100,000.
+fn count(word: Option<&str>) -> Option<u32>
+    ensures { IfSome result IsCount }
+{
+    match word?.parse::<u32>() {
+        Ok(number) if number >= 1 && number <= MOST => Some(number),
+        _ => None,
+    }
 }

@@ -1,5 +1,0 @@
-use Rattle.std.proofs.Common.{IfErr}
-use Rattle.bench.proofs.script.answer_lines.Given as goal
-
-abbrev pub invariant-loop-line : goal.invariant-loop-line
-invariant-loop-line g l = IfErr l.heard g.L.Listener.ends_by

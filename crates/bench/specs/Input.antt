@@ -1,6 +1,0 @@
-use Rattle.std.specs.Prelude.{ℕ}
-use Rattle.bench.specs.declared.input.TheConstants.{LIMIT}
-
--- the most bytes of an input
-abbrev pub input_limit : ℕ
-input_limit = LIMIT

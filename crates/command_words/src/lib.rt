@@ -1,0 +1,74 @@
+//! What a command line asks for: a job, with the words that stand behind its subcommand.
+//!
+//! The words of `watch`, `log` and `decode` stand here as they were given. What they mean is read where the job is done.
+#![tactic(auto)]
+
+/// What the command line asks for.
+#[derive(Drop)]
+pub enum Job<'a> {
+    /// `script`: commands from standard input, an answer line for each to standard output.
+    Script,
+    /// `threads --turns N --reads M [--report]`: a vehicle from standard input, each of its units run in a thread of its own.
+    Threads {
+        /// How many turns each unit has, 1 to 100,000.
+        turns: u32,
+        /// How often the station reads, 1 to 100,000.
+        reads: u32,
+        /// Whether the report follows.
+        report: bool,
+    },
+    /// `watch`: the lines of a log or of a live bus, what they change, and a report.
+    Watch {
+        words: WatchWords<'a>,
+        /// Each `ADDRESS=NAME` of a unit that holds an address before the first line.
+        assumed: Vec<&'a str>,
+    },
+    /// `log`: a script from standard input, its wire as a log.
+    Log(LogWords<'a>),
+    /// `decode`: the lines of a log, each in words.
+    Decode(DecodeWords<'a>),
+    /// `check`: a script from standard input, each line of it that is not accepted.
+    Check,
+}
+
+/// The words behind `watch`, but for the units that it assumes. A word that was not given is none.
+#[derive(Clone, Copy)]
+pub struct WatchWords<'a> {
+    /// The bus that is watched.
+    pub bus: Option<&'a str>,
+    /// The station's address.
+    pub address: Option<&'a str>,
+    /// The station's NAME.
+    pub name: Option<&'a str>,
+    /// What a bad line is: `missed` or `skip`.
+    pub bad: Option<&'a str>,
+    /// How late a packet may come, in milliseconds.
+    pub silence: Option<&'a str>,
+    /// How changes and report are written.
+    pub format: Option<&'a str>,
+    /// Whether the first bad line ends the run.
+    pub strict: bool,
+}
+
+/// The words behind `log`. A word that was not given is none.
+#[derive(Clone, Copy)]
+pub struct LogWords<'a> {
+    /// The bus that the lines name.
+    pub bus: Option<&'a str>,
+    /// How many microseconds stand between two frames.
+    pub period: Option<&'a str>,
+}
+
+/// The words behind `decode`. A word that was not given is none.
+#[derive(Clone, Copy)]
+pub struct DecodeWords<'a> {
+    /// How each line is answered.
+    pub format: Option<&'a str>,
+    /// A file of texts for SPNs and FMIs.
+    pub texts: Option<&'a str>,
+}
+
+/// Whether a word can be the name of a bus: it may stand in a line of a log.
+pub fn is_bus(word: &str) -> bool {
+    !word.is_empty() && word.bytes().all(|b| b > b' ' && b != b'#')
+}

@@ -1,0 +1,32 @@
+use crate::ending::outcome;
+use crate::watch_words::{assumed_of, options_of};
+use command_words::WatchWords;
+use program_io::Fault;
+use std::alloc::Global;
+use std::io::{LineWriter, Read, Write};
+
+/// `watch`: what the lines of a log or of a live bus tell. Each word of `assumed` is the `ADDRESS=NAME` of a unit that holds an
+/// address before the first line.
+///
+/// # Errors
+/// - `CommandLine`: the words are none of it; nothing is read.
+/// - `Read`, `Write`, `Memory`: what happened; what was found until then is reported.
+/// - `BadLines`: all is reported, but some lines were bad; each is told on `errors`.
+pub fn watch<R: Read + Drop, W: Write + Drop, E: Write + Drop>(
+    alloc: Global,
+    words: WatchWords<'_>,
+    assumed: &[&str],
+    reader: R,
+    writer: W,
+    errors: E,
+) -> Result<(), Fault> {
+    let assumed = assumed_of(alloc, assumed)?;
+    let options = match options_of(&words, assumed.as_slice()) {
+        Ok(options) => options,
+        Err(fault) => return Err(fault),
+    };
+    let Ok(mut errors) = LineWriter::new(alloc, errors) else {
+        return Err(Fault::Memory);
+    };
+    outcome(watch_lines::watch(alloc, reader, writer, &mut errors, &options))
+}

@@ -1,0 +1,8 @@
+//! The answer to a command of a script, and its line.
+#![tactic(auto)]
+
+mod answer;
+mod refusal;
+
+pub use answer::{Answer, End, Unwritten, put_answer};
+pub use refusal::Refusal;

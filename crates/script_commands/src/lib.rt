@@ -1,0 +1,13 @@
+//! The subcommands that carry a script out: `script` answers it, `check` tells its lines that are not accepted, and `log` writes
+//! its wire.
+#![tactic(auto)]
+
+mod answers;
+mod checking;
+mod logging;
+mod teller;
+mod wire;
+
+pub use answers::script;
+pub use checking::check;
+pub use logging::log;

@@ -1,0 +1,46 @@
+use crate::teller::{Teller, Telling};
+use crate::wire::Wire;
+use command_words::LogWords;
+use program_io::{Fault, read_text};
+use std::alloc::Global;
+use std::io::{BufWriter, LineWriter, Read, Write};
+
+/// Carries out a script and writes its wire as a log: frame I, from 0, at I periods.
+///
+/// Lines that are not accepted are told on `errors`.
+///
+/// # Errors
+/// - `CommandLine`: the words are none of a log; nothing is read.
+/// - `Read`, `InputTooLong`, `NotUtf8`: as for a script; nothing is written.
+/// - `Write`: a line could not be written.
+/// - `Memory`: memory was refused outside a command.
+/// - `BadLines`: all is written, but there were lines that are not accepted.
+pub fn log<R: Read, W: Write + Drop, E: Write + Drop>(
+    alloc: Global,
+    words: LogWords<'_>,
+    reader: &mut R,
+    writer: W,
+    errors: E,
+) -> Result<(), Fault> {
+    let Some(wire) = Wire::of(words) else {
+        return Err(Fault::CommandLine);
+    };
+    match LineWriter::new(alloc, errors) {
+        Ok(errors) => write_log(alloc, wire, reader, writer, errors),
+        Err(_) => Err(Fault::Memory),
+    }
+}
+
+fn write_log<R: Read, W: Write + Drop, E: Write + Drop>(
+    alloc: Global,
+    wire: Wire<'_>,
+    reader: &mut R,
+    writer: W,
+    errors: E,
+) -> Result<(), Fault> {
+    let text = read_text(alloc, reader)?;
+    let Ok(writer) = BufWriter::new(alloc, writer) else {
+        return Err(Fault::Memory);
+    };
+    Teller::new(Telling::Answer, errors, Some(wire), writer).tell_lines(alloc, text.as_str())
+}

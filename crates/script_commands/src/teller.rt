@@ -1,0 +1,190 @@
+//! A script that is carried out for what it does and not for its answers: the lines that are not accepted are told.
+
+ghost use Rattle.std.specs.Prelude.{IfErr};
+
+use crate::wire::Wire;
+use program_io::Fault;
+use script_answer::{Answer, Refusal, Unwritten};
+use script_line::{Line, Words, is_silent, read_line, read_number, reason};
+use script_run::{Bench, Listener, answer_lines};
+use std::alloc::Global;
+use std::io;
+use std::io::Write;
+
+/// What is told of a line that is not accepted.
+#[derive(Clone, Copy)]
+pub(crate) enum Telling {
+    /// `line N: ` and its answer.
+    Answer,
+    /// `N: ` and the reason.
+    Reason,
+}
+
+/// Tells of lines that are not accepted, and writes the wire at the end where it is asked for.
+#[derive(Drop)]
+pub(crate) struct Teller<'a, E, W> {
+    telling: Telling,
+    /// The number of the line, from 1.
+    number: u64,
+    /// How many lines were not accepted.
+    bad: u64,
+    /// How many seats were given.
+    seats: u64,
+    /// Why the line is not accepted; none where it is.
+    refusal: Option<Refusal>,
+    /// Where lines are told.
+    errors: E,
+    /// How the wire is written.
+    wire: Option<Wire<'a>>,
+    /// Where the wire is written.
+    writer: W,
+}
+
+impl<'a, E: Write, W: Write> Teller<'a, E, W> {
+    /// One that has told nothing.
+    pub(crate) fn new(
+        telling: Telling,
+        errors: E,
+        wire: Option<Wire<'a>>,
+        writer: W,
+    ) -> Teller<'a, E, W> {
+        Teller {
+            telling,
+            number: 0,
+            bad: 0,
+            seats: 0,
+            refusal: None,
+            errors,
+            wire,
+            writer,
+        }
+    }
+
+    /// Carries the lines of a text out, writes what is left, and says whether lines were bad.
+    pub(crate) fn tell_lines(&mut self, alloc: Global, text: &str) -> Result<(), Fault> {
+        answer_lines(alloc, text, self)?;
+        if self.flush().is_err() {
+            return Err(Fault::Write);
+        }
+        if self.bad > 0 {
+            return Err(Fault::BadLines);
+        }
+        Ok(())
+    }
+
+    /// Tells why a line is not accepted.
+    fn tell(&mut self, line: &str, has_garage: bool, refusal: Refusal) -> io::Result<()> {
+        self.bad = self.bad.saturating_add(1);
+        let number = self.number;
+        match self.telling {
+            Telling::Answer => writeln!(self.errors, "line {number}: {refusal}"),
+            Telling::Reason => {
+                write!(self.errors, "{number}: ")?;
+                write_reason(&mut self.errors, line, refusal, has_garage, self.seats)
+            }
+        }
+    }
+}
+
+/// What a station shows, and its report, are passed over. To flush it flushes what it writes to.
+impl<E: Write, W: Write> Write for Teller<'_, E, W> {
+    fn write(&mut self, buf: &[u8]) -> io::Result<usize> {
+        Ok(buf.len())
+    }
+
+    fn flush(&mut self) -> io::Result<()> {
+        self.errors.flush()?;
+        self.writer.flush()
+    }
+}
+
+impl<E: Write, W: Write> Listener for Teller<'_, E, W> {
+    ghost use Rattle.std.specs.Prelude.{◌≡◌};
+    ghost use Rattle.program_io.specs.declared.fault.Fault.TheVariants as fault;
+
+    ghost ends_by = { λ f. f ≡ fault.Write };
+
+    fn passes(&mut self, line: &str) -> bool {
+        self.number = self.number.saturating_add(1);
+        self.refusal = None;
+        is_silent(line)
+    }
+
+    fn put(&mut self, answer: Result<Answer, Refusal>) -> Result<(), Unwritten> {
+        if let Ok(Answer::Seat(_)) = answer {
+            self.seats = self.seats.saturating_add(1);
+        }
+        self.refusal = answer.err();
+        Ok(())
+    }
+
+    fn hear(
+        &mut self,
+        line: &str,
+        has_garage: bool,
+        answered: Result<(), Unwritten>,
+    ) -> Result<(), Fault> {
+        let told = match self.refusal {
+            Some(refusal) => self.tell(line, has_garage, refusal).is_ok(),
+            None => true,
+        };
+        if told && answered.is_ok() {
+            Ok(())
+        } else {
+            Err(Fault::Write)
+        }
+    }
+
+    fn end(&mut self, bench: &Bench) -> Result<(), Fault> {
+        match self.wire {
+            Some(wire) => wire.write(bench, &mut self.writer),
+            None => Ok(()),
+        }
+    }
+}
+
+/// Why a line is answered so.
+fn write_reason<W: Write>(
+    writer: &mut W,
+    line: &str,
+    refusal: Refusal,
+    has_garage: bool,
+    seats: u64,
+) -> io::Result<()> {
+    match refusal {
+        Refusal::NoSeat => write_no_seat(writer, line, seats),
+        Refusal::BadLine => write_bad_line(writer, line, has_garage),
+        Refusal::Name(_)
+        | Refusal::Pgn(_)
+        | Refusal::Frame(_)
+        | Refusal::Fault(_)
+        | Refusal::Garage(_) => writeln!(writer, "{refusal}"),
+    }
+}
+
+fn write_no_seat<W: Write>(writer: &mut W, line: &str, seats: u64) -> io::Result<()> {
+    match seat_in(line) {
+        Some(seat) => writeln!(writer, "no seat {seat}; seats given so far: {seats}"),
+        None => writeln!(writer, "no seat"),
+    }
+}
+
+fn write_bad_line<W: Write>(writer: &mut W, line: &str, has_garage: bool) -> io::Result<()> {
+    if let Some(why) = reason(line) {
+        return writeln!(writer, "{why}");
+    }
+    if !has_garage {
+        return writeln!(writer, "no garage yet: it comes first");
+    }
+    match read_line(line) {
+        Some(Line { station, .. }) if station > 0 => writeln!(writer, "no station {station}"),
+        _ => writeln!(writer, "there is a garage already"),
+    }
+}
+
+/// The seat that a line names: its second word.
+fn seat_in(line: &str) -> Option<u32> {
+    let mut words = Words::of(line);
+    let _command = words.next_word()?;
+    read_number(words.next_word()?)
+}

@@ -1,0 +1,57 @@
+ghost use Rattle.std.specs.Prelude.{◌≡◌, ◌≤◌, IfErr};
+
+use candump_line::{Time, write_line};
+use command_words::{LogWords, is_bus};
+use program_io::Fault;
+use script_run::Bench;
+use std::io::Write;
+
+/// The longest period between two frames in microseconds.
+const LONGEST_PERIOD: u64 = 1_000_000;
+
+/// How the wire of a script is written.
+#[derive(Clone, Copy)]
+pub(crate) struct Wire<'a> {
+    /// The bus that the lines name.
+    bus: &'a str,
+    /// How many microseconds stand between two frames, 1 to 1,000,000.
+    period: u64,
+    ghost period_fits: { period ≤ 1000000 },
+}
+
+impl<'a> Wire<'a> {
+    /// What the words behind `log` ask for: the bus `can0` where none is given, and an 8-byte frame's time at 250 kbit/s, 540,
+    /// where no period is.
+    pub(crate) fn of(words: LogWords<'a>) -> Option<Wire<'a>> {
+        let bus = words.bus.unwrap_or("can0");
+        if !is_bus(bus) {
+            return None;
+        }
+        let period = match words.period {
+            Some(word) => word.parse::<u64>().ok()?,
+            None => 540,
+        };
+        if period < 1 || period > LONGEST_PERIOD {
+            return None;
+        }
+        Some(Wire { bus, period })
+    }
+
+    /// Writes each frame of the wire: frame I, from 0, at I periods.
+    pub(crate) fn write<W: Write>(self, bench: &Bench, writer: &mut W) -> Result<(), Fault>
+        ensures { IfErr result (λ fault. fault ≡ Fault.Write) }
+    {
+        for index in 0..u32::MAX {
+            let Some(frame) = bench.frame(index) else {
+                break;
+            };
+            let Some(time) = Time::from_micros(u64::from(index).saturating_mul(self.period)) else {
+                break;
+            };
+            if write_line(writer, time, self.bus, &frame).is_err() {
+                return Err(Fault::Write);
+            }
+        }
+        Ok(())
+    }
+}

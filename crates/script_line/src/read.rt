@@ -120,11 +120,12 @@ fn read_of_seat(keyword: &str, words: &mut Words<'_>) -> Option<Command> {
 }
 
 fn read_garage(words: &mut Words<'_>) -> Option<Command> {
+    let station = next_station(words)?;
     Some(Command::Garage {
-        name: next_name(words)?,
-        address: next_small_number(words)?,
-        window: next_number(words)?,
-        grant: next_small_number(words)?,
+        name: station.name,
+        address: station.address,
+        window: station.window,
+        grant: station.grant,
         limit: next_number(words)?,
     })
 }

@@ -3,12 +3,13 @@ use Rattle.std.proofs.Common.{◌≡◌, ℕ, ◌<◌, Bool, true, false, ◌||�
 use Rattle.std.proofs.lemmas.Bool.{eq-eqb, eqb-true}
 use Rattle.address_claim.specs.Claiming.{is_held}
 use Rattle.bus_model.specs.Changed.{announced_change, answer_change, change_heard, claim_change, displaced_by, ended_change, giving_up, group_change, has_answered, is_again, single_change, still_has}
-use Rattle.bus_model.specs.Heard.{Joining, RowHeard, StationSettings, ack_in_row, address_heard, address_in_row, address_known, broadcast_heard, ended_by, finished, kind_of, owner_heard}
+use Rattle.bus_model.specs.Heard.{Joining, Origin, RowHeard, StationSettings, ack_in_row, address_heard, address_in_row, address_known, broadcast_heard, ended_by, finished, kind_of, owner_heard}
 use Rattle.bus_model.specs.declared.change.Change.{Change}
 use Rattle.bus_model.specs.declared.change.Change.TheVariants.{Nothing}
 use Rattle.can_frame.specs.FrameValue.{FrameValue}
 use Rattle.can_frame.specs.declared.reading.Reading.{Reading}
 use Rattle.can_frame.specs.declared.reading.Reading.TheVariants.{Frame, Gap, Empty}
+use Rattle.dm_messages.specs.declared.kind.Kind.{Kind}
 use Rattle.parameter_group.specs.Group.{Group, AddressClaimed, CannotClaim, Request, Acknowledgment, Diagnostic, ConnectionManagement, DataTransfer, Other, group_of}
 use Rattle.reassembly.specs.Partials.{with_packet}
 use Rattle.reassembly.specs.Tables.{at}
@@ -20,7 +21,7 @@ use Rattle.station_table.specs.Orders.{address_in}
 use Rattle.station_table.specs.StandsFor.{StandsFor, row_known, row_of, still_owned}
 use Rattle.station_table.specs.StationValue.{StationValue}
 use Rattle.station_table.proofs.Lines.{held_same}
-use Rattle.station_table.specs.Steps.{after_group}
+use Rattle.station_table.specs.Steps.{after_group, origin_of}
 use Rattle.station_table.proofs.Stands.{stands_after, sender, sender_below}
 
 address_words : (owners : List (Option ℕ)) (name : ℕ) (k : Option KeptValue) → address_in (row_of owners name k) ≡ address_in_row (row_known owners name k)
@@ -109,3 +110,9 @@ pub lost_by_claim : (s : StationValue) (name address : ℕ) (owner : Option ℕ)
     → is_held (claimed_in (kept_under s.rows name)) address ≡ keeps_address s owner address
 lost_by_claim s name address owner here is =
     sym (owner_has s.owners name address (kept_under s.rows name) (sym here ∙ is)) ∙ ap (λ (o : Option ℕ). keeps_address s o address) (sym is)
+
+-- the announcement of a message of somebody changes nothing
+pub nothing_announced : (k : Option Kind) (source : ℕ) (own : Option ℕ) (o : Origin) (c : Change) → c ≡ Nothing → origin_of k own ≡ Some o → c ≡ announced_change k source own
+nothing_announced None source own o c e is = absurd cc
+nothing_announced (Some k) source None o c e is = absurd cc
+nothing_announced (Some k) source (Some n) o c e is = e

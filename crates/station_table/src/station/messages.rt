@@ -119,6 +119,7 @@ impl Station {
 
     /// A broadcast is announced: the one half joined from its source is dropped, and a diagnostic one from an address with
     /// an owner starts.
+    #[tactic(auto, using(crate::proofs::Changing::nothing_announced))]
     pub(super) fn hear_bam(
         &mut self,
         alloc: Global,
@@ -127,6 +128,7 @@ impl Station {
         pgn: Pgn,
         change: &mut Change,
     ) -> Result<(), StationError>
+        requires nothing { change.old ≡ Change.Nothing }
         requires least { 9 ≤ size }
         requires most { size ≤ 1785 }
         ensures ok { OnOk result (self.new ≡ record self.old {
@@ -139,9 +141,11 @@ impl Station {
     {
         match self.origin(source, pgn) {
             Some(origin) => self.broadcasts.start(alloc, source, origin, size, pgn)?,
-            None => self.broadcasts.forget(source),
+            None => {
+                self.broadcasts.forget(source);
+                *change = self.announced(source, pgn);
+            }
         }
-        *change = self.announced(source, pgn);
         Ok(())
     }
 

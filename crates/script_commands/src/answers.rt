@@ -39,11 +39,7 @@ fn answer_text<W: Write>(alloc: Global, text: &str, writer: &mut W) -> Result<()
     }
 }
 
-fn answer_all<W: Write>(
-    alloc: Global,
-    text: &str,
-    answers: &mut Answers<W>,
-) -> Result<(), Fault>
+fn answer_all<W: Write>(alloc: Global, text: &str, answers: &mut Answers<W>) -> Result<(), Fault>
     ensures { IfErr result (λ fault. fault ≡ Fault.Write) }
 {
     answer_lines(alloc, text, answers)?;

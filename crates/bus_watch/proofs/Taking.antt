@@ -4,20 +4,27 @@ use Rattle.bus_model.specs.Changed.{change_heard}
 use Rattle.bus_model.specs.Heard.{StationSettings}
 use Rattle.bus_model.specs.declared.change.Change.{Change as Heard}
 use Rattle.bus_model.specs.declared.change.Change.TheVariants.{Nothing, Claimed, GaveUp, Acknowledged, Listed, Unreadable, Unowned, Missed}
+use Rattle.can_frame.specs.FrameValue.{FrameValue}
 use Rattle.can_frame.specs.declared.reading.Reading.{Reading}
+use Rattle.can_frame.specs.declared.reading.Reading.TheVariants.{Frame}
 use Rattle.dm_messages.specs.View.{same_kind}
 use Rattle.dm_messages.specs.declared.kind.Kind.{Kind}
 use Rattle.dm_messages.specs.declared.kind.Kind.TheVariants.{Dm1, Dm2, Dm6}
 use Rattle.dm_messages.specs.declared.shown.Shown.{Shown}
 use Rattle.entry_lists.specs.Entries.{HasPut, with_listed}
 use Rattle.entry_lists.specs.declared.entry.NewEntry.{NewEntry}
-use Rattle.station_table.specs.Listing.{SaysEntry, entry_heard, lists_heard}
+use Rattle.parameter_group.specs.Group.{Other, group_of}
+use Rattle.station_table.specs.Changing.{group_changes}
+use Rattle.station_table.specs.Listing.{SaysEntry, entry_heard, group_entry, lists_heard}
 use Rattle.station_table.specs.StandsFor.{StandsFor}
 use Rattle.station_table.specs.StationValue.{StationValue}
-use Rattle.station_table.proofs.Listing.{lists_after}
+use Rattle.station_table.specs.Steps.{after_group}
+use Rattle.station_table.proofs.Changing.{reading_same}
+use Rattle.station_table.proofs.Listing.{entry_same, lists_after}
+use Rattle.station_table.proofs.Stands.{stands_after}
 use Rattle.bus_watch.specs.declared.watch.TheConstants.{GRANT}
 use Rattle.bus_watch.specs.Runs.{HasRuns, ListsValue, entries_in, has_begun, no_runs, runs_under}
-use Rattle.bus_watch.specs.Tellings.{is_news, news_by, told_after, told_heard, told_of}
+use Rattle.bus_watch.specs.Tellings.{is_news, news_by, nothing_told, told_after, told_heard, told_of}
 use Rattle.bus_watch.specs.WatchValue.{Takes, Tells, WatchValue}
 use Rattle.bus_watch.specs.declared.change.Changes.{Changes}
 
@@ -90,3 +97,17 @@ tells start old new t after x c entry told same read says put e is = subst (λ (
     ∙ (ap (λ (b : Bool). told_of b c) (news_same start.told start.lists after entry c says put)
     ∙ (ap (λ (v : Heard). told_of (is_news start.told start.lists after v) v) (read.heard r GRANT h s.station)
     ∙ ap (λ (w : WatchValue). told_of (is_news start.told start.lists w.lists (change_heard r x h)) (change_heard r x h)) (sym e))))
+
+-- a frame that says nothing to a station
+other_read : (s : StationValue) (lists : ListsValue) (f : FrameValue) → group_of f ≡ Other → IsRead s s lists lists (Frame f) Nothing
+other_read s lists f is = record {
+  stands = λ r grant h st. subst (λ (t : StationValue). StandsFor r grant t (Frame f ∷ h)) (ap (after_group s) is) (stands_after r grant s h (Frame f) st);
+  heard = λ r grant h st. sym (ap (group_changes s) is) ∙ reading_same r grant s h (Frame f) st;
+  listed = λ r grant h st. subst (λ (e : Option NewEntry). HasPut HasRuns lists e lists) (sym (ap (group_entry s) is) ∙ entry_same r grant s h (Frame f) st) refl;
+}
+
+pub takes_other : (w : WatchValue) (f : FrameValue) → group_of f ≡ Other → Takes w w (Frame f) w.followed
+takes_other w f is = takes w w w w.station w.lists (Frame f) Nothing refl (other_read w.station w.lists f is) refl
+
+pub tells_other : (w : WatchValue) (f : FrameValue) (told : Changes) → group_of f ≡ Other → told ≡ nothing_told → Tells w w (Frame f) told
+tells_other w f told is none r h s = none ∙ ap (λ (v : Heard). told_of (is_news w.told w.lists w.lists v) v) ((other_read w.station w.lists f is).heard r GRANT h s.station)

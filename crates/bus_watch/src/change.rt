@@ -66,7 +66,8 @@ impl Changes {
     }
 }
 
-fn nothing() -> Changes
+/// Nothing is told.
+pub(crate) fn nothing() -> Changes
     ensures { result ≡ tellings.nothing_told }
 {
     Changes {

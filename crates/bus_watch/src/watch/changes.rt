@@ -6,7 +6,7 @@ ghost use Rattle.can_frame.specs.declared.reading.Reading.TheVariants.{Frame as 
 ghost use Rattle.parameter_group.specs.Group.{group_of};
 ghost use Rattle.parameter_group.specs.Said.{IsLawfulGroup, said};
 
-use crate::change::Changes;
+use crate::change::{Changes, nothing};
 use crate::watch::Watch;
 use can_frame::Reading;
 use parameter_group::ParameterGroup;
@@ -26,7 +26,8 @@ impl Watch {
         }
     }
 
-    /// Has the station take what one frame says, as `take` takes the frame.
+    /// Has the station take what one frame says, as `take` takes the frame. Most frames of a bus say nothing to a station, and it is
+    /// not asked then.
     pub(super) fn take_group(
         &mut self,
         alloc: Global,
@@ -37,6 +38,9 @@ impl Watch {
         ensures tells { IfOk result (λ c. (f : FrameValue) → group_of f ≡ said group.now → Tells self.old self.new (FrameRead f) c) }
         ensures err { OnErr result (self.new ≡ self.old) }
     {
+        if let ParameterGroup::Other = *group {
+            return Ok(nothing());
+        }
         match self.station.take_group(alloc, group, &mut self.lists) {
             Ok(outcome) => Ok(self.tell(&outcome)),
             Err(_) => Err(AllocError),

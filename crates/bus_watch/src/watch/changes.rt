@@ -52,8 +52,11 @@ impl Watch {
         ensures noted { self.new ≡ record self.old { told = told_after outcome.now.change self.old.told } }
         ensures told { result ≡ told_of (news_by self.old.told self.old.lists.began outcome.now.change) outcome.now.change }
     {
-        let is_news = self.is_news(&outcome.change);
         self.count_not_sent(outcome.reaction.put.len());
+        if let Heard::Nothing = outcome.change {
+            return nothing();
+        }
+        let is_news = self.is_news(&outcome.change);
         self.unowned.follow(&outcome.change);
         self.note(&outcome.change);
         Changes::of(&outcome.change, is_news)

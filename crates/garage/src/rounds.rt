@@ -115,29 +115,12 @@ impl Garage {
         ensures comes { Comes self.old self.new }
         ensures only { IfErr result IsWant }
     {
-        self.hear_each(alloc, units, marks)?;
-        self.read_rest(alloc)
-    }
-
-    /// Each unit in turn hears all that it has not heard.
-    #[inline(always)]
-    #[tactic(auto, using(crate::proofs::Crew::comes_same))]
-    fn hear_each(
-        &mut self,
-        alloc: Global,
-        units: &mut [Parked],
-        marks: &mut [bool],
-    ) -> Result<(), GarageError>
-        requires { IsCrew (λ p. record { seat = p.seat; name = name_of p.unit; events = p.events; memory = memory_of p.unit }) self.old units.old marks.old }
-        ensures crew { IsCrew (λ p. record { seat = p.seat; name = name_of p.unit; events = p.events; memory = memory_of p.unit }) self.new units.new marks.new }
-        ensures comes { Comes self.old self.new }
-        ensures only { IfErr result IsWant }
-    {
         let first = self.first_behind(&*units);
         if first >= units.len() {
-            return Ok(());
+            return self.read_rest(alloc);
         }
-        self.hear_from(alloc, units, marks, first)
+        self.hear_from(alloc, units, marks, first)?;
+        self.read_rest(alloc)
     }
 
     /// Each unit in turn, from the `first` one on, hears all that it has not heard.

@@ -64,6 +64,7 @@ fn queue_piece(bus: &mut Bus, seat: u32, piece: Piece, numbering: Numbering)
 }
 
 /// Queues frames that are no parts of a message, in order. The room is there.
+#[inline(always)]
 pub(crate) fn queue_frames(bus: &mut Bus, seat: u32, frames: &[Frame])
     requires live { IsLive bus.old.traffic seat }
     requires spare { length frames.now ≤ spare_at bus.old seat }

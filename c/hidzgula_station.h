@@ -1,4 +1,4 @@
-/* The proved diagnostic station for SAE J1939, for programs in C11 and C++: version 2.0.
+/* The proved diagnostic station for SAE J1939, for programs in C11 and C++: version 2.1.
  *
  * A program hands over the frames that it reads of one bus, in their order, sends what the station replies, is told what each frame
  * changed, and asks for the lists by NAME. What each call does is proved of the library (crate station_c), as long as the C side does its part:
@@ -6,9 +6,11 @@
  *  - A station is held in a `hidzgula_station`, which begins as HIDZGULA_EMPTY (all its bytes 0). Its members are the library's:
  *    nobody else reads or writes them, and it is never copied or moved, from `hidzgula_open` or `hidzgula_open_listening` to
  *    `hidzgula_close`.
- *  - A station is given to one call at a time, and stays on the thread that opened it. Several stations are independent.
+ *  - A station is given to one call at a time, from whichever thread: two calls on one station are ordered by a lock, by a thread's start or
+ *    join, or by an atomic of the default order. Nothing in the library is tied to a thread. Several stations are independent.
  *  - Each pointer points to what its type says: aligned, large enough, not NULL, and no two of one call overlap. Only `change` may be
- *    NULL, and `bytes` anything that is not NULL where `length` is 0. What is written to need not have been set.
+ *    NULL, and `bytes`, `frames` and `changes` anything aligned that is not NULL where they have no elements. What is written to need not
+ *    have been set.
  *  - `malloc`, `realloc` and `free` are of one allocator, which aligns a block to each power of two up to 16 that divides its size, as
  *    the C library's does, and nobody else frees what it gave to a station.
  *  - No call comes from a signal handler, or from the forked child of a process with threads.
@@ -16,7 +18,7 @@
  *
  * Whatever the state of its station and whatever the numbers that it is given, each call then returns. It answers HIDZGULA_DONE, or
  * why it was refused; refused, it has changed nothing: neither the station nor what the other pointers point to. Where two reasons
- * hold, the one told is the first in the list at the call.
+ * hold, the one told is the first in the list at the call. `hidzgula_take_frames` alone may be refused midway, and says so.
  */
 #ifndef HIDZGULA_STATION_H
 #define HIDZGULA_STATION_H
@@ -26,7 +28,7 @@
 #include <stdint.h>
 
 #define HIDZGULA_VERSION_MAJOR 2
-#define HIDZGULA_VERSION_MINOR 0
+#define HIDZGULA_VERSION_MINOR 1
 
 #ifdef __cplusplus
 extern "C" {
@@ -79,7 +81,7 @@ typedef struct {
 
 #define HIDZGULA_EMPTY { NULL, false }
 
-/* A frame to send: an identifier of 29 bits, and `length` bytes, 0 to 8. */
+/* A frame: an identifier of 29 bits, and `length` bytes, 0 to 8. What stands behind those is not read. */
 typedef struct {
     uint32_t id;
     uint8_t length;
@@ -222,6 +224,20 @@ static inline uint32_t hidzgula_take_frame(
     hidzgula_change unread;
     return hidzgula_take_frame_telling(station, id, bytes, length, reply, change ? change : &unread);
 }
+
+/* The station takes frames that were read of the bus, in their order, each as `hidzgula_take_frame` does: so that a log, or what a driver
+ * hands over at once, is one call. `taken` is how many it took; the change of each stands at its place in `changes`, and what stands behind
+ * those is as it was. It stops
+ *  - behind the first frame to which the station replies, so that the reply can be sent before the next one is taken; one that only listens
+ *    replies to none;
+ *  - where `room`, the number of `changes`, is full;
+ *  - at the first frame that is refused: those before it are taken, and what is answered is why it was refused.
+ * `reply` is the reply to the last frame that was taken; where none was, it says that nothing is to be withdrawn or sent. So the
+ * caller sends `reply`, looks at `taken` changes, and goes on at `frames + taken`: with the frame that was refused again, or with the one
+ * behind it.
+ * NO_STATION, whatever the frames are, and then nothing is written; ID_TOO_LARGE, TOO_LONG, OUT_OF_MEMORY of the frame at `taken`. */
+uint32_t hidzgula_take_frames(hidzgula_station *station, const hidzgula_frame *frames, size_t count, hidzgula_change *changes, size_t room,
+    hidzgula_reply *reply, size_t *taken);
 
 /* The station is told that `count` frames of the bus were missed: it forgets which NAME owns which address, and all messages that
  * are half read, until units claim again. Its reply is a claim, and a request for the claims of all. `change` says MISSED and how many,

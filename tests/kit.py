@@ -1,4 +1,4 @@
-"""The kit that tests were tried with which rest on its private files or on the wording of its messages."""
+"""The kits that tests were tried with which rest on its private files or on the wording of its messages."""
 import importlib.machinery
 import importlib.util
 import os
@@ -6,7 +6,7 @@ import shutil
 import subprocess
 import sys
 
-TRIED_WITH = "rattle-kit-13f logic dac8208d650f15bf"
+TRIED_WITH = ("rattle-kit-13b logic dac8208d650f15bf", "rattle-kit-13f logic dac8208d650f15bf")
 
 
 def stop_unless_tried(program):
@@ -16,8 +16,8 @@ def stop_unless_tried(program):
     except OSError as why:
         sys.exit(f"{program}: there is no rt: {why}")
     identity = told.stdout.strip()
-    if told.returncode or identity != TRIED_WITH:
-        sys.exit(f"{program}: this was tried with the kit '{TRIED_WITH}', and here is '{identity[:200]}': try it with that, and name it in tests/kit.py")
+    if told.returncode or identity not in TRIED_WITH:
+        sys.exit(f"{program}: this was tried with the kits {', '.join(TRIED_WITH)}, and here is '{identity[:200]}': try it with that, and name it in tests/kit.py")
 
 
 def toolchain(program):

@@ -2,7 +2,7 @@
  * malloc and realloc give. The candump log comes on standard input; the word that the program is given is how many entries of each list are
  * kept, all where there is none. A line for each figure. */
 #define _GNU_SOURCE
-#include "hidzgula_station.h"
+#include "log.h"
 
 #include <inttypes.h>
 #include <malloc.h>
@@ -40,17 +40,10 @@ void __wrap_free(void *block)
     __real_free(block);
 }
 
-enum { MOST = 1 << 13, STACK = 1 << 20 };
+enum { STACK = 1 << 20 };
 
 static hidzgula_station station = HIDZGULA_EMPTY;
 static uint32_t keep = UINT32_MAX;
-static struct {
-    uint32_t id;
-    size_t length;
-    uint8_t bytes[8];
-} frames[MOST];
-static size_t frame_count;
-
 static void *nothing(void *unused) { return unused; }
 
 static void *open_one(void *unused)
@@ -65,6 +58,16 @@ static void *take_all(void *unused)
     hidzgula_change change;
     for (size_t i = 0; i < frame_count; i++)
         if (hidzgula_take_frame(&station, frames[i].id, frames[i].bytes, frames[i].length, &reply, &change) != HIDZGULA_DONE) abort();
+    return unused;
+}
+
+static void *take_rows(void *unused)
+{
+    static hidzgula_change changes[64];
+    hidzgula_reply reply;
+    size_t taken = 0;
+    for (size_t at = 0; at < frame_count; at += taken)
+        if (hidzgula_take_frames(&station, frames + at, frame_count - at, changes, 64, &reply, &taken) != HIDZGULA_DONE) abort();
     return unused;
 }
 
@@ -126,16 +129,10 @@ int main(int argc, char **argv)
     static const struct {
         const char *name;
         void *(*work)(void *);
-    } works[] = { { "open", open_one }, { "take_frame", take_all }, { "queries", ask_for_lists }, { "orders", order }, { "take_gap", miss }, { "close", close_it } };
-    char line[512], digits[17];
+    } works[] = { { "open", open_one }, { "take_frame", take_all }, { "queries", ask_for_lists }, { "orders", order }, { "take_gap", miss },
+        { "take_frames", take_rows }, { "close", close_it } };
     if (argc > 1) keep = (uint32_t)strtoul(argv[1], NULL, 10);
-    while (fgets(line, sizeof line, stdin) && frame_count < MOST) {
-        size_t length = 0;
-        digits[0] = 0;
-        if (sscanf(line, "(%*[^)]) %*s %8" SCNx32 "#%16[0-9A-Fa-f]", &frames[frame_count].id, digits) < 1 || frames[frame_count].id >= 1u << 29) continue;
-        for (; digits[2 * length]; length++) sscanf(digits + 2 * length, "%2" SCNx8, &frames[frame_count].bytes[length]);
-        frames[frame_count++].length = length;
-    }
+    read_frames();
     size_t base = stack_of(nothing);
     for (size_t i = 0; i < sizeof works / sizeof works[0]; i++) {
         size_t stack = stack_of(works[i].work);

@@ -28,3 +28,6 @@ pub mod Rows
 pub mod Names
 pub mod Only
 pub mod Changes
+pub mod Between
+pub mod SentWhole
+pub mod Beside

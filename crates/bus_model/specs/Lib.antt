@@ -13,3 +13,7 @@ pub mod Example
 pub mod Whose
 pub mod Marks
 pub mod RowsLookBack
+pub mod Overheard
+pub mod OverheardBack
+pub mod OverheardChanged
+pub mod Beside

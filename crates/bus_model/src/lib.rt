@@ -19,11 +19,19 @@ ghost use Rattle.bus_model.specs.Example.{one_station, two_at_one_address, two_s
 ghost use Rattle.bus_model.specs.Machine.{World, Seat, Station, IsAt, Event, AreFit, IsFit, Step, Run, start};
 ghost use Rattle.bus_model.specs.Marks.{IsMarkedBy};
 ghost use Rattle.bus_model.specs.Whose.{IsFromItsSeat};
+ghost use Rattle.bus_model.specs.Beside.{TakesPart, readings_beside};
+ghost use Rattle.bus_model.specs.Overheard.{MessageSent, entries_overheard, message_sent, shown_to};
+ghost use Rattle.bus_model.specs.declared.who.Who.TheVariants.{Named};
+ghost use Rattle.bus_model.specs.OverheardBack.{IsSentWhole};
 ghost use Rattle.bus_model.specs.Changed.{AreListed, change_heard, is_listed, missed_changed, names_changed, row_changed, unread_changed};
 
 mod change;
+mod overheard;
+mod who;
 
 pub use change::{Change, Displaced};
+pub use overheard::Overheard;
+pub use who::Who;
 
 /// The lists are exact: after every list of events, at each station, under each NAME and kind, the entries heard are the entries expected.
 pub fn lists_are_exact()
@@ -99,6 +107,14 @@ pub fn messages_look_back()
     ensures { (settings : StationSettings) → IsFit settings → (reading : Reading) (older : List Reading) (entry : Entry) → (ended settings reading older ≡ Some entry) ↔ EndsMessage settings reading older entry }
 {}
 
+/// Look-back form of the messages that a listener hears end, over any list of readings, between any two addresses: in one frame, by broadcast
+/// and by session. One is there exactly where it was announced from its source to its destination, its packets came in order, and nothing
+/// since the announcement ended it: no other announcement between the two, no abort by either, no claim of the source under another NAME,
+/// no gap.
+pub fn messages_overheard_look_back()
+    ensures { (reading : Reading) (older : List Reading) (message : MessageSent) → (message_sent reading older ≡ Some message) ↔ IsSentWhole reading older message }
+{}
+
 /// Look-back form of a row, over any list of readings: there is one once a claim or cannot claim of the NAME was read; its
 /// address is the one that the NAME claimed, where nothing took it since; its acknowledgment is the last to the station.
 pub fn rows_look_back()
@@ -129,6 +145,15 @@ pub fn a_change_says_all()
         → AreListed (is_listed (change_heard settings reading older) n k) (entries_heard settings n k older) (entries_heard settings n k (reading ∷ older)) }
     ensures missed { (settings : StationSettings) (reading : Reading) (older : List Reading) → missed_count (reading ∷ older) ≡ missed_changed (change_heard settings reading older) (missed_count older) }
     ensures unread { (settings : StationSettings) (reading : Reading) (older : List Reading) → unread_count settings (reading ∷ older) ≡ unread_changed (change_heard settings reading older) (unread_count settings older) }
+{}
+
+/// A listener beside a station: where a station takes part as the rules say, what it lists under each NAME and kind is what a listener that
+/// misses what it misses lists there as sent to all or to it. The rules are those of `TakesPart`: the station sends what a station may
+/// send, and aborts no session that it goes on with; nobody else claims its address or sends messages from there; who asks it to send
+/// another group than a diagnostic one has no session with it open; and an abort to it names the group of the session that is open.
+pub fn a_listener_lists_what_a_station_lists()
+    ensures { (settings : StationSettings) → IsFit settings → (path : List Reception) → TakesPart settings path → (n : ℕ) (k : Kind)
+        → entries_heard settings n k (readings path) ≡ shown_to settings.address (entries_overheard (Named n) k (readings_beside path)) }
 {}
 
 /// The machine is not empty: one run shows an entry by a single frame, one by a broadcast of two packets and one by a

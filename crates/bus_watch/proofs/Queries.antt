@@ -1,45 +1,43 @@
 -- What is read from a watch is what was heard of the lines.
-use Rattle.std.proofs.Common.{◌≡◌, ℕ, List, Option, length, map, reverse, sym, ap, ◌∙◌}
+use Rattle.std.proofs.Common.{◌≡◌, ℕ, List, Option, length, map, sym, ap, ◌∙◌}
 use Rattle.std.specs.Prelude.{slice_get}
 use Rattle.std.specs.Option.{option_map}
-use Rattle.std.proofs.lemmas.List.{length-map, length-reverse}
+use Rattle.std.proofs.lemmas.List.{length-map}
 use Rattle.dm_messages.specs.declared.kind.Kind.{Kind}
-use Rattle.dm_messages.specs.declared.shown.Shown.{Shown}
-use Rattle.bus_model.specs.Heard.{counted, entries_heard, missed_count, names_heard, row_heard, unread_count}
+use Rattle.bus_model.specs.Overheard.{EntrySent, row_overheard, unread_overheard}
+use Rattle.bus_model.specs.Heard.{counted, missed_count, names_heard}
 use Rattle.station_table.specs.declared.row.Row.{Row}
 use Rattle.station_table.specs.KeptValue.{kept_under}
 use Rattle.station_table.specs.StandsFor.{row_heard_as, row_of}
 use Rattle.station_table.proofs.Queries.{row_words}
 use Rattle.station_table.proofs.RowLemmas.{named}
-use Rattle.bus_watch.specs.Runs.{entries_in, runs_under, unrolled}
+use Rattle.bus_watch.specs.Runs.{entries_in, lists_shown, runs_under, unrolled}
 use Rattle.bus_watch.specs.Told.{Beginning, StandsForAll, Told, all_said}
 use Rattle.bus_watch.specs.WatchValue.{WatchValue}
 use Rattle.bus_watch.specs.declared.run.Run.{Run}
 
-pub names_as_heard : (w : WatchValue) (b : Beginning) (ts : List Told) (n : ℕ) → n ≡ length w.station.rows → StandsForAll b ts w → n ≡ length (names_heard (all_said b ts).readings)
-names_as_heard w b ts n e s = e ∙ (sym (length-map w.station.rows named) ∙ ap (λ (l : List ℕ). length l) s.heard.station.names)
+pub names_as_heard : (w : WatchValue) (b : Beginning) (ts : List Told) (n : ℕ) → n ≡ length w.listener.rows → StandsForAll b ts w → n ≡ length (names_heard (all_said b ts).readings)
+names_as_heard w b ts n e s = e ∙ (sym (length-map w.listener.rows named) ∙ ap (λ (l : List ℕ). length l) s.heard.listener.names)
 
 pub name_as_heard : (w : WatchValue) (b : Beginning) (ts : List Told) (place : ℕ) (o : Option ℕ)
-    → o ≡ slice_get (map named w.station.rows) place → StandsForAll b ts w → o ≡ slice_get (names_heard (all_said b ts).readings) place
-name_as_heard w b ts place o e s = e ∙ ap (λ (l : List ℕ). slice_get l place) s.heard.station.names
+    → o ≡ slice_get (map named w.listener.rows) place → StandsForAll b ts w → o ≡ slice_get (names_heard (all_said b ts).readings) place
+name_as_heard w b ts place o e s = e ∙ ap (λ (l : List ℕ). slice_get l place) s.heard.listener.names
 
 pub row_as_heard : (w : WatchValue) (b : Beginning) (ts : List Told) (name : ℕ) (o : Option Row)
-    → o ≡ row_of w.station.owners name (kept_under w.station.rows name) → StandsForAll b ts w → option_map row_heard_as o ≡ row_heard b.station name (all_said b ts).readings
+    → o ≡ row_of w.listener.owners name (kept_under w.listener.rows name) → StandsForAll b ts w → option_map row_heard_as o ≡ row_overheard name (all_said b ts).readings
 row_as_heard w b ts name o e s =
-    ap (option_map row_heard_as) e ∙ (row_words w.station.owners name (kept_under w.station.rows name) ∙ s.heard.station.rows name)
+    ap (option_map row_heard_as) e ∙ (row_words w.listener.owners name (kept_under w.listener.rows name) ∙ s.heard.listener.rows name)
 
 pub runs_as_heard : (w : WatchValue) (b : Beginning) (ts : List Told) (name : ℕ) (kind : Kind) (l : List Run) → l ≡ runs_under w.lists name kind → StandsForAll b ts w
-    → unrolled l ≡ reverse (entries_heard b.station name kind (all_said b ts).readings)
+    → unrolled l ≡ lists_shown b.address (all_said b ts).readings name kind
 runs_as_heard w b ts name kind l e s = ap unrolled e ∙ s.heard.lists name kind
 
 pub entries_as_heard : (w : WatchValue) (b : Beginning) (ts : List Told) (name : ℕ) (kind : Kind) (n : ℕ) → n ≡ counted (length (entries_in w.lists name kind)) → StandsForAll b ts w
-    → n ≡ counted (length (entries_heard b.station name kind (all_said b ts).readings))
-entries_as_heard w b ts name kind n e s =
-    e ∙ ap (λ (l : List Shown). counted (length l)) (s.heard.lists name kind)
-    ∙ ap counted (length-reverse (entries_heard b.station name kind (all_said b ts).readings))
+    → n ≡ counted (length (lists_shown b.address (all_said b ts).readings name kind))
+entries_as_heard w b ts name kind n e s = e ∙ ap (λ (l : List EntrySent). counted (length l)) (s.heard.lists name kind)
 
-pub missed_as_heard : (w : WatchValue) (b : Beginning) (ts : List Told) (n : ℕ) → n ≡ w.station.missed → StandsForAll b ts w → n ≡ missed_count (all_said b ts).readings
-missed_as_heard w b ts n e s = e ∙ s.heard.station.missed
+pub missed_as_heard : (w : WatchValue) (b : Beginning) (ts : List Told) (n : ℕ) → n ≡ w.listener.missed → StandsForAll b ts w → n ≡ missed_count (all_said b ts).readings
+missed_as_heard w b ts n e s = e ∙ s.heard.listener.missed
 
-pub unread_as_heard : (w : WatchValue) (b : Beginning) (ts : List Told) (n : ℕ) → n ≡ w.station.unread → StandsForAll b ts w → n ≡ unread_count b.station (all_said b ts).readings
-unread_as_heard w b ts n e s = e ∙ s.heard.station.unread
+pub unread_as_heard : (w : WatchValue) (b : Beginning) (ts : List Told) (n : ℕ) → n ≡ w.listener.unread → StandsForAll b ts w → n ≡ unread_overheard (all_said b ts).readings
+unread_as_heard w b ts n e s = e ∙ s.heard.listener.unread

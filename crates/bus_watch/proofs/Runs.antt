@@ -12,45 +12,55 @@ use Rattle.std.specs.Map.{lookup}
 use Rattle.std.specs.Option.{unwrap_or}
 use Rattle.std.proofs.lemmas.Bool.{eqb-true}
 use Rattle.bus_watch.specs.declared.run.Run.{Run}
+use Rattle.bus_model.specs.Overheard.{EntrySent}
 use Rattle.dm_messages.specs.declared.shown.Shown.{Shown}
 
+-- what a run has entries of
+abbrev entry_of_run : Run → EntrySent
+entry_of_run r = record { to = r.to; shown = r.shown }
+
 -- one more of equal entries stands behind them
-one_behind : (n : ℕ) (v : Shown) → replicate (n + 1) v ≡ replicate n v ++ v ∷ []
+one_behind : (n : ℕ) (v : EntrySent) → replicate (n + 1) v ≡ replicate n v ++ v ∷ []
 one_behind n v = sym (replicate-append-replicate n 1 v)
 
-last_more : (a r : Run) (v : Shown) → r.shown ≡ v → r.times ≡ a.times + 1 → a.shown ≡ v → unrolled (r ∷ []) ≡ unrolled (a ∷ []) ++ v ∷ []
-last_more a r v shown times same =
-    append-nil (replicate r.times r.shown)
-    ∙ ((rw (shown, times) (one_behind a.times v))
-    ∙ ap (λ (s : Shown). replicate a.times s ++ v ∷ []) (sym same))
-    ∙ ap (λ (l : List Shown). l ++ v ∷ []) (sym (append-nil (replicate a.times a.shown)))
+entry_is : (r : Run) (d : ℕ) (v : Shown) → r.to ≡ d → r.shown ≡ v → ◌≡◌ {A = EntrySent} (record { to = r.to; shown = r.shown }) (record { to = d; shown = v })
+entry_is r d v to shown = ap (λ (x : ℕ). record { to = x; shown = r.shown }) to ∙ ap (λ (x : Shown). record { to = d; shown = x }) shown
+
+last_more : (a r : Run) (d : ℕ) (v : Shown) → r.to ≡ d → r.shown ≡ v → r.times ≡ a.times + 1 → a.to ≡ d → a.shown ≡ v → unrolled (r ∷ []) ≡ unrolled (a ∷ []) ++ record { to = d; shown = v } ∷ []
+last_more a r d v to shown times there same =
+    append-nil (replicate r.times (entry_of_run r))
+    ∙ (ap (λ (n : ℕ). replicate n (entry_of_run r)) times
+    ∙ (ap (λ (e : EntrySent). replicate (a.times + 1) e) (entry_is r d v to shown)
+    ∙ (one_behind a.times (record { to = d; shown = v })
+    ∙ (ap (λ (s : EntrySent). replicate a.times s ++ record { to = d; shown = v } ∷ []) (sym (entry_is a d v there same))
+    ∙ ap (λ (l : List EntrySent). l ++ record { to = d; shown = v } ∷ []) (sym (append-nil (replicate a.times (entry_of_run a))))))))
 
 -- the newest run with one more entry
-pub one_more : (runs : List Run) (i : ℕ) (r : Run) (v : Shown) → i + 1 ≡ length runs
-    → r.shown ≡ v → r.times ≡ (slice_index_or runs i r).times + 1 → (slice_index_or runs i r).shown ≡ v
-    → unrolled (slice_set runs i r) ≡ unrolled runs ++ v ∷ []
-one_more [] i r v e shown times same = absurd (omega (arith, e))
-one_more (a ∷ []) zero r v e shown times same = last_more a r v shown times same
-one_more (a ∷ []) (suc j) r v e shown times same = absurd (omega (arith, e))
-one_more (a ∷ b ∷ runs) zero r v e shown times same = absurd (omega (arith, e))
-one_more (a ∷ b ∷ runs) (suc j) r v e shown times same =
-    ap (λ (l : List Shown). replicate a.times a.shown ++ l) (one_more (b ∷ runs) j r v (omega (arith, e)) shown times same)
-    ∙ sym (append_assoc (replicate a.times a.shown) (unrolled (b ∷ runs)) (v ∷ []))
+pub one_more : (runs : List Run) (i : ℕ) (r : Run) (d : ℕ) (v : Shown) → i + 1 ≡ length runs
+    → r.to ≡ d → r.shown ≡ v → r.times ≡ (slice_index_or runs i r).times + 1 → (slice_index_or runs i r).to ≡ d → (slice_index_or runs i r).shown ≡ v
+    → unrolled (slice_set runs i r) ≡ unrolled runs ++ record { to = d; shown = v } ∷ []
+one_more [] i r d v e to shown times there same = absurd (omega (arith, e))
+one_more (a ∷ []) zero r d v e to shown times there same = last_more a r d v to shown times there same
+one_more (a ∷ []) (suc j) r d v e to shown times there same = absurd (omega (arith, e))
+one_more (a ∷ b ∷ runs) zero r d v e to shown times there same = absurd (omega (arith, e))
+one_more (a ∷ b ∷ runs) (suc j) r d v e to shown times there same =
+    ap (λ (l : List EntrySent). replicate a.times (entry_of_run a) ++ l) (one_more (b ∷ runs) j r d v (omega (arith, e)) to shown times there same)
+    ∙ sym (append_assoc (replicate a.times (entry_of_run a)) (unrolled (b ∷ runs)) (record { to = d; shown = v } ∷ []))
 
 -- one run more, of one entry
-pub one_run_more : (runs : List Run) (r : Run) (v : Shown) → r.shown ≡ v → r.times ≡ 1 → unrolled (runs ++ r ∷ []) ≡ unrolled runs ++ v ∷ []
-one_run_more [] r v shown times = rw (shown, times) refl
-one_run_more (a ∷ runs) r v shown times =
-    ap (λ (l : List Shown). replicate a.times a.shown ++ l) (one_run_more runs r v shown times)
-    ∙ sym (append_assoc (replicate a.times a.shown) (unrolled runs) (v ∷ []))
+pub one_run_more : (runs : List Run) (r : Run) (d : ℕ) (v : Shown) → r.to ≡ d → r.shown ≡ v → r.times ≡ 1 → unrolled (runs ++ r ∷ []) ≡ unrolled runs ++ record { to = d; shown = v } ∷ []
+one_run_more [] r d v to shown times = rw (to, shown, times) refl
+one_run_more (a ∷ runs) r d v to shown times =
+    ap (λ (l : List EntrySent). replicate a.times (entry_of_run a) ++ l) (one_run_more runs r d v to shown times)
+    ∙ sym (append_assoc (replicate a.times (entry_of_run a)) (unrolled runs) (record { to = d; shown = v } ∷ []))
 
 -- how many entries there are with one more
-pub counted_more : (before after : List Shown) (v : Shown) (n m : ℕ) → n ≡ counted (length before) → m ≡ min (n + 1) (2 ^ 64 - 1) → after ≡ before ++ v ∷ []
+pub counted_more : (before after : List EntrySent) (v : EntrySent) (n m : ℕ) → n ≡ counted (length before) → m ≡ min (n + 1) (2 ^ 64 - 1) → after ≡ before ++ v ∷ []
     → m ≡ counted (length after)
 counted_more before after v n m was now e = rw (e, length-append before (v ∷ [])) (omega (arith, was, now))
 
 -- the first entry of a list
-pub begun : (before after : List (ℕ × List Run)) (name : ℕ) (list : List Run) (v : Shown) → lookup (nat_eq name) before ≡ None
+pub begun : (before after : List (ℕ × List Run)) (name : ℕ) (list : List Run) (v : EntrySent) → lookup (nat_eq name) before ≡ None
     → ((q : ℕ) → lookup (nat_eq q) after ≡ (if name == q then Some list else lookup (nat_eq q) before)) → unrolled list ≡ v ∷ []
     → (n : ℕ) → unrolled (runs_of after n) ≡ (if name == n then unrolled (runs_of before n) ++ v ∷ [] else unrolled (runs_of before n))
 begun before after name list v none found one n =
@@ -64,7 +74,7 @@ begun before after name list v none found one n =
         one ∙ ap (λ (o : Option (List Run)). unrolled (unwrap_or o []) ++ v ∷ []) (sym here)
 
 -- one more entry of a list that there is
-pub lengthened : (before after : List (ℕ × List Run)) (name : ℕ) (list new : List Run) (v : Shown) → lookup (nat_eq name) before ≡ Some list → after ≡ set_value (nat_eq name) before new
+pub lengthened : (before after : List (ℕ × List Run)) (name : ℕ) (list new : List Run) (v : EntrySent) → lookup (nat_eq name) before ≡ Some list → after ≡ set_value (nat_eq name) before new
     → unrolled new ≡ unrolled list ++ v ∷ []
     → (n : ℕ) → unrolled (runs_of after n) ≡ (if name == n then unrolled (runs_of before n) ++ v ∷ [] else unrolled (runs_of before n))
 lengthened before after name list new v there set one n =

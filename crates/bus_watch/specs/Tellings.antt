@@ -1,12 +1,14 @@
 -- What is told of a line: of what its reading changed, and where that is news.
-use Rattle.std.specs.Prelude.{ℕ, Bool, true, false, not, List, [], ◌∷◌, Option, Some, None, if◌then◌else◌, replicate, slice_index_or, slice_set}
-use Rattle.bus_model.specs.Changed.{change_heard}
-use Rattle.bus_model.specs.Heard.{StationSettings}
-use Rattle.bus_model.specs.declared.change.Change.{Change as Heard}
-use Rattle.bus_model.specs.declared.change.Change.TheVariants as heard
+use Rattle.std.specs.Prelude.{ℕ, Bool, true, false, not, ◌&&◌, ◌||◌, ◌==◌, List, [], ◌∷◌, Option, Some, None, if◌then◌else◌, replicate, slice_index_or, slice_set}
+use Rattle.bus_model.specs.OverheardChanged.{change_overheard}
+use Rattle.bus_model.specs.declared.overheard.Overheard.{Overheard}
+use Rattle.bus_model.specs.declared.overheard.Overheard.TheVariants as heard
 use Rattle.bus_model.specs.declared.change.Displaced.{Displaced}
+use Rattle.bus_model.specs.declared.who.Who.{Who}
+use Rattle.bus_model.specs.declared.who.Who.TheVariants.{Named, Unclaimed}
 use Rattle.can_frame.specs.declared.reading.Reading.{Reading}
-use Rattle.bus_watch.specs.Runs.{ListsValue, has_begun, runs_under}
+use Rattle.dm_messages.specs.declared.kind.Kind.{Kind}
+use Rattle.bus_watch.specs.Runs.{ListsValue, run_begun_by}
 use Rattle.bus_watch.specs.declared.change.Change.{Change}
 use Rattle.bus_watch.specs.declared.change.Change.TheVariants.{At, NoAddress, Entry, Missed, Unowned, Ack, Unread}
 use Rattle.bus_watch.specs.declared.change.Changes.{Changes}
@@ -25,14 +27,19 @@ one_told c = record { lost = None; change = Some c }
 abbrev pub told_if : Bool → Change → Changes
 told_if is_news c = if is_news then one_told c else nothing_told
 
+-- an entry of a NAME, or that a message came from an address that nobody has claimed
+abbrev pub entry_of_who : Who → Kind → ℕ → Change
+entry_of_who (Named n) kind source = Entry n kind
+entry_of_who (Unclaimed a gaps) kind source = Unowned source
+
 -- what is told of a change
-abbrev pub told_of : Bool → Heard → Changes
+abbrev pub told_of : Bool → Overheard → Changes
 told_of is_news heard.Nothing = nothing_told
 told_of is_news (heard.Claimed name address displaced) = record { lost = who_lost displaced; change = Some (At name address) }
 told_of is_news (heard.GaveUp name) = one_told (NoAddress name)
-told_of is_news (heard.Acknowledged name control pgn again) = told_if is_news (Ack name control pgn)
-told_of is_news (heard.Listed name kind source) = told_if is_news (Entry name kind)
-told_of is_news (heard.Unreadable name kind source) = one_told Unread
+told_of is_news (heard.Acknowledged name control pgn requester to again) = told_if is_news (Ack name control pgn)
+told_of is_news (heard.Listed who kind source to) = told_if is_news (entry_of_who who kind source)
+told_of is_news (heard.Unreadable who kind source to) = one_told Unread
 told_of is_news (heard.Unowned kind source) = told_if is_news (Unowned source)
 told_of is_news (heard.Missed count) = one_told (Missed count)
 
@@ -40,29 +47,44 @@ told_of is_news (heard.Missed count) = one_told (Missed count)
 unfoldable pub none_told : List Bool
 none_told = replicate 256 false
 
+abbrev pub told_of_source : Who → ℕ → List Bool → List Bool
+told_of_source (Named n) source told = told
+told_of_source (Unclaimed a gaps) source told = slice_set told source true
+
 -- of which addresses it was told, after a change
-abbrev pub told_after : Heard → List Bool → List Bool
+abbrev pub told_after : Overheard → List Bool → List Bool
 told_after (heard.Claimed name address displaced) told = slice_set told address false
 told_after (heard.Unowned kind source) told = slice_set told source true
+told_after (heard.Listed who kind source to) told = told_of_source who source told
 told_after (heard.Missed count) told = none_told
 told_after _ told = told
 
 -- and after all that was heard of the readings, newest first
-abbrev pub told_heard : StationSettings → List Reading → List Bool
-told_heard r [] = none_told
-told_heard r (x ∷ older) = told_after (change_heard r x older) (told_heard r older)
+abbrev pub told_heard : List Reading → List Bool
+told_heard [] = none_told
+told_heard (x ∷ older) = told_after (change_overheard x older) (told_heard older)
 
--- whether a change is news: an entry that begins a run of its list, an acknowledgment that is another one than the last, a message from an
--- address without owner of which that was not told; all else is
-abbrev pub is_news : List Bool → ListsValue → ListsValue → Heard → Bool
-is_news told before after (heard.Listed name kind source) = has_begun (runs_under before name kind) (runs_under after name kind)
-is_news told before after (heard.Acknowledged name control pgn again) = not again
+-- an acknowledgment is shown that names this address or goes to it, where there is one; else all are
+abbrev pub is_ack_shown : Option ℕ → ℕ → ℕ → Bool
+is_ack_shown None requester to = true
+is_ack_shown (Some address) requester to = requester == address || to == address
+
+-- an entry is news where it begins a run of its NAME's list; a message from an address without owner where of that it was not told
+abbrev pub is_entry_news : List Bool → Bool → Who → ℕ → Bool
+is_entry_news told began (Named n) source = began
+is_entry_news told began (Unclaimed a gaps) source = not (slice_index_or told source false)
+
+-- whether a change is news: such an entry, an acknowledgment that is another one than the last and is shown, a message from an address
+-- without owner of which that was not told; all else is
+abbrev pub is_news : List Bool → ListsValue → ListsValue → Overheard → Bool
+is_news told before after (heard.Listed who kind source to) = is_entry_news told (run_begun_by before after who kind) who source
+is_news told before after (heard.Acknowledged name control pgn requester to again) = not again && is_ack_shown before.address requester to
 is_news told before after (heard.Unowned kind source) = not (slice_index_or told source false)
 is_news told before after _ = true
 
 -- the same, where it is known whether the newest entry began a run
-abbrev pub news_by : List Bool → Bool → Heard → Bool
-news_by told began (heard.Listed name kind source) = began
-news_by told began (heard.Acknowledged name control pgn again) = not again
-news_by told began (heard.Unowned kind source) = not (slice_index_or told source false)
-news_by told began _ = true
+abbrev pub news_by : List Bool → Option ℕ → Bool → Overheard → Bool
+news_by told address began (heard.Listed who kind source to) = is_entry_news told began who source
+news_by told address began (heard.Acknowledged name control pgn requester to again) = not again && is_ack_shown address requester to
+news_by told address began (heard.Unowned kind source) = not (slice_index_or told source false)
+news_by told address began _ = true

@@ -1,14 +1,12 @@
 -- What all the lines say that a watch was told, newest first.
 use Rattle.std.specs.Prelude.{◌≡◌, ℕ, Bool, List, [], ◌∷◌, Option, Some}
 use Rattle.address_claim.specs.Frames.{claim_frame_value}
-use Rattle.bus_model.specs.Changed.{change_heard}
-use Rattle.bus_model.specs.Heard.{StationSettings, address_heard}
-use Rattle.bus_model.specs.declared.change.Change.{Change}
+use Rattle.bus_model.specs.OverheardChanged.{change_overheard}
+use Rattle.bus_model.specs.declared.overheard.Overheard.{Overheard}
 use Rattle.can_frame.specs.declared.reading.Reading.{Reading}
 use Rattle.can_frame.specs.declared.reading.Reading.TheVariants.{Frame}
 use Rattle.candump_line.specs.declared.line.Line.{Line}
-use Rattle.listening.specs.GivenUp.{none_given_up}
-use Rattle.reassembly.specs.Tables.{empty_table}
+use Rattle.reassembly.specs.Pairs.{no_pairs}
 use Rattle.bus_watch.specs.Followed.{Followed, reading_by, followed_after}
 use Rattle.bus_watch.specs.Tellings.{is_news, told_of}
 use Rattle.bus_watch.specs.declared.change.Changes.{Changes}
@@ -19,9 +17,10 @@ pub data Told : Type 0 where
   Read : Line → Told
   Assumed : (name address : ℕ) → Told
 
--- how a watch begins: its station, whether bad lines are passed over, how late a packet may come, and the bus, if it is named
+-- how a watch begins: whose messages are shown beside those to all, if not everybody's, whether bad lines are passed over, how late a packet
+-- may come, and the bus, if it is named
 pub record Beginning : Type 0 where
-  pub station : StationSettings
+  pub address : Option ℕ
   pub skips_bad : Bool
   pub silence : Option ℕ
   pub bus : Option (List ℕ)
@@ -34,36 +33,26 @@ pub record Said : Type 0 where
 abbrev pub nothing_said : Beginning → Said
 nothing_said b = record {
   readings = [];
-  followed = record {
-    skips_bad = b.skips_bad;
-    silence = b.silence;
-    bus = b.bus;
-    broadcasts = empty_table;
-    sessions = empty_table;
-    given_up = none_given_up;
-  };
+  followed = record { skips_bad = b.skips_bad; silence = b.silence; bus = b.bus; packets = no_pairs };
 }
 
 -- a line is its reading; what is assumed is read as a claim
-abbrev pub said_with : Beginning → Told → Said → Said
-said_with b (Read l) before = record {
-  readings = reading_by (address_heard b.station before.readings) before.followed l ∷ before.readings;
-  followed = followed_after (address_heard b.station before.readings) before.followed l;
-}
-said_with b (Assumed name address) before = record before { readings = Frame (claim_frame_value name (Some address)) ∷ before.readings }
+abbrev pub said_with : Told → Said → Said
+said_with (Read l) before = record { readings = reading_by before.followed l ∷ before.readings; followed = followed_after before.followed l }
+said_with (Assumed name address) before = record before { readings = Frame (claim_frame_value name (Some address)) ∷ before.readings }
 
 abbrev pub all_said : Beginning → List Told → Said
 all_said b [] = nothing_said b
-all_said b (t ∷ older) = said_with b t (all_said b older)
+all_said b (t ∷ older) = said_with t (all_said b older)
 
 -- what the next one changes, with those before it
-abbrev pub change_said : Beginning → Told → List Told → Change
-change_said b (Read l) older = change_heard b.station (reading_by (address_heard b.station (all_said b older).readings) (all_said b older).followed l) (all_said b older).readings
-change_said b (Assumed name address) older = change_heard b.station (Frame (claim_frame_value name (Some address))) (all_said b older).readings
+abbrev pub change_said : Beginning → Told → List Told → Overheard
+change_said b (Read l) older = change_overheard (reading_by (all_said b older).followed l) (all_said b older).readings
+change_said b (Assumed name address) older = change_overheard (Frame (claim_frame_value name (Some address))) (all_said b older).readings
 
 -- a watch that began so, and was told this
 pub record StandsForAll (b : Beginning) (told : List Told) (w : WatchValue) : Type 0 where
-  pub heard : StandsInRuns b.station w (all_said b told).readings
+  pub heard : StandsInRuns b.address w (all_said b told).readings
   pub followed : w.followed ≡ (all_said b told).followed
 
 -- what is told of one more line, or of what is assumed: of what it changed, where that is news

@@ -3,8 +3,8 @@ ghost use Rattle.bus_watch.specs.Tellings as tellings;
 
 use can_frame::Pgn;
 use dm_messages::Kind;
+use listener::{Displaced, Overheard, Who};
 use name_field::Name;
-use station_table::{Change as Heard, Displaced};
 
 /// What a line changed, as far as it is told. `Watch` has the rest.
 #[derive(Clone, Copy, Debug, PartialEq, Eq)]
@@ -13,14 +13,14 @@ pub enum Change {
     At { name: Name, address: u8 },
     /// The NAME holds no address.
     NoAddress { name: Name },
-    /// An entry came under the NAME that is not equal to the one before it: the newest run of this kind.
+    /// An entry came under the NAME that is not equal to the one before it, or went elsewhere: the newest run of this kind.
     Entry { name: Name, kind: Kind },
     /// So many frames were missed: no owner is known until units claim again.
     Missed { count: u32 },
     /// A diagnostic message came from an address that nobody has claimed in what was read. Told once until someone
     /// claims it or frames are missed.
     Unowned { source: u8 },
-    /// The NAME acknowledged a request of the station: 0 positive, 1 negative, 2 access denied, 3 cannot respond now.
+    /// The NAME acknowledged a request: 0 positive, 1 negative, 2 access denied, 3 cannot respond now.
     Ack { name: Name, control: u8, pgn: Pgn },
     /// A message could not be read.
     Unread,
@@ -36,14 +36,14 @@ pub struct Changes {
 }
 
 impl Changes {
-    /// What is told of what the station heard. An entry, an acknowledgment and a message from an address without owner are told where
+    /// What is told of what the listener heard. An entry, an acknowledgment and a message from an address without owner are told where
     /// they are news.
-    pub(crate) fn of(heard: &Heard, is_news: bool) -> Changes
+    pub(crate) fn of(heard: &Overheard, is_news: bool) -> Changes
         ensures { result ≡ tellings.told_of is_news heard.now }
     {
         match *heard {
-            Heard::Nothing => nothing(),
-            Heard::Claimed {
+            Overheard::Nothing => nothing(),
+            Overheard::Claimed {
                 name,
                 address,
                 displaced,
@@ -51,18 +51,33 @@ impl Changes {
                 lost: who_lost(displaced),
                 change: Some(Change::At { name, address }),
             },
-            Heard::GaveUp { name } => one(Change::NoAddress { name }),
-            Heard::Acknowledged {
+            Overheard::GaveUp { name } => one(Change::NoAddress { name }),
+            Overheard::Acknowledged {
                 name,
                 control,
                 pgn,
                 ..
             } => where_news(is_news, Change::Ack { name, control, pgn }),
-            Heard::Listed { name, kind, .. } => where_news(is_news, Change::Entry { name, kind }),
-            Heard::Unreadable { .. } => one(Change::Unread),
-            Heard::Unowned { source, .. } => where_news(is_news, Change::Unowned { source }),
-            Heard::Missed { count } => one(Change::Missed { count }),
+            Overheard::Listed {
+                who,
+                kind,
+                source,
+                ..
+            } => where_news(is_news, entry_of(who, kind, source)),
+            Overheard::Unreadable { .. } => one(Change::Unread),
+            Overheard::Unowned { source, .. } => where_news(is_news, Change::Unowned { source }),
+            Overheard::Missed { count } => one(Change::Missed { count }),
         }
+    }
+}
+
+/// An entry of a NAME, or that a message came from an address that nobody has claimed.
+fn entry_of(who: Who, kind: Kind, source: u8) -> Change
+    ensures { result ≡ tellings.entry_of_who who kind source }
+{
+    match who {
+        Who::Named(name) => Change::Entry { name, kind },
+        Who::Unclaimed { .. } => Change::Unowned { source },
     }
 }
 

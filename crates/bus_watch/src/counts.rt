@@ -27,8 +27,6 @@ pub struct Counts {
     pub withheld: u64,
     /// Diagnostic messages from an address that nobody has claimed in what was read.
     pub not_attributed: u64,
-    /// Frames that the station would have sent.
-    pub not_sent: u64,
 }
 
 impl Counts {

@@ -1,7 +1,7 @@
-//! A diagnostic reader over the lines of a log or of a live bus: the station reads them, and what changes is told.
+//! A diagnostic reader over the lines of a log or of a live bus: a listener reads them, and what changes is told.
 //!
-//! Each line is at most one reading of the station: its frame, or frames that were missed. What a reading lists under a
-//! NAME goes to lists of runs of equal entries (`entry_lists`), so memory grows by what changes. After every line each list
+//! Each line is at most one reading of the listener: its frame, or frames that were missed. What a reading lists under a
+//! NAME goes to lists of runs of equal entries (`listener`), so memory grows by what changes. After every line each list
 //! is what was heard of the readings of the lines so far.
 #![tactic(auto)]
 

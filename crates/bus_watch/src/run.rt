@@ -11,6 +11,8 @@ use trouble_code::Codes;
 pub struct Run {
     /// What each of them shows.
     pub shown: Shown,
+    /// The address that each of them went to, 255 for all.
+    pub to: u8,
     /// How many they are, at least one.
     pub times: u64,
     /// When the first and the last of them were complete, where their lines tell.
@@ -33,23 +35,24 @@ fn is_same_codes(one: &Codes, other: &Codes) -> bool
     one.as_slice() == other.as_slice()
 }
 
-/// Whether an entry can be counted to a run.
-fn goes_on(run: &Run, shown: &Shown, contested: bool) -> bool
+/// Whether an entry that went to this address can be counted to a run.
+fn goes_on(run: &Run, shown: &Shown, to: u8, contested: bool) -> bool
     ensures shown { result ≡ true → run.now.shown ≡ shown.now }
+    ensures to { result ≡ true → run.now.to ≡ to }
     ensures room { result ≡ true → run.now.times + 1 < 2 ^ 64 }
 {
-    run.times < u64::MAX && run.contested == contested && is_same(&run.shown, shown)
+    run.times < u64::MAX && run.contested == contested && run.to == to && is_same(&run.shown, shown)
 }
 
 /// Counts an entry to the newest run, where it goes on with it. Tells whether it does.
 #[tactic(auto, using(crate::proofs::Runs::one_more))]
-fn lengthen(runs: &mut Vec<Run>, shown: &Shown, time: Option<Time>, contested: bool) -> bool
-    ensures entries { unrolled runs.new.items ≡ (if result then unrolled runs.old.items ++ shown.now ∷ [] else unrolled runs.old.items) }
+fn lengthen(runs: &mut Vec<Run>, shown: &Shown, to: u8, time: Option<Time>, contested: bool) -> bool
+    ensures entries { unrolled runs.new.items ≡ (if result then unrolled runs.old.items ++ record { to = to; shown = shown.now } ∷ [] else unrolled runs.old.items) }
     ensures runs { length runs.new.items ≡ length runs.old.items }
     ensures same { result ≡ false → runs.new.items ≡ runs.old.items }
 {
     match runs.last_mut() {
-        Some(newest) if goes_on(newest, shown, contested) => {
+        Some(newest) if goes_on(newest, shown, to, contested) => {
             newest.times += 1;
             newest.last = time;
             true
@@ -63,20 +66,22 @@ fn lengthen(runs: &mut Vec<Run>, shown: &Shown, time: Option<Time>, contested: b
 pub(crate) fn add_to(
     runs: &mut Vec<Run>,
     shown: Shown,
+    to: u8,
     time: Option<Time>,
     contested: bool,
 ) -> Result<bool, AllocError>
-    ensures ok { OnOk result (unrolled runs.new.items ≡ unrolled runs.old.items ++ shown ∷ []) }
+    ensures ok { OnOk result (unrolled runs.new.items ≡ unrolled runs.old.items ++ record { to = to; shown = shown } ∷ []) }
     ensures begins { IfOk result (λ b. b ≡ has_begun runs.old.items runs.new.items) }
     ensures err { OnErr result (runs.new.items ≡ runs.old.items) }
 {
     let first = time;
     let last = time;
-    if lengthen(runs, &shown, time, contested) {
+    if lengthen(runs, &shown, to, time, contested) {
         return Ok(false);
     }
     runs.push(Run {
         shown,
+        to,
         times: 1,
         first,
         last,

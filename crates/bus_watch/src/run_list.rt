@@ -58,14 +58,15 @@ impl RunList {
     pub(crate) fn add(
         &mut self,
         shown: Shown,
+        to: u8,
         time: Option<Time>,
         contested: bool,
     ) -> Result<bool, AllocError>
-        ensures ok { OnOk result (unrolled self.new ≡ unrolled self.old ++ shown ∷ []) }
+        ensures ok { OnOk result (unrolled self.new ≡ unrolled self.old ++ record { to = to; shown = shown } ∷ []) }
         ensures begins { IfOk result (λ b. b ≡ has_begun self.old self.new) }
         ensures err { OnErr result (self.new ≡ self.old) }
     {
-        let begins = add_to(&mut self.runs, shown, time, contested)?;
+        let begins = add_to(&mut self.runs, shown, to, time, contested)?;
         self.entries = self.entries.saturating_add(1);
         Ok(begins)
     }

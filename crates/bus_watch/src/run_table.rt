@@ -64,16 +64,17 @@ impl RunTable {
         alloc: Global,
         name: Name,
         shown: Shown,
+        to: u8,
         time: Option<Time>,
         contested: bool,
     ) -> Result<bool, AllocError>
-        ensures entries { OnOk result ((n : ℕ) → unrolled (runs_of self.new n) ≡ (if name == n then unrolled (runs_of self.old n) ++ shown ∷ [] else unrolled (runs_of self.old n))) }
+        ensures entries { OnOk result ((n : ℕ) → unrolled (runs_of self.new n) ≡ (if name == n then unrolled (runs_of self.old n) ++ record { to = to; shown = shown } ∷ [] else unrolled (runs_of self.old n))) }
         ensures begins { IfOk result (λ b. b ≡ has_begun (runs_of self.old name) (runs_of self.new name)) }
         ensures err { OnErr result (self.new ≡ self.old) }
     {
         match self.lists.get_mut(&name) {
-            Some(list) => list.add(shown, time, contested),
-            None => self.begin(alloc, name, shown, time, contested),
+            Some(list) => list.add(shown, to, time, contested),
+            None => self.begin(alloc, name, shown, to, time, contested),
         }
     }
 
@@ -83,16 +84,17 @@ impl RunTable {
         alloc: Global,
         name: Name,
         shown: Shown,
+        to: u8,
         time: Option<Time>,
         contested: bool,
     ) -> Result<bool, AllocError>
         requires { lookup (nat_eq name) self.old ≡ None }
-        ensures entries { OnOk result ((n : ℕ) → unrolled (runs_of self.new n) ≡ (if name == n then unrolled (runs_of self.old n) ++ shown ∷ [] else unrolled (runs_of self.old n))) }
+        ensures entries { OnOk result ((n : ℕ) → unrolled (runs_of self.new n) ≡ (if name == n then unrolled (runs_of self.old n) ++ record { to = to; shown = shown } ∷ [] else unrolled (runs_of self.old n))) }
         ensures begins { IfOk result (λ b. b ≡ has_begun (runs_of self.old name) (runs_of self.new name)) }
         ensures err { OnErr result (self.new ≡ self.old) }
     {
         let mut list = RunList::new(alloc);
-        let begins = list.add(shown, time, contested)?;
+        let begins = list.add(shown, to, time, contested)?;
         self.lists.insert(name, list)?;
         Ok(begins)
     }

@@ -1,7 +1,7 @@
 ghost use Rattle.std.specs.Prelude.{◌≡◌, false, slice_index_or};
-ghost use Rattle.bus_watch.specs.Tellings.{none_told, told_after};
+ghost use Rattle.bus_watch.specs.Tellings.{none_told, told_after, told_of_source};
 
-use station_table::Change as Heard;
+use listener::{Overheard, Who};
 use std::marker::Model;
 
 /// Of which addresses it was told that a message came from there without an owner: once, until somebody claims the address or frames
@@ -34,15 +34,25 @@ impl Unowned {
         self.told[usize::from(address)]
     }
 
-    /// Follows what the station heard.
-    pub(crate) fn follow(&mut self, heard: &Heard)
+    /// Follows what the listener heard.
+    pub(crate) fn follow(&mut self, heard: &Overheard)
         ensures { self.new ≡ told_after heard.now self.old }
     {
         match *heard {
-            Heard::Claimed { address, .. } => self.told[usize::from(address)] = false,
-            Heard::Unowned { source, .. } => self.told[usize::from(source)] = true,
-            Heard::Missed { .. } => self.told = none_told(),
+            Overheard::Claimed { address, .. } => self.told[usize::from(address)] = false,
+            Overheard::Unowned { source, .. } => self.told[usize::from(source)] = true,
+            Overheard::Listed { who, source, .. } => self.follow_entry(who, source),
+            Overheard::Missed { .. } => self.told = none_told(),
             _ => {}
+        }
+    }
+
+    /// Follows a message from an address.
+    fn follow_entry(&mut self, who: Who, source: u8)
+        ensures { self.new ≡ told_of_source who source self.old }
+    {
+        if let Who::Unclaimed { .. } = who {
+            self.told[usize::from(source)] = true;
         }
     }
 }

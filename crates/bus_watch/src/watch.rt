@@ -1,8 +1,8 @@
-ghost use Rattle.std.specs.Prelude.{◌≡◌, ◌≤◌, [], List, length, reverse, slice_get, IfOk, option_map};
-ghost use Rattle.bus_model.specs.Heard.{counted, entries_heard, missed_count, names_heard, row_heard, unread_count};
-ghost use Rattle.bus_watch.specs.Runs.{unrolled};
+ghost use Rattle.std.specs.Prelude.{◌≡◌, [], List, length, slice_get, IfOk, option_map};
+ghost use Rattle.bus_model.specs.Heard.{counted, missed_count, names_heard};
+ghost use Rattle.bus_model.specs.Overheard.{row_overheard, unread_overheard};
+ghost use Rattle.bus_watch.specs.Runs.{lists_shown, unrolled};
 ghost use Rattle.bus_watch.specs.Told.{Beginning, StandsForAll, Told, all_said};
-ghost use Rattle.can_frame.specs.declared.address.TheConstants.{GREATEST_ADDRESS};
 ghost use Rattle.station_table.specs.StandsFor.{row_heard_as};
 
 use crate::counts::Counts;
@@ -12,9 +12,9 @@ use crate::run::Run;
 use crate::unowned::Unowned;
 use candump_line::Time;
 use dm_messages::Kind;
-use listening::GivenUp;
+use listener::Listener;
 use name_field::Name;
-use station_table::{Row, Station};
+use station_table::Row;
 use std::alloc::{AllocError, Global};
 use std::marker::Model;
 
@@ -24,32 +24,27 @@ mod readings;
 /// How a bus is watched.
 #[derive(Clone, Copy, Debug)]
 pub struct Settings {
-    /// The NAME of the station. The lowest wins every contention.
-    pub name: Name,
-    /// The address of the station, 0 to 253: sessions to it are joined too.
-    pub address: u8,
+    /// The address whose messages are shown beside those to all, 0 to 255; none: everybody's.
+    pub address: Option<u8>,
     /// Whether a bad line is passed over; else it is a frame that was missed.
     pub skips_bad: bool,
     /// How many microseconds a packet may come after the frame before it; none: any.
     pub silence: Option<u64>,
-    ghost address_fits: { address ≤ GREATEST_ADDRESS },
 }
 
-/// A station that reads the lines of a log or of a live bus. What it lists is kept as runs of equal entries.
+/// A listener that reads the lines of a log or of a live bus. What it lists is kept as runs of equal entries.
 #[derive(Drop)]
 pub struct Watch {
     settings: Settings,
-    station: Station,
+    listener: Listener,
     bus: Option<String>,
     unowned: Unowned,
-    broadcasts: Packets,
-    sessions: Packets,
-    given_up: GivenUp,
+    packets: Packets,
     lists: Lists,
     counts: Counts,
 }
 
-/// Seen as its station, the lists that it fills, what it knows of the bus that it follows, and what it told once.
+/// Seen as its listener, the lists that it fills, what it knows of the bus that it follows, and what it told once.
 impl Model for Watch {
     ghost use Rattle.std.specs.Prelude.{option_map, string_bytes};
     ghost use Rattle.bus_watch.specs.WatchValue.{WatchValue};
@@ -57,29 +52,24 @@ impl Model for Watch {
     ghost Value = { WatchValue };
 
     ghost view = { λ w. record {
-      station = w.station;
+      listener = w.listener;
       lists = w.lists;
       followed = record {
         skips_bad = w.settings.skips_bad;
         silence = w.settings.silence;
         bus = option_map string_bytes w.bus;
-        broadcasts = w.broadcasts;
-        sessions = w.sessions;
-        given_up = w.given_up;
+        packets = w.packets;
       };
       told = w.unowned;
     } };
 }
-
-/// The most packets that the station grants at once.
-const GRANT: u8 = 255;
 
 impl Watch {
     /// A watch that has read nothing, of the bus of this name, or of the first that a line names.
     #[tactic(auto, using(crate::proofs::Steps::opened))]
     pub fn new(alloc: Global, settings: Settings, bus: Option<&str>) -> Result<Watch, AllocError>
         ensures { IfOk result (λ w. StandsForAll (record {
-          station = record { name = settings.name; address = settings.address };
+          address = settings.address;
           skips_bad = settings.skips_bad;
           silence = settings.silence;
           bus = option_map (λ name. name.now) bus.entry;
@@ -89,15 +79,15 @@ impl Watch {
             Some(bus) => Some(String::from_str(alloc, bus)?),
             None => None,
         };
+        let listener = Listener::new(alloc)?;
+        let packets = Packets::new(alloc)?;
         Ok(Watch {
             settings,
-            station: Station::new(alloc, settings.name, settings.address, GRANT),
+            listener,
             bus,
             unowned: Unowned::new(),
-            broadcasts: Packets::new(),
-            sessions: Packets::new(),
-            given_up: GivenUp::new(),
-            lists: Lists::new(alloc),
+            packets,
+            lists: Lists::new(alloc, settings.address),
             counts: Counts::default(),
         })
     }
@@ -117,7 +107,7 @@ impl Watch {
     pub fn names(&self) -> usize
         ensures heard { (b : Beginning) (ts : List Told) → StandsForAll b ts self.entry.now → result ≡ length (names_heard (all_said b ts).readings) }
     {
-        self.station.names()
+        self.listener.names()
     }
 
     /// The NAME of the row at this place, from 0, in the order of the NAMEs' first claims.
@@ -125,23 +115,23 @@ impl Watch {
     pub fn name_at(&self, place: usize) -> Option<Name>
         ensures heard { (b : Beginning) (ts : List Told) → StandsForAll b ts self.entry.now → result ≡ slice_get (names_heard (all_said b ts).readings) place }
     {
-        self.station.name_at(place)
+        self.listener.name_at(place)
     }
 
     /// What is known of a NAME; none before its first claim.
     #[tactic(auto, using(crate::proofs::Queries::row_as_heard))]
     pub fn row(&self, name: Name) -> Option<Row>
-        ensures heard { (b : Beginning) (ts : List Told) → StandsForAll b ts self.entry.now → option_map row_heard_as result ≡ row_heard b.station name (all_said b ts).readings }
+        ensures heard { (b : Beginning) (ts : List Told) → StandsForAll b ts self.entry.now → option_map row_heard_as result ≡ row_overheard name (all_said b ts).readings }
     {
-        self.station.row(name)
+        self.listener.row(name)
     }
 
     /// The entries of a kind under a NAME as runs of equal ones, oldest first.
     ///
-    /// One after the other, their entries are the list that was heard.
+    /// One after the other, their entries are the list that was heard, of what is shown.
     #[tactic(auto, using(crate::proofs::Queries::runs_as_heard))]
     pub fn runs(&self, name: Name, kind: Kind) -> &[Run]
-        ensures heard { (b : Beginning) (ts : List Told) → StandsForAll b ts self.entry.now → unrolled result.now ≡ reverse (entries_heard b.station name kind (all_said b ts).readings) }
+        ensures heard { (b : Beginning) (ts : List Told) → StandsForAll b ts self.entry.now → unrolled result.now ≡ lists_shown b.address (all_said b ts).readings name kind }
     {
         self.lists.runs(name, kind)
     }
@@ -149,7 +139,7 @@ impl Watch {
     /// How many entries of a kind are under a NAME, up to the greatest 64-bit number.
     #[tactic(auto, using(crate::proofs::Queries::entries_as_heard))]
     pub fn entries(&self, name: Name, kind: Kind) -> u64
-        ensures heard { (b : Beginning) (ts : List Told) → StandsForAll b ts self.entry.now → result ≡ counted (length (entries_heard b.station name kind (all_said b ts).readings)) }
+        ensures heard { (b : Beginning) (ts : List Told) → StandsForAll b ts self.entry.now → result ≡ counted (length (lists_shown b.address (all_said b ts).readings name kind)) }
     {
         self.lists.entries(name, kind)
     }
@@ -159,14 +149,14 @@ impl Watch {
     pub fn missed(&self) -> u64
         ensures heard { (b : Beginning) (ts : List Told) → StandsForAll b ts self.entry.now → result ≡ missed_count (all_said b ts).readings }
     {
-        self.station.missed()
+        self.listener.missed()
     }
 
     /// How many messages could not be read, up to the greatest 64-bit number.
     #[tactic(auto, using(crate::proofs::Queries::unread_as_heard))]
     pub fn unread(&self) -> u64
-        ensures heard { (b : Beginning) (ts : List Told) → StandsForAll b ts self.entry.now → result ≡ unread_count b.station (all_said b ts).readings }
+        ensures heard { (b : Beginning) (ts : List Told) → StandsForAll b ts self.entry.now → result ≡ unread_overheard (all_said b ts).readings }
     {
-        self.station.unread()
+        self.listener.unread()
     }
 }

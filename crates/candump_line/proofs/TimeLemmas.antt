@@ -1,20 +1,13 @@
-use Rattle.std.proofs.Common.{◌≡◌, ◌≢◌, ℕ, zero, suc, ◌+◌, ◌-◌, ◌*◌, ◌/◌, ◌%◌, ◌^◌, ◌<◌, ◌≤◌, false, List, [], ◌∷◌, ◌++◌, length, arith, refl, ◌∙◌, ap, sym, ⊎_elim, pow-suc, add-zero, lit<, lit≤}
-use Rattle.std.proofs.lemmas.List.{append-nil}
-use Rattle.std.proofs.lemmas.Bool.{cases_eq}
+use Rattle.std.proofs.Common.{◌≡◌, ℕ, ◌+◌, ◌-◌, ◌*◌, ◌/◌, ◌%◌, ◌^◌, ◌<◌, ◌≤◌, false, Option, None, Some, Bor, List, [], ◌∷◌, ◌++◌, length, append_assoc, inl, inr, arith, refl, ◌∙◌, ap, lit<, lit≤}
 use Rattle.std.proofs.lemmas.Bool.Decides.{nat_tests}
-use Rattle.std.specs.Bool.{◌==◌}
-use Rattle.std.specs.Prelude.{replicate}
-use Rattle.std.specs.Str.Parse.{IsNumeral, AllDigits, digits_value, digits_value_after}
-use Rattle.std.specs.Char.{digit_value, is_ascii_digit}
-use Rattle.std.specs.Option.{MatchOption}
-use Rattle.std.proofs.Common.{Option, Bor, get_or, subst, take}
 use Rattle.std.proofs.lemmas.Fmt.{decimal_is_IsNumeral}
-use Rattle.std.proofs.lemmas.Int.Digits.{digits_value_more}
-use Rattle.std.proofs.lemmas.Str.Parse.{digit_at, digits_value-take-le}
-use Rattle.std.proofs.lemmas.Str.Pattern.{IsSplitOnceResult, split_after}
-use Rattle.std.specs.Fmt.{digits, digits_onto, decimal, padded_integral, format_spec, char_count, digit_glyph}
+use Rattle.std.proofs.lemmas.List.{length-append}
+use Rattle.std.specs.Char.{digit_value}
+use Rattle.std.specs.Fmt.{digits, decimal, padded_integral, format_spec, digit_glyph}
+use Rattle.std.specs.Option.{MatchOption, SomeIff}
+use Rattle.std.specs.Str.Parse.{IsNumeral, digits_value}
 use Rattle.hex_text.specs.Digits.{AreGlyphs, padded_fixed, length-fixed_digits, value-fixed_digits, AllDigits-fixed_digits}
-use Rattle.candump_line.specs.LineText.{decimal_digit, decimal_digits, time_text}
+use Rattle.candump_line.specs.LineText.{decimal_digit, decimal_digits, micros_of_ticks, ticks_text, time_text, BeginsWithNoDigit, IsFraction}
 
 digit_value-decimal_digit : (d : ℕ) → d < 10 → digit_value (decimal_digit d) ≡ d
 digit_value-decimal_digit d h = grind (arith, nat_tests)
@@ -30,63 +23,89 @@ decimal_glyphs = record { more = lit< tt; written = digit_glyph-decimal_digit; f
 pub six_digits : (n : ℕ) → n < 10 ^ 6 → padded_integral (format_spec 32 0 4 6 (2 ^ 64 - 1)) false [] (digits 10 false n) ≡ decimal_digits 6 n []
 six_digits n h = padded_fixed 10 false decimal_digit decimal_glyphs 6 n (lit< tt) (lit≤ tt) h
 
--- a word with another character than a digit is no numeral
-pub not_digits : (word bytes : List ℕ) (i : ℕ) → bytes ≡ word → i < length bytes → false ≡ is_ascii_digit (get_or bytes i 0) → IsNumeral 10 word → ⊥
-not_digits word bytes i same below other h =
-    let range = digit_at word i h.1 (rw (← same) below) in
-    let there : false ≡ is_ascii_digit (get_or word i 0) = rw (← same) other in
-    grind (arith, nat_tests, range.0, range.1, there)
+pub length-digits : (k n : ℕ) → length (decimal_digits k n []) ≡ k
+length-digits k n = omega (arith, length-fixed_digits 10 decimal_digit k n [])
 
--- the value of a digit
-value_of : (c : ℕ) → 48 ≤ c → c ≤ 57 → digit_value c ≡ c - 48
-value_of c low high = grind (arith, nat_tests)
+pub IsNumeral-digits : (k n : ℕ) → 0 < k → IsNumeral 10 (decimal_digits k n [])
+IsNumeral-digits k n some = (omega (arith, length-digits k n), AllDigits-fixed_digits 10 false decimal_digit decimal_glyphs k n [] tt)
 
--- a word is at least as great as its first digits
-pub too_great : (word bytes : List ℕ) (i value digit : ℕ) → bytes ≡ word → i < length bytes → value ≡ digits_value 10 (take i bytes)
-    → 48 ≤ get_or bytes i 0 → get_or bytes i 0 ≤ 57 → digit ≡ get_or bytes i 0 - 48 → 10 ^ 10 ≤ value * 10 + digit
-    → digits_value 10 word < 10 ^ 10 → ⊥
-too_great word bytes i value digit same below so_far low high is great small =
-    let more = digits_value_more 10 bytes i below in
-    let most : digits_value 10 (take (i + 1) bytes) ≤ digits_value 10 word = rw (← same) (digits_value-take-le 10 bytes (i + 1) (omega arith)) in
-    let last = value_of (get_or bytes i 0) low high in
-    omega (arith, more, most, last)
+-- what `leading_number` answers
+abbrev pub ReadsNumber : List ℕ → Option (ℕ × Bor (List ℕ)) → Type 0
+ReadsNumber text r = (word rest : List ℕ) → IsNumeral 10 word → digits_value 10 word < 10 ^ 10 → BeginsWithNoDigit rest → text ≡ word ++ rest
+    → MatchOption r ⊥ (λ found. (found.0 ≡ digits_value 10 word) × (found.1.now ≡ rest))
 
-pub length-six : (n : ℕ) → length (decimal_digits 6 n []) ≡ 6
-length-six n = length-fixed_digits 10 decimal_digit 6 n []
+at_number : (text word rest : List ℕ) (r : Option (ℕ × Bor (List ℕ))) (value : ℕ) → ReadsNumber text r → IsNumeral 10 word → digits_value 10 word ≡ value → value < 10 ^ 10
+    → BeginsWithNoDigit rest → text ≡ word ++ rest → MatchOption r ⊥ (λ found. (found.0 ≡ value) × (found.1.now ≡ rest))
+at_number text word rest None value h numeral is small ends e = h word rest numeral (omega arith) ends e
+at_number text word rest (Some found) value h numeral is small ends e =
+    let read = h word rest numeral (omega arith) ends e in
+    (read.0 ∙ is, read.1)
 
--- six digits spell the number below a million that they were written for
-pub value_six : (n : ℕ) → n < 10 ^ 6 → digits_value 10 (decimal_digits 6 n []) ≡ n
-value_six = value-fixed_digits 10 false decimal_digit decimal_glyphs 6
+-- what is known of the parts of a time
+pub record HasParts (digits ticks : ℕ) : Type 0 where
+  pub some : 0 < digits
+  pub most : digits ≤ 9
+  pub seconds : ticks / 10 ^ digits < 10 ^ 10
+  pub fraction : ticks % 10 ^ digits < 10 ^ digits
+  pub short : ticks % 10 ^ digits < 10 ^ 10
+  pub whole : ticks / 10 ^ digits * 10 ^ 6 + micros_of_ticks digits (ticks % 10 ^ digits) ≡ micros_of_ticks digits ticks
+  pub small : micros_of_ticks digits ticks < 10 ^ 16
 
-pub IsNumeral-six : (n : ℕ) → IsNumeral 10 (decimal_digits 6 n [])
-IsNumeral-six n = (omega (arith, length-six n), AllDigits-fixed_digits 10 false decimal_digit decimal_glyphs 6 n [] tt)
+pub parts_of : (digits ticks : ℕ) → IsFraction digits → ticks < 10 ^ (10 + digits) → HasParts digits ticks
+parts_of digits ticks (inl e) small =
+    let below : ticks < 10 ^ 13 = rw e at small in
+    rw e (record { some = omega arith; most = omega arith; seconds = omega arith; fraction = omega arith; short = omega arith; whole = omega arith; small = omega arith })
+parts_of digits ticks (inr (inl e)) small =
+    let below : ticks < 10 ^ 16 = rw e at small in
+    rw e (record { some = omega arith; most = omega arith; seconds = omega arith; fraction = omega arith; short = omega arith; whole = omega arith; small = omega arith })
+parts_of digits ticks (inr (inr e)) small =
+    let below : ticks < 10 ^ 19 = rw e at small in
+    rw e (record { some = omega arith; most = omega arith; seconds = omega arith; fraction = omega arith; short = omega arith; whole = omega arith; small = omega arith })
 
--- a numeral has no point
-no_point : (ds : List ℕ) → IsNumeral 10 ds → (i : ℕ) → i < length ds → get_or ds i 0 ≢ 46
-no_point ds h i l e = let r = digit_at ds i h.1 l in omega arith
+-- a time is its seconds, a point, and its digits of a second
+pub at_seconds : (text rest : List ℕ) (r : Option (ℕ × Bor (List ℕ))) (digits ticks : ℕ) → ReadsNumber text r → HasParts digits ticks → text ≡ ticks_text digits ticks ++ rest
+    → MatchOption r ⊥ (λ found. (found.0 ≡ ticks / 10 ^ digits) × (found.1.now ≡ 46 ∷ (decimal_digits digits (ticks % 10 ^ digits) [] ++ rest)))
+unfolding ticks_text
+at_seconds text rest r digits ticks h parts e =
+    let numeral = decimal_is_IsNumeral (ticks / 10 ^ digits) (omega (arith, parts.seconds)) in
+    at_number text (decimal (ticks / 10 ^ digits)) (46 ∷ (decimal_digits digits (ticks % 10 ^ digits) [] ++ rest)) r (ticks / 10 ^ digits) h numeral.0 numeral.1 parts.seconds (lit≤ tt)
+    (e ∙ append_assoc (decimal (ticks / 10 ^ digits)) (46 ∷ decimal_digits digits (ticks % 10 ^ digits) []) rest)
 
-pub split_time : (text : List ℕ) (r : Option (Bor (List ℕ) × Bor (List ℕ))) (n : ℕ) → IsSplitOnceResult 46 text r → n < 10 ^ 16 → text ≡ time_text n
-    → MatchOption r ⊥ (λ x. (x.0.now ≡ decimal (n / 10 ^ 6)) × (x.1.now ≡ decimal_digits 6 (n % 10 ^ 6) []))
-unfolding time_text
-split_time text r n h small e =
-    split_after 46 text (decimal (n / 10 ^ 6)) (decimal_digits 6 (n % 10 ^ 6) []) r h (lit< tt) e
-    (no_point (decimal (n / 10 ^ 6)) (decimal_is_IsNumeral (n / 10 ^ 6) (omega arith)).0)
+pub at_fraction : (text rest : List ℕ) (r : Option (ℕ × Bor (List ℕ))) (digits ticks : ℕ) → ReadsNumber text r → HasParts digits ticks → BeginsWithNoDigit rest
+    → text ≡ decimal_digits digits (ticks % 10 ^ digits) [] ++ rest → MatchOption r ⊥ (λ found. (found.0 ≡ ticks % 10 ^ digits) × (found.1.now ≡ rest))
+at_fraction text rest r digits ticks h parts ends e =
+    at_number text (decimal_digits digits (ticks % 10 ^ digits) []) rest r (ticks % 10 ^ digits) h (IsNumeral-digits digits (ticks % 10 ^ digits) parts.some)
+    (value-fixed_digits 10 false decimal_digit decimal_glyphs digits (ticks % 10 ^ digits) parts.fraction) parts.short ends e
 
--- a number that `read_decimal` reads
-abbrev pub Reads : List ℕ → Type 0
-Reads word = IsNumeral 10 word × (digits_value 10 word < 10 ^ 10)
+-- of which there are so many
+pub length-fraction : (text rest : List ℕ) (digits n : ℕ) → text ≡ decimal_digits digits n [] ++ rest → length text ≡ digits + length rest
+length-fraction text rest digits n e = omega (arith, ap length e, length-append (decimal_digits digits n []) rest, length-digits digits n)
 
-pub reads_seconds : (word : List ℕ) (n : ℕ) → n < 10 ^ 16 → word ≡ decimal (n / 10 ^ 6) → Reads word
-reads_seconds word n small e =
-    let h = decimal_is_IsNumeral (n / 10 ^ 6) (omega arith) in
-    subst Reads (sym e) (h.0, omega (arith, h.1))
+-- microseconds are ticks of which a million make a second
+pub ticks_of_micros : (n : ℕ) → time_text n ≡ ticks_text 6 n
+unfolding time_text ticks_text
+ticks_of_micros n = refl
 
-pub seconds_value : (word : List ℕ) (n : ℕ) → n < 10 ^ 16 → word ≡ decimal (n / 10 ^ 6) → digits_value 10 word ≡ n / 10 ^ 6
-seconds_value word n small e = ap (digits_value 10) e ∙ (decimal_is_IsNumeral (n / 10 ^ 6) (omega arith)).1
+pub micros_of_micros : (n : ℕ) → micros_of_ticks 6 n ≡ n
+micros_of_micros n = omega arith
 
-pub micros_value : (word : List ℕ) (n : ℕ) → word ≡ decimal_digits 6 (n % 10 ^ 6) [] → digits_value 10 word ≡ n % 10 ^ 6
-micros_value word n e = ap (digits_value 10) e ∙ value_six (n % 10 ^ 6) (omega arith)
+-- the digits that were found are told in microseconds
+pub fraction_told : (found count digits ticks : ℕ) (r : Option ℕ) → (IsFraction count → found < 10 ^ count → r ≡ Some (micros_of_ticks count found)) → IsFraction digits → HasParts digits ticks
+    → count ≡ digits → found ≡ ticks % 10 ^ digits → r ≡ Some (micros_of_ticks digits (ticks % 10 ^ digits))
+fraction_told found count digits ticks r h three parts same is =
+    let told = rw (same, is) at h in
+    told three parts.fraction
 
-pub reads_micros : (word : List ℕ) (n : ℕ) → word ≡ decimal_digits 6 (n % 10 ^ 6) [] → Reads word
-reads_micros word n e =
-    subst Reads (sym e) (IsNumeral-six (n % 10 ^ 6), omega (arith, value_six (n % 10 ^ 6) (omega arith)))
+pub told_of : (r : Option ℕ) (P : Type 0) (v : ℕ) → SomeIff r P v → P → r ≡ Some v
+told_of None P v refused h = absurd (refused h)
+told_of (Some x) P v granted h = ap Some granted.1
+
+-- three, six and nine digits of a second in microseconds
+pub of_three : (digits ticks : ℕ) → digits ≡ 3 → ticks < 10 ^ digits → (ticks * 1000 < 10 ^ 6) × (ticks * 1000 ≡ micros_of_ticks digits ticks)
+of_three digits ticks e small = let below : ticks < 10 ^ 3 = rw e at small in rw e (omega arith, omega arith)
+
+pub of_six : (digits ticks : ℕ) → digits ≡ 6 → ticks < 10 ^ digits → (ticks < 10 ^ 6) × (ticks ≡ micros_of_ticks digits ticks)
+of_six digits ticks e small = let below : ticks < 10 ^ 6 = rw e at small in rw e (omega arith, omega arith)
+
+pub of_nine : (digits ticks : ℕ) → digits ≡ 9 → ticks < 10 ^ digits → (ticks / 1000 < 10 ^ 6) × (ticks / 1000 ≡ micros_of_ticks digits ticks)
+of_nine digits ticks e small = let below : ticks < 10 ^ 9 = rw e at small in rw e (omega arith, omega arith)

@@ -1,2 +1,4 @@
 pub mod LineText
+pub mod OtherLogs
+pub mod TimeForms
 pub mod Logged

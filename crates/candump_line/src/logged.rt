@@ -1,12 +1,13 @@
-ghost use Rattle.std.specs.Prelude.{◌≡◌, ℕ, ◌<◌, ◌^◌, ◌≤◌, ◌∷◌, [], ◌++◌, List, Some, length, OnOk, option_map};
+ghost use Rattle.std.specs.Prelude.{◌≡◌, ℕ, ◌+◌, ◌<◌, ◌^◌, ◌≤◌, ◌∷◌, [], ◌++◌, All, List, MatchOption, Some, length, OnOk, option_map};
 ghost use Rattle.std.specs.Io.KnownBytes.{Appends};
 ghost use Rattle.std.specs.List.{flat_map};
 ghost use Rattle.can_frame.specs.FrameText.{id_text};
-ghost use Rattle.candump_line.specs.LineText.{byte_digits, line_text, IsBusName, IsDataFrame};
+ghost use Rattle.candump_line.specs.LineText.{byte_digits, line_text, micros_of_ticks, ticks_text, timed_line, IsBusName, IsDataFrame, IsFraction};
 ghost use Rattle.candump_line.specs.Logged.{logged_value};
 ghost use Rattle.can_frame.specs.FrameValue.{FrameValue, frame};
 
-use crate::time::Time;
+use crate::digits::{behind, read_number, read_pairs};
+use crate::time::{Time, leading_micros};
 use can_frame::Frame;
 use std::io::Write;
 use std::{fmt, io};
@@ -19,44 +20,79 @@ pub(crate) struct Logged<'a> {
     pub frame: Frame,
 }
 
-/// Reads a line that is exactly as `write_line` writes it; none for any other text.
-pub(crate) fn read_logged(text: &str) -> Option<Logged<'_>>
-    ensures reads_back { (time : ℕ) (bus : List ℕ) (f : FrameValue) → time < 10 ^ 16 → IsBusName bus → IsDataFrame f → text.now ≡ line_text time bus f → option_map logged_value result ≡ Some (time, bus, f) }
+/// How many digits a 29-bit identifier has.
+const ID_DIGITS: usize = 8;
+
+/// Reads a line as `write_line` writes it, but for the case of its digits and for times with three or nine digits behind the point; none for
+/// any other line.
+pub(crate) fn read_logged(line: &[u8]) -> Option<Logged<'_>>
+    ensures reads { (digits ticks : ℕ) (bus : List ℕ) (f : FrameValue) → IsFraction digits → ticks < 10 ^ (10 + digits) → IsBusName bus → IsDataFrame f → line.now ≡ timed_line (ticks_text digits ticks) bus f → option_map logged_value result ≡ Some (micros_of_ticks digits ticks, bus, f) }
 {
-    let rest = text.strip_prefix('(')?;
-    let (time, rest) = rest.split_once(')')?;
-    let time = Time::read(time)?;
-    let rest = rest.strip_prefix(' ')?;
-    let (bus, rest) = rest.split_once(' ')?;
-    if bus.is_empty() {
-        return None;
-    }
-    let (id, digits) = rest.split_once('#')?;
-    let frame = read_frame(id, digits)?;
-    Some(Logged { time, bus, frame })
+    let rest = behind(line, b'(')?;
+    let (micros, rest) = leading_micros(rest)?;
+    let rest = behind(rest, b')')?;
+    let rest = behind(rest, b' ')?;
+    let (word, rest) = cut_at_space(rest)?;
+    let bus = bus_name(word)?;
+    let frame = read_frame(rest)?;
+    Some(Logged {
+        time: Time::of_micros(micros),
+        bus,
+        frame,
+    })
 }
 
-/// The frame of eight digits of identifier and at most sixteen of data.
-fn read_frame(id: &str, digits: &str) -> Option<Frame>
-    ensures reads_back { (f : FrameValue) → IsDataFrame f → id.now ≡ id_text f.id → digits.now ≡ flat_map byte_digits f.bytes → result ≡ Some f }
+/// What stands before the first space of a text, and what stands behind it.
+#[inline(always)]
+fn cut_at_space(text: &[u8]) -> Option<(&[u8], &[u8])>
+    ensures reads_back { (word rest : List ℕ) → All (λ c. 32 < c) word → text.now ≡ word ++ 32 ∷ rest → MatchOption result ⊥ (λ cut. (cut.0.now ≡ word) × (cut.1.now ≡ rest)) }
 {
+    for (place, byte) in text.iter().enumerate() {
+        if *byte == b' ' {
+            return Some((&text[..place], &text[place + 1..]));
+        }
+    }
+    None
+}
+
+/// The name of a bus: any word of text.
+#[inline(always)]
+fn bus_name(word: &[u8]) -> Option<&str>
+    ensures reads_back { IsBusName word.now → MatchOption result ⊥ (λ bus. bus.now ≡ word.now) }
+{
+    if word.is_empty() {
+        return None;
+    }
+    match std::str::from_utf8(word) {
+        Ok(bus) => Some(bus),
+        Err(_) => None,
+    }
+}
+
+/// The frame of eight digits of identifier, `#` and at most sixteen digits of data.
+fn read_frame(text: &[u8]) -> Option<Frame>
+    ensures reads_back { (f : FrameValue) → IsDataFrame f → text.now ≡ id_text f.id ++ 35 ∷ flat_map byte_digits f.bytes → result ≡ Some f }
+{
+    let (id, rest) = text.split_at_checked(ID_DIGITS)?;
     let number = read_number(id)?;
+    let digits = behind(rest, b'#')?;
+    read_data(number, digits)
+}
+
+/// The frame of this identifier, and of the bytes that at most sixteen digits spell.
+#[inline(always)]
+fn read_data(number: u32, digits: &[u8]) -> Option<Frame>
+    ensures reads_back { (f : FrameValue) → IsDataFrame f → number ≡ f.id → digits.now ≡ flat_map byte_digits f.bytes → result ≡ Some f }
+{
     let len = digits.len() / 2;
     if len > 8 {
         return None;
     }
     let mut room = [0; 8];
-    hex::decode_to_slice(digits, &mut room[..len]).ok()?;
+    if !read_pairs(digits, &mut room[..len]) {
+        return None;
+    }
     data_frame(number, &room[..len])
-}
-
-/// The number that eight hexadecimal digits spell.
-fn read_number(digits: &str) -> Option<u32>
-    ensures reads_back { (n : ℕ) → n < 2 ^ 32 → digits.now ≡ id_text n → result ≡ Some n }
-{
-    let mut bytes = [0; 4];
-    hex::decode_to_slice(digits, &mut bytes).ok()?;
-    Some(u32::from_be_bytes(bytes))
 }
 
 /// The frame of this identifier and these bytes, where it is one.

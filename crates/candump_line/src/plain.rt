@@ -22,10 +22,21 @@ pub(crate) fn read_seen(time: Time, rest: &str) -> Line<'_> {
     let Some(bus) = words.next() else {
         return Line::Bad(Reason::NoBus);
     };
-    let Some(first) = words.next() else {
+    let Some(first) = next_behind_direction(&mut words) else {
         return Line::Bad(Reason::NoFrame);
     };
     line_of(Some(time), Some(bus), read_frame_words(first, words))
+}
+
+/// The next word, or where that is `RX` or `TX` the one behind it and its two flags, as `candump -x` writes them before a frame.
+fn next_behind_direction<'a>(words: &mut SplitAsciiWhitespace<'a>) -> Option<&'a str> {
+    let word = words.next()?;
+    if word != "RX" && word != "TX" {
+        return Some(word);
+    }
+    let _switched_rate = words.next()?;
+    let _error_state = words.next()?;
+    words.next()
 }
 
 /// Reads a line without a time: plain candump, what cansend takes, a frame that this program answers; else a note.
@@ -43,11 +54,11 @@ pub(crate) fn read_untimed(text: &str) -> Line<'_> {
     line_of(None, None, read_apart(first, words))
 }
 
-/// Whether the third word begins with a bracket, as in plain candump.
+/// Whether the word behind the identifier begins with a bracket, as in plain candump.
 fn is_told(text: &str) -> bool {
     let mut words = text.split_ascii_whitespace();
     let _bus = words.next();
-    let _id = words.next();
+    let _id = next_behind_direction(&mut words);
     match words.next() {
         Some(told) => told.starts_with('['),
         None => false,
@@ -73,7 +84,7 @@ fn read_frame_words(first: &str, mut words: SplitAsciiWhitespace<'_>) -> Said {
 }
 
 fn read_told_words(mut words: SplitAsciiWhitespace<'_>) -> Said {
-    let Some(id) = words.next() else {
+    let Some(id) = next_behind_direction(&mut words) else {
         return Said::Nothing;
     };
     let Some(told) = words.next() else {

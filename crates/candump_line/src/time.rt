@@ -1,13 +1,14 @@
-ghost use Rattle.std.specs.Prelude.{◌≡◌, ℕ, ◌<◌, ◌^◌, IfSome, Some};
+ghost use Rattle.std.specs.Prelude.{◌≡◌, ℕ, ◌<◌, ◌^◌, ◌+◌, ◌++◌, List, IfSome, MatchOption, Some, length};
 ghost use Rattle.std.specs.Option.{SomeIff};
-ghost use Rattle.std.specs.Str.Parse.{IsNumeral, digits_value};
-ghost use Rattle.candump_line.specs.LineText.{time_text};
+ghost use Rattle.candump_line.specs.LineText.{micros_of_ticks, ticks_text, time_text, BeginsWithNoDigit, IsFraction};
 
+use crate::date::leading_date_micros;
+use crate::digits::{behind, leading_number};
 use std::fmt;
 use std::marker::Model;
 
-/// The least number with eleven digits.
-const LIMIT: u64 = 10_000_000_000;
+/// The least number of microseconds that is none of a time: 10^16.
+const LIMIT: u64 = 10_000_000_000_000_000;
 
 /// A point in time in microseconds, with at most ten digits of seconds.
 ///
@@ -34,7 +35,7 @@ impl Time {
     pub fn from_micros(micros: u64) -> Option<Time>
         ensures { IfSome result (λ t. (micros < 10 ^ 16) × (t ≡ micros)) }
     {
-        if micros >= 10_000_000_000_000_000 {
+        if micros >= LIMIT {
             return None;
         }
         Some(Time { micros })
@@ -48,44 +49,84 @@ impl Time {
         self.micros
     }
 
-    /// The time that decimal digits of seconds, a point and six digits spell; none for any other text.
+    /// The time of so many microseconds, fewer than 10^16.
+    pub(crate) fn of_micros(micros: u64) -> Time
+        requires { micros < 10 ^ 16 }
+        ensures { result ≡ micros }
+    {
+        Time { micros }
+    }
+
+    /// The time that a text spells; none for any other text.
+    ///
+    /// That is seconds in decimal digits, a point and three, six or nine digits of a second, of which what is below a microsecond
+    /// is cut; or a date and a time of day, `YYYY-MM-DD HH:MM:SS` and a fraction as before, as `candump -tA` writes it. A date is taken
+    /// for one of the time zone UTC, and none is before 1970.
     pub fn read(text: &str) -> Option<Time>
+        ensures reads { (digits ticks : ℕ) → IsFraction digits → ticks < 10 ^ (10 + digits) → text.now ≡ ticks_text digits ticks → result ≡ Some (micros_of_ticks digits ticks) }
         ensures reads_back { (n : ℕ) → n < 10 ^ 16 → text.now ≡ time_text n → result ≡ Some n }
     {
-        let (seconds, micros) = text.split_once('.')?;
-        if micros.len() != 6 {
-            return None;
+        let text = text.as_bytes();
+        match leading_micros(text) {
+            Some((micros, rest)) => whole_time(micros, rest),
+            None => {
+                let (micros, rest) = leading_date_micros(text)?;
+                whole_time(micros, rest)
+            }
         }
-        let seconds = read_decimal(seconds)?;
-        let micros = read_decimal(micros)?;
-        if seconds >= 10_000_000_000 || micros >= 1_000_000 {
-            return None;
-        }
-        Some(Time {
-            micros: seconds * 1_000_000 + micros,
-        })
     }
 }
 
-/// The number below 10^10 that decimal digits alone spell; none for any other word.
-#[tactic(auto, using(std::proofs::lemmas::Int::Digits::digits_more, std::proofs::lemmas::Int::Digits::digits_value_more))]
-fn read_decimal(word: &str) -> Option<u64>
-    ensures { SomeIff result (IsNumeral 10 word.now × (digits_value 10 word.now < 10 ^ 10)) (digits_value 10 word.now) }
+/// The time of so many microseconds, where nothing stands behind it.
+fn whole_time(micros: u64, rest: &[u8]) -> Option<Time>
+    ensures { SomeIff result ((length rest.now ≡ 0) × (micros < 10 ^ 16)) micros }
 {
-    if word.is_empty() {
+    if !rest.is_empty() || micros >= LIMIT {
         return None;
     }
-    let mut value = 0u64;
-    for byte in word.as_bytes() {
-        if !byte.is_ascii_digit() {
-            return None;
-        }
-        value = value * 10 + u64::from(*byte - b'0');
-        if value >= LIMIT {
-            return None;
-        }
+    Some(Time::of_micros(micros))
+}
+
+/// The microseconds of the seconds that stand at the front of a text with three, six or nine digits behind a point, and what stands behind
+/// them.
+#[inline(always)]
+pub(crate) fn leading_micros(text: &[u8]) -> Option<(u64, &[u8])>
+    ensures bound { IfSome result (λ found. found.0 < 10 ^ 16) }
+    ensures reads { (digits ticks : ℕ) (rest : List ℕ) → IsFraction digits → ticks < 10 ^ (10 + digits) → BeginsWithNoDigit rest → text.now ≡ ticks_text digits ticks ++ rest
+        → MatchOption result ⊥ (λ found. (found.0 ≡ micros_of_ticks digits ticks) × (found.1.now ≡ rest)) }
+{
+    let (seconds, rest) = leading_number(text)?;
+    let fraction = behind(rest, b'.')?;
+    let (ticks, rest) = leading_number(fraction)?;
+    let micros = fraction_micros(ticks, fraction.len() - rest.len())?;
+    Some((seconds * 1_000_000 + micros, rest))
+}
+
+/// The microseconds of a fraction of a second in three, six or nine digits.
+#[inline(always)]
+fn fraction_micros(ticks: u64, digits: usize) -> Option<u64>
+    requires { ticks < 10 ^ 10 }
+    ensures bound { IfSome result (λ micros. micros < 10 ^ 6) }
+    ensures reads { IsFraction digits → ticks < 10 ^ digits → result ≡ Some (micros_of_ticks digits ticks) }
+{
+    match digits {
+        3 => below_a_second(ticks * 1_000),
+        6 => below_a_second(ticks),
+        9 => below_a_second(ticks / 1_000),
+        _ => None,
     }
-    Some(value)
+}
+
+/// So many microseconds, where they are fewer than a second.
+#[inline(always)]
+fn below_a_second(micros: u64) -> Option<u64>
+    ensures { SomeIff result (micros < 10 ^ 6) micros }
+{
+    if micros < 1_000_000 {
+        Some(micros)
+    } else {
+        None
+    }
 }
 
 /// Seconds, a point and six digits.

@@ -1,7 +1,7 @@
 ghost use Rattle.std.specs.Prelude.{◌≤◌};
 
+use crate::digits::{read_number, read_pairs};
 use crate::reason::Reason;
-use hex_text::read_hex;
 
 /// What the word of an identifier says.
 #[derive(Clone, Copy, Debug, PartialEq, Eq)]
@@ -31,13 +31,11 @@ pub(crate) fn read_id(word: &str) -> Result<IdWord, Reason> {
     if word.len() == 3 {
         return Ok(IdWord::Short);
     }
-    let Some(number) = read_hex(word, 8) else {
-        return Err(Reason::IdDigits(word.len()));
-    };
-    match u32::try_from(number) {
-        Ok(number) if number < ERROR_FLAG => Ok(IdWord::Long { number }),
-        Ok(class) if class < ERROR_END => Ok(IdWord::Error { class }),
-        _ => Err(Reason::IdTooLarge),
+    match read_number(word.as_bytes()) {
+        Some(number) if number < ERROR_FLAG => Ok(IdWord::Long { number }),
+        Some(class) if class < ERROR_END => Ok(IdWord::Error { class }),
+        Some(_) => Err(Reason::IdTooLarge),
+        None => Err(Reason::IdDigits(word.len())),
     }
 }
 
@@ -90,13 +88,11 @@ impl Bytes {
         }
         let start = self.len;
         let end = start + count;
-        match hex::decode_to_slice(digits, &mut self.room[start..end]) {
-            Ok(()) => {
-                self.len = end;
-                Ok(())
-            }
-            Err(_) => Err(Reason::OddDigits),
+        if !read_pairs(digits.as_bytes(), &mut self.room[start..end]) {
+            return Err(Reason::OddDigits);
         }
+        self.len = end;
+        Ok(())
     }
 }
 

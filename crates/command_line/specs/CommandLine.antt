@@ -1,5 +1,5 @@
 -- The words that the program takes, as `clap` reads them.
-use Rattle.std.specs.Prelude.{ℕ, List, Some, true, codes, drop, ◌≡◌, ◌≤◌, ◌⊎◌, ◌∷◌, [], ◌++◌}
+use Rattle.std.specs.Prelude.{ℕ, List, Some, true, codes, drop, slice_get, IsSomeAnd, ◌≡◌, ◌≤◌, ◌⊎◌, ◌∷◌, [], ◌++◌}
 use Rattle.clap.specs.Simple.{App, Shape, new_app, new_rule, new_shape, with_subcommand, on_top}
 use Rattle.clap.specs.Faults.{fault_of}
 use Rattle.clap.specs.Kinds.{Kinds, IsAmong}
@@ -9,10 +9,10 @@ use Rattle.clap.specs.declared.error.kind.ErrorKind.TheVariants.{DisplayHelp, Di
 use Rattle.command_words.specs.declared.Job.{Job}
 use Rattle.command_words.specs.declared.Job.TheVariants.{Threads}
 use Rattle.command_line.specs.declared.fault.LineFault.{LineFault}
-use Rattle.command_line.specs.declared.fault.LineFault.TheVariants.{Help}
+use Rattle.command_line.specs.declared.fault.LineFault.TheVariants.{Help, Refused}
 use Rattle.command_line.specs.declared.options.CommandOption.{CommandOption}
 use Rattle.command_line.specs.declared.options.Given.{Given}
-use Rattle.command_line.specs.declared.options.Given.TheVariants.{Always, Flag, Often, Once}
+use Rattle.command_line.specs.declared.options.Given.TheVariants.{Alone, Always, Flag, Often, Once}
 
 -- `--NAME N`, which must be given
 abbrev pub count_rule : Text → Rule
@@ -30,12 +30,17 @@ value_rule name = record (new_rule name) { long = Some name; action = Some Set; 
 abbrev pub list_rule : Text → Rule
 list_rule name = record (new_rule name) { long = Some name; action = Some Append; value_names = 1 }
 
+-- `VALUE`, which may be given
+abbrev pub place_rule : Text → Rule
+place_rule name = record (new_rule name) { action = Some Set; value_names = 1 }
+
 -- what an option of a subcommand is to `clap`
 abbrev pub given_rule : Given → Text → Rule
 given_rule Flag name = flag_rule name
 given_rule Once name = value_rule name
 given_rule Often name = list_rule name
 given_rule Always name = count_rule name
+given_rule Alone name = place_rule name
 
 abbrev pub option_rule : CommandOption → Rule
 option_rule option = given_rule option.given option.name.now
@@ -55,13 +60,14 @@ abbrev pub watch_shape : Shape
 watch_shape = subcommand_shape (codes "watch")
     (value_rule (codes "bus") ∷ value_rule (codes "address") ∷ value_rule (codes "name")
     ∷ list_rule (codes "assume") ∷ value_rule (codes "bad") ∷ value_rule (codes "silence")
-    ∷ value_rule (codes "format") ∷ flag_rule (codes "strict") ∷ [])
+    ∷ value_rule (codes "format") ∷ flag_rule (codes "strict") ∷ place_rule (codes "file") ∷ [])
 
 abbrev pub log_shape : Shape
 log_shape = subcommand_shape (codes "log") (value_rule (codes "bus") ∷ value_rule (codes "period") ∷ [])
 
 abbrev pub decode_shape : Shape
-decode_shape = subcommand_shape (codes "decode") (value_rule (codes "format") ∷ value_rule (codes "texts") ∷ [])
+decode_shape = subcommand_shape (codes "decode")
+    (value_rule (codes "format") ∷ value_rule (codes "texts") ∷ flag_rule (codes "join") ∷ place_rule (codes "file") ∷ [])
 
 abbrev pub check_shape : Shape
 check_shape = subcommand_shape (codes "check") []
@@ -108,3 +114,12 @@ IsThreads _ = ⊥
 abbrev pub IsHelp : LineFault → Type 0
 IsHelp (Help page) = Unit {0}
 IsHelp _ = ⊥
+
+-- the first word behind the program's name is one of these subcommands, of which it is told what is wrong behind them
+abbrev pub TellsWhy : List Text → Type 0
+TellsWhy words = IsSomeAnd (slice_get words 1) (λ word. (word ≡ codes "watch") ⊎ (word ≡ codes "log") ⊎ (word ≡ codes "decode") ⊎ (word ≡ codes "check"))
+
+-- something is told behind the fault's line
+abbrev pub HasWords : LineFault → Type 0
+HasWords (Refused (Some words)) = Unit {0}
+HasWords _ = ⊥

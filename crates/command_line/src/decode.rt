@@ -12,7 +12,13 @@ use std::alloc::{AllocError, Global};
 fn input() -> &'static str {
     "\
 Input: a line of candump -L, of plain candump, of cansend (18EAFFF9#00EE00), or a frame as this program answers it. Each line is
-answered by one; no line is read with another in mind.
+answered by one; no line is read with another in mind. An address stands in decimal, from 10 on with its hexadecimal digits
+behind it: 249(F9).
+
+With --join the packets of a message (SAE J1939-21, 5.10) are joined, those for all and those of a session between any two
+addresses, and behind its last packet the message has a line of its own. A message is not joined where a packet is missing or out
+of its order, where either side aborts it or another is announced in its place, and where a line behind its announcement is bad or
+tells that frames were lost. Who holds an address, and how late a packet comes, is not looked at: watch does.
 
 The file of --texts is a shop's own, comma-separated, with the line spn,fmi,text first; an empty fmi names the SPN alone, an empty
 spn the FMI:
@@ -41,6 +47,18 @@ pub(crate) fn command<'a>(alloc: Global) -> Result<Command<'a>, AllocError>
             help: "Texts of SPNs and FMIs",
             given: Given::Once,
         },
+        CommandOption {
+            name: "join",
+            value: "",
+            help: "Joins the packets of a message, which gets a line of its own",
+            given: Given::Flag,
+        },
+        CommandOption {
+            name: "file",
+            value: "FILE",
+            help: "The log to read; standard input where none is given, and for -",
+            given: Given::Alone,
+        },
     ];
     subcommand(
         alloc,
@@ -56,5 +74,7 @@ pub(crate) fn words<'a>(found: &ArgMatches<'a>) -> DecodeWords<'a> {
     DecodeWords {
         format: found.get_str("format"),
         texts: found.get_str("texts"),
+        join: found.get_flag("join"),
+        file: found.get_str("file"),
     }
 }

@@ -18,6 +18,8 @@ pub(crate) enum Given {
     Often,
     /// `--NAME VALUE`, which must stand there.
     Always,
+    /// `VALUE` alone, or not at all.
+    Alone,
 }
 
 /// An option of a subcommand.
@@ -55,16 +57,22 @@ fn arg_of<'a>(alloc: Global, option: &CommandOption<'a>) -> Arg<'a>
     ensures rule { rule_of result ≡ option_rule option.now }
     ensures local { result.global ≡ false }
 {
-    let arg = Arg::new(alloc, option.name)
-        .long(option.name)
-        .help(option.help);
+    let arg = Arg::new(alloc, option.name).help(option.help);
     match option.given {
-        Given::Flag => arg.action(ArgAction::SetTrue),
-        Given::Once => arg.value_name(option.value).action(ArgAction::Set),
-        Given::Often => arg.value_name(option.value).action(ArgAction::Append),
+        Given::Flag => arg.long(option.name).action(ArgAction::SetTrue),
+        Given::Once => arg
+            .long(option.name)
+            .value_name(option.value)
+            .action(ArgAction::Set),
+        Given::Often => arg
+            .long(option.name)
+            .value_name(option.value)
+            .action(ArgAction::Append),
         Given::Always => arg
+            .long(option.name)
             .value_name(option.value)
             .required(true)
             .action(ArgAction::Set),
+        Given::Alone => arg.value_name(option.value).action(ArgAction::Set),
     }
 }

@@ -1,7 +1,7 @@
-ghost use Rattle.std.specs.Prelude.{◌≡◌, ◌⊎◌, ◌↔◌, [], IfErr, IfOk, OnOk, codes, map, string_bytes};
+ghost use Rattle.std.specs.Prelude.{◌≡◌, ◌⊎◌, ◌↔◌, [], IfErr, IfOk, IsTrue, OnOk, codes, map, string_bytes};
 ghost use Rattle.clap.specs.Words.{app_of, subcommand_name_of};
 ghost use Rattle.clap.specs.Simple.{new_app};
-ghost use Rattle.command_line.specs.CommandLine.{AsksForHelp, AsksForScript, HasCounts, IsHelp, bench_app, faults_in, garage_app, wire_app};
+ghost use Rattle.command_line.specs.CommandLine.{AsksForHelp, AsksForScript, HasCounts, HasWords, IsHelp, TellsWhy, bench_app, faults_in, garage_app, wire_app};
 
 use crate::fault::{LineFault, fault_of};
 use crate::{decode, script, threads, watch};
@@ -17,18 +17,33 @@ const PROGRAM: &str = "j1939bench";
 ///
 /// # Errors
 /// - `Help`: the words ask for help or for the version.
-/// - `Refused`: the words are none of the program's, or a number of turns or readings is not 1 to 100,000.
+/// - `Refused`: the words are none of the program's, or a number of turns or readings is not 1 to 100,000. Behind `watch`, `log`,
+///   `decode` and `check` it has what is wrong, with the words that may have been meant and the usage.
 /// - `Memory`: memory ran out.
 pub fn read_line<'a>(alloc: Global, words: &'a [String]) -> Result<Job<'a>, LineFault>
     ensures range { IfOk result HasCounts }
     ensures taken { OnOk result (faults_in (map string_bytes words.now) ≡ []) }
     ensures help { IfErr result (λ fault. IsHelp fault → AsksForHelp (map string_bytes words.now)) }
     ensures script { AsksForScript (map string_bytes words.now) → (result ≡ Ok Job.Script) ⊎ (result ≡ Err LineFault.Memory) }
+    ensures told { IfErr result (λ fault. HasWords fault → TellsWhy (map string_bytes words.now)) }
 {
     let command = bench_command(alloc)?;
     match command.try_get_matches_from(words) {
         Ok(matches) => job_of(alloc, &matches),
-        Err(error) => Err(fault_of(alloc, &error)),
+        Err(error) => Err(fault_of(alloc, &error, is_told(words))),
+    }
+}
+
+/// Whether it is told what is wrong with words: where the first behind the program's name is one of these subcommands.
+fn is_told(words: &[String]) -> bool
+    ensures { IsTrue result ↔ TellsWhy (map string_bytes words.now) }
+{
+    let Some(word) = words.get(1) else {
+        return false;
+    };
+    match word.as_str() {
+        "watch" | "log" | "decode" | "check" => true,
+        _ => false,
     }
 }
 
@@ -37,6 +52,7 @@ fn job_of<'a>(alloc: Global, matches: &ArgMatches<'a>) -> Result<Job<'a>, LineFa
     ensures range { IfOk result HasCounts }
     ensures script { (result ≡ Ok Job.Script) ↔ (subcommand_name_of matches.now ≡ Some (codes "script")) }
     ensures no_help { IfErr result (λ fault. IsHelp fault → ⊥) }
+    ensures untold { IfErr result (λ fault. HasWords fault → ⊥) }
 {
     match matches.subcommand() {
         Some(("script", _)) => Ok(Job::Script),
@@ -48,7 +64,7 @@ fn job_of<'a>(alloc: Global, matches: &ArgMatches<'a>) -> Result<Job<'a>, LineFa
         Some(("log", found)) => Ok(Job::Log(script::log_words(found))),
         Some(("decode", found)) => Ok(Job::Decode(decode::words(found))),
         Some(("check", _)) => Ok(Job::Check),
-        _ => Err(LineFault::Refused),
+        _ => Err(LineFault::Refused(None)),
     }
 }
 

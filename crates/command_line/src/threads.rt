@@ -76,11 +76,11 @@ pub(crate) fn command<'a>(alloc: Global) -> Result<Command<'a>, AllocError>
 /// The job of the words behind `threads`.
 pub(crate) fn job<'a>(found: &ArgMatches<'_>) -> Result<Job<'a>, LineFault>
     ensures range { IfOk result IsThreads }
-    ensures refused { IfErr result (λ fault. fault ≡ LineFault.Refused) }
+    ensures refused { IfErr result (λ fault. fault ≡ LineFault.Refused None) }
 {
     let (Some(turns), Some(reads)) = (count(found.get_str("turns")), count(found.get_str("reads")))
     else {
-        return Err(LineFault::Refused);
+        return Err(LineFault::Refused(None));
     };
     Ok(Job::Threads {
         turns,

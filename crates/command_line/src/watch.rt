@@ -14,9 +14,9 @@ fn changes() -> &'static str {
 Input: what candump -L writes, plain candump, log2long, a file of candump -l. Live: candump -L -d can0 | j1939bench watch
 
 A line for each change: a unit that claims or loses an address, a DM1, DM2 or DM6 that differs from the one before it (lamps;
-then SPN/FMI/COUNT), missed frames, an acknowledgment. At the end, also of an input that breaks off, a line for each NAME: its
+then SPN/FMI/COUNT; and where it went, if not to all), missed frames, an acknowledgment. At the end, also of an input that breaks off, a line for each NAME: its
 address, how many DM1, DM2 and DM6 stand under it, the lamps and the number of codes of the newest DM1. As csv: a row for each
-code of each run of equal entries, with the times of the first and the last, and whether they are contested.
+code of each run of equal entries, with the times of the first and the last, whether they are contested, and where they went.
 
 Limits: on a real bus the last claim is not always the holder (an entry within 250 ms of a claim that displaced another NAME is
 marked contested); frames lost without notice can mix two messages (a packet after --silence is withheld); a log without claims
@@ -40,13 +40,13 @@ pub(crate) fn command<'a>(alloc: Global) -> Result<Command<'a>, AllocError>
         CommandOption {
             name: "address",
             value: "N",
-            help: "The address of the station, 0 to 253 [248]: sessions to it are read too",
+            help: "Of the sessions those to this address, 0 to 253, are shown; all where none is given",
             given: Given::Once,
         },
         CommandOption {
             name: "name",
             value: "NAME",
-            help: "The NAME of the station, 16 hexadecimal digits [0000000000000001]",
+            help: "16 hexadecimal digits; says nothing any more, kept for old command lines",
             given: Given::Once,
         },
         CommandOption {
@@ -79,6 +79,12 @@ pub(crate) fn command<'a>(alloc: Global) -> Result<Command<'a>, AllocError>
             help: "The first bad line ends the run",
             given: Given::Flag,
         },
+        CommandOption {
+            name: "file",
+            value: "FILE",
+            help: "The log to read; standard input where none is given, and for -",
+            given: Given::Alone,
+        },
     ];
     subcommand(
         alloc,
@@ -99,6 +105,7 @@ pub(crate) fn words<'a>(found: &ArgMatches<'a>) -> WatchWords<'a> {
         silence: found.get_str("silence"),
         format: found.get_str("format"),
         strict: found.get_flag("strict"),
+        file: found.get_str("file"),
     }
 }
 

@@ -1,7 +1,14 @@
 //! What a command line asks for: a job, with the words that stand behind its subcommand.
 //!
-//! The words of `watch`, `log` and `decode` stand here as they were given. What they mean is read where the job is done.
+//! The words of `watch`, `log` and `decode` stand here as they were given. What they mean is read where the job is done, and a word
+//! that means nothing there is told as a slip.
 #![tactic(auto)]
+
+ghost use Rattle.std.specs.Prelude.{◌≡◌, ◌≢◌, IfSome, codes};
+
+mod slip;
+
+pub use slip::Slip;
 
 /// What the command line asks for.
 #[derive(Drop)]
@@ -36,9 +43,9 @@ pub enum Job<'a> {
 pub struct WatchWords<'a> {
     /// The bus that is watched.
     pub bus: Option<&'a str>,
-    /// The station's address.
+    /// The address whose sessions are shown.
     pub address: Option<&'a str>,
-    /// The station's NAME.
+    /// A NAME, which old command lines give.
     pub name: Option<&'a str>,
     /// What a bad line is: `missed` or `skip`.
     pub bad: Option<&'a str>,
@@ -48,6 +55,8 @@ pub struct WatchWords<'a> {
     pub format: Option<&'a str>,
     /// Whether the first bad line ends the run.
     pub strict: bool,
+    /// The file that is read.
+    pub file: Option<&'a str>,
 }
 
 /// The words behind `log`. A word that was not given is none.
@@ -66,6 +75,21 @@ pub struct DecodeWords<'a> {
     pub format: Option<&'a str>,
     /// A file of texts for SPNs and FMIs.
     pub texts: Option<&'a str>,
+    /// Whether packets are joined to messages.
+    pub join: bool,
+    /// The file that is read.
+    pub file: Option<&'a str>,
+}
+
+/// The path of the file that a word names; none stands for standard input, as no word and the word `-` do.
+pub fn path_of(word: Option<&str>) -> Option<&str>
+    ensures file { IfSome word.entry (λ name. name.now ≢ codes "-" → result ≡ word.entry) }
+    ensures input { IfSome result (λ path. path.now ≢ codes "-") }
+{
+    match word {
+        Some("-") | None => None,
+        Some(path) => Some(path),
+    }
 }
 
 /// Whether a word can be the name of a bus: it may stand in a line of a log.

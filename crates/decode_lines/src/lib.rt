@@ -1,9 +1,11 @@
-//! `decode`: the lines of a log, each in words or as a JSON object, with a shop's own texts for its codes.
+//! `decode`: the lines of a log, each in words or as a JSON object, with a shop's own texts for its codes; and messages joined from
+//! packets, behind the line of their last one.
 #![tactic(auto)]
 
+mod joining;
 mod objects;
 mod run;
 mod texts;
 
-pub use run::{Form, decode};
+pub use run::{Form, Options, decode};
 pub use texts::{Texts, TextsFault};

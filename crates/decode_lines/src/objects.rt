@@ -1,19 +1,21 @@
-use crate::run::shown_by;
+use crate::run::{place_of, shown_by, shown_in};
 use crate::texts::Texts;
-use can_frame::{Frame, GLOBAL_ADDRESS, Id};
+use can_frame::{Frame, GLOBAL_ADDRESS, Id, Pgn};
 use candump_line::{Line, Time};
 use dm_messages::Shown;
 use dm_words::{put_code, put_lamps, put_number};
-use frame_words::{write_line_words, write_message};
+use frame_words::{Audience, data_group_name, write_line_words, write_message, write_payload};
 use json::Writer;
 use log_lines::LogFault;
 use name_field::Name;
+use pair_joining::Joined;
 use parameter_group::ParameterGroup;
 use std::alloc::{AllocError, Global};
 use trouble_code::Dtc;
 
 /// A line as a JSON object: its number and what it says; for a frame also its time, its bus, the fields of its identifier
-/// and its data; for a diagnostic message the lamps and the codes, for a claim the NAME and its fields.
+/// and its data; for a diagnostic message the lamps and the codes, for a claim the NAME and its fields, for a group of data that has
+/// a name that name.
 pub(crate) fn line_object(
     alloc: Global,
     texts: &Texts,
@@ -28,6 +30,49 @@ pub(crate) fn line_object(
     Ok(json.into_inner())
 }
 
+/// A message that was joined from packets as a JSON object: as of a frame, with the number, the time and the bus of its last packet.
+pub(crate) fn joined_object(
+    alloc: Global,
+    texts: &Texts,
+    number: u64,
+    line: &Line<'_>,
+    joined: &Joined,
+) -> Result<Vec<u8>, LogFault> {
+    let mut json = Writer::new(Vec::new(alloc));
+    json.begin_object()?;
+    put_number(&mut json, "line", number)?;
+    json.key("joined")?;
+    json.boolean(true)?;
+    put_place(&mut json, alloc, line)?;
+    put_joined(&mut json, alloc, texts, joined)?;
+    json.end_object()?;
+    Ok(json.into_inner())
+}
+
+/// What a message that was joined says.
+fn put_joined(
+    json: &mut Writer,
+    alloc: Global,
+    texts: &Texts,
+    joined: &Joined,
+) -> Result<(), LogFault> {
+    let bytes = joined.bytes.as_slice();
+    put_number(json, "source", u64::from(joined.source))?;
+    put_number(json, "destination", u64::from(joined.dest))?;
+    put_number(json, "pgn", u64::from(joined.pgn.number()))?;
+    put_data(json, alloc, bytes)?;
+    let mut words: Vec<u8> = Vec::new(alloc);
+    if write_payload(&mut words, alloc, joined.pgn, bytes, Audience::Programs).is_err() {
+        return Err(LogFault::Memory);
+    }
+    put_says(json, words.as_slice())?;
+    if let Some(shown) = shown_in(alloc, joined.pgn, bytes)? {
+        put_shown(json, alloc, texts, &shown)?;
+    }
+    put_group(json, joined.pgn)?;
+    Ok(())
+}
+
 /// What a line says.
 fn put_line(
     json: &mut Writer,
@@ -35,16 +80,23 @@ fn put_line(
     texts: &Texts,
     line: &Line<'_>,
 ) -> Result<(), LogFault> {
-    let Line::Frame { time, bus, frame } = line else {
+    let Line::Frame { frame, .. } = line else {
         return put_line_words(json, alloc, line);
     };
+    put_place(json, alloc, line)?;
+    put_frame(json, alloc, texts, frame)
+}
+
+/// The time and the bus of a line, each where it has one.
+fn put_place(json: &mut Writer, alloc: Global, line: &Line<'_>) -> Result<(), AllocError> {
+    let (time, bus) = place_of(line);
     if let Some(time) = time {
-        put_time(json, alloc, *time)?;
+        put_time(json, alloc, time)?;
     }
     if let Some(bus) = bus {
         put_text(json, "bus", bus)?;
     }
-    put_frame(json, alloc, texts, frame)
+    Ok(())
 }
 
 /// The words of a line.
@@ -87,7 +139,17 @@ fn put_frame(
     if let Some(shown) = shown_by(alloc, frame)? {
         put_shown(json, alloc, texts, &shown)?;
     }
-    put_claim(json, alloc, frame)
+    put_claim(json, alloc, frame)?;
+    put_group(json, frame.id().pgn())?;
+    Ok(())
+}
+
+/// The name of a group of data, where it has one.
+fn put_group(json: &mut Writer, pgn: Pgn) -> Result<(), AllocError> {
+    match data_group_name(pgn.number()) {
+        Some(name) => put_text(json, "group", name),
+        None => Ok(()),
+    }
 }
 
 /// The fields of an identifier.
@@ -116,7 +178,7 @@ fn push_byte(digits: &mut String, alloc: Global, byte: u8) -> Result<(), AllocEr
 /// What a frame says.
 fn put_message(json: &mut Writer, alloc: Global, frame: &Frame) -> Result<(), LogFault> {
     let mut words: Vec<u8> = Vec::new(alloc);
-    match write_message(&mut words, alloc, frame) {
+    match write_message(&mut words, alloc, frame, Audience::Programs) {
         Ok(()) => put_says(json, words.as_slice()),
         Err(_) => Err(LogFault::Memory),
     }

@@ -1,10 +1,12 @@
-use crate::objects::line_object;
+use crate::joining::Joining;
+use crate::objects::{joined_object, line_object};
 use crate::texts::Texts;
-use can_frame::Frame;
-use candump_line::{Line, read_line};
+use can_frame::{Frame, Pgn};
+use candump_line::{Line, Time, read_line};
 use dm_messages::{Shown, read};
-use frame_words::write_line_words;
+use frame_words::{write_joined_words, write_line_words};
 use log_lines::{Ended, LogFault, ROOM, next_line};
+use pair_joining::Joined;
 use parameter_group::ParameterGroup;
 use std::alloc::Global;
 use std::io::{BufReader, BufWriter, Read, Write};
@@ -19,7 +21,18 @@ pub enum Form {
     Json,
 }
 
-/// Reads lines to their end and answers each by one. A bad line is told on `errors` besides, with its number.
+/// How lines are answered.
+#[derive(Clone, Copy, Debug)]
+pub struct Options<'a> {
+    pub form: Form,
+    /// A shop's texts for codes.
+    pub texts: &'a Texts,
+    /// Whether packets are joined to messages.
+    pub join: bool,
+}
+
+/// Reads lines to their end and answers each by one. A bad line is told on `errors` besides, with its number. Where packets are joined, a
+/// message has a line of its own behind that of its last packet.
 ///
 /// Lines are answered before the program waits for another.
 pub fn decode<R: Read + Drop, W: Write + Drop, E: Write>(
@@ -27,8 +40,7 @@ pub fn decode<R: Read + Drop, W: Write + Drop, E: Write>(
     reader: R,
     writer: W,
     errors: &mut E,
-    form: Form,
-    texts: &Texts,
+    options: &Options<'_>,
 ) -> Ended {
     let (Ok(mut reader), Ok(mut writer)) = (
         BufReader::with_capacity(alloc, ROOM, reader),
@@ -36,7 +48,7 @@ pub fn decode<R: Read + Drop, W: Write + Drop, E: Write>(
     ) else {
         return Ended::failed(LogFault::Memory);
     };
-    let ended = answer_lines(alloc, &mut reader, &mut writer, errors, form, texts);
+    let ended = answer_lines(alloc, &mut reader, &mut writer, errors, options);
     match writer.flush() {
         Ok(()) => ended,
         Err(_) => Ended {
@@ -52,14 +64,22 @@ fn answer_lines<R: Read + Drop, W: Write + Drop, E: Write>(
     reader: &mut BufReader<R>,
     writer: &mut BufWriter<W>,
     errors: &mut E,
-    form: Form,
-    texts: &Texts,
+    options: &Options<'_>,
 ) -> Ended {
     let mut line = Vec::new(alloc);
+    let mut joining = Joining::new(alloc);
     let mut bad = 0u64;
     for number in 1..u64::MAX {
         let answered = match next_line(reader, writer, &mut line) {
-            Ok(true) => answer(alloc, writer, errors, form, texts, line.as_slice(), number),
+            Ok(true) => answer(
+                alloc,
+                writer,
+                errors,
+                options,
+                &mut joining,
+                line.as_slice(),
+                number,
+            ),
             Ok(false) => break,
             Err(fault) => Err(fault),
         };
@@ -75,23 +95,80 @@ fn answer_lines<R: Read + Drop, W: Write + Drop, E: Write>(
     Ended { bad, fault: None }
 }
 
-/// Answers a line. Tells whether it is bad.
+/// Answers a line, and a message that it makes whole where packets are joined. Tells whether the line is bad.
 fn answer<W: Write, E: Write>(
     alloc: Global,
     writer: &mut W,
     errors: &mut E,
-    form: Form,
-    texts: &Texts,
+    options: &Options<'_>,
+    joining: &mut Joining,
     line: &[u8],
     number: u64,
 ) -> Result<bool, LogFault> {
     let said = read_line(line);
     let is_bad = tell_where_bad(errors, number, &said)?;
-    match form {
-        Form::Text => write_words(alloc, writer, texts, &said)?,
-        Form::Json => write_object(alloc, writer, texts, number, &said)?,
+    match options.form {
+        Form::Text => write_words(alloc, writer, options.texts, &said)?,
+        Form::Json => {
+            let object = line_object(alloc, options.texts, number, &said)?;
+            write_object(writer, object)?;
+        }
+    }
+    if options.join {
+        if let Some(joined) = joining.take(&said)? {
+            write_joined(alloc, writer, options, number, &said, &joined)?;
+        }
     }
     Ok(is_bad)
+}
+
+/// Writes a message that a line makes whole.
+fn write_joined<W: Write>(
+    alloc: Global,
+    writer: &mut W,
+    options: &Options<'_>,
+    number: u64,
+    line: &Line<'_>,
+    joined: &Joined,
+) -> Result<(), LogFault> {
+    match options.form {
+        Form::Text => write_words_of_joined(alloc, writer, options.texts, line, joined),
+        Form::Json => {
+            let object = joined_object(alloc, options.texts, number, line, joined)?;
+            write_object(writer, object)
+        }
+    }
+}
+
+/// Writes a message in words, with the texts of its codes in parentheses behind.
+fn write_words_of_joined<W: Write>(
+    alloc: Global,
+    writer: &mut W,
+    texts: &Texts,
+    line: &Line<'_>,
+    joined: &Joined,
+) -> Result<(), LogFault> {
+    let place = place_of(line);
+    let ends = (joined.source, joined.dest);
+    let bytes = joined.bytes.as_slice();
+    if write_joined_words(writer, alloc, place, ends, joined.pgn, bytes).is_err() {
+        return Err(LogFault::Write);
+    }
+    if let Some(shown) = shown_in(alloc, joined.pgn, bytes)? {
+        write_texts(alloc, writer, texts, &shown)?;
+    }
+    match writeln!(writer) {
+        Ok(()) => Ok(()),
+        Err(_) => Err(LogFault::Write),
+    }
+}
+
+/// The time and the bus of a line, each where it has one.
+pub(crate) fn place_of<'a>(line: &Line<'a>) -> (Option<Time>, Option<&'a str>) {
+    match line {
+        Line::Frame { time, bus, .. } => (*time, *bus),
+        _ => (None, None),
+    }
 }
 
 /// Tells on `errors` why a line is bad, where it is. Tells whether it is.
@@ -109,17 +186,11 @@ fn tell_where_bad<E: Write>(
     }
 }
 
-/// Writes a line as a JSON object.
-fn write_object<W: Write>(
-    alloc: Global,
-    writer: &mut W,
-    texts: &Texts,
-    number: u64,
-    line: &Line<'_>,
-) -> Result<(), LogFault> {
-    let mut object = line_object(alloc, texts, number, line)?;
-    object.push(b'\n')?;
-    match writer.write_all(object.as_slice()) {
+/// Writes a JSON object in a line of its own.
+fn write_object<W: Write>(writer: &mut W, object: Vec<u8>) -> Result<(), LogFault> {
+    let mut line = object;
+    line.push(b'\n')?;
+    match writer.write_all(line.as_slice()) {
         Ok(()) => Ok(()),
         Err(_) => Err(LogFault::Write),
     }
@@ -190,11 +261,24 @@ fn write_text<W: Write>(
 /// What a frame shows, where it is a diagnostic message that can be read.
 pub(crate) fn shown_by(alloc: Global, frame: &Frame) -> Result<Option<Shown>, LogFault> {
     match ParameterGroup::read(frame) {
-        ParameterGroup::Diagnostic { bytes, .. } => match read(alloc, bytes) {
-            Ok(shown) => Ok(Some(shown)),
-            Err(dm_messages::ReadError::OutOfMemory) => Err(LogFault::Memory),
-            Err(_) => Ok(None),
-        },
+        ParameterGroup::Diagnostic { bytes, .. } => read_shown(alloc, bytes),
         _ => Ok(None),
+    }
+}
+
+/// What a payload of a group shows, where it is a diagnostic message that can be read.
+pub(crate) fn shown_in(alloc: Global, pgn: Pgn, bytes: &[u8]) -> Result<Option<Shown>, LogFault> {
+    match pgn {
+        Pgn::DM1 | Pgn::DM2 | Pgn::DM6 => read_shown(alloc, bytes),
+        _ => Ok(None),
+    }
+}
+
+/// What the bytes of a diagnostic message show, where they can be read.
+fn read_shown(alloc: Global, bytes: &[u8]) -> Result<Option<Shown>, LogFault> {
+    match read(alloc, bytes) {
+        Ok(shown) => Ok(Some(shown)),
+        Err(dm_messages::ReadError::OutOfMemory) => Err(LogFault::Memory),
+        Err(_) => Ok(None),
     }
 }

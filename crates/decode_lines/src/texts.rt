@@ -1,15 +1,64 @@
-use csv::{ByteRecord, Reader};
+use csv::{ByteRecord, Position, Reader};
 use indexmap::IndexMap;
 use std::alloc::{AllocError, AllocFailed, Global};
+use std::fmt;
 use trouble_code::{GREATEST_FMI, GREATEST_SPN};
 
 /// Why texts were refused.
-#[derive(Clone, Copy, Debug, PartialEq, Eq)]
+#[derive(Debug, Drop)]
 pub enum TextsFault {
-    /// They are no comma-separated values of three each, or a number is none, or a text is no UTF-8.
-    Refused,
+    /// They are no comma-separated values of three each, or a number is none, or a text is no UTF-8. A line tells which, with its
+    /// end: `line 7: fmi: 32 is not 0 to 31`.
+    Refused(String),
     /// Memory was refused.
     Memory,
+}
+
+/// What is wrong with a row.
+#[derive(Clone, Copy)]
+enum Wrong<'a> {
+    /// It has so many values.
+    Values(u64),
+    /// It has so many values, and the first line so many others.
+    Unequal(u64, u64),
+    /// It is no row of values.
+    NoValues,
+    /// The value of this name is no text.
+    NoText(&'a str),
+    /// The value of this name is this word, and no number up to the last.
+    NoNumber(&'a str, &'a str, u32),
+    /// Neither number is given.
+    NoNumbers,
+}
+
+impl fmt::Display for Wrong<'_> {
+    fn fmt<W: fmt::Write>(&self, f: &mut fmt::Formatter<W>) -> fmt::Result {
+        match self {
+            Wrong::Values(count) => write!(f, "{count} values, and not 3"),
+            Wrong::Unequal(count, first) => {
+                write!(f, "{count} values, and the first line has {first}")
+            }
+            Wrong::NoValues => write!(f, "no comma-separated values"),
+            Wrong::NoText(name) => write!(f, "{name}: no UTF-8"),
+            Wrong::NoNumber(name, word, last) => write!(f, "{name}: {word} is not 0 to {last}"),
+            Wrong::NoNumbers => write!(f, "spn, fmi: both are empty"),
+        }
+    }
+}
+
+/// The fault of a row that stands there.
+fn refused(alloc: Global, place: Option<Position>, wrong: Wrong<'_>) -> TextsFault {
+    let words = match place {
+        Some(place) => {
+            let line = place.line();
+            format!(in alloc; "line {line}: {wrong}\n")
+        }
+        None => format!(in alloc; "{wrong}\n"),
+    };
+    match words {
+        Ok(words) => TextsFault::Refused(words),
+        Err(_) => TextsFault::Memory,
+    }
 }
 
 impl From<AllocError> for TextsFault {
@@ -99,7 +148,7 @@ impl Texts {
             match rows.read_byte_record(&mut row) {
                 Ok(true) => self.add(alloc, &row)?,
                 Ok(false) => break,
-                Err(error) => return Err(fault_of(error)),
+                Err(error) => return Err(fault_of(alloc, error)),
             }
         }
         Ok(())
@@ -107,17 +156,16 @@ impl Texts {
 
     /// Adds the text of a row.
     fn add(&mut self, alloc: Global, row: &ByteRecord) -> Result<(), TextsFault> {
-        if row.len() != 3 {
-            return Err(TextsFault::Refused);
-        }
-        let spn = number_at(row, 0, GREATEST_SPN)?;
-        let fmi = number_at(row, 1, u32::from(GREATEST_FMI))?;
-        let text = String::from_str(alloc, word_at(row, 2)?)?;
+        let (spn, fmi, text) = match values_of(row) {
+            Ok(values) => values,
+            Err(wrong) => return Err(refused(alloc, row.position(), wrong)),
+        };
+        let text = String::from_str(alloc, text)?;
         match (spn, fmi) {
             (Some(spn), Some(fmi)) => self.codes.put(key(spn, fmi), text),
             (Some(spn), None) => self.spns.put(u64::from(spn), text),
             (None, Some(fmi)) => self.fmis.put(u64::from(fmi), text),
-            (None, None) => Err(TextsFault::Refused),
+            (None, None) => Err(refused(alloc, row.position(), Wrong::NoNumbers)),
         }
     }
 
@@ -146,32 +194,52 @@ fn joined(alloc: Global, spn: &str, fmi: &str) -> Result<Option<String>, AllocEr
 }
 
 /// What an error of the reader of rows is.
-fn fault_of(error: csv::Error) -> TextsFault {
+fn fault_of(alloc: Global, error: csv::Error) -> TextsFault {
     match error.kind() {
         csv::ErrorKind::OutOfMemory => TextsFault::Memory,
-        _ => TextsFault::Refused,
+        csv::ErrorKind::UnequalLengths {
+            pos,
+            expected_len,
+            len,
+        } => refused(alloc, *pos, Wrong::Unequal(*len, *expected_len)),
+        _ => refused(alloc, None, Wrong::NoValues),
     }
 }
 
+/// The SPN, the FMI and the text of a row.
+fn values_of(row: &ByteRecord) -> Result<(Option<u32>, Option<u32>, &str), Wrong<'_>> {
+    if row.len() != 3 {
+        return Err(Wrong::Values(row.len() as u64));
+    }
+    let spn = number_at(row, 0, "spn", GREATEST_SPN)?;
+    let fmi = number_at(row, 1, "fmi", u32::from(GREATEST_FMI))?;
+    Ok((spn, fmi, word_at(row, 2, "text")?))
+}
+
 /// The word of a row at this place.
-fn word_at(row: &ByteRecord, place: usize) -> Result<&str, TextsFault> {
+fn word_at<'a>(row: &'a ByteRecord, place: usize, name: &'a str) -> Result<&'a str, Wrong<'a>> {
     match row.get(place) {
         Some(bytes) => match std::str::from_utf8(bytes) {
             Ok(word) => Ok(word),
-            Err(_) => Err(TextsFault::Refused),
+            Err(_) => Err(Wrong::NoText(name)),
         },
-        None => Err(TextsFault::Refused),
+        None => Err(Wrong::NoText(name)),
     }
 }
 
 /// The number of a row at this place, at most `last`; none where it is empty.
-fn number_at(row: &ByteRecord, place: usize, last: u32) -> Result<Option<u32>, TextsFault> {
-    let word = word_at(row, place)?.trim_ascii();
+fn number_at<'a>(
+    row: &'a ByteRecord,
+    place: usize,
+    name: &'a str,
+    last: u32,
+) -> Result<Option<u32>, Wrong<'a>> {
+    let word = word_at(row, place, name)?.trim_ascii();
     if word.is_empty() {
         return Ok(None);
     }
     match word.parse::<u32>() {
         Ok(number) if number <= last => Ok(Some(number)),
-        _ => Err(TextsFault::Refused),
+        _ => Err(Wrong::NoNumber(name, word, last)),
     }
 }

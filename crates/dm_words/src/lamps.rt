@@ -5,6 +5,17 @@ use trouble_code::{LampName, Lamps};
 #[derive(Clone, Copy)]
 pub struct LampWords(pub Lamps);
 
+/// The two bytes of lamps in four digits.
+#[derive(Clone, Copy)]
+pub struct LampBytes(pub Lamps);
+
+impl fmt::Display for LampBytes {
+    fn fmt<W: fmt::Write>(&self, f: &mut fmt::Formatter<W>) -> fmt::Result {
+        let [lamps, flashes] = self.0.to_bytes();
+        write!(f, "{lamps:02X}{flashes:02X}")
+    }
+}
+
 /// Each lamp and its word.
 const LAMPS: [(LampName, &str); 4] = [
     (LampName::Malfunction, "mil"),

@@ -6,7 +6,7 @@ mod lamps;
 mod objects;
 
 pub use codes::CodeWords;
-pub use lamps::LampWords;
+pub use lamps::{LampBytes, LampWords};
 pub use objects::{NO_COUNT, put_code, put_lamps, put_number};
 
 #[cfg(test)]

@@ -1,3 +1,4 @@
+use crate::lamps::LampBytes;
 use json::Writer;
 use std::alloc::{AllocError, Global};
 use trouble_code::{Dtc, Lamps};
@@ -19,8 +20,7 @@ pub fn put_number(json: &mut Writer, key: &str, number: u64) -> Result<(), Alloc
 /// # Errors
 /// Memory was refused.
 pub fn put_lamps(json: &mut Writer, alloc: Global, lamps: Lamps) -> Result<(), AllocError> {
-    let [lamps, flashes] = lamps.to_bytes();
-    let text = format!(in alloc; "{lamps:02X}{flashes:02X}")?;
+    let text = LampBytes(lamps).to_string(alloc)?;
     json.key("lamps")?;
     json.string(text.as_str())
 }

@@ -1,4 +1,4 @@
-use crate::{CodeWords, LampWords};
+use crate::{CodeWords, LampBytes, LampWords};
 use std::test::Fail;
 use trouble_code::{Codes, Dtc, Lamps};
 
@@ -18,6 +18,8 @@ fn writes_lamps(rt: HostRuntime) -> Result<(), Fail> {
         let words = LampWords(Lamps::from_bytes(lamps, flashes)).to_string(rt.alloc())?;
         assert_eq!(rt; words.as_str(), wanted);
     }
+    let bytes = LampBytes(Lamps::from_bytes(0x04, 0xFF)).to_string(rt.alloc())?;
+    assert_eq!(rt; bytes.as_str(), "04FF");
     Ok(())
 }
 

@@ -1,8 +1,18 @@
+use crate::audience::Audience;
+use crate::names::data_group_name;
 use can_frame::{GLOBAL_ADDRESS, Pgn};
 use std::fmt;
 
 /// The name of a parameter group, or `-` where it has none here.
-pub(crate) fn group_name(pgn: Pgn) -> &'static str {
+pub(crate) fn group_name(pgn: Pgn, audience: Audience) -> &'static str {
+    match audience {
+        Audience::People => data_group_name(pgn.number()).unwrap_or(protocol_group_name(pgn)),
+        Audience::Programs => protocol_group_name(pgn),
+    }
+}
+
+/// The name of a group of the protocol itself, of its network management and its diagnostics.
+fn protocol_group_name(pgn: Pgn) -> &'static str {
     match pgn {
         Pgn::ACKNOWLEDGMENT => "ack",
         Pgn::REQUEST => "request",
@@ -21,12 +31,12 @@ pub(crate) fn group_name(pgn: Pgn) -> &'static str {
 
 /// The number of a parameter group, and its name in parentheses where it has one.
 #[derive(Clone, Copy)]
-pub(crate) struct GroupWords(pub Pgn);
+pub(crate) struct GroupWords(pub Pgn, pub Audience);
 
 impl fmt::Display for GroupWords {
     fn fmt<W: fmt::Write>(&self, f: &mut fmt::Formatter<W>) -> fmt::Result {
         let number = self.0.number();
-        let name = group_name(self.0);
+        let name = group_name(self.0, self.1);
         if name == "-" {
             write!(f, "{number}")
         } else {
@@ -36,16 +46,24 @@ impl fmt::Display for GroupWords {
 }
 
 /// An address, or `all`.
+///
+/// For people it stands in decimal, with its two hexadecimal digits in parentheses behind where these differ from it: `249(F9)`.
 #[derive(Clone, Copy)]
-pub(crate) struct AddressWords(pub u8);
+pub(crate) struct AddressWords(pub u8, pub Audience);
+
+/// The first address whose hexadecimal digits differ from its decimal ones.
+const FIRST_TOLD_TWICE: u8 = 10;
 
 impl fmt::Display for AddressWords {
     fn fmt<W: fmt::Write>(&self, f: &mut fmt::Formatter<W>) -> fmt::Result {
         let address = self.0;
         if address == GLOBAL_ADDRESS {
-            write!(f, "all")
-        } else {
-            write!(f, "{address:02X}")
+            return write!(f, "all");
+        }
+        match self.1 {
+            Audience::People if address < FIRST_TOLD_TWICE => write!(f, "{address}"),
+            Audience::People => write!(f, "{address}({address:02X})"),
+            Audience::Programs => write!(f, "{address:02X}"),
         }
     }
 }

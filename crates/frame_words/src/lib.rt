@@ -1,12 +1,16 @@
-//! `decode`: what one line of a log says, in words. No line is read with another in mind.
+//! `decode`: what one line of a log says, in words, or a message that was joined from packets. No line is read with another in mind.
 #![tactic(auto)]
 
+mod audience;
 mod group;
 mod line;
 mod message;
+mod names;
 
-pub use line::write_line_words;
-pub use message::write_message;
+pub use audience::Audience;
+pub use line::{write_joined_words, write_line_words};
+pub use message::{write_message, write_payload};
+pub use names::data_group_name;
 
 #[cfg(test)]
 mod tests;

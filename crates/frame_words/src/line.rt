@@ -1,12 +1,13 @@
+use crate::audience::Audience;
 use crate::group::AddressWords;
-use crate::message::write_message;
-use can_frame::{Frame, GLOBAL_ADDRESS};
+use crate::message::{write_message, write_payload};
+use can_frame::{Frame, GLOBAL_ADDRESS, Pgn};
 use candump_line::{Foreign, Line, Time};
 use std::alloc::Global;
 use std::io;
 use std::io::Write;
 
-/// Writes what a line says, without a line end: `(TIME) BUS pPRIORITY SOURCE>DESTINATION GROUP WORDS`.
+/// Writes what a line says for people, without a line end: `(TIME) BUS pPRIORITY SOURCE>DESTINATION GROUP WORDS`.
 ///
 /// The time and the bus are left out where the line has none. A line that is no data frame of SAE J1939 is told as such,
 /// and a note as `-`.
@@ -42,6 +43,24 @@ fn write_place<W: Write>(writer: &mut W, time: Option<Time>, bus: Option<&str>) 
     Ok(())
 }
 
+/// Writes what a message says that was joined from packets, without a line end: `(TIME) BUS joined SOURCE>DESTINATION GROUP WORDS`,
+/// with the time and the bus of its last packet.
+pub fn write_joined_words<W: Write>(
+    writer: &mut W,
+    alloc: Global,
+    place: (Option<Time>, Option<&str>),
+    ends: (u8, u8),
+    pgn: Pgn,
+    bytes: &[u8],
+) -> io::Result<()> {
+    write_place(writer, place.0, place.1)?;
+    let source = AddressWords(ends.0, Audience::People);
+    let dest = AddressWords(ends.1, Audience::People);
+    let number = pgn.number();
+    write!(writer, "joined {source}>{dest} {number} ")?;
+    write_payload(writer, alloc, pgn, bytes, Audience::People)
+}
+
 fn foreign_word(what: Foreign) -> &'static str {
     match what {
         Foreign::Short => "11-bit identifier",
@@ -54,9 +73,9 @@ fn foreign_word(what: Foreign) -> &'static str {
 fn write_frame<W: Write>(writer: &mut W, alloc: Global, frame: &Frame) -> io::Result<()> {
     let id = frame.id();
     let priority = id.priority();
-    let source = id.source();
-    let dest = AddressWords(id.dest().unwrap_or(GLOBAL_ADDRESS));
+    let source = AddressWords(id.source(), Audience::People);
+    let dest = AddressWords(id.dest().unwrap_or(GLOBAL_ADDRESS), Audience::People);
     let number = id.pgn().number();
-    write!(writer, "p{priority} {source:02X}>{dest} {number} ")?;
-    write_message(writer, alloc, frame)
+    write!(writer, "p{priority} {source}>{dest} {number} ")?;
+    write_message(writer, alloc, frame, Audience::People)
 }

@@ -1,7 +1,8 @@
+use crate::audience::Audience;
 use crate::group::{AddressWords, ByteWords, ControlWords, GroupWords, group_name};
 use can_frame::{Frame, Pgn};
 use dm_messages::{Kind, ReadError, Shown, read};
-use dm_words::{CodeWords, LampWords};
+use dm_words::{CodeWords, LampBytes, LampWords};
 use name_field::{Name, NameFields};
 use parameter_group::ParameterGroup;
 use requests::Ack;
@@ -11,29 +12,57 @@ use std::io::Write;
 use transport::Control;
 
 /// Writes what a frame says: the name of its group, and what it tells.
-pub fn write_message<W: Write>(writer: &mut W, alloc: Global, frame: &Frame) -> io::Result<()> {
+pub fn write_message<W: Write>(
+    writer: &mut W,
+    alloc: Global,
+    frame: &Frame,
+    audience: Audience,
+) -> io::Result<()> {
     match ParameterGroup::read(frame) {
         ParameterGroup::AddressClaimed { name, .. } => write_name(writer, "claim", name),
         ParameterGroup::CannotClaim { name } => write_name(writer, "cannot claim", name),
-        ParameterGroup::Request(request) => write_request(writer, request.pgn),
-        ParameterGroup::Acknowledgment(ack) => write_acknowledgment(writer, ack),
+        ParameterGroup::Request(request) => write_request(writer, request.pgn, audience),
+        ParameterGroup::Acknowledgment(ack) => write_acknowledgment(writer, ack, audience),
         ParameterGroup::Diagnostic { kind, bytes, .. } => {
-            write_diagnostic(writer, alloc, kind, bytes)
+            write_diagnostic(writer, alloc, kind, bytes, audience)
         }
-        ParameterGroup::ConnectionManagement { control, .. } => write_control(writer, &control),
+        ParameterGroup::ConnectionManagement { control, .. } => {
+            write_control(writer, &control, audience)
+        }
         ParameterGroup::DataTransfer { bytes, .. } => write_packet(writer, bytes),
-        ParameterGroup::Other => write_data(writer, frame),
+        ParameterGroup::Other => write_data(writer, frame.id().pgn(), frame.bytes(), audience),
     }
 }
 
-fn write_request<W: Write>(writer: &mut W, pgn: Pgn) -> io::Result<()> {
-    let group = GroupWords(pgn);
+/// Writes what the payload of a group says: that of a diagnostic message in words, of any other its name and its bytes.
+pub fn write_payload<W: Write>(
+    writer: &mut W,
+    alloc: Global,
+    pgn: Pgn,
+    bytes: &[u8],
+    audience: Audience,
+) -> io::Result<()> {
+    match pgn {
+        Pgn::DM1 => write_diagnostic(writer, alloc, Kind::Dm1, bytes, audience),
+        Pgn::DM2 => write_diagnostic(writer, alloc, Kind::Dm2, bytes, audience),
+        Pgn::DM6 => write_diagnostic(writer, alloc, Kind::Dm6, bytes, audience),
+        _ => write_data(writer, pgn, bytes, audience),
+    }
+}
+
+fn write_request<W: Write>(writer: &mut W, pgn: Pgn, audience: Audience) -> io::Result<()> {
+    let group = GroupWords(pgn, audience);
     write!(writer, "request: of {group}")
 }
 
-fn write_data<W: Write>(writer: &mut W, frame: &Frame) -> io::Result<()> {
-    let name = group_name(frame.id().pgn());
-    let data = ByteWords(frame.bytes());
+fn write_data<W: Write>(
+    writer: &mut W,
+    pgn: Pgn,
+    bytes: &[u8],
+    audience: Audience,
+) -> io::Result<()> {
+    let name = group_name(pgn, audience);
+    let data = ByteWords(bytes);
     write!(writer, "{name}: data{data}")
 }
 
@@ -75,10 +104,10 @@ fn write_system<W: Write>(writer: &mut W, fields: &NameFields) -> io::Result<()>
     )
 }
 
-fn write_acknowledgment<W: Write>(writer: &mut W, ack: Ack) -> io::Result<()> {
+fn write_acknowledgment<W: Write>(writer: &mut W, ack: Ack, audience: Audience) -> io::Result<()> {
     let control = ControlWords(ack.control);
-    let to = AddressWords(ack.requester);
-    let group = GroupWords(ack.pgn);
+    let to = AddressWords(ack.requester, audience);
+    let group = GroupWords(ack.pgn, audience);
     write!(writer, "ack: {control}, to {to}, of {group}")
 }
 
@@ -87,10 +116,11 @@ fn write_diagnostic<W: Write>(
     alloc: Global,
     kind: Kind,
     bytes: &[u8],
+    audience: Audience,
 ) -> io::Result<()> {
     let word = kind_word(kind);
     match read(alloc, bytes) {
-        Ok(shown) => write_shown(writer, word, &shown),
+        Ok(shown) => write_shown(writer, word, &shown, audience),
         Err(error) => {
             let reason = unread_word(error);
             write!(writer, "{word}: cannot be read: {reason}")
@@ -98,10 +128,21 @@ fn write_diagnostic<W: Write>(
     }
 }
 
-fn write_shown<W: Write>(writer: &mut W, word: &str, shown: &Shown) -> io::Result<()> {
+fn write_shown<W: Write>(
+    writer: &mut W,
+    word: &str,
+    shown: &Shown,
+    audience: Audience,
+) -> io::Result<()> {
     let lamps = LampWords(shown.lamps);
     let codes = CodeWords(shown.codes.as_slice());
-    write!(writer, "{word}: {lamps}; {codes}")
+    match audience {
+        Audience::People => {
+            let bytes = LampBytes(shown.lamps);
+            write!(writer, "{word}: {lamps} ({bytes}); {codes}")
+        }
+        Audience::Programs => write!(writer, "{word}: {lamps}; {codes}"),
+    }
 }
 
 fn kind_word(kind: Kind) -> &'static str {
@@ -123,10 +164,14 @@ fn unread_word(error: ReadError) -> &'static str {
 }
 
 /// Connection management of the transport protocol (SAE J1939-21).
-fn write_control<W: Write>(writer: &mut W, control: &Control) -> io::Result<()> {
+fn write_control<W: Write>(
+    writer: &mut W,
+    control: &Control,
+    audience: Audience,
+) -> io::Result<()> {
     write!(writer, "TP.CM: ")?;
     write_step(writer, control)?;
-    let group = GroupWords(group_of(control));
+    let group = GroupWords(group_of(control), audience);
     write!(writer, " of {group}")
 }
 

@@ -3,8 +3,10 @@
 
 mod decoding;
 mod ending;
+mod slips;
 mod watch_words;
 mod watching;
 
-pub use decoding::{decode, form_of};
+pub use decoding::decode;
+pub use slips::{look_at_decode_words, look_at_watch_words};
 pub use watching::watch;

@@ -11,9 +11,6 @@ use program_io::Fault;
 use std::alloc::Global;
 use watch_lines::{Assumed, Form, Options};
 
-/// The station's address where none is given: one that diagnostic tools seldom take.
-const ADDRESS: u8 = 248;
-
 /// T1 of the transport protocol in milliseconds (SAE J1939-21): how late a packet may come where that is not said.
 const SILENCE: u64 = 750;
 
@@ -34,22 +31,24 @@ pub(crate) fn options_of<'a>(
     })
 }
 
-/// The station, and what its lines are to it. Its NAME is 1 where none is given, which wins every contention but that of 0.
+/// What of the bus is shown, and how its lines are read. The NAME that old command lines give is looked at, and says nothing.
 fn settings_of(words: &WatchWords<'_>) -> Result<Settings, Fault> {
-    let name = match words.name {
-        Some(word) => name_of(word)?,
-        None => Name::from_number(1),
-    };
-    let address = match words.address {
-        Some(word) => address_of(word)?,
-        None => ADDRESS,
-    };
+    if let Some(word) = words.name {
+        name_of(word)?;
+    }
     Ok(Settings {
-        name,
-        address,
+        address: shown_of(words.address)?,
         skips_bad: skips_bad(words.bad)?,
         silence: silence_of(words.silence)?,
     })
+}
+
+/// The address whose sessions are shown; none: everybody's.
+fn shown_of(word: Option<&str>) -> Result<Option<u8>, Fault> {
+    match word {
+        Some(word) => Ok(Some(address_of(word)?)),
+        None => Ok(None),
+    }
 }
 
 /// Each `ADDRESS=NAME`.
@@ -68,12 +67,12 @@ pub(crate) fn assumed_of(alloc: Global, words: &[&str]) -> Result<Vec<Assumed>, 
 }
 
 /// A NAME in sixteen hexadecimal digits.
-fn name_of(word: &str) -> Result<Name, Fault> {
+pub(crate) fn name_of(word: &str) -> Result<Name, Fault> {
     Name::read_hex(word).map_err(|_| Fault::CommandLine)
 }
 
 /// An address that can be held.
-fn address_of(word: &str) -> Result<u8, Fault>
+pub(crate) fn address_of(word: &str) -> Result<u8, Fault>
     ensures { IfOk result (λ address. address ≤ GREATEST_ADDRESS) }
 {
     match word.parse::<u64>() {
@@ -82,7 +81,7 @@ fn address_of(word: &str) -> Result<u8, Fault>
     }
 }
 
-fn bus_of(word: Option<&str>) -> Result<Option<&str>, Fault> {
+pub(crate) fn bus_of(word: Option<&str>) -> Result<Option<&str>, Fault> {
     match word {
         Some(word) if !is_bus(word) => Err(Fault::CommandLine),
         word => Ok(word),
@@ -90,7 +89,7 @@ fn bus_of(word: Option<&str>) -> Result<Option<&str>, Fault> {
 }
 
 /// Whether bad lines are passed over.
-fn skips_bad(word: Option<&str>) -> Result<bool, Fault> {
+pub(crate) fn skips_bad(word: Option<&str>) -> Result<bool, Fault> {
     match word {
         None | Some("missed") => Ok(false),
         Some("skip") => Ok(true),
@@ -99,7 +98,7 @@ fn skips_bad(word: Option<&str>) -> Result<bool, Fault> {
 }
 
 /// The silence in microseconds; none: any.
-fn silence_of(word: Option<&str>) -> Result<Option<u64>, Fault> {
+pub(crate) fn silence_of(word: Option<&str>) -> Result<Option<u64>, Fault> {
     let Some(word) = word else {
         return Ok(Some(SILENCE * 1000));
     };
@@ -111,7 +110,7 @@ fn silence_of(word: Option<&str>) -> Result<Option<u64>, Fault> {
 }
 
 /// How changes and report are written: for people where that is not said.
-fn form_of(word: Option<&str>) -> Result<Form, Fault> {
+pub(crate) fn form_of(word: Option<&str>) -> Result<Form, Fault> {
     match word {
         None | Some("text") => Ok(Form::Text),
         Some("json") => Ok(Form::Json),

@@ -1,7 +1,7 @@
 use crate::ending::outcome;
 use crate::watch_words::{assumed_of, options_of};
 use command_words::WatchWords;
-use program_io::Fault;
+use program_io::{Fault, Messages};
 use std::alloc::Global;
 use std::io::{LineWriter, Read, Write};
 
@@ -11,7 +11,7 @@ use std::io::{LineWriter, Read, Write};
 /// # Errors
 /// - `CommandLine`: the words are none of it; nothing is read.
 /// - `Read`, `Write`, `Memory`: what happened; what was found until then is reported.
-/// - `BadLines`: all is reported, but some lines were bad; each is told on `errors`.
+/// - `BadLines`: all is reported, but some lines were bad; each is told on `errors`, where that takes it.
 pub fn watch<R: Read + Drop, W: Write + Drop, E: Write + Drop>(
     alloc: Global,
     words: WatchWords<'_>,
@@ -25,7 +25,7 @@ pub fn watch<R: Read + Drop, W: Write + Drop, E: Write + Drop>(
         Ok(options) => options,
         Err(fault) => return Err(fault),
     };
-    let Ok(mut errors) = LineWriter::new(alloc, errors) else {
+    let Ok(mut errors) = LineWriter::new(alloc, Messages::new(errors)) else {
         return Err(Fault::Memory);
     };
     outcome(watch_lines::watch(alloc, reader, writer, &mut errors, &options))

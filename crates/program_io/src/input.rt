@@ -1,48 +1,55 @@
-ghost use Rattle.std.specs.Prelude.{◌≡◌, ◌<◌, ◌≤◌, length, IfOk, IfSome};
+ghost use Rattle.std.specs.Prelude.{◌≡◌, ◌≢◌, ◌⊎◌, ◌+◌, ◌<◌, ◌≤◌, [], length, take, IfErr, IfOk, IfSome, OnOk};
+ghost use Rattle.std.specs.IoError.{error_kind};
 ghost use Rattle.program_io.specs.Input.{input_limit};
 
 use crate::fault::Fault;
 use std::alloc::Global;
-use std::io::Read;
+use std::io;
+use std::io::{ErrorKind, Read};
 
 /// The most bytes of an input.
 pub const LIMIT: usize = 1_048_576;
 
-/// The bytes that one read is offered: several times what later calls take of the stack.
-const OFFERED: usize = 131_072;
-
 /// Reads a whole input.
 ///
-/// The bytes that a read is offered lie on the stack, and are more than all later calls take of it. This stays a call of its
-/// own, so those use the stack that it had: a stack that cannot grow shows itself here, before anything is answered, and not
-/// between two answers.
-///
 /// # Errors
-/// - `Read`: a read failed.
-/// - `InputTooLong`: there are more than `LIMIT` bytes; no more is read then.
+/// - `Read`: a read failed. One that is interrupted is made again.
+/// - `InputTooLong`: there are more than `LIMIT` bytes; no more than one byte past them is read.
 /// - `Memory`: memory was refused.
-#[inline(never)]
 pub fn read_input<R: Read>(alloc: Global, reader: &mut R) -> Result<Vec<u8>, Fault>
     ensures within { IfOk result (λ v. length v.items ≤ input_limit) }
     ensures whole { IfOk result (λ v. IfSome (R.remaining reader.old) (λ bytes. v.items ≡ bytes)) }
     ensures too_long { result ≡ Err Fault.InputTooLong → IfSome (R.remaining reader.old) (λ bytes. input_limit < length bytes) }
 {
     let mut bytes = Vec::new(alloc);
-    let mut buffer = [0u8; OFFERED];
-    for _turn in 0..LIMIT + 2 {
-        let n = match reader.read(&mut buffer) {
-            Ok(n) => n,
-            Err(_) => return Err(Fault::Read),
-        };
-        if n == 0 {
-            return Ok(bytes);
-        }
-        bytes.extend_from_slice(&buffer[..n])?;
-        if bytes.len() > LIMIT {
-            return Err(Fault::InputTooLong);
-        }
+    if let Err(error) = read_most(reader, &mut bytes) {
+        return Err(fault_of(error));
     }
-    unreachable!()
+    if bytes.len() > LIMIT {
+        return Err(Fault::InputTooLong);
+    }
+    Ok(bytes)
+}
+
+/// Reads an input to its end, or one byte more than the most, into a vector that is empty.
+fn read_most<R: Read>(reader: &mut R, bytes: &mut Vec<u8>) -> io::Result<()>
+    requires { bytes.old.items ≡ [] }
+    ensures whole { OnOk result (IfSome (R.remaining reader.old) (λ input. bytes.new.items ≡ take (input_limit + 1) input)) }
+    ensures retried { IfErr result (λ error. error_kind error ≢ ErrorKind.Interrupted) }
+{
+    let most = LIMIT as u64 + 1;
+    (&mut *reader).take(most).read_to_end(bytes)?;
+    Ok(())
+}
+
+/// What a failed read of an input is.
+fn fault_of(error: io::Error) -> Fault
+    ensures { (result ≡ Fault.Memory) ⊎ (result ≡ Fault.Read) }
+{
+    match error.kind() {
+        ErrorKind::OutOfMemory => Fault::Memory,
+        _ => Fault::Read,
+    }
 }
 
 /// Reads a whole input that is text.

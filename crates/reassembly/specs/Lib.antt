@@ -1,3 +1,4 @@
 pub mod Partials
 pub mod TableLaws
 pub mod Tables
+pub mod Pairs

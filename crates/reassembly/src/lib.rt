@@ -6,10 +6,12 @@
 //! message.
 #![tactic(auto)]
 
+mod pairs;
 mod partial;
 mod partials;
 mod table;
 
+pub use pairs::PairedPartials;
 pub use partial::Partial;
 pub use partials::Partials;
 pub use table::AddressTable;

@@ -25,6 +25,26 @@ pub enum Refusal {
     Garage(GarageError),
 }
 
+impl Refusal {
+    ghost use Rattle.std.specs.Prelude.{◌↔◌, IsTrue};
+    ghost use Rattle.script_answer.specs.Wants.{WantsMemory};
+
+    /// Whether memory was refused to the command. That says nothing of its line.
+    pub fn wants_memory(self) -> bool
+        ensures { IsTrue result ↔ WantsMemory self }
+    {
+        match self {
+            Refusal::Fault(error) => error == FaultError::OutOfMemory,
+            Refusal::Garage(error) => error == GarageError::OutOfMemory,
+            Refusal::BadLine
+            | Refusal::NoSeat
+            | Refusal::Name(_)
+            | Refusal::Pgn(_)
+            | Refusal::Frame(_) => false,
+        }
+    }
+}
+
 impl fmt::Display for Refusal {
     fn fmt<W: fmt::Write>(&self, f: &mut fmt::Formatter<W>) -> fmt::Result {
         match self {

@@ -1,16 +1,16 @@
 use crate::teller::{Teller, Telling};
 use crate::wire::Wire;
 use command_words::LogWords;
-use program_io::{Fault, read_text};
+use program_io::{Failure, Fault, Messages, read_text};
 use std::alloc::Global;
 use std::io::{BufWriter, LineWriter, Read, Write};
 
 /// Carries out a script and writes its wire as a log: frame I, from 0, at I periods.
 ///
-/// Lines that are not accepted are told on `errors`.
+/// Lines that are not accepted are told on `errors`, where that takes them.
 ///
 /// # Errors
-/// - `CommandLine`: the words are none of a log; nothing is read.
+/// - `CommandLine`: the words are none of a log; it is told which, and nothing is read.
 /// - `Read`, `InputTooLong`, `NotUtf8`: as for a script; nothing is written.
 /// - `Write`: a line could not be written.
 /// - `Memory`: memory was refused outside a command.
@@ -21,14 +21,16 @@ pub fn log<R: Read, W: Write + Drop, E: Write + Drop>(
     reader: &mut R,
     writer: W,
     errors: E,
-) -> Result<(), Fault> {
-    let Some(wire) = Wire::of(words) else {
-        return Err(Fault::CommandLine);
+) -> Result<(), Failure> {
+    let wire = match Wire::of(words) {
+        Ok(wire) => wire,
+        Err(slip) => return Err(Failure::told(Fault::CommandLine, slip.to_string(alloc))),
     };
-    match LineWriter::new(alloc, errors) {
-        Ok(errors) => write_log(alloc, wire, reader, writer, errors),
-        Err(_) => Err(Fault::Memory),
-    }
+    let Ok(errors) = LineWriter::new(alloc, Messages::new(errors)) else {
+        return Err(Failure::from(Fault::Memory));
+    };
+    write_log(alloc, wire, reader, writer, errors)?;
+    Ok(())
 }
 
 fn write_log<R: Read, W: Write + Drop, E: Write + Drop>(

@@ -60,12 +60,14 @@ impl<'a, E: Write, W: Write> Teller<'a, E, W> {
         }
     }
 
-    /// Carries the lines of a text out, writes what is left, and says whether lines were bad.
+    /// Carries the lines of a text out, writes what is left, and says whether lines were bad. A command to which memory was refused
+    /// ends the run: that says nothing of its line, and the lines behind it can't be judged.
     pub(crate) fn tell_lines(&mut self, alloc: Global, text: &str) -> Result<(), Fault> {
-        answer_lines(alloc, text, self)?;
+        let ended = answer_lines(alloc, text, self);
         if self.flush().is_err() {
             return Err(Fault::Write);
         }
+        ended?;
         if self.bad > 0 {
             return Err(Fault::BadLines);
         }
@@ -99,10 +101,11 @@ impl<E: Write, W: Write> Write for Teller<'_, E, W> {
 }
 
 impl<E: Write, W: Write> Listener for Teller<'_, E, W> {
-    ghost use Rattle.std.specs.Prelude.{◌≡◌};
+    ghost use Rattle.std.specs.Prelude.{◌≡◌, ◌⊎◌, Err, IfErr, IfSome, IsSomeAnd};
     ghost use Rattle.program_io.specs.declared.fault.Fault.TheVariants as fault;
+    ghost use Rattle.script_answer.specs.Wants.{WantsMemory};
 
-    ghost ends_by = { λ f. f ≡ fault.Write };
+    ghost ends_by = { λ f. (f ≡ fault.Write) ⊎ (f ≡ fault.Memory) };
 
     fn passes(&mut self, line: &str) -> bool {
         self.number = self.number.saturating_add(1);
@@ -123,8 +126,13 @@ impl<E: Write, W: Write> Listener for Teller<'_, E, W> {
         line: &str,
         has_garage: bool,
         answered: Result<(), Unwritten>,
-    ) -> Result<(), Fault> {
+    ) -> Result<(), Fault>
+        ensures ends { IfErr result (λ f. (f ≡ Fault.Write) ⊎ (f ≡ Fault.Memory)) }
+        ensures memory { IfSome self.old.refusal (λ refusal. WantsMemory refusal → result ≡ Err Fault.Memory) }
+        ensures judged { result ≡ Err Fault.Memory → IsSomeAnd self.old.refusal WantsMemory }
+    {
         let told = match self.refusal {
+            Some(refusal) if refusal.wants_memory() => return Err(Fault::Memory),
             Some(refusal) => self.tell(line, has_garage, refusal).is_ok(),
             None => true,
         };

@@ -1,7 +1,7 @@
 ghost use Rattle.std.specs.Prelude.{◌≡◌, ◌≤◌, IfErr};
 
 use candump_line::{Time, write_line};
-use command_words::{LogWords, is_bus};
+use command_words::{LogWords, Slip, is_bus};
 use program_io::Fault;
 use script_run::Bench;
 use std::io::Write;
@@ -22,19 +22,29 @@ pub(crate) struct Wire<'a> {
 impl<'a> Wire<'a> {
     /// What the words behind `log` ask for: the bus `can0` where none is given, and an 8-byte frame's time at 250 kbit/s, 540,
     /// where no period is.
-    pub(crate) fn of(words: LogWords<'a>) -> Option<Wire<'a>> {
+    ///
+    /// # Errors
+    /// A word is none that its option takes.
+    pub(crate) fn of(words: LogWords<'a>) -> Result<Wire<'a>, Slip<'a>> {
         let bus = words.bus.unwrap_or("can0");
         if !is_bus(bus) {
-            return None;
+            return Err(Slip {
+                option: "bus <BUS>",
+                word: bus,
+                wanted: "the name of a bus",
+            });
         }
-        let period = match words.period {
-            Some(word) => word.parse::<u64>().ok()?,
-            None => 540,
+        let Some(word) = words.period else {
+            return Ok(Wire { bus, period: 540 });
         };
-        if period < 1 || period > LONGEST_PERIOD {
-            return None;
+        match word.parse::<u64>() {
+            Ok(period) if period >= 1 && period <= LONGEST_PERIOD => Ok(Wire { bus, period }),
+            _ => Err(Slip {
+                option: "period <US>",
+                word,
+                wanted: "a number from 1 to 1000000",
+            }),
         }
-        Some(Wire { bus, period })
     }
 
     /// Writes each frame of the wire: frame I, from 0, at I periods.

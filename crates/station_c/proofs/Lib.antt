@@ -4,4 +4,5 @@ pub mod Keeping
 pub mod MachineValues
 pub mod Named
 pub mod Taken
+pub mod SeriesLemmas
 pub mod ThreeFrames

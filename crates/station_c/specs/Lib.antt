@@ -4,4 +4,5 @@ pub mod ListedPosts
 pub mod Orders
 pub mod Places
 pub mod Records
+pub mod Series
 pub mod Statuses

@@ -4,4 +4,5 @@ mod lists;
 mod open;
 mod orders;
 mod readings;
+mod series;
 mod units;

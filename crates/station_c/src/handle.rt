@@ -6,7 +6,7 @@ ghost use Rattle.station_c.specs.Held.{held, is_there};
 use crate::listed_post::ListedPost;
 use crate::raw_box::RawBox;
 use std::alloc::Global;
-use std::marker::Model;
+use std::marker::{Model, Send};
 
 /// A station in memory of its own, or none: 16 bytes that a C program holds, never copies, and never reads or writes itself.
 ///
@@ -28,6 +28,9 @@ const _: () = prove!(align_of::<StationHandle>() == 8);
 impl Model for StationHandle {
     ghost also_owns = { λ h. held h.at h.value };
 }
+
+/// Between two calls a handle may go from one thread to another.
+unsafe impl Send for StationHandle {}
 
 impl StationHandle {
     /// The handle of this station.

@@ -1,11 +1,11 @@
 //! What a call writes for C, in C's layout. `c/hidzgula_station.h` has the same structs.
-ghost use Rattle.std.specs.Prelude.{◌≡◌, ℕ, ◌≤◌, Some, length, slice_get};
+ghost use Rattle.std.specs.Prelude.{◌≡◌, ℕ, ◌<◌, ◌≤◌, ◌^◌, ◌↔◌, IfOk, IsErrOf, IsTrue, Some, length, slice_get};
 ghost use Rattle.can_frame.specs.FrameValue.{FrameValue};
 
-use can_frame::Frame;
+use can_frame::{Frame, FrameError, Id};
 use station_table::Reaction;
 
-/// A frame to send.
+/// A frame that was read, or is to be sent.
 #[repr(C)]
 #[derive(Clone, Copy, Debug)]
 pub struct FrameRecord {
@@ -13,7 +13,7 @@ pub struct FrameRecord {
     pub id: u32,
     /// How many bytes it has, 0 to 8.
     pub len: u8,
-    /// The bytes, and 0 after them.
+    /// The bytes. After those of a frame to send 0, and after those of one that was read anything.
     pub bytes: [u8; 8],
 }
 
@@ -117,6 +117,21 @@ impl FrameRecord {
         }
     }
 
+    /// The frame in a record that C wrote.
+    ///
+    /// Refused first where the identifier is 2^29 or more, then where there are more than eight bytes.
+    pub fn frame(&self) -> Result<Frame, FrameError>
+        ensures ok { IfOk result (λ f. (f ≡ frame_recorded self.now) × (self.now.id < 2 ^ 29) × (self.now.len ≤ 8)) }
+        ensures id_too_large { IsErrOf result FrameError.IdTooLarge ↔ (2 ^ 29 ≤ self.now.id) }
+        ensures too_long { IsErrOf result FrameError.TooLong ↔ ((self.now.id < 2 ^ 29) × (8 < self.now.len)) }
+    {
+        let id = Id::new(self.id)?;
+        if self.len > 8 {
+            return Err(FrameError::TooLong);
+        }
+        Ok(Frame::of(id, &self.bytes[..usize::from(self.len)]))
+    }
+
     /// The record of the frame at this place, if there is one.
     fn at(frames: &[Frame], place: usize) -> FrameRecord
         ensures { (f : FrameValue) → slice_get frames.now place ≡ Some f → frame_recorded result ≡ f }
@@ -130,6 +145,26 @@ impl FrameRecord {
 
 impl ReplyRecord {
     ghost use Rattle.station_c.specs.Records.{TellsReaction};
+    ghost use Rattle.station_c.specs.Series.{reaction_told};
+    ghost use Rattle.station_table.specs.Reactions.{silent};
+
+    /// Nothing is to be withdrawn or sent.
+    pub fn nothing() -> ReplyRecord
+        ensures { reaction_told result ≡ silent }
+    {
+        ReplyRecord {
+            withdraw: 0,
+            count: 0,
+            frames: [FrameRecord::none(); 3],
+        }
+    }
+
+    /// Whether nothing is to be withdrawn or sent.
+    pub fn says_nothing(&self) -> bool
+        ensures { IsTrue result ↔ (reaction_told self.now ≡ silent) }
+    {
+        self.withdraw != 1 && self.count == 0
+    }
 
     /// The record of a reaction of at most three frames.
     #[tactic(auto, using(crate::proofs::ThreeFrames::three_at_most))]

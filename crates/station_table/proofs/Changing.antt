@@ -24,7 +24,7 @@ use Rattle.station_table.proofs.Lines.{held_same}
 use Rattle.station_table.specs.Steps.{after_group, origin_of}
 use Rattle.station_table.proofs.Stands.{stands_after, sender, sender_below}
 
-address_words : (owners : List (Option ℕ)) (name : ℕ) (k : Option KeptValue) → address_in (row_of owners name k) ≡ address_in_row (row_known owners name k)
+pub address_words : (owners : List (Option ℕ)) (name : ℕ) (k : Option KeptValue) → address_in (row_of owners name k) ≡ address_in_row (row_known owners name k)
 address_words owners name None = refl
 address_words owners name (Some k) = refl
 

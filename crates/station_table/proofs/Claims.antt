@@ -22,7 +22,7 @@ use Rattle.station_table.proofs.OwnAddress.{still_apart}
 use Rattle.station_table.proofs.RowLemmas.{named, kept_under-changed, names-changed, kept_under-with_row, names-with_row}
 use Rattle.station_table.proofs.Lines.{StandsAfter, held_same, and_false, changed_place, written_place, tells}
 
-row_acknowledged : (owners : List (Option ℕ)) (n control pgn : ℕ) (o : Option KeptValue)
+pub row_acknowledged : (owners : List (Option ℕ)) (n control pgn : ℕ) (o : Option KeptValue)
     → row_known owners n (option_map (with_ack (record { control = control; pgn = pgn })) o) ≡ with_ack_heard control pgn (row_known owners n o)
 row_acknowledged owners n control pgn None = refl
 row_acknowledged owners n control pgn (Some x) = refl
@@ -70,7 +70,7 @@ acknowledged r grant s h control requester pgn d src lt st =
         if_row n false = refl
 
 -- what is kept once a NAME has claimed: a row, with the address claimed
-kept_once_claimed : (a : Option ℕ) (rows : List (ℕ × KeptValue)) (m n : ℕ)
+pub kept_once_claimed : (a : Option ℕ) (rows : List (ℕ × KeptValue)) (m n : ℕ)
     → kept_under (changed_under (with_claimed a) (with_row rows m) m) n
     ≡ (if m == n then Some (with_claimed a (unwrap_or (kept_under rows n) nothing_kept)) else kept_under rows n)
 kept_once_claimed a rows m n = kept_under-changed (with_claimed a) (with_row rows m) m n ∙ (rw (kept_under-with_row rows m n) (go (m == n)))
@@ -82,7 +82,7 @@ kept_once_claimed a rows m n = kept_under-changed (with_claimed a) (with_row row
     go true = refl
     go false = refl
 
-names_once_claimed : (a : Option ℕ) (rows : List (ℕ × KeptValue)) (m : ℕ) → map named (changed_under (with_claimed a) (with_row rows m) m) ≡ with_name m (map named rows)
+pub names_once_claimed : (a : Option ℕ) (rows : List (ℕ × KeptValue)) (m : ℕ) → map named (changed_under (with_claimed a) (with_row rows m) m) ≡ with_name m (map named rows)
 names_once_claimed a rows m = names-changed (with_claimed a) (with_row rows m) m ∙ names-with_row rows m
 
 ack_unclaimed : (owners : List (Option ℕ)) (n : ℕ) (o : Option KeptValue) → ack_known (unwrap_or o nothing_kept).ack ≡ ack_in_row (row_known owners n o)
@@ -90,7 +90,7 @@ ack_unclaimed owners n None = refl
 ack_unclaimed owners n (Some x) = refl
 
 -- a NAME that cannot claim has no address
-no_address : (owners : List (Option ℕ)) (n : ℕ) (o : Option KeptValue)
+pub no_address : (owners : List (Option ℕ)) (n : ℕ) (o : Option KeptValue)
     → row_known owners n (Some (with_claimed None (unwrap_or o nothing_kept))) ≡ Some (record { address = None; ack = ack_in_row (row_known owners n o) })
 no_address owners n None = refl
 no_address owners n (Some x) = refl
@@ -116,7 +116,7 @@ owner_now : (owners : List (Option ℕ)) (src m a : ℕ) → length owners ≡ 2
 owner_now owners src m a len lt = at-set owners src a (Some m) (subst (λ (x : ℕ). src < x) (sym len) lt)
 
 -- the row of a NAME that claims an address
-row_of_claimant : (owners : List (Option ℕ)) (src m n : ℕ) (o : Option KeptValue) → length owners ≡ 256 → src < 256 → (m == n) ≡ true
+pub row_of_claimant : (owners : List (Option ℕ)) (src m n : ℕ) (o : Option KeptValue) → length owners ≡ 256 → src < 256 → (m == n) ≡ true
     → row_known (slice_set owners src (Some m)) n (Some (with_claimed (Some src) (unwrap_or o nothing_kept)))
     ≡ Some (record { address = Some src; ack = ack_in_row (row_known owners n o) })
 row_of_claimant owners src m n o len lt same =
@@ -151,7 +151,7 @@ lost_claimed owners src m n ack (Some a) len lt apart =
     rw (owner_now owners src m a len lt) (lost_address src a n m (at owners a) ack (src == a) (is_held (at owners a) n) apart refl refl)
 
 -- the row of another NAME loses the address if it has this one
-row_of_other : (owners : List (Option ℕ)) (src m n : ℕ) (o : Option KeptValue) → length owners ≡ 256 → src < 256 → (m == n) ≡ false
+pub row_of_other : (owners : List (Option ℕ)) (src m n : ℕ) (o : Option KeptValue) → length owners ≡ 256 → src < 256 → (m == n) ≡ false
     → row_known (slice_set owners src (Some m)) n o ≡ without_address src (row_known owners n o)
 row_of_other owners src m n None len lt apart = refl
 row_of_other owners src m n (Some x) len lt apart =

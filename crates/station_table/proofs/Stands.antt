@@ -76,7 +76,7 @@ group_stands r grant s h (ConnectionManagement src d (EndAck size packets pgn)) 
 group_stands r grant s h Other lt st = tells r grant s h st
 
 -- a gap
-addressless_row : (n : ℕ) (owners : List (Option ℕ)) (o : Option KeptValue) → row_known empty_table n o ≡ addressless (row_known owners n o)
+pub addressless_row : (n : ℕ) (owners : List (Option ℕ)) (o : Option KeptValue) → row_known empty_table n o ≡ addressless (row_known owners n o)
 addressless_row n owners None = refl
 addressless_row n owners (Some x) = go x.claimed
   where

@@ -20,4 +20,5 @@ pub use origin::kind_of;
 pub use outcome::Outcome;
 pub use reaction::{Ask, Reaction};
 pub use row::{AckSeen, Row};
+pub use rows::Rows;
 pub use station::Station;

@@ -7,7 +7,7 @@ ghost use Rattle.program_io.specs.Input.{input_limit};
 
 use garage::{Garage, GarageError, Setting};
 use journal::Tally;
-use program_io::{Fault, read_text};
+use program_io::{Failure, Fault, read_text};
 use simulated_unit::Simulated;
 use std::alloc::Global;
 use std::io;
@@ -35,7 +35,8 @@ impl Gate for Open {
 ///
 /// # Errors
 /// - `Read`: a read failed.
-/// - `InputTooLong`, `NotUtf8`, `Vehicle`: the input is refused, looked at in this order; nothing was written.
+/// - `InputTooLong`, `NotUtf8`, `Vehicle`: the input is refused, looked at in this order; nothing was written. Of a vehicle it is
+///   told at which line and key.
 /// - `Write`: a line could not be written.
 /// - `Memory`: memory was refused outside of a unit's thread and of the stations' readings.
 pub fn threads<R: Threads + Wait + Sync, I: Read, W: Write>(
@@ -46,12 +47,15 @@ pub fn threads<R: Threads + Wait + Sync, I: Read, W: Write>(
     report: bool,
     reader: &mut I,
     writer: &mut W,
-) -> Result<(), Fault>
-    ensures unanswered { IfErr result (λ fault. IsOfInput fault → writer.new ≡ writer.old) }
-    ensures too_long { result ≡ Err Fault.InputTooLong → IfSome (I.remaining reader.old) (λ bytes. input_limit < length bytes) }
+) -> Result<(), Failure>
+    ensures unanswered { IfErr result (λ failure. IsOfInput failure.fault → writer.new ≡ writer.old) }
+    ensures too_long { IfErr result (λ failure. failure.fault ≡ Fault.InputTooLong → IfSome (I.remaining reader.old) (λ bytes. input_limit < length bytes)) }
 {
     let vehicle = vehicle_of(alloc, reader)?;
-    run_vehicle(rt, alloc, &vehicle, turns, reads, report, writer)
+    match run_vehicle(rt, alloc, &vehicle, turns, reads, report, writer) {
+        Ok(()) => Ok(()),
+        Err(fault) => Err(Failure::from(fault)),
+    }
 }
 
 /// Runs a vehicle, and writes how it ended.
@@ -75,18 +79,21 @@ fn run_vehicle<R: Threads + Wait + Sync, W: Write>(
 }
 
 /// The vehicle that an input describes.
-fn vehicle_of<I: Read>(alloc: Global, reader: &mut I) -> Result<Vehicle, Fault>
+fn vehicle_of<I: Read>(alloc: Global, reader: &mut I) -> Result<Vehicle, Failure>
     ensures few { IfOk result (λ vehicle. vec_len vehicle.units < 4294967296) }
-    ensures too_long { result ≡ Err Fault.InputTooLong → IfSome (I.remaining reader.old) (λ bytes. input_limit < length bytes) }
+    ensures too_long { IfErr result (λ failure. failure.fault ≡ Fault.InputTooLong → IfSome (I.remaining reader.old) (λ bytes. input_limit < length bytes)) }
 {
-    let text = read_text(alloc, reader)?;
+    let text = match read_text(alloc, reader) {
+        Ok(text) => text,
+        Err(fault) => return Err(Failure::from(fault)),
+    };
     let vehicle = match read_vehicle(alloc, text.as_str()) {
         Ok(vehicle) => vehicle,
-        Err(VehicleFault::Refused) => return Err(Fault::Vehicle),
-        Err(VehicleFault::Memory) => return Err(Fault::Memory),
+        Err(VehicleFault::Refused(words)) => return Err(Failure::told(Fault::Vehicle, Ok(words))),
+        Err(VehicleFault::Memory) => return Err(Failure::from(Fault::Memory)),
     };
     if vehicle.units.len() > MOST_UNITS {
-        return Err(Fault::Vehicle);
+        return Err(Failure::from(Fault::Vehicle));
     }
     Ok(vehicle)
 }

@@ -29,6 +29,8 @@
 #![tactic(auto)]
 
 mod fault;
+mod lines;
+mod misfit;
 mod read;
 
 pub use fault::VehicleFault;

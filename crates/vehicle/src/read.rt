@@ -8,12 +8,14 @@ ghost use Rattle.toml.specs.View.{view, items_view};
 ghost use Rattle.vehicle.specs.Holding.{number_at, text_at, HasName, HasNumber, HasOnly, HoldsStation, HoldsSecond, HoldsUnit, HoldsKind, HoldsVehicle, HoldsUnits, keys_of_kind};
 
 use crate::fault::VehicleFault;
+use crate::misfit::{Place, Unread, Wrong};
 use crate::{Second, Station, UnitKind, UnitLine, Vehicle};
 use bus_ledger::MOST_UNREAD;
 use can_frame::GREATEST_ADDRESS;
 use garage::MOST_EVENTS;
 use name_field::Name;
 use std::alloc::Global;
+use toml::de::Error;
 use toml::{Table, Value};
 use trouble_code::{GREATEST_FMI, GREATEST_SPN};
 
@@ -33,9 +35,42 @@ const MOST_GRANTED: u32 = 255;
 pub fn read_vehicle(alloc: Global, text: &str) -> Result<Vehicle, VehicleFault>
     ensures holds { IfOk result (λ v. (t : Members) × (parse_document text.now ≡ Some t) × HoldsVehicle (table t) v) }
 {
-    let root = Value::Table(toml::table_from_str(alloc, text)?);
-    has_only(&root, &["station", "second", "unit"])?;
-    let station = read_station(root.get("station").ok_or(VehicleFault::Refused)?)?;
+    let root = match toml::table_from_str(alloc, text) {
+        Ok(table) => Value::Table(table),
+        Err(error) => return Err(fault_of(alloc, text, &error)),
+    };
+    match vehicle_of(alloc, &root) {
+        Ok(vehicle) => Ok(vehicle),
+        Err(unread) => Err(unread.told(alloc, text)),
+    }
+}
+
+/// What a text that is no TOML is told as: the line at which it is none, and why.
+fn fault_of(alloc: Global, text: &str, error: &Error) -> VehicleFault {
+    let Some(span) = error.span() else {
+        return VehicleFault::Memory;
+    };
+    let before = text.bytes().take(span.start);
+    let line = before
+        .filter(|byte| *byte == b'\n')
+        .count()
+        .saturating_add(1);
+    let message = error.message();
+    match format!(in alloc; "line {line}: {message}\n") {
+        Ok(words) => VehicleFault::Refused(words),
+        Err(_) => VehicleFault::Memory,
+    }
+}
+
+/// The vehicle that a document describes.
+fn vehicle_of(alloc: Global, root: &Value) -> Result<Vehicle, Unread<'_>>
+    ensures { IfOk result (HoldsVehicle (view root.now)) }
+{
+    has_only(Place::Whole, root, &["station", "second", "unit"])?;
+    let station = match root.get("station") {
+        Some(value) => read_station(value)?,
+        None => return Err(Unread::at(Place::Whole, "station", Wrong::Missing)),
+    };
     let second = match root.get("second") {
         Some(value) => Some(read_second(value, station.name)?),
         None => None,
@@ -43,7 +78,7 @@ pub fn read_vehicle(alloc: Global, text: &str) -> Result<Vehicle, VehicleFault>
     let units = match root.get("unit") {
         Some(value) => match value.as_array() {
             Some(lines) => read_units(alloc, lines.as_slice())?,
-            None => return Err(VehicleFault::Refused),
+            None => return Err(Unread::at(Place::Whole, "unit", Wrong::NoSuch("array of tables"))),
         },
         None => Vec::new(alloc),
     };
@@ -54,15 +89,20 @@ pub fn read_vehicle(alloc: Global, text: &str) -> Result<Vehicle, VehicleFault>
     })
 }
 
-fn read_station(value: &Value) -> Result<Station, VehicleFault>
+fn read_station(value: &Value) -> Result<Station, Unread<'_>>
     ensures { IfOk result (HoldsStation (view value.now)) }
 {
-    has_only(value, &["name", "address", "window", "grant", "limit"])?;
-    let name = read_name(value)?;
-    let address = read_address(value)?;
-    let window = read_window(value)?;
-    let grant = read_grant(value)?;
-    let limit = read_number(value, "limit", 1, MOST_EVENTS)?;
+    let place = Place::Station;
+    has_only(
+        place,
+        value,
+        &["name", "address", "window", "grant", "limit"],
+    )?;
+    let name = read_name(place, value)?;
+    let address = read_address(place, value)?;
+    let window = read_window(place, value)?;
+    let grant = read_grant(place, value)?;
+    let limit = read_number(place, value, "limit", 1, MOST_EVENTS)?;
     Ok(Station {
         name,
         address,
@@ -73,18 +113,19 @@ fn read_station(value: &Value) -> Result<Station, VehicleFault>
 }
 
 /// A second station, beside one of this NAME.
-fn read_second(value: &Value, first: Name) -> Result<Second, VehicleFault>
+fn read_second(value: &Value, first: Name) -> Result<Second, Unread<'_>>
     ensures holds { IfOk result (HoldsSecond (view value.now)) }
     ensures apart { IfOk result (λ s. s.name ≢ first) }
 {
-    has_only(value, &["name", "address", "window", "grant"])?;
-    let name = read_name(value)?;
+    let place = Place::Second;
+    has_only(place, value, &["name", "address", "window", "grant"])?;
+    let name = read_name(place, value)?;
     if name == first {
-        return Err(VehicleFault::Refused);
+        return Err(Unread::at(place, "name", Wrong::InUse));
     }
-    let address = read_address(value)?;
-    let window = read_window(value)?;
-    let grant = read_grant(value)?;
+    let address = read_address(place, value)?;
+    let window = read_window(place, value)?;
+    let grant = read_grant(place, value)?;
     Ok(Second {
         name,
         address,
@@ -93,106 +134,125 @@ fn read_second(value: &Value, first: Name) -> Result<Second, VehicleFault>
     })
 }
 
-fn read_units(alloc: Global, lines: &[Value]) -> Result<Vec<UnitLine>, VehicleFault>
+fn read_units(alloc: Global, lines: &[Value]) -> Result<Vec<UnitLine>, Unread<'_>>
     ensures { IfOk result (λ units. HoldsUnits (items_view lines.now) units.items) }
 {
     let mut units = Vec::new(alloc);
     for line in lines {
-        units.push(read_unit(line)?)?;
+        let place = Place::Unit(units.len());
+        units.push(read_unit(place, line)?)?;
     }
     Ok(units)
 }
 
-fn read_unit(value: &Value) -> Result<UnitLine, VehicleFault>
+fn read_unit(place: Place, value: &Value) -> Result<UnitLine, Unread<'_>>
     ensures { IfOk result (HoldsUnit (view value.now)) }
 {
     Ok(UnitLine {
-        name: read_name(value)?,
-        address: read_address(value)?,
-        kind: read_kind(value)?,
+        name: read_name(place, value)?,
+        address: read_address(place, value)?,
+        kind: read_kind(place, value)?,
     })
 }
 
-fn read_kind(value: &Value) -> Result<UnitKind, VehicleFault>
+fn read_kind(place: Place, value: &Value) -> Result<UnitKind, Unread<'_>>
     ensures holds { IfOk result (HoldsKind (view value.now)) }
     ensures only { IfOk result (λ kind. HasOnly (keys_of_kind kind) (view value.now)) }
 {
-    let word = read_text(value, "kind")?;
+    let word = read_text(place, value, "kind")?;
     if word == "flicker" {
-        has_only(value, &["name", "address", "kind", "spn", "fmi"])?;
-        let spn = read_number(value, "spn", 0, GREATEST_SPN)?;
-        let fmi = read_number(value, "fmi", 0, u32::from(GREATEST_FMI))? as u8;
+        has_only(place, value, &["name", "address", "kind", "spn", "fmi"])?;
+        let spn = read_number(place, value, "spn", 0, GREATEST_SPN)?;
+        let fmi = read_number(place, value, "fmi", 0, u32::from(GREATEST_FMI))? as u8;
         return Ok(UnitKind::Flicker { spn, fmi });
     }
-    has_only(value, &["name", "address", "kind"])?;
+    has_only(place, value, &["name", "address", "kind"])?;
     if word == "plain" {
         Ok(UnitKind::Plain)
     } else if word == "guarded" {
         Ok(UnitKind::Guarded)
     } else {
-        Err(VehicleFault::Refused)
+        let wrong = Wrong::NotOne {
+            found: word,
+            wanted: "plain, guarded or flicker",
+        };
+        Err(Unread::at(place, "kind", wrong))
     }
 }
 
-fn read_name(value: &Value) -> Result<Name, VehicleFault>
+fn read_name(place: Place, value: &Value) -> Result<Name, Unread<'_>>
     ensures { IfOk result (HasName (view value.now)) }
 {
-    match Name::read_hex(read_text(value, "name")?) {
+    let word = read_text(place, value, "name")?;
+    match Name::read_hex(word) {
         Ok(name) => Ok(name),
-        Err(_) => Err(VehicleFault::Refused),
+        Err(_) => {
+            let wrong = Wrong::NotOne {
+                found: word,
+                wanted: "16 hexadecimal digits",
+            };
+            Err(Unread::at(place, "name", wrong))
+        }
     }
 }
 
-fn read_address(value: &Value) -> Result<u8, VehicleFault>
+fn read_address(place: Place, value: &Value) -> Result<u8, Unread<'_>>
     ensures { IfOk result (λ a. HasNumber (view value.now) (codes "address") a 0 GREATEST_ADDRESS) }
 {
-    Ok(read_number(value, "address", 0, u32::from(GREATEST_ADDRESS))? as u8)
+    Ok(read_number(place, value, "address", 0, u32::from(GREATEST_ADDRESS))? as u8)
 }
 
-fn read_window(value: &Value) -> Result<u32, VehicleFault>
+fn read_window(place: Place, value: &Value) -> Result<u32, Unread<'_>>
     ensures { IfOk result (λ n. HasNumber (view value.now) (codes "window") n 1 MOST_UNREAD) }
 {
-    read_number(value, "window", 1, MOST_UNREAD)
+    read_number(place, value, "window", 1, MOST_UNREAD)
 }
 
-fn read_grant(value: &Value) -> Result<u8, VehicleFault>
+fn read_grant(place: Place, value: &Value) -> Result<u8, Unread<'_>>
     ensures { IfOk result (λ n. HasNumber (view value.now) (codes "grant") n 1 MOST_GRANTED) }
 {
-    Ok(read_number(value, "grant", 1, MOST_GRANTED)? as u8)
+    Ok(read_number(place, value, "grant", 1, MOST_GRANTED)? as u8)
 }
 
-fn read_text<'a>(value: &'a Value, key: &str) -> Result<&'a str, VehicleFault>
+fn read_text<'a>(place: Place, value: &'a Value, key: &'a str) -> Result<&'a str, Unread<'a>>
     ensures { IfOk result (λ t. text_at key.now (view value.now) ≡ Some t.now) }
 {
     match value.get(key) {
         Some(found) => match found.as_str() {
             Some(text) => Ok(text),
-            None => Err(VehicleFault::Refused),
+            None => Err(Unread::at(place, key, Wrong::NoSuch("text"))),
         },
-        None => Err(VehicleFault::Refused),
+        None => Err(Unread::at(place, key, Wrong::Missing)),
     }
 }
 
-fn read_number(value: &Value, key: &str, least: u32, most: u32) -> Result<u32, VehicleFault>
+fn read_number<'a>(
+    place: Place,
+    value: &Value,
+    key: &'a str,
+    least: u32,
+    most: u32,
+) -> Result<u32, Unread<'a>>
     ensures { IfOk result (λ n. (number_at key.now (view value.now) ≡ Some (pos n)) × (least ≤ n) × (n ≤ most)) }
 {
     match value.get(key) {
         Some(found) => match found.as_integer() {
             Some(n) if n >= i64::from(least) && n <= i64::from(most) => Ok(n as u32),
-            _ => Err(VehicleFault::Refused),
+            Some(found) => Err(Unread::at(place, key, Wrong::Outside { found, least, most })),
+            None => Err(Unread::at(place, key, Wrong::NoSuch("whole number"))),
         },
-        None => Err(VehicleFault::Refused),
+        None => Err(Unread::at(place, key, Wrong::Missing)),
     }
 }
 
 /// Accepts a table with these keys alone, or some of them.
-fn has_only(value: &Value, keys: &[&str]) -> Result<(), VehicleFault>
+fn has_only<'a>(place: Place, value: &'a Value, keys: &[&str]) -> Result<(), Unread<'a>>
     ensures { IfOk result (λ _. HasOnly (map (λ k. k.now) keys.now) (view value.now)) }
 {
-    let table: &Table = value.as_table().ok_or(VehicleFault::Refused)?;
+    let table: &Table = value.as_table().ok_or(Unread::of_type(place, "table"))?;
     for (key, _) in table.iter() {
         if !is_among(key.as_str(), keys) {
-            return Err(VehicleFault::Refused);
+            return Err(Unread::at(place, key.as_str(), Wrong::NotKnown));
         }
     }
     Ok(())

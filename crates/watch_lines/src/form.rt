@@ -65,7 +65,7 @@ fn write_change<W: Write>(
     }
 }
 
-/// Writes the report: a line for each NAME, the counts of the station, and those of the lines.
+/// Writes the report: a line for each NAME, the counts of what was heard, and those of the lines.
 pub fn write_report<W: Write>(
     writer: &mut W,
     alloc: Global,

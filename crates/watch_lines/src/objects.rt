@@ -1,7 +1,7 @@
 use crate::kinds::{KINDS, address_of, kind_word};
 use crate::run::{Assumed, is_assumed};
 use bus_watch::{Change, Counts, Run, Watch};
-use can_frame::Pgn;
+use can_frame::{GLOBAL_ADDRESS, Pgn};
 use candump_line::Time;
 use dm_messages::Kind;
 use dm_words::{put_code, put_lamps, put_number};
@@ -92,11 +92,20 @@ fn put_entry(
     put_number(json, "entry", watch.entries(name, kind))
 }
 
-/// The lamps, the codes, and whether the entry is contested.
+/// The lamps, the codes, whether the entry is contested, and where it went, if not to all.
 fn put_shown(json: &mut Writer, alloc: Global, run: &Run) -> Result<(), AllocError> {
     put_lamps(json, alloc, run.shown.lamps)?;
     put_codes(json, run.shown.codes.as_slice())?;
-    put_flag(json, "contested", run.contested)
+    put_flag(json, "contested", run.contested)?;
+    put_destination(json, run.to)
+}
+
+/// The address that an entry went to; nothing where it went to all.
+fn put_destination(json: &mut Writer, to: u8) -> Result<(), AllocError> {
+    if to == GLOBAL_ADDRESS {
+        return Ok(());
+    }
+    put_number(json, "to", u64::from(to))
 }
 
 fn put_codes(json: &mut Writer, codes: &[Dtc]) -> Result<(), AllocError> {
@@ -119,7 +128,7 @@ fn put_flag(json: &mut Writer, key: &str, holds: bool) -> Result<(), AllocError>
     json.boolean(holds)
 }
 
-/// The report: a row for each NAME with its runs of entries, the counts of the station, and those of the lines.
+/// The report: a row for each NAME with its runs of entries, the counts of what was heard, and those of the lines.
 pub(crate) fn report_object(
     alloc: Global,
     watch: &Watch,
@@ -198,7 +207,8 @@ fn put_counts(json: &mut Writer, counts: Counts) -> Result<(), AllocError> {
     }
     json.end_object()?;
     put_number(json, "not_attributed", counts.not_attributed)?;
-    put_number(json, "not_sent", counts.not_sent)
+    // A listener sends nothing; the key stays for who reads it.
+    put_number(json, "not_sent", 0)
 }
 
 /// How many lines there were of each sort, each with its key.

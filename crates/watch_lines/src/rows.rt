@@ -1,5 +1,6 @@
 use crate::kinds::{KINDS, address_of, kind_word};
 use bus_watch::{Run, Watch};
+use can_frame::GLOBAL_ADDRESS;
 use candump_line::Time;
 use csv::Writer;
 use dm_messages::Kind;
@@ -9,7 +10,7 @@ use std::alloc::{AllocError, Global};
 use trouble_code::{Dtc, Lamps};
 
 /// The names of the values.
-const HEADER: [&[u8]; 11] = [
+const HEADER: [&[u8]; 12] = [
     b"name",
     b"address",
     b"kind",
@@ -21,6 +22,7 @@ const HEADER: [&[u8]; 11] = [
     b"fmi",
     b"count",
     b"contested",
+    b"to",
 ];
 
 /// Writes rows to memory, where only memory can fail.
@@ -75,7 +77,7 @@ fn put_entries(
         return put_row(
             rows,
             &[
-                before[0], before[1], none, none, none, none, none, none, none, none, none,
+                before[0], before[1], none, none, none, none, none, none, none, none, none, none,
             ],
         );
     }
@@ -121,6 +123,7 @@ fn put_run(
     let last = time_text(alloc, &run.last)?;
     let times = number_text(alloc, run.times)?;
     let lamps = lamps_text(alloc, run.shown.lamps)?;
+    let to = destination_text(alloc, run.to)?;
     let run_fields = [
         before[0],
         before[1],
@@ -130,6 +133,7 @@ fn put_run(
         times.as_bytes(),
         lamps.as_bytes(),
         if run.contested { b"true" } else { b"false" },
+        to.as_bytes(),
     ];
     put_codes(rows, alloc, run_fields, run.shown.codes.as_slice())
 }
@@ -138,7 +142,7 @@ fn put_run(
 fn put_codes(
     rows: &mut Rows,
     alloc: Global,
-    run: [&[u8]; 8],
+    run: [&[u8]; 9],
     codes: &[Dtc],
 ) -> Result<(), AllocError> {
     if codes.is_empty() {
@@ -153,7 +157,7 @@ fn put_codes(
 fn put_code_of(
     rows: &mut Rows,
     alloc: Global,
-    run: [&[u8]; 8],
+    run: [&[u8]; 9],
     code: Dtc,
 ) -> Result<(), AllocError> {
     let spn = number_text(alloc, u64::from(code.spn()))?;
@@ -166,10 +170,11 @@ fn put_code_of(
     )
 }
 
-/// The values of a code stand before the last of its run.
-fn put_code(rows: &mut Rows, run: [&[u8]; 8], code: [&[u8]; 3]) -> Result<(), AllocError> {
+/// The values of a code stand before the last two of its run.
+fn put_code(rows: &mut Rows, run: [&[u8]; 9], code: [&[u8]; 3]) -> Result<(), AllocError> {
     let fields = [
         run[0], run[1], run[2], run[3], run[4], run[5], run[6], code[0], code[1], code[2], run[7],
+        run[8],
     ];
     put_row(rows, &fields)
 }
@@ -198,6 +203,14 @@ fn address_text(alloc: Global, address: Option<u8>) -> Result<String, AllocError
         Some(address) => number_text(alloc, u64::from(address)),
         None => Ok(String::new(alloc)),
     }
+}
+
+/// The address that an entry went to; nothing where it went to all.
+fn destination_text(alloc: Global, to: u8) -> Result<String, AllocError> {
+    if to == GLOBAL_ADDRESS {
+        return Ok(String::new(alloc));
+    }
+    number_text(alloc, u64::from(to))
 }
 
 /// The two bytes of lamps in four digits.

@@ -21,7 +21,7 @@ pub struct Assumed {
 /// How a log or a live bus is watched.
 #[derive(Clone, Copy, Debug)]
 pub struct Options<'a> {
-    /// The station, and what its lines are to it.
+    /// What of the bus is shown, and how its lines are read.
     pub settings: Settings,
     /// The bus; the first that a line names where none is given.
     pub bus: Option<&'a str>,

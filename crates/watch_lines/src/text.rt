@@ -1,6 +1,7 @@
 use crate::kinds::{KINDS, address_of, kind_word};
 use crate::run::{Assumed, is_assumed};
 use bus_watch::{Change, Counts, Run, Watch};
+use can_frame::GLOBAL_ADDRESS;
 use candump_line::Time;
 use dm_messages::Kind;
 use dm_words::{CodeWords, LampWords};
@@ -51,15 +52,24 @@ fn write_entry<W: Write>(writer: &mut W, watch: &Watch, name: Name, kind: Kind) 
     writeln!(writer)
 }
 
-/// The lamps, the codes, and whether the entry is contested.
+/// The lamps, the codes, whether the entry is contested, and where it went, if not to all.
 fn write_shown<W: Write>(writer: &mut W, run: &Run) -> io::Result<()> {
     let lamps = LampWords(run.shown.lamps);
     let codes = CodeWords(run.shown.codes.as_slice());
     let contested = if run.contested { " contested" } else { "" };
-    write!(writer, " {lamps}; {codes}{contested}")
+    write!(writer, " {lamps}; {codes}{contested}")?;
+    write_destination(writer, run.to)
 }
 
-/// Writes a line for each NAME, the counts of the station, and those of the lines.
+/// The address that an entry went to; nothing where it went to all.
+fn write_destination<W: Write>(writer: &mut W, to: u8) -> io::Result<()> {
+    if to == GLOBAL_ADDRESS {
+        return Ok(());
+    }
+    write!(writer, " to {to}")
+}
+
+/// Writes a line for each NAME, the counts of what was heard, and those of the lines.
 pub fn write_report<W: Write>(
     writer: &mut W,
     watch: &Watch,

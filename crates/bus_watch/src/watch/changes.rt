@@ -1,5 +1,6 @@
 ghost use Rattle.std.specs.Prelude.{◌≡◌, IfOk, OnOk, OnErr};
 ghost use Rattle.bus_watch.specs.Tellings.{news_by, told_after, told_of};
+ghost use Rattle.bus_watch.specs.Tellings as tellings;
 ghost use Rattle.bus_watch.specs.WatchValue.{Takes, Tells};
 ghost use Rattle.can_frame.specs.FrameValue.{FrameValue};
 ghost use Rattle.can_frame.specs.declared.reading.Reading.TheVariants.{Frame as FrameRead};
@@ -9,24 +10,24 @@ ghost use Rattle.parameter_group.specs.Said.{IsLawfulGroup, said};
 use crate::change::{Changes, nothing};
 use crate::watch::Watch;
 use can_frame::Reading;
+use listener::{Overheard, Who};
 use parameter_group::ParameterGroup;
-use station_table::{Change as Heard, Outcome};
 use std::alloc::{AllocError, Global};
 
 impl Watch {
-    /// Has the station take a reading, and tells what it changed. Where memory is refused, nothing changes.
+    /// Has the listener take a reading, and tells what it changed. Where memory is refused, nothing changes.
     pub(super) fn take(&mut self, alloc: Global, reading: Reading) -> Result<Changes, AllocError>
         ensures takes { OnOk result (Takes self.old self.new reading self.old.followed) }
         ensures tells { IfOk result (λ c. Tells self.old self.new reading c) }
         ensures err { OnErr result (self.new ≡ self.old) }
     {
-        match self.station.take(alloc, reading, &mut self.lists) {
-            Ok(outcome) => Ok(self.tell(&outcome)),
-            Err(_) => Err(AllocError),
+        match self.listener.take(alloc, reading, &mut self.lists) {
+            Ok(heard) => Ok(self.tell(&heard, false)),
+            Err(refused) => Err(refused),
         }
     }
 
-    /// Has the station take what one frame says, as `take` takes the frame. Most frames of a bus say nothing to a station, and it is
+    /// Has the listener take what one frame says, as `take` takes the frame. Most frames of a bus say nothing to it, and it is
     /// not asked then.
     pub(super) fn take_group(
         &mut self,
@@ -41,60 +42,102 @@ impl Watch {
         if let ParameterGroup::Other = *group {
             return Ok(nothing());
         }
-        match self.station.take_group(alloc, group, &mut self.lists) {
-            Ok(outcome) => Ok(self.tell(&outcome)),
-            Err(_) => Err(AllocError),
+        match self.listener.take_group(alloc, group, &mut self.lists) {
+            Ok(heard) => Ok(self.tell(&heard, is_single(group))),
+            Err(refused) => Err(refused),
         }
     }
 
-    /// Tells of what the station heard, and takes note of it. What it would send is only counted.
-    fn tell(&mut self, outcome: &Outcome) -> Changes
-        ensures noted { self.new ≡ record self.old { told = told_after outcome.now.change self.old.told } }
-        ensures told { result ≡ told_of (news_by self.old.told self.old.lists.began outcome.now.change) outcome.now.change }
+    /// Tells of what the listener heard, of a diagnostic message in one frame or not, and takes note of it.
+    fn tell(&mut self, heard: &Overheard, single: bool) -> Changes
+        ensures noted { self.new ≡ record self.old { told = told_after heard.now self.old.told } }
+        ensures told { result ≡ told_of (news_by self.old.told self.old.lists.address self.old.lists.began heard.now) heard.now }
     {
-        self.count_not_sent(outcome.reaction.put.len());
-        if let Heard::Nothing = outcome.change {
+        if let Overheard::Nothing = *heard {
             return nothing();
         }
-        let is_news = self.is_news(&outcome.change);
-        self.unowned.follow(&outcome.change);
-        self.note(&outcome.change);
-        Changes::of(&outcome.change, is_news)
+        let is_news = self.is_news(heard);
+        self.unowned.follow(heard);
+        self.note(heard, single);
+        Changes::of(heard, is_news)
     }
 
-    /// Whether what the station heard is news. Its entry, if it listed one, is in the lists.
-    fn is_news(&self, heard: &Heard) -> bool
-        ensures { result ≡ news_by self.now.told self.now.lists.began heard.now }
+    /// Whether what the listener heard is news. Its entry, if it listed one, is in the lists.
+    fn is_news(&self, heard: &Overheard) -> bool
+        ensures { result ≡ news_by self.now.told self.now.lists.address self.now.lists.began heard.now }
     {
         match *heard {
-            Heard::Listed { .. } => self.lists.has_begun(),
-            Heard::Acknowledged { again, .. } => !again,
-            Heard::Unowned { source, .. } => !self.unowned.is_told(source),
+            Overheard::Listed { who, source, .. } => self.is_entry_news(who, source),
+            Overheard::Acknowledged {
+                requester,
+                to,
+                again,
+                ..
+            } => !again && self.is_ack_shown(requester, to),
+            Overheard::Unowned { source, .. } => !self.unowned.is_told(source),
             _ => true,
         }
     }
 
-    fn count_not_sent(&mut self, frames: usize)
-        ensures { self.new ≡ self.old }
+    /// Whether the newest entry is news: it began a run, or came from an address without owner of which that was not told.
+    fn is_entry_news(&self, who: Who, source: u8) -> bool
+        ensures { result ≡ tellings.is_entry_news self.now.told self.now.lists.began who source }
     {
-        self.counts.not_sent = self.counts.not_sent.saturating_add(frames as u64);
+        match who {
+            Who::Named(_) => self.lists.has_begun(),
+            Who::Unclaimed { .. } => !self.unowned.is_told(source),
+        }
+    }
+
+    /// Whether an acknowledgment is shown that names this requester and went to this address.
+    fn is_ack_shown(&self, requester: u8, to: u8) -> bool
+        ensures { result ≡ tellings.is_ack_shown self.now.lists.address requester to }
+    {
+        match self.lists.address() {
+            Some(address) => requester == address || to == address,
+            None => true,
+        }
     }
 
     /// Takes note of when a claim displaced another NAME, and counts messages from addresses without owner.
-    fn note(&mut self, heard: &Heard)
+    fn note(&mut self, heard: &Overheard, single: bool)
         ensures { self.new ≡ self.old }
     {
         match *heard {
-            Heard::Claimed {
+            Overheard::Claimed {
                 address,
                 displaced: Some(_),
                 ..
             } => self.lists.contest(address),
-            Heard::Missed { .. } => self.lists.forget_contests(),
-            Heard::Unowned { .. } => {
-                self.counts.not_attributed = self.counts.not_attributed.saturating_add(1);
+            Overheard::Missed { .. } => self.lists.forget_contests(),
+            Overheard::Unowned { .. } => self.count_not_attributed(),
+            Overheard::Listed { who, .. } | Overheard::Unreadable { who, .. } if single => {
+                self.count_entry(who);
             }
             _ => {}
         }
     }
+
+    /// Counts a message in one frame, where its address has no owner.
+    fn count_entry(&mut self, who: Who)
+        ensures { self.new ≡ self.old }
+    {
+        if let Who::Unclaimed { .. } = who {
+            self.count_not_attributed();
+        }
+    }
+
+    fn count_not_attributed(&mut self)
+        ensures { self.new ≡ self.old }
+    {
+        self.counts.not_attributed = self.counts.not_attributed.saturating_add(1);
+    }
+}
+
+/// Whether a frame says a diagnostic message.
+fn is_single(group: &ParameterGroup<'_>) -> bool {
+    if let ParameterGroup::Diagnostic { .. } = *group {
+        return true;
+    }
+    false
 }

@@ -24,11 +24,11 @@ use transport::Control;
 impl Watch {
     /// Reads a line, and tells what it changed.
     ///
-    /// The station takes one reading: the frame of a line of the watched bus, but for a packet that came too late; so many
+    /// The listener takes one reading: the frame of a line of the watched bus, but for a packet that came too late; so many
     /// missed frames where the line tells of them, and one where it is bad and bad lines count; else the empty reading.
-    /// An entry that the station lists by it goes to the runs.
+    /// An entry that it lists by it goes to the runs, where it is shown.
     ///
-    /// What is told is what that reading changed of what the station shows (`bus_model`): an entry where it begins a run, an acknowledgment
+    /// What is told is what that reading changed of what the listener shows (`bus_model`): an entry where it begins a run, an acknowledgment
     /// where it is another one than the last, and of an address without owner once.
     ///
     /// # Errors
@@ -56,7 +56,7 @@ impl Watch {
         self.take(alloc, Reading::Frame(claim))
     }
 
-    /// Has the station take the reading that a line is, and tells what it changed.
+    /// Has the listener take the reading that a line is, and tells what it changed.
     fn hear_line(&mut self, alloc: Global, line: &Line<'_>) -> Result<Changes, AllocError>
         ensures hears { OnOk result (HearsLine self.old self.new line.now) }
         ensures tells { IfOk result (λ c. TellsLine self.old self.new line.now c) }
@@ -81,7 +81,7 @@ impl Watch {
         }
     }
 
-    /// A frame of the watched bus is read, but for a packet that is withheld, and one of a session that was given up.
+    /// A frame of the watched bus is read, but for a packet that is withheld.
     fn hear_frame(
         &mut self,
         alloc: Global,
@@ -111,21 +111,20 @@ impl Watch {
         time: Option<Time>,
         frame: &Frame,
     ) -> Result<Changes, AllocError>
-        ensures takes { OnOk result (Takes self.old self.new (followed.frame_reading self.old.station.claimer.held time self.old.followed frame.now)
-            (followed.followed_with self.old.station.claimer.held time (group_of frame.now) (followed.with_bus_name (option_map string_bytes named) self.old.followed))) }
-        ensures tells { IfOk result (λ c. Tells self.old self.new (followed.frame_reading self.old.station.claimer.held time self.old.followed frame.now) c) }
+        ensures takes { OnOk result (Takes self.old self.new (followed.frame_reading time self.old.followed frame.now)
+            (followed.followed_with self.old.followed.silence time (group_of frame.now) (followed.with_bus_name (option_map string_bytes named) self.old.followed))) }
+        ensures tells { IfOk result (λ c. Tells self.old self.new (followed.frame_reading time self.old.followed frame.now) c) }
         ensures err { OnErr result (self.new ≡ self.old) }
     {
         let at = time;
         let group = ParameterGroup::read(frame);
-        let held = self.station.held();
         let changes = self.hear_group(alloc, at, &group)?;
         self.name_bus(named);
-        self.follow_group(held, time, &group);
+        self.follow_group(time, &group);
         Ok(changes)
     }
 
-    /// Has the station take what a frame says, unless that is passed over.
+    /// Has the listener take what a frame says, unless that is withheld.
     fn hear_group(
         &mut self,
         alloc: Global,
@@ -134,33 +133,28 @@ impl Watch {
     ) -> Result<Changes, AllocError>
         requires { IsLawfulGroup group.now }
         ensures takes { OnOk result ((f : FrameValue) → group_of f ≡ group_said group.now
-            → Takes self.old self.new (followed.frame_reading self.old.station.claimer.held time self.old.followed f) self.old.followed) }
+            → Takes self.old self.new (followed.frame_reading time self.old.followed f) self.old.followed) }
         ensures tells { IfOk result (λ c. (f : FrameValue) → group_of f ≡ group_said group.now
-            → Tells self.old self.new (followed.frame_reading self.old.station.claimer.held time self.old.followed f) c) }
+            → Tells self.old self.new (followed.frame_reading time self.old.followed f) c) }
         ensures err { OnErr result (self.new ≡ self.old) }
     {
-        if self.is_read(time, group) {
-            self.take_group(alloc, group)
-        } else {
+        if self.is_withheld(time, group) {
+            self.count_withheld();
             self.take(alloc, Reading::Empty)
+        } else {
+            self.take_group(alloc, group)
         }
     }
 
-    /// Whether a frame that says this is read: it is no packet that is withheld, and none of a session that was given up.
-    fn is_read(&mut self, time: Option<Time>, group: &ParameterGroup<'_>) -> bool
-        ensures read { result ≡ followed.is_read self.old.station.claimer.held time (group_said group.now) self.old.followed }
-        ensures same { self.new ≡ self.old }
+    fn count_withheld(&mut self)
+        ensures { self.new ≡ self.old }
     {
-        if self.is_withheld(time, group) {
-            self.counts.withheld = self.counts.withheld.saturating_add(1);
-            return false;
-        }
-        !self.given_up.passes_over(self.station.held(), group)
+        self.counts.withheld = self.counts.withheld.saturating_add(1);
     }
 
     /// Whether a frame that says this is a packet that came too late for its message, or one of a message that has such a packet.
     fn is_withheld(&self, time: Option<Time>, group: &ParameterGroup<'_>) -> bool
-        ensures { result ≡ followed.is_withheld self.now.followed.silence self.now.station.claimer.held time (group_said group.now) self.now.followed }
+        ensures { result ≡ followed.is_withheld self.now.followed.silence time (group_said group.now) self.now.followed }
     {
         let Some(most) = self.settings.silence else {
             return false;
@@ -168,77 +162,60 @@ impl Watch {
         let ParameterGroup::DataTransfer { source, dest, .. } = *group else {
             return false;
         };
-        if dest == GLOBAL_ADDRESS {
-            return self.broadcasts.is_late(source, time, most);
-        }
-        self.station.held() == Some(dest) && self.sessions.is_late(source, time, most)
+        self.packets.is_late(source, dest, time, most)
     }
 
-    /// Takes note of what a frame says, at a station that held this address before it.
-    fn follow_group(&mut self, held: Option<u8>, time: Option<Time>, group: &ParameterGroup<'_>)
-        ensures { self.new ≡ record self.old { followed = followed.followed_with held time (group_said group.now) self.old.followed } }
+    /// Takes note of the times of what a frame says.
+    fn follow_group(&mut self, time: Option<Time>, group: &ParameterGroup<'_>)
+        ensures { self.new ≡ record self.old { followed = followed.followed_with self.old.followed.silence time (group_said group.now) self.old.followed } }
     {
         if let Some(most) = self.settings.silence {
-            self.follow_packets(held, time, most, group);
+            self.follow_packets(time, most, group);
         }
-        self.given_up.hear(held, group);
     }
 
-    /// Takes note of the times of messages to all and to the station.
-    fn follow_packets(
-        &mut self,
-        held: Option<u8>,
-        time: Option<Time>,
-        most: u64,
-        group: &ParameterGroup<'_>,
-    )
-        ensures { self.new ≡ record self.old { followed = followed.followed_by_group most held time (group_said group.now) self.old.followed } }
+    /// Takes note of the times of messages.
+    fn follow_packets(&mut self, time: Option<Time>, most: u64, group: &ParameterGroup<'_>)
+        ensures { self.new ≡ record self.old { followed = followed.followed_by_group most time (group_said group.now) self.old.followed } }
     {
         match *group {
             ParameterGroup::ConnectionManagement {
                 source,
                 dest,
                 control,
-            } => self.hear_control(held, time, source, dest, control),
+            } => self.hear_control(time, source, dest, control),
             ParameterGroup::DataTransfer { source, dest, .. } => {
-                self.hear_packet(held, time, most, source, dest);
+                self.hear_packet(time, most, source, dest);
             }
             _ => {}
         }
     }
 
-    /// Takes note of a message that is announced to all or to the station.
-    fn hear_control(
-        &mut self,
-        held: Option<u8>,
-        time: Option<Time>,
-        source: u8,
-        dest: u8,
-        control: Control,
-    )
-        ensures { (most : ℕ) → self.new ≡ record self.old { followed = followed.followed_by_group most held time (ConnectionManagement source dest control) self.old.followed } }
+    /// Takes note of a packet.
+    fn hear_packet(&mut self, time: Option<Time>, most: u64, source: u8, dest: u8)
+        ensures { (bytes : List ℕ) → self.new ≡ record self.old { followed = followed.followed_by_group most time (DataTransfer source dest bytes) self.old.followed } }
     {
-        match control {
-            Control::Bam { .. } if dest == GLOBAL_ADDRESS => self.broadcasts.announce(source, time),
-            Control::Rts { .. } if held == Some(dest) => self.sessions.announce(source, time),
-            _ => {}
-        }
+        self.packets.hear(source, dest, time, most);
     }
 
-    /// Takes note of a packet of a message to all or to the station.
-    fn hear_packet(&mut self, held: Option<u8>, time: Option<Time>, most: u64, source: u8, dest: u8)
-        ensures { (bytes : List ℕ) → self.new ≡ record self.old { followed = followed.followed_by_group most held time (DataTransfer source dest bytes) self.old.followed } }
+    /// Takes note of a message that is announced, to all or to one address.
+    fn hear_control(&mut self, time: Option<Time>, source: u8, dest: u8, control: Control)
+        ensures { (most : ℕ) → self.new ≡ record self.old { followed = followed.followed_by_group most time (ConnectionManagement source dest control) self.old.followed } }
     {
-        if dest == GLOBAL_ADDRESS {
-            self.broadcasts.hear(source, time, most);
-        } else if held == Some(dest) {
-            self.sessions.hear(source, time, most);
+        match control {
+            Control::Bam { .. } if dest == GLOBAL_ADDRESS => {
+                self.packets.announce(source, dest, time);
+            }
+            Control::Rts { .. } if dest != GLOBAL_ADDRESS => {
+                self.packets.announce(source, dest, time);
+            }
+            _ => {}
         }
     }
 
     /// Frames that were dropped are missed, where they may be of the watched bus.
     fn reading_of_drops(&mut self, bus: Option<&str>, count: u32) -> Reading
-        ensures reading { result ≡ followed.reading_by self.old.station.claimer.held self.old.followed (said.Dropped bus.entry count) }
+        ensures reading { result ≡ followed.reading_by self.old.followed (said.Dropped bus.entry count) }
         ensures same { self.new ≡ self.old }
     {
         if !self.is_dropped_here(bus) {
@@ -267,7 +244,7 @@ impl Watch {
     }
 
     fn reading_of_overflow(&mut self, time: Option<Time>, bus: Option<&str>) -> Reading
-        ensures reading { result ≡ followed.reading_by self.old.station.claimer.held self.old.followed (said.Overflow time bus.entry) }
+        ensures reading { result ≡ followed.reading_by self.old.followed (said.Overflow time bus.entry) }
         ensures same { self.new ≡ self.old }
     {
         if !self.is_watched(bus) {

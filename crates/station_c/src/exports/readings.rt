@@ -7,6 +7,7 @@ ghost use Rattle.can_frame.specs.declared.reading.Reading.{Reading as AnyReading
 ghost use Rattle.listening.specs.Posts.{reading_at, given_up_at, answer_at};
 ghost use Rattle.station_c.specs.Handles.{HoldsSame, HoldsReadings, has_station};
 ghost use Rattle.station_c.specs.Records.{TellsChange, TellsReaction};
+ghost use Rattle.station_c.specs.Series.{TakesReading, reaction_told};
 ghost use Rattle.station_c.specs.Statuses.{Answers, DoneUnlessMemory};
 
 use crate::changes::ChangeRecord;
@@ -38,6 +39,8 @@ pub extern "C" fn hidzgula_take_frame_telling(
     ensures replied { Answers result Status.Done → TellsReaction reply.new (answer_at handle.old.value.post (Reading.Frame (frame id bytes.now))) }
     ensures changed { Answers result Status.Done → (r : StationSettings) (grant : ℕ) (h : List AnyReading) → HoldsReadings r grant handle.old h
         → TellsChange change.new (change_heard r (reading_at handle.old.value.post (Reading.Frame (frame id bytes.now))) h) }
+    ensures step { Answers result Status.Done
+        → TakesReading handle.old.value (Reading.Frame (frame id bytes.now)) change.new (reaction_told reply.new) handle.new.value }
     ensures kept { ¬ Answers result Status.Done → HoldsSame handle.old handle.new }
     ensures unanswered { ¬ Answers result Status.Done → reply.new ≡ reply.old }
     ensures untold { ¬ Answers result Status.Done → change.new ≡ change.old }
@@ -71,6 +74,7 @@ pub extern "C" fn hidzgula_take_gap_telling(
     ensures replied { Answers result Status.Done → TellsReaction reply.new (answer_at handle.old.value.post (Reading.Gap count)) }
     ensures changed { Answers result Status.Done → (r : StationSettings) (grant : ℕ) (h : List AnyReading) → HoldsReadings r grant handle.old h
         → TellsChange change.new (change_heard r (Reading.Gap count) h) }
+    ensures step { Answers result Status.Done → TakesReading handle.old.value (Reading.Gap count) change.new (reaction_told reply.new) handle.new.value }
     ensures kept { ¬ Answers result Status.Done → HoldsSame handle.old handle.new }
     ensures unanswered { ¬ Answers result Status.Done → reply.new ≡ reply.old }
     ensures untold { ¬ Answers result Status.Done → change.new ≡ change.old }
@@ -95,6 +99,7 @@ fn take(
     ensures replied { result ≡ Status.Done → TellsReaction reply.new (answer_at handle.old.value.post reading) }
     ensures changed { result ≡ Status.Done → (r : StationSettings) (grant : ℕ) (h : List AnyReading) → HoldsReadings r grant handle.old h
         → TellsChange change.new (change_heard r (reading_at handle.old.value.post reading) h) }
+    ensures step { result ≡ Status.Done → TakesReading handle.old.value reading change.new (reaction_told reply.new) handle.new.value }
     ensures kept { ¬ (result ≡ Status.Done) → HoldsSame handle.old handle.new }
     ensures unanswered { ¬ (result ≡ Status.Done) → reply.new ≡ reply.old }
     ensures untold { ¬ (result ≡ Status.Done) → change.new ≡ change.old }

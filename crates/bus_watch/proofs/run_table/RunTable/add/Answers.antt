@@ -9,8 +9,8 @@ pub returns-in-Some-clause-entries : goal.returns-in-Some-clause-entries
 returns-in-Some-clause-entries c =
     let after = (c.get_mut.follows.lender c.add.new.self).entries in
     on_ok c.add.result
-    (λ (e : unrolled c.add.new.self ≡ unrolled c.in-Some.list.now ++ c.args.shown ∷ []).
-    subst (λ (t : List (ℕ × List Run)). (n : ℕ) → unrolled (runs_of after n) ≡ (if c.args.name == n then unrolled (runs_of t n) ++ c.args.shown ∷ [] else unrolled (runs_of t n))) c.self.view_is
-    (lengthened c.self.inside.lists.entries after c.args.name c.in-Some.list.now c.add.new.self c.args.shown
+    (λ (e : unrolled c.add.new.self ≡ unrolled c.in-Some.list.now ++ (record { to = c.args.to; shown = c.args.shown }) ∷ []).
+    subst (λ (t : List (ℕ × List Run)). (n : ℕ) → unrolled (runs_of after n) ≡ (if c.args.name == n then unrolled (runs_of t n) ++ (record { to = c.args.to; shown = c.args.shown }) ∷ [] else unrolled (runs_of t n))) c.self.view_is
+    (lengthened c.self.inside.lists.entries after c.args.name c.in-Some.list.now c.add.new.self (record { to = c.args.to; shown = c.args.shown })
     (sym c.in-Some.ensures.value) (c.get_mut.follows.holds c.add.new.self).0 e))
     c.add.ensures.ok

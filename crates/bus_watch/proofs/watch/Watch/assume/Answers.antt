@@ -1,6 +1,7 @@
 use Rattle.std.proofs.Common.{ap}
 use Rattle.can_frame.specs.declared.reading.Reading.TheVariants.{Frame}
 use Rattle.bus_watch.proofs.Steps.{on_ok, stands_for_assumed}
+use Rattle.bus_watch.proofs.Naming.{told_assumed_ok}
 use Rattle.bus_watch.specs.WatchValue.{Takes}
 use Rattle.bus_watch.proofs.watch.Watch.assume.Goals as goal
 
@@ -10,3 +11,7 @@ returns-clause-stands c =
     (λ (takes : Takes c.args.self.now c.take.new.self (Frame c.claim_frame-claim.result) c.args.self.now.followed).
     stands_for_assumed c.args.self.now c.take.new.self c.args.name c.args.address _ (ap Frame c.claim_frame-claim.ensures.frame) takes)
     c.take.ensures.takes
+
+pub returns-clause-told : goal.returns-clause-told
+returns-clause-told c =
+    told_assumed_ok c.take.result c.args.self.now c.take.new.self c.args.name c.args.address (Frame c.claim_frame-claim.result) (ap Frame c.claim_frame-claim.ensures.frame) c.take.ensures.tells

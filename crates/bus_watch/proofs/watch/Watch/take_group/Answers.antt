@@ -7,12 +7,12 @@ use Rattle.bus_watch.proofs.watch.Watch.take_group.Goals as goal
 pub returns-in-Ok-clause-takes : goal.returns-in-Ok-clause-takes
 returns-in-Ok-clause-takes c f is =
     let e = c.in-Ok.ensures in
-    takes _ _ _ c.take_group.new.self c.take_group.new.lists (Frame f) c.in-Ok.outcome.change c.self.view_is (record { stands = e.stands f is; heard = e.heard f is; listed = e.listed f is }) c.tell.ensures.noted
+    takes _ _ _ c.take_group.new.self c.take_group.new.lists (Frame f) c.in-Ok.heard c.self.view_is (record { stands = e.stands f is; heard = e.heard f is; listed = e.listed f is }) c.tell.ensures.noted
 
 pub returns-in-Ok-clause-tells : goal.returns-in-Ok-clause-tells
 returns-in-Ok-clause-tells c f is =
     let e = c.in-Ok.ensures in
-    tells _ _ _ c.take_group.new.self c.take_group.new.lists (Frame f) c.in-Ok.outcome.change _ _ c.self.view_is (record { stands = e.stands f is; heard = e.heard f is; listed = e.listed f is }) e.entry e.lists
+    tells _ _ _ c.take_group.new.self c.take_group.new.lists (Frame f) c.in-Ok.heard _ _ c.self.view_is (record { stands = e.stands f is; heard = e.heard f is; listed = e.listed f is }) e.entry e.lists
     c.tell.ensures.noted c.tell.ensures.told
 
 pub returns-in-Other-clause-takes : goal.returns-in-Other-clause-takes

@@ -1,0 +1,37 @@
+/// The name of a parameter group of engine, vehicle and driveline data (SAE J1939-71): its short name, and what it is about. Those
+/// stand here that public documents on J1939 name alike.
+pub fn data_group_name(number: u32) -> Option<&'static str> {
+    match number {
+        0 => Some("TSC1 torque/speed control 1"),
+        256 => Some("TC1 transmission control 1"),
+        61_440 => Some("ERC1 electronic retarder controller 1"),
+        61_441 => Some("EBC1 electronic brake controller 1"),
+        61_442 => Some("ETC1 electronic transmission controller 1"),
+        61_443 => Some("EEC2 electronic engine controller 2"),
+        61_444 => Some("EEC1 electronic engine controller 1"),
+        61_445 => Some("ETC2 electronic transmission controller 2"),
+        65_132 => Some("TCO1 tachograph"),
+        65_215 => Some("EBC2 wheel speed information"),
+        65_217 => Some("VDHR high resolution vehicle distance"),
+        65_242 => Some("SOFT software identification"),
+        65_247 => Some("EEC3 electronic engine controller 3"),
+        65_248 => Some("VD vehicle distance"),
+        65_251 => Some("EC1 engine configuration 1"),
+        65_253 => Some("HOURS engine hours, revolutions"),
+        65_254 => Some("TD time/date"),
+        65_257 => Some("LFC fuel consumption (liquid)"),
+        65_259 => Some("CI component identification"),
+        65_260 => Some("VI vehicle identification"),
+        65_262 => Some("ET1 engine temperature 1"),
+        65_263 => Some("EFL/P1 engine fluid level/pressure 1"),
+        65_265 => Some("CCVS1 cruise control/vehicle speed 1"),
+        65_266 => Some("LFE1 fuel economy (liquid)"),
+        65_267 => Some("VP vehicle position"),
+        65_269 => Some("AMB ambient conditions"),
+        65_270 => Some("IC1 intake/exhaust conditions 1"),
+        65_271 => Some("VEP1 vehicle electrical power 1"),
+        65_272 => Some("TRF1 transmission fluids 1"),
+        65_276 => Some("DD1 dash display 1"),
+        _ => None,
+    }
+}

@@ -1,0 +1,123 @@
+//! Which word of a command line is none that its option takes. What an option takes is read by the call that its words are read by.
+
+use crate::decoding::form_of as decode_form_of;
+use crate::watch_words::{address_of, bus_of, form_of, name_of, silence_of, skips_bad};
+use command_words::{DecodeWords, Slip, WatchWords};
+use program_io::{Failure, Fault};
+use std::alloc::Global;
+
+/// What can be held.
+const AN_ADDRESS: &str = "a number from 0 to 253";
+
+/// What a NAME is written with.
+const A_NAME: &str = "16 hexadecimal digits";
+
+/// Looks at the words behind `watch`, and at each `ADDRESS=NAME` of `assumed`, before anything is read.
+///
+/// # Errors
+/// `CommandLine`: a word is none that its option takes; it is told which.
+pub fn look_at_watch_words(
+    alloc: Global,
+    words: &WatchWords<'_>,
+    assumed: &[&str],
+) -> Result<(), Failure> {
+    refuse(alloc, slip_of_station(words))?;
+    refuse(alloc, slip_of_lines(words))?;
+    refuse(alloc, slip_of_assumed(assumed))
+}
+
+/// Looks at the words behind `decode`, before anything is read.
+///
+/// # Errors
+/// `CommandLine`: a word is none that its option takes; it is told which.
+pub fn look_at_decode_words(alloc: Global, words: &DecodeWords<'_>) -> Result<(), Failure> {
+    let is_form = decode_form_of(*words).is_ok();
+    refuse(
+        alloc,
+        slip("format <text|json>", words.format, is_form, "text or json"),
+    )
+}
+
+/// Refuses a slip, where there is one.
+fn refuse(alloc: Global, slip: Option<Slip<'_>>) -> Result<(), Failure> {
+    match slip {
+        Some(slip) => Err(Failure::told(Fault::CommandLine, slip.to_string(alloc))),
+        None => Ok(()),
+    }
+}
+
+/// The slip of a word that is not taken.
+fn slip<'a>(
+    option: &'a str,
+    word: Option<&'a str>,
+    is_taken: bool,
+    wanted: &'a str,
+) -> Option<Slip<'a>> {
+    match word {
+        Some(word) if !is_taken => Some(Slip {
+            option,
+            word,
+            wanted,
+        }),
+        _ => None,
+    }
+}
+
+/// The slip in what is said of the station and of its bus.
+fn slip_of_station<'a>(words: &WatchWords<'a>) -> Option<Slip<'a>> {
+    let is_address = match words.address {
+        Some(word) => address_of(word).is_ok(),
+        None => true,
+    };
+    let is_name = match words.name {
+        Some(word) => name_of(word).is_ok(),
+        None => true,
+    };
+    let is_bus = bus_of(words.bus).is_ok();
+    slip("bus <BUS>", words.bus, is_bus, "the name of a bus")
+        .or(slip("address <N>", words.address, is_address, AN_ADDRESS))
+        .or(slip("name <NAME>", words.name, is_name, A_NAME))
+}
+
+/// The slip in what is said of the lines, and of how they are answered.
+fn slip_of_lines<'a>(words: &WatchWords<'a>) -> Option<Slip<'a>> {
+    let is_bad = skips_bad(words.bad).is_ok();
+    let is_silence = silence_of(words.silence).is_ok();
+    let is_form = form_of(words.format).is_ok();
+    slip("bad <missed|skip>", words.bad, is_bad, "missed or skip")
+        .or(slip(
+            "silence <MS>",
+            words.silence,
+            is_silence,
+            "a number from 0 to 3600000",
+        ))
+        .or(slip(
+            "format <text|json|csv>",
+            words.format,
+            is_form,
+            "text, json or csv",
+        ))
+}
+
+/// The slip in the units that are assumed.
+fn slip_of_assumed<'a>(assumed: &[&'a str]) -> Option<Slip<'a>> {
+    for word in assumed {
+        if !is_assumption(word) {
+            return slip(
+                "assume <ADDRESS=NAME>",
+                Some(*word),
+                false,
+                "a number from 0 to 253, =, and 16 hexadecimal digits",
+            );
+        }
+    }
+    None
+}
+
+/// Whether a word is an `ADDRESS=NAME`.
+fn is_assumption(word: &str) -> bool {
+    match word.split_once('=') {
+        Some((address, name)) => address_of(address).is_ok() && name_of(name).is_ok(),
+        None => false,
+    }
+}

@@ -1,0 +1,9 @@
+pub mod Places
+pub mod Underway
+pub mod SaidGroups
+pub mod Hears
+pub mod Stands
+pub mod Queries
+pub mod Told
+pub mod Entering
+pub mod Calls

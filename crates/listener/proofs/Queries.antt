@@ -1,0 +1,29 @@
+-- What is read from the tables is what was overheard.
+use Rattle.std.proofs.Common.{◌≡◌, ℕ, List, Option, length, map, sym, ap, ◌∙◌}
+use Rattle.std.specs.Prelude.{slice_get}
+use Rattle.std.specs.Option.{option_map}
+use Rattle.std.proofs.lemmas.List.{length-map}
+use Rattle.can_frame.specs.declared.reading.Reading.{Reading}
+use Rattle.bus_model.specs.Heard.{missed_count, names_heard}
+use Rattle.bus_model.specs.Overheard.{row_overheard, unread_overheard}
+use Rattle.station_table.specs.KeptValue.{kept_under}
+use Rattle.station_table.specs.StandsFor.{row_heard_as, row_of}
+use Rattle.station_table.specs.declared.row.Row.{Row}
+use Rattle.station_table.proofs.Queries.{row_words}
+use Rattle.station_table.proofs.RowLemmas.{named}
+use Rattle.listener.specs.ListenerValue.{HasOverheard, ListenerValue}
+
+pub names_as_overheard : (l : ListenerValue) (h : List Reading) (n : ℕ) → n ≡ length l.rows → HasOverheard l h → n ≡ length (names_heard h)
+names_as_overheard l h n e st = e ∙ (sym (length-map l.rows named) ∙ ap (λ (xs : List ℕ). length xs) st.names)
+
+pub name_as_overheard : (l : ListenerValue) (h : List Reading) (place : ℕ) (o : Option ℕ) → o ≡ slice_get (map named l.rows) place → HasOverheard l h → o ≡ slice_get (names_heard h) place
+name_as_overheard l h place o e st = e ∙ ap (λ (xs : List ℕ). slice_get xs place) st.names
+
+pub row_as_overheard : (l : ListenerValue) (h : List Reading) (name : ℕ) (o : Option Row) → o ≡ row_of l.owners name (kept_under l.rows name) → HasOverheard l h → option_map row_heard_as o ≡ row_overheard name h
+row_as_overheard l h name o e st = ap (option_map row_heard_as) e ∙ (row_words l.owners name (kept_under l.rows name) ∙ st.rows name)
+
+pub missed_as_overheard : (l : ListenerValue) (h : List Reading) (n : ℕ) → n ≡ l.missed → HasOverheard l h → n ≡ missed_count h
+missed_as_overheard l h n e st = e ∙ st.missed
+
+pub unread_as_overheard : (l : ListenerValue) (h : List Reading) (n : ℕ) → n ≡ l.unread → HasOverheard l h → n ≡ unread_overheard h
+unread_as_overheard l h n e st = e ∙ st.unread

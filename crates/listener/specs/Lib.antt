@@ -1,0 +1,3 @@
+pub mod ListenerValue
+pub mod ListenerSteps
+pub mod SentEntries

@@ -1,0 +1,59 @@
+//! The line of a vehicle's text at which a key stands. It is looked for in the forms of a table with a header and a line for each
+//! key; a text may have others, and then it is told without its line.
+
+use crate::misfit::Place;
+
+/// The number, from 1 on, of the line at which a key of a table stands; that of the table's header where the key has none, or
+/// where the table itself is asked for.
+pub(crate) fn line_of(text: &str, place: Place, key: Option<&str>) -> Option<u64> {
+    let mut here = Some(Place::Whole);
+    let mut units = 0usize;
+    let mut header = None;
+    let mut number = 0u64;
+    for line in text.lines() {
+        number = number.saturating_add(1);
+        let Some(name) = header_in(line) else {
+            if here == Some(place) && is_line_of(line, key) {
+                return Some(number);
+            }
+            continue;
+        };
+        here = place_of(name, units);
+        if name == "unit" {
+            units = units.saturating_add(1);
+        }
+        if place == Place::Whole && key == Some(name) {
+            return Some(number);
+        }
+        if here == Some(place) {
+            header = Some(number);
+        }
+    }
+    header
+}
+
+/// The table that a header begins, where so many units stand before it.
+fn place_of(name: &str, units: usize) -> Option<Place> {
+    match name {
+        "station" => Some(Place::Station),
+        "second" => Some(Place::Second),
+        "unit" => Some(Place::Unit(units)),
+        _ => None,
+    }
+}
+
+/// The name in a line that is a header.
+fn header_in(line: &str) -> Option<&str> {
+    let name = line.trim().strip_prefix('[')?;
+    let name = name.strip_prefix('[').unwrap_or(name);
+    let (name, _) = name.split_once(']')?;
+    Some(name.trim())
+}
+
+/// Whether a line gives this key its value.
+fn is_line_of(line: &str, key: Option<&str>) -> bool {
+    match (line.split_once('='), key) {
+        (Some((before, _)), Some(key)) => before.trim() == key,
+        _ => false,
+    }
+}

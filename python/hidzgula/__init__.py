@@ -1,0 +1,73 @@
+"""Hidzgula: a proved diagnostic station for SAE J1939, the CAN network of trucks, buses, farm machines and boats.
+
+A `Station` is handed the frames that are read of a bus, and lists under each NAME the diagnostic messages that came from it. `take_log`
+hands it a log of candump, and `hidzgula.can.Listener` what python-can reads. docs/PYTHON.md of the project tells what is proved of it.
+"""
+
+from .candump import Missed, read_log, take_log
+from .records import (
+    Acknowledgment,
+    Change,
+    Code,
+    Counts,
+    Frame,
+    Kind,
+    Lamps,
+    Message,
+    Reply,
+    Taken,
+    TakenFrames,
+    Unit,
+    What,
+)
+from .refusals import OutOfMemory, Refused
+from .station import KEEP_ALL, Station
+
+__version__ = "2.1.0"
+
+DM1, DM2, DM6 = Kind.DM1, Kind.DM2, Kind.DM6
+
+PGN_ADDRESS_CLAIMED = 60928
+"""The address that is claimed."""
+PGN_DM1 = 65226
+"""The active codes."""
+PGN_DM2 = 65227
+"""The previously active codes."""
+PGN_DM3 = 65228
+"""To clear the previously active codes."""
+PGN_DM6 = 65231
+"""The pending codes."""
+PGN_DM11 = 65235
+"""To clear the active and the pending codes."""
+
+__all__ = [
+    "Acknowledgment",
+    "Change",
+    "Code",
+    "Counts",
+    "DM1",
+    "DM2",
+    "DM6",
+    "Frame",
+    "KEEP_ALL",
+    "Kind",
+    "Lamps",
+    "Message",
+    "Missed",
+    "OutOfMemory",
+    "PGN_ADDRESS_CLAIMED",
+    "PGN_DM1",
+    "PGN_DM11",
+    "PGN_DM2",
+    "PGN_DM3",
+    "PGN_DM6",
+    "Refused",
+    "Reply",
+    "Station",
+    "Taken",
+    "TakenFrames",
+    "Unit",
+    "What",
+    "read_log",
+    "take_log",
+]

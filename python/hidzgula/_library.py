@@ -1,0 +1,128 @@
+"""The library for C by ctypes: its structs, its calls and its numbers. Private; `hidzgula` has what programs use.
+
+Each struct and call is one of `c/hidzgula_station.h`, under the header's names. Sizes are looked at here, when the module is imported,
+as the header does when it is compiled.
+"""
+
+import ctypes
+import os
+import pathlib
+from ctypes import POINTER, Structure, c_bool, c_char_p, c_size_t, c_uint8, c_uint32, c_uint64, c_void_p
+
+
+class StationRecord(Structure):
+    """Room for a station: all bytes 0 at first. It is never copied or moved, and only the library reads or writes it."""
+
+    _fields_ = [("at", c_void_p), ("full", c_bool)]
+
+
+class FrameRecord(Structure):
+    """A frame: 29 bits of identifier, 0 to 8 bytes."""
+
+    _fields_ = [("id", c_uint32), ("length", c_uint8), ("bytes", c_uint8 * 8)]
+
+
+class ReplyRecord(Structure):
+    """What the station replies: whether to withdraw, and up to three frames to send."""
+
+    _fields_ = [("withdraw", c_uint8), ("count", c_uint8), ("frames", FrameRecord * 3)]
+
+
+class ChangeRecord(Structure):
+    """What a frame or a gap changed."""
+
+    _fields_ = [
+        ("name", c_uint64),
+        ("displaced", c_uint64),
+        ("pgn", c_uint32),
+        ("count", c_uint32),
+        ("what", c_uint8),
+        ("address", c_uint8),
+        ("kind", c_uint8),
+        ("control", c_uint8),
+        ("again", c_uint8),
+        ("has_displaced", c_uint8),
+        ("lost", c_uint8),
+    ]
+
+
+class RowRecord(Structure):
+    """What is known of a NAME."""
+
+    _fields_ = [
+        ("name", c_uint64),
+        ("has_address", c_uint8),
+        ("address", c_uint8),
+        ("has_ack", c_uint8),
+        ("ack_control", c_uint8),
+        ("ack_pgn", c_uint32),
+    ]
+
+
+class EntryRecord(Structure):
+    """A message of a NAME."""
+
+    _fields_ = [("lamps", c_uint8), ("flashes", c_uint8), ("codes", c_size_t)]
+
+
+class CodeRecord(Structure):
+    """A trouble code."""
+
+    _fields_ = [("spn", c_uint32), ("fmi", c_uint8), ("count", c_uint8)]
+
+
+# The struct, its name in the header, and its size there.
+RECORDS = (
+    (StationRecord, "hidzgula_station", 16),
+    (FrameRecord, "hidzgula_frame", 16),
+    (ReplyRecord, "hidzgula_reply", 52),
+    (ChangeRecord, "hidzgula_change", 32),
+    (RowRecord, "hidzgula_row_out", 16),
+    (EntryRecord, "hidzgula_entry_out", 16),
+    (CodeRecord, "hidzgula_code_out", 8),
+)
+
+for record, called, size in RECORDS:
+    if ctypes.sizeof(record) != size:
+        raise ImportError(f"{called} has {ctypes.sizeof(record)} bytes here and {size} in the library, which is for x86-64 Linux")
+
+_STATION = POINTER(StationRecord)
+_REPLY = POINTER(ReplyRecord)
+_CHANGE = POINTER(ChangeRecord)
+
+# Each call but `hidzgula_close`, which answers nothing, answers a number: 0, or why it was refused.
+CALLS = {
+    "hidzgula_open": (_STATION, c_uint64, c_uint8, c_uint8, c_uint32),
+    "hidzgula_open_listening": (_STATION, c_uint64, c_uint8, c_uint32),
+    "hidzgula_close": (_STATION,),
+    "hidzgula_take_frame_telling": (_STATION, c_uint32, c_char_p, c_size_t, _REPLY, _CHANGE),
+    "hidzgula_take_frames": (_STATION, c_void_p, c_size_t, c_void_p, c_size_t, _REPLY, POINTER(c_size_t)),
+    "hidzgula_take_gap_telling": (_STATION, c_uint32, _REPLY, _CHANGE),
+    "hidzgula_claim": (_STATION, POINTER(FrameRecord)),
+    "hidzgula_held": (_STATION, POINTER(c_uint8), POINTER(c_uint8)),
+    "hidzgula_ask": (_STATION, c_uint64, c_uint32, _REPLY),
+    "hidzgula_ask_all": (_STATION, c_uint32, _REPLY),
+    "hidzgula_command": (_STATION, c_uint64, c_uint8, _REPLY),
+    "hidzgula_rows": (_STATION, POINTER(c_size_t)),
+    "hidzgula_row": (_STATION, c_size_t, POINTER(RowRecord)),
+    "hidzgula_entries": (_STATION, c_uint64, c_uint8, POINTER(c_uint64)),
+    "hidzgula_entry": (_STATION, c_uint64, c_uint8, c_uint64, POINTER(EntryRecord)),
+    "hidzgula_code": (_STATION, c_uint64, c_uint8, c_uint64, c_size_t, POINTER(CodeRecord)),
+    "hidzgula_counts": (_STATION, POINTER(c_uint64), POINTER(c_uint64)),
+}
+
+# The library in the wheel, or the one that the environment names.
+PATH = os.environ.get("HIDZGULA_LIBRARY") or str(pathlib.Path(__file__).with_name("libhidzgula_station.so"))
+
+
+def _loaded(path: str) -> ctypes.CDLL:
+    """The library with the type of each call."""
+    library = ctypes.CDLL(path)
+    for called, takes in CALLS.items():
+        call = getattr(library, called)
+        call.argtypes = takes
+        call.restype = None if called == "hidzgula_close" else c_uint32
+    return library
+
+
+library = _loaded(PATH)

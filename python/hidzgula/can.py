@@ -1,0 +1,109 @@
+"""A listener for python-can (the extra `hidzgula[can]`): a station before a live bus."""
+
+import threading
+import time
+from typing import Callable, Optional
+
+import can
+
+from . import PGN_ADDRESS_CLAIMED
+from .candump import is_overflow
+from .records import Change, Frame, Reply
+from .station import Station
+
+BROADCAST_GAP = 0.05
+"""Seconds between the frames of a broadcast (SAE J1939-21: 50 to 200 ms)."""
+
+OnChange = Callable[[Change, can.Message], None]
+
+
+class Listener(can.Listener):
+    """Hands what python-can reads of one bus to a station, and sends what it replies.
+
+        with can.Bus("can0", interface="socketcan") as bus, hidzgula.Station(name=1, address=249) as station:
+            listener = Listener(station, bus)
+            notifier = can.Notifier(bus, [listener])
+            listener.start()
+
+    Passed over are frames with 11-bit identifiers, remote frames, frames of CAN FD, and the program's own (`is_rx` is False); an error
+    frame that tells of an overflow is a frame missed. Whatever else was missed the program tells by `missed`.
+
+    Replies are sent at once, so none waits that could be withdrawn. What the station is asked goes through the listener's `ask`,
+    `ask_all` and `command`: a lock keeps order and sending together, so that no order is sent from an address that was lost meanwhile.
+    A listener is for one bus; a program gives each bus a station of its own.
+    """
+
+    def __init__(self, station: Station, bus: Optional[can.BusABC] = None, on_change: Optional[OnChange] = None) -> None:
+        """station: which takes the frames.
+        bus: on which it replies; None for a station that only listens, else a ValueError is raised.
+        on_change: is called with each change and the message that made it, in the thread that reads the bus.
+        """
+        if bus is None and not station.listening:
+            raise ValueError("a station that answers needs a bus to reply on; open one that only listens (listening=True), or hand over a bus")
+        self.station = station
+        self.bus = bus
+        self.on_change = on_change
+        self._sending = threading.Lock()
+
+    def on_message_received(self, msg: can.Message) -> None:
+        """Takes a message of the bus. Raises what `Station.take` raises, and what the bus raises where it cannot send."""
+        if msg.is_error_frame:
+            if is_overflow(msg.arbitration_id, bytes(msg.data)):
+                self._tell(self.missed(1), msg)
+            return
+        if not msg.is_extended_id or msg.is_remote_frame or msg.is_fd or not msg.is_rx:
+            return
+        with self._sending:
+            reply, change = self.station.take(msg.arbitration_id, msg.data)
+            self._send(reply)
+        self._tell(change, msg)
+
+    def start(self) -> None:
+        """Sends the station's claim and asks all units for theirs. A station that only listens sends nothing."""
+        if self.bus is None or self.station.listening:
+            return
+        with self._sending:
+            self._send(Reply(False, (self.station.claim(),)))
+            self._send(self.station.ask_all(PGN_ADDRESS_CLAIMED))
+
+    def missed(self, count: int) -> Change:
+        """Tells the station that `count` frames were missed, and sends its reply; `Station.missed` says what that does."""
+        with self._sending:
+            reply, change = self.station.missed(count)
+            self._send(reply)
+        return change
+
+    def ask(self, name: int, pgn: int) -> None:
+        """Asks the unit of a NAME for a parameter group; raises what `Station.ask` raises."""
+        with self._sending:
+            self._send(self.station.ask(name, pgn))
+
+    def ask_all(self, pgn: int) -> None:
+        """Asks all units for a parameter group; raises what `Station.ask_all` raises."""
+        with self._sending:
+            self._send(self.station.ask_all(pgn))
+
+    def command(self, name: int, address: int) -> None:
+        """Commands the unit of a NAME to hold an address; raises what `Station.command` raises. It takes two times `BROADCAST_GAP`, and
+        what is read meanwhile is taken behind it."""
+        with self._sending:
+            self._send(self.station.command(name, address), BROADCAST_GAP)
+
+    def stop(self) -> None:
+        """Does nothing: the station stays open."""
+
+    def _tell(self, change: Change, msg: can.Message) -> None:
+        if self.on_change is not None and change.what:
+            self.on_change(change, msg)
+
+    def _send(self, reply: Reply, gap: float = 0.0) -> None:
+        if self.bus is None:
+            return
+        for place, frame in enumerate(reply.frames):
+            if place and gap:
+                time.sleep(gap)
+            self.bus.send(_message_of(frame))
+
+
+def _message_of(frame: Frame) -> can.Message:
+    return can.Message(arbitration_id=frame.id, data=frame.data, is_extended_id=True)

@@ -1,0 +1,194 @@
+"""What a station takes, tells and answers, as values that never change."""
+
+import enum
+from typing import List, NamedTuple, Optional, Tuple
+
+
+class Kind(enum.IntEnum):
+    """A kind of diagnostic message (SAE J1939-73), numbered as the message is."""
+
+    DM1 = 1
+    """Lamps and active trouble codes."""
+    DM2 = 2
+    """Lamps and previously active trouble codes."""
+    DM6 = 6
+    """Lamps and pending trouble codes."""
+
+
+class What(enum.IntEnum):
+    """What a frame or a gap changed of what the station shows."""
+
+    NOTHING = 0
+    """Nothing."""
+    CLAIMED = 1
+    """`name` has `address`, and had not before."""
+    GAVE_UP = 2
+    """`name` has no address: it cannot claim one."""
+    ACKNOWLEDGED = 3
+    """`name` acknowledged the group `pgn` to the station, with `control`."""
+    LISTED = 4
+    """A message of `name` from `address` is the newest of its list of `kind`."""
+    UNREADABLE = 5
+    """A message of `name` and of `kind` from `address` could not be read."""
+    UNOWNED = 6
+    """A message of `kind` to all began at `address`, which no NAME has claimed in what was read: it is not listed."""
+    MISSED = 7
+    """`count` frames were missed: no address has an owner until NAMEs claim again."""
+
+
+class Frame(NamedTuple):
+    """A data frame of CAN 2.0B."""
+
+    id: int
+    """The identifier, 29 bits."""
+    data: bytes
+    """0 to 8 bytes."""
+
+    def __str__(self) -> str:
+        return f"{self.id:08X}#{self.data.hex().upper()}"
+
+
+class Reply(NamedTuple):
+    """What the station has to say: first frames of earlier replies that were not sent yet are dropped, where `withdraw` says so, and then
+    `frames` are sent in their order."""
+
+    withdraw: bool
+    frames: Tuple[Frame, ...]
+    """0 to 3 of them."""
+
+
+SILENT = Reply(False, ())
+"""Nothing is withdrawn, and nothing is to be sent."""
+
+
+class Change(NamedTuple):
+    """What a frame or a gap changed; a field that `what` does not name is None, False or 0."""
+
+    what: What
+    name: Optional[int] = None
+    """The NAME, 64 bits: of CLAIMED, GAVE_UP, ACKNOWLEDGED, LISTED and UNREADABLE."""
+    address: Optional[int] = None
+    """0 to 253: of CLAIMED, LISTED, UNREADABLE and UNOWNED."""
+    kind: Optional[Kind] = None
+    """Of LISTED, UNREADABLE and UNOWNED."""
+    displaced: Optional[int] = None
+    """Of CLAIMED: the NAME that claimed this address before, if another one did."""
+    lost: bool = False
+    """Of CLAIMED: whether it was the address of `displaced` until now, so that it has none any more."""
+    control: Optional[int] = None
+    """Of ACKNOWLEDGED: 0 positive, 1 negative, 2 access denied, 3 cannot respond now, or another number up to 255."""
+    pgn: Optional[int] = None
+    """Of ACKNOWLEDGED: the parameter group, 24 bits."""
+    again: bool = False
+    """Of ACKNOWLEDGED: whether the last acknowledgment of that NAME was the same."""
+    count: int = 0
+    """Of MISSED: how many frames, 32 bits."""
+
+
+class Taken(NamedTuple):
+    """What a frame or a gap came to."""
+
+    reply: Reply
+    change: Change
+
+
+class TakenFrames(NamedTuple):
+    """What a row of frames came to."""
+
+    count: int
+    """How many were taken."""
+    changes: List[Tuple[int, Change]]
+    """The place of each frame that changed something, in the row that was handed over, and what it changed."""
+    reply: Reply
+    """The reply to the last one; none of the others was replied to."""
+
+
+class Code(NamedTuple):
+    """A trouble code (SAE J1939-73)."""
+
+    spn: int
+    """The suspect parameter number, 0 to 524,287."""
+    fmi: int
+    """The failure mode identifier, 0 to 31."""
+    count: int
+    """The occurrence count, 0 to 126; 127 stands for not available."""
+
+    def __str__(self) -> str:
+        return f"{self.spn}/{self.fmi}/{self.count}"
+
+
+class Lamps(NamedTuple):
+    """The first two bytes of a DM1, DM2 or DM6 (SAE J1939-73)."""
+
+    states: int
+    """Two bits a lamp, from the highest: malfunction indicator, red stop, amber warning, protect. 0 off, 1 on, 3 not available."""
+    flashes: int
+    """How they flash, two bits a lamp in the same order: 0 slowly (1 Hz), 1 fast (2 Hz), 3 not at all, or not available."""
+
+    @property
+    def mil(self) -> bool:
+        """Whether the malfunction indicator lamp is on."""
+        return self.states >> 6 & 3 == 1
+
+    @property
+    def stop(self) -> bool:
+        """Whether the red stop lamp is on."""
+        return self.states >> 4 & 3 == 1
+
+    @property
+    def amber(self) -> bool:
+        """Whether the amber warning lamp is on."""
+        return self.states >> 2 & 3 == 1
+
+    @property
+    def protect(self) -> bool:
+        """Whether the protect lamp is on."""
+        return self.states & 3 == 1
+
+    def __str__(self) -> str:
+        on = [lamp for lamp in ("mil", "stop", "amber", "protect") if getattr(self, lamp)]
+        return ", ".join(on) or "no lamp"
+
+
+class Message(NamedTuple):
+    """A diagnostic message that stands in a list."""
+
+    place: int
+    """Its place among all messages of its list that came, from 0."""
+    lamps: Lamps
+    codes: Tuple[Code, ...]
+
+    def __str__(self) -> str:
+        return f"{self.lamps}; {' '.join(map(str, self.codes)) or '-'}"
+
+
+class Acknowledgment(NamedTuple):
+    """What a unit acknowledged to the station."""
+
+    control: int
+    """0 positive, 1 negative, 2 access denied, 3 cannot respond now, or another number up to 255."""
+    pgn: int
+    """The parameter group, 24 bits."""
+
+
+class Unit(NamedTuple):
+    """What is known of a NAME."""
+
+    name: int
+    """The NAME, 64 bits (SAE J1939-81)."""
+    address: Optional[int]
+    """Its address, 0 to 253, where it is known to have one."""
+    acknowledgment: Optional[Acknowledgment]
+    """Its last acknowledgment to the station."""
+
+    def __str__(self) -> str:
+        return f"{self.name:016X} {'has no address' if self.address is None else f'at {self.address}'}"
+
+
+class Counts(NamedTuple):
+    """What a station could not read; each count stops at 2^64 - 1."""
+
+    missed: int
+    """Frames that it was told of as missed."""
+    unread: int
+    """Messages that ended and could not be read."""

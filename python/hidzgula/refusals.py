@@ -1,0 +1,59 @@
+"""Why a station refuses."""
+
+from typing import Dict, NoReturn, Optional, Tuple
+
+from .records import TakenFrames
+
+OUT_OF_MEMORY = 33
+
+# The number that the library answers, its name in the header, and why.
+REFUSALS: Dict[int, Tuple[str, str]] = {
+    1: ("ID_TOO_LARGE", "an identifier of 2^29 or more"),
+    2: ("TOO_LONG", "more than 8 bytes in a frame"),
+    7: ("NOT_AN_ADDRESS", "254 or more where an address to hold is asked for"),
+    22: ("NO_ADDRESS", "the station knows no address of that NAME"),
+    23: ("NOT_HELD", "the station holds no address of its own"),
+    24: ("BAD_SETTING", "an address above 253, or a grant of 0"),
+    28: ("PGN_TOO_LARGE", "a parameter group number of 2^24 or more"),
+    29: ("NO_STATION", "the station is closed"),
+    30: ("HAS_STATION", "the handle has an open station"),
+    31: ("NO_PLACE", "there is nothing at that place"),
+    32: ("NO_KIND", "a kind that is none of DM1, DM2 and DM6"),
+    OUT_OF_MEMORY: ("OUT_OF_MEMORY", "memory was refused"),
+    34: ("NOT_KEPT", "the message at that place came, and is kept no longer"),
+}
+
+
+class Refused(ValueError):
+    """A call that the station refused: it changed nothing, but that `Station.take_frames` has taken the frames before the one refused."""
+
+    number: int
+    """The number of the refusal, as C has it."""
+    name: str
+    """Its name in the header, without HIDZGULA_, as `NO_ADDRESS`."""
+    taken: Optional[TakenFrames]
+    """What `Station.take_frames` took before the frame that was refused; None at every other call."""
+
+    def __init__(self, number: int, taken: Optional[TakenFrames] = None) -> None:
+        self.number = number
+        self.name, why = REFUSALS.get(number, ("UNKNOWN", "a refusal that this version does not know"))
+        self.taken = taken
+        super().__init__(f"{self.name} ({number}): {why}")
+
+
+class OutOfMemory(MemoryError):
+    """Memory was refused, and the call changed nothing, but that `Station.take_frames` has taken the frames before."""
+
+    taken: Optional[TakenFrames]
+    """What `Station.take_frames` took before memory was refused; None at every other call."""
+
+    def __init__(self, taken: Optional[TakenFrames] = None) -> None:
+        self.taken = taken
+        super().__init__("the station was refused memory")
+
+
+def refuse(number: int, taken: Optional[TakenFrames] = None) -> NoReturn:
+    """Raises what stands for the number of a refusal."""
+    if number == OUT_OF_MEMORY:
+        raise OutOfMemory(taken)
+    raise Refused(number, taken)

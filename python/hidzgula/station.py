@@ -1,0 +1,405 @@
+"""A diagnostic station over the library."""
+
+import ctypes
+import itertools
+import re
+import struct
+import threading
+from typing import Any, Dict, List, Optional, Sequence, Tuple, Union
+
+from ._library import (
+    ChangeRecord,
+    CodeRecord,
+    EntryRecord,
+    FrameRecord,
+    ReplyRecord,
+    RowRecord,
+    StationRecord,
+    library,
+)
+from .records import (
+    SILENT,
+    Acknowledgment,
+    Change,
+    Code,
+    Counts,
+    Frame,
+    Kind,
+    Lamps,
+    Message,
+    Reply,
+    Taken,
+    TakenFrames,
+    Unit,
+    What,
+)
+from .refusals import refuse
+
+Octets = Union[bytes, bytearray, memoryview]
+
+KEEP_ALL = 2**32 - 1
+
+# How many frames the library is handed at once: a change takes 32 bytes.
+_AT_ONCE = 4096
+_FRAME = struct.Struct("<IB8s3x")
+_CHANGE = struct.Struct("<QQIIBBBBBBBx")
+_WHAT_AT = ChangeRecord.what.offset
+_LISTED = What.LISTED.value
+_SOMETHING = re.compile(rb"[^\x00]")
+_WHATS = {what.value: what for what in What}
+_KINDS: Dict[int, Optional[Kind]] = {0: None, **{kind.value: kind for kind in Kind}}
+
+
+class Station:
+    """A diagnostic station for SAE J1939, before one bus: it is handed the frames that are read of that bus, and lists what they tell by NAME.
+
+    Each call may be made from any thread: a lock lets in one at a time. A refused call raises `Refused`, one that was refused memory
+    `MemoryError`, and has then changed nothing. A number that no C type of the library holds, as a NAME of 65 bits, is a ValueError.
+
+        with Station(name=1, address=248, listening=True) as station:
+            station.take(0x18EEFF00, bytes.fromhex("A000000000000000"))
+            station.take(0x18FECA00, bytes.fromhex("04FFB8040301FFFF"))
+            print(*station.messages(0xA0, DM1))
+    """
+
+    def __init__(self, name: int, address: int, *, grant: int = 255, keep: Optional[int] = None, listening: bool = False) -> None:
+        """Opens a station that has read nothing.
+
+        name: its NAME, 64 bits (SAE J1939-81).
+        address: which it holds, 0 to 253; of one that only listens, whose sessions it joins.
+        grant: how many packets it lets a sender send at once, 1 to 255 (SAE J1939-21); of no use to one that only listens.
+        keep: of each list the newest so many messages are kept, 0 to 2^32 - 1, and all are counted; None for all.
+        listening: whether it only listens: it replies nothing, and passes over packets of a session that was given up.
+
+        Raises Refused BAD_SETTING for an address above 253 or a grant of 0, and MemoryError.
+        """
+        self._station = StationRecord()
+        self._lock = threading.Lock()
+        self._reply = ReplyRecord()
+        self._change = ChangeRecord()
+        self._listening = bool(listening)
+        name = _number("name", name, 2**64 - 1)
+        address = _number("address", address, 255, most_is_refused=True)
+        kept = _number("keep", KEEP_ALL if keep is None else keep, KEEP_ALL)
+        if listening:
+            _done(library.hidzgula_open_listening(self._station, name, address, kept))
+        else:
+            _done(library.hidzgula_open(self._station, name, address, _number("grant", grant, 255), kept))
+        self._keep = kept
+
+    def close(self) -> None:
+        """Closes the station and frees its memory; every other call is then Refused, NO_STATION. Closing twice does nothing."""
+        with self._lock:
+            library.hidzgula_close(self._station)
+
+    def __enter__(self) -> "Station":
+        return self
+
+    def __exit__(self, *_: object) -> None:
+        self.close()
+
+    def __del__(self) -> None:
+        if hasattr(self, "_keep"):
+            self.close()
+
+    def __reduce__(self) -> Any:
+        raise TypeError("a station cannot be copied")
+
+    @property
+    def listening(self) -> bool:
+        """Whether it only listens."""
+        return self._listening
+
+    # ---- what was read of the bus
+
+    def take(self, id: int, data: Octets) -> Taken:
+        """Takes a frame that was read of the bus: its 29-bit identifier, and 0 to 8 bytes.
+
+        Frames with 11-bit identifiers, remote frames, error frames and frames of CAN FD are not handed over; nor are the station's own.
+
+        Raises Refused ID_TOO_LARGE, TOO_LONG, NO_STATION, and MemoryError: then the frame may be handed over again, or be counted as
+        missed.
+        """
+        id = _number("id", id, 2**32 - 1, most_is_refused=True)
+        data = _octets(data)
+        with self._lock:
+            _done(library.hidzgula_take_frame_telling(self._station, id, data, len(data), self._reply, self._change))
+            return Taken(_reply_of(self._reply), _change_of(self._change))
+
+    def take_frames(self, frames: Sequence[Tuple[int, Octets]], start: int = 0) -> TakenFrames:
+        """Takes frames, each an identifier and its bytes, from the place `start` on, as `take` does one after the other.
+
+        It stops behind the first one that the station replies to, so that the reply can be sent before the next is taken; a station that
+        only listens replies to none. `count` tells how many were taken: `start + count` is the next place.
+
+        Raises Refused ID_TOO_LARGE, TOO_LONG, NO_STATION, and MemoryError, at the first frame that is refused: those before it are taken,
+        and the error's `taken` tells of them, so `start + taken.count` is the place of the one that was refused. Where a frame is no
+        pair of a number and bytes, a TypeError or ValueError is raised before any is taken.
+        """
+        packed = _packed(frames, start)
+        held = (FrameRecord * (len(packed) // _FRAME.size)).from_buffer(packed)
+        first, count = ctypes.addressof(held), len(held)
+        records = (ChangeRecord * min(_AT_ONCE, max(count, 1)))()
+        changes: List[Tuple[int, Change]] = []
+        taken = 0
+        with self._lock:
+            while True:
+                one = ctypes.c_size_t(0)
+                status = library.hidzgula_take_frames(
+                    self._station, first + taken * _FRAME.size, count - taken, records, len(records), self._reply, one
+                )
+                _add_changes(changes, records, one.value, start + taken)
+                taken += one.value
+                reply = _reply_of(self._reply) if one.value else SILENT
+                if status:
+                    refuse(status, TakenFrames(taken, changes, reply))
+                if taken == count or reply is not SILENT:
+                    return TakenFrames(taken, changes, reply)
+
+    def missed(self, count: int) -> Taken:
+        """Tells the station that `count` frames of the bus were missed, 0 to 2^32 - 1: it forgets which NAME owns which address, and all
+        messages that are half read, until units claim again. It replies with its claim and a request for the claims of all; nothing,
+        where it only listens.
+
+        Raises Refused NO_STATION, and MemoryError.
+        """
+        count = _number("count", count, 2**32 - 1)
+        with self._lock:
+            _done(library.hidzgula_take_gap_telling(self._station, count, self._reply, self._change))
+            return Taken(_reply_of(self._reply), _change_of(self._change))
+
+    # ---- what it sends
+
+    def claim(self) -> Frame:
+        """Its claim of its address, or its cannot claim where it holds none: what a station sends first.
+
+        Raises Refused NO_STATION.
+        """
+        record = FrameRecord()
+        with self._lock:
+            _done(library.hidzgula_claim(self._station, record))
+        return _frame_of(record)
+
+    def ask(self, name: int, pgn: int) -> Reply:
+        """Asks the unit of a NAME for a parameter group, below 2^24: the request to send. A group to clear codes clears them at units that
+        agree.
+
+        Raises Refused PGN_TOO_LARGE, NO_STATION, NOT_HELD, NO_ADDRESS, and MemoryError.
+        """
+        name, pgn = _number("name", name, 2**64 - 1), _number("pgn", pgn, 2**32 - 1, most_is_refused=True)
+        return self._ordered(library.hidzgula_ask, name, pgn)
+
+    def ask_all(self, pgn: int) -> Reply:
+        """Asks all units for a parameter group, below 2^24: the request to send.
+
+        Raises Refused PGN_TOO_LARGE, NO_STATION, NOT_HELD, and MemoryError.
+        """
+        return self._ordered(library.hidzgula_ask_all, _number("pgn", pgn, 2**32 - 1, most_is_refused=True))
+
+    def command(self, name: int, address: int) -> Reply:
+        """Commands the unit of a NAME to hold an address, 0 to 253: the three frames of a broadcast, of which the standard wants the last
+        two 50 to 200 ms behind the one before (SAE J1939-21).
+
+        Raises Refused NO_STATION, NOT_AN_ADDRESS, NOT_HELD, and MemoryError.
+        """
+        name, address = _number("name", name, 2**64 - 1), _number("address", address, 255, most_is_refused=True)
+        return self._ordered(library.hidzgula_command, name, address)
+
+    def _ordered(self, call: Any, *words: int) -> Reply:
+        with self._lock:
+            _done(call(self._station, *words, self._reply))
+            return _reply_of(self._reply)
+
+    # ---- what it knows
+
+    @property
+    def address(self) -> Optional[int]:
+        """Its own address, 0 to 253, where it holds one.
+
+        Raises Refused NO_STATION.
+        """
+        has, address = ctypes.c_uint8(), ctypes.c_uint8()
+        with self._lock:
+            _done(library.hidzgula_held(self._station, has, address))
+        return address.value if has.value else None
+
+    def units(self) -> List[Unit]:
+        """What is known of each NAME whose claim was read, in the order of their first claims.
+
+        Raises Refused NO_STATION.
+        """
+        count, row = ctypes.c_size_t(), RowRecord()
+        units = []
+        with self._lock:
+            _done(library.hidzgula_rows(self._station, count))
+            for place in range(count.value):
+                _done(library.hidzgula_row(self._station, place, row))
+                units.append(_unit_of(row))
+        return units
+
+    def count(self, name: int, kind: int) -> int:
+        """How many messages of a kind came under a NAME, whatever is kept of them, up to 2^64 - 1; 0 for a NAME that is not known.
+
+        Raises Refused NO_KIND, NO_STATION.
+        """
+        with self._lock:
+            return self._count(*_list_of(name, kind))
+
+    def messages(self, name: int, kind: int) -> List[Message]:
+        """The messages of a kind that came under a NAME and are kept, the oldest first; none for a NAME that is not known.
+
+        Raises Refused NO_KIND, NO_STATION.
+        """
+        name, kind = _list_of(name, kind)
+        with self._lock:
+            count = self._count(name, kind)
+            return [self._message(name, kind, place) for place in range(max(0, count - self._keep), count)]
+
+    def message(self, name: int, kind: int, place: int) -> Message:
+        """The message at a place among all of its list that came, from 0. A message keeps its place while others come.
+
+        Raises Refused NO_KIND, NO_STATION, NOT_KEPT where it came and is kept no longer, NO_PLACE where it never came.
+        """
+        name, kind = _list_of(name, kind)
+        place = _number("place", place, 2**64 - 1, most_is_refused=True)
+        with self._lock:
+            return self._message(name, kind, place)
+
+    def newest(self, name: int, kind: int) -> Optional[Message]:
+        """The newest message of a kind under a NAME; None where none came, or none is kept.
+
+        Raises Refused NO_KIND, NO_STATION.
+        """
+        name, kind = _list_of(name, kind)
+        with self._lock:
+            count = self._count(name, kind)
+            return self._message(name, kind, count - 1) if count and self._keep else None
+
+    def counts(self) -> Counts:
+        """How many frames were missed, and how many messages ended that could not be read; each up to 2^64 - 1.
+
+        Raises Refused NO_STATION.
+        """
+        missed, unread = ctypes.c_uint64(), ctypes.c_uint64()
+        with self._lock:
+            _done(library.hidzgula_counts(self._station, missed, unread))
+        return Counts(missed.value, unread.value)
+
+    def _count(self, name: int, kind: int) -> int:
+        count = ctypes.c_uint64()
+        _done(library.hidzgula_entries(self._station, name, kind, count))
+        return count.value
+
+    def _message(self, name: int, kind: int, place: int) -> Message:
+        entry, code = EntryRecord(), CodeRecord()
+        _done(library.hidzgula_entry(self._station, name, kind, place, entry))
+        codes = []
+        for at in range(entry.codes):
+            _done(library.hidzgula_code(self._station, name, kind, place, at, code))
+            codes.append(Code(code.spn, code.fmi, code.count))
+        return Message(place, Lamps(entry.lamps, entry.flashes), tuple(codes))
+
+
+def _done(status: int) -> None:
+    """Raises where a call was not done."""
+    if status:
+        refuse(status)
+
+
+def _number(what: str, value: int, most: int, most_is_refused: bool = False) -> int:
+    """A number that the library's type holds. ctypes would cut a larger one, so that is a ValueError; or, where the library refuses the
+    type's greatest number for being too large, that one in its place, so that both are refused alike."""
+    value = value.__index__()
+    if value > most and most_is_refused:
+        return most
+    if not 0 <= value <= most:
+        raise ValueError(f"{what} is {value}, and may be 0 to {most}")
+    return value
+
+
+def _list_of(name: int, kind: int) -> Tuple[int, int]:
+    """The NAME and the kind of a list."""
+    return _number("name", name, 2**64 - 1), _number("kind", kind, 255, most_is_refused=True)
+
+
+def _octets(data: Octets) -> bytes:
+    """The bytes of a frame."""
+    return data if type(data) is bytes else bytes(memoryview(data))
+
+
+def _packed(frames: Sequence[Tuple[int, Octets]], start: int) -> bytearray:
+    """The frames from a place on, in the library's layout."""
+    start = _number("start", start, len(frames))
+    packed = bytearray()
+    for at in range(start, len(frames), _AT_ONCE):
+        part = frames[at : at + _AT_ONCE]
+        try:
+            packed += _packed_part(part)
+        except struct.error:
+            packed += b"".join(itertools.starmap(_packed_frame, part))
+    return packed
+
+
+def _packed_part(part: Sequence[Tuple[int, Octets]]) -> bytes:
+    """Some frames, by columns, which takes half the time of one after the other. Raises struct.error where one does not fit its place."""
+    ids, contents = zip(*part)
+    words: List[Any] = [None] * (3 * len(ids))
+    words[0::3], words[1::3], words[2::3] = ids, map(len, contents), contents
+    return struct.pack("<" + "IB8s3x" * len(ids), *words)
+
+
+def _packed_frame(id: int, data: Octets) -> bytes:
+    """One frame whose numbers may be beyond the library's types: an identifier or a length that is too large stays so."""
+    data = _octets(data)
+    return _FRAME.pack(_number("id", id, 2**32 - 1, most_is_refused=True), min(len(data), 255), data)
+
+
+def _add_changes(changes: List[Tuple[int, Change]], records: Any, count: int, first: int) -> None:
+    """Adds what each of so many frames changed, where it changed something."""
+    told = ctypes.string_at(records, count * _CHANGE.size)
+    for found in _SOMETHING.finditer(told[_WHAT_AT :: _CHANGE.size]):
+        at = found.start()
+        changes.append((first + at, _change(_CHANGE.unpack_from(told, at * _CHANGE.size))))
+
+
+def _change_of(record: ChangeRecord) -> Change:
+    """What a record of the library tells."""
+    return _change(_CHANGE.unpack_from(record))
+
+
+def _change(fields: Tuple[Any, ...]) -> Change:
+    """What the fields of a record tell: those that `what` does not name are 0 there."""
+    name, displaced, pgn, count, what, address, kind, control, again, has_displaced, lost = fields
+    if what == _LISTED:
+        # nearly every change of a bus is one, so it is made without the cost of a call with names
+        return tuple.__new__(Change, (What.LISTED, name, address, _KINDS[kind], None, False, None, None, False, 0))
+    told = _WHATS[what]
+    if told is What.UNREADABLE:
+        return Change(told, name, address, _KINDS[kind])
+    if told is What.NOTHING:
+        return Change(told)
+    if told is What.CLAIMED:
+        return Change(told, name, address, displaced=displaced if has_displaced else None, lost=bool(lost))
+    if told is What.GAVE_UP:
+        return Change(told, name)
+    if told is What.ACKNOWLEDGED:
+        return Change(told, name, control=control, pgn=pgn, again=bool(again))
+    if told is What.UNOWNED:
+        return Change(told, address=address, kind=_KINDS[kind])
+    return Change(told, count=count)
+
+
+def _reply_of(record: ReplyRecord) -> Reply:
+    """What a record of the library replies; `SILENT` itself where that is nothing."""
+    if not record.count and not record.withdraw:
+        return SILENT
+    return Reply(bool(record.withdraw), tuple(_frame_of(frame) for frame in record.frames[: record.count]))
+
+
+def _frame_of(record: FrameRecord) -> Frame:
+    return Frame(record.id, bytes(record.bytes[: record.length]))
+
+
+def _unit_of(row: RowRecord) -> Unit:
+    address = row.address if row.has_address else None
+    return Unit(row.name, address, Acknowledgment(row.ack_control, row.ack_pgn) if row.has_ack else None)

@@ -1,0 +1,181 @@
+"""What a run of random logs must reach, and how often the model reached it: each form of a line, each reason why one is bad, each rule of what
+is heard, each event, each form of what a frame says. A word that is not here is an error."""
+
+LINES = """
+bad: longer than 4096 bytes
+bad: no text
+bad: no time (SECONDS.MICROSECONDS)
+bad: no bus behind the time
+bad: no frame behind the bus
+bad: no # behind the identifier
+bad: 8 digits of identifier wanted, .. found
+bad: identifier above 1FFFFFFF
+bad: more than 8 bytes
+bad: .. bytes, and .. told of
+bad: odd number of digits
+bad: no hexadecimal digit: ..
+bad: words behind the data
+a note that is no text
+an empty line
+a comment
+other text
+what would be cansend's
+frames were dropped
+frames were dropped, of whatever bus
+an overflow
+not J1939: 11-bit identifier
+not J1939: remote frame
+not J1939: CAN FD frame
+not J1939: error frame
+a frame in a log's form
+a frame in plain candump's with a time form
+a frame in plain candump's without a time form
+a frame in cansend's form
+a frame in a script's form
+"""
+
+WORDS = """
+says: claim
+says: cannot claim
+says: request
+says: acknowledgment
+says: DM1
+says: DM2
+says: DM6
+says: cannot be read, bad length
+says: cannot be read, old conversion
+says: RTS
+says: CTS
+says: the end
+says: BAM
+says: abort
+says: packet
+says: empty packet
+says: data of a group with a name
+says: data of a group without a name
+a code has a text of its own
+a code has the texts of its SPN and of its FMI
+a code has the text of its SPN
+a code has the text of its FMI
+a code has no text
+"""
+
+HEARD = """
+a gap
+a gap after which nobody is known to hold an address
+a claim of the address that the NAME has
+a claim of an address without owner
+a claim by the last owner again, which went elsewhere since
+a claim that takes an address from who has it
+a claim that takes an address from who had it
+a cannot-claim of a NAME with an address
+a cannot-claim of a NAME without an address
+a cannot-claim of a NAME that was not known
+an acknowledgment that is told
+an acknowledgment that was told
+an acknowledgment from an address without owner
+a single frame is listed
+a single frame cannot be read
+a single frame from an address without owner
+a broadcast begins
+a broadcast of another group is announced
+a broadcast begins from an address without owner
+a broadcast goes on
+a broadcast is listed
+a broadcast cannot be read
+a broadcast is broken by a packet that is not the next
+a broadcast packet of nothing that is joined
+a session begins
+a session of another group is announced
+a session is asked for from an address without owner
+a session goes on
+a session is listed
+a session cannot be read
+a session is broken by a packet that is not the next
+a session packet of nothing that is joined
+a session ended by a request to send of another group
+a session ended by an abort of the sender
+a session ended by an abort of the receiver
+a session ended by a claim of the source under another NAME
+a broadcast ended by a claim of the source under another NAME
+an entry begins a list
+an entry is equal to the one before it
+an entry is another one than the one before it
+an entry is equal to the one before it, but contested
+an entry is equal to the one before it, which was contested
+a contested entry
+an entry of an address that was taken over 250 ms ago or more
+an entry of an address that was taken over by a line without a time
+told of an address without owner
+not told again of an address without owner
+a late packet
+a packet behind a late one
+a packet of a message that was announced without a time
+a packet without a time
+"""
+
+STATION = """
+the station defends its address
+the station moves
+the station loses its address
+the station's sessions end since its address is claimed
+the station would answer a request for claims
+the station would answer that it does not know what is asked for
+the station is asked for nothing that it answers
+the station would let send
+the station would abort what it is asked to let send
+the station would let send nobody
+the station would abort for a packet out of order
+the station would acknowledge the end
+the station would grant further packets
+an acknowledgment for another
+"""
+
+LISTENER = """
+a message from an address that nobody claimed
+a message from an address that nobody claimed since a gap
+a session to an address that is claimed
+a session to an address that nobody claimed
+a claim of the receiver's address in mid-session under the same NAME
+a claim of the receiver's address in mid-session under a NAME that had not that address
+an entry to another address than the one that is shown
+an acknowledgment to another address than the one that is shown
+an entry is equal to the one before it, but went elsewhere
+"""
+UNCLAIMED_ROWS = """
+a row of an address that nobody claimed
+"""
+NEVER_LISTENING = """
+a single frame from an address without owner
+"""
+
+WATCH = """
+the first bus that a line names is watched
+a line of another bus
+a line of no bus
+frames were dropped on another bus
+a bad line is a missed frame
+a bad line is passed over
+a bad line ends a strict run
+an owner is assumed
+a row of a NAME that was assumed
+a row without an address
+a row without a DM1
+a row without entries
+a time that jumped back
+a time that is as before
+an event before any time
+a count that is not available
+"""
+
+COUNTS = {case: 0 for part in (LINES, WORDS, HEARD, STATION, LISTENER, UNCLAIMED_ROWS, WATCH) for case in part.strip().splitlines()}
+
+
+def wanted(listens):
+    """What a run has to reach where a station stands behind the watch, or a listener."""
+    never = UNCLAIMED_ROWS + (STATION + NEVER_LISTENING if listens else LISTENER)
+    return [case for case in COUNTS if case not in never.strip().splitlines()]
+
+
+def reach(case):
+    COUNTS[case] += 1

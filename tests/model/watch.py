@@ -1,0 +1,401 @@
+"""`watch`: what the lines of a log tell, line by line and in a report at the end, as text, JSON and CSV.
+
+One bus is watched: the one that is given, or else the first that a line names. Of its lines a frame is read, but for a packet that comes too
+late; frames that were dropped, an overflow, and a bad line are missed frames. What a reading changes (`heard`) is told where it is news.
+Equal entries that come one after the other under a NAME are a run.
+"""
+
+from .frames import BAM, GLOBAL, KINDS, PACKET, RTS, claim, control_of
+from .heard import Station
+from .listener import Listener, Unclaimed
+from .log_cases import reach
+from .log_line import ERROR, FD, REMOTE, SHORT
+from .words import NOT_AVAILABLE, code_words, dumped, lamp_words, name_text, shown_object, time_text
+
+# What the program has. To be switched on with it: all tests of lines of a log then try the program as one that listens.
+PROGRAM_LISTENS = True  # whether a listener stands behind `watch`, or still a station
+LISTS_UNCLAIMED = False  # whether an address that nobody claimed has a row; else it is told of as a station tells of it
+
+T1 = 750  # milliseconds: how late a packet may come (J1939-21, 5.10.3)
+CONTEST = 250_000  # microseconds: as long as a unit waits for a contender before it sends (J1939-81, 4.4)
+WORD_OF = {kind: word for word, kind in KINDS.items()}
+FOREIGN = {SHORT: "short", REMOTE: "remote", FD: "fd", ERROR: "error"}
+COUNTS = ["all", "frame", "bad", "short", "remote", "fd", "error", "other_bus", "drop", "note", "withheld"]
+HEADER = "name,address,kind,first_time,last_time,entries,lamps,spn,fmi,count,contested"
+UNITS_CLAIM = "cansend can0 18EAFFFE#00EE00"
+
+
+class Options:
+    """How a bus is watched. The silence is in milliseconds; 0 lets a packet come at any time. Behind the watch stands a station, or a listener:
+    then the address says whose sessions are shown, and without one all are."""
+
+    def __init__(self, listens=False):
+        self.listens = listens
+        self.lists_unclaimed = LISTS_UNCLAIMED
+        self.bus, self.address, self.name, self.assumed = None, None if listens else 248, 1, []
+        self.skips_bad, self.silence, self.strict = False, T1, False
+
+    @staticmethod
+    def of(words, listens=False):
+        """What the words behind `watch` mean."""
+        given, words = Options(listens), iter(words)
+        for word in words:
+            if word == "--strict":
+                given.strict = True
+                continue
+            value = next(words)
+            if word == "--bus":
+                given.bus = value
+            elif word == "--address":
+                given.address = int(value)
+            elif word == "--name":
+                given.name = int(value, 16)
+            elif word == "--assume":
+                address, _, name = value.partition("=")
+                given.assumed.append((int(address), int(name, 16)))
+            elif word == "--bad":
+                given.skips_bad = value == "skip"
+            elif word == "--silence":
+                given.silence = int(value)
+            else:
+                assert word == "--format", word
+        return given
+
+    def heard(self):
+        return Listener() if self.listens else Station(self.name, self.address)
+
+    def shows(self, to):
+        """A station lists what went to all or to it."""
+        return not self.listens or self.address is None or to in (GLOBAL, self.address)
+
+
+class Run:
+    """Equal entries that came one after the other: what they show, where they went, how many, when the first and the last were complete."""
+
+    def __init__(self, shown, to, contested, time):
+        self.shown, self.to, self.contested, self.first, self.last, self.times = shown, to, contested, time, time, 1
+
+    def words(self, listens):
+        """A listener says to whom it went, where that is not to all."""
+        to = f" to {self.to}" if listens and self.to != GLOBAL else ""
+        return f"{lamp_words(self.shown[0])}; {code_words(self.shown[1])}" + (" contested" if self.contested else "") + to
+
+    def object(self, listens):
+        to = {"to": self.to} if listens and self.to != GLOBAL else {}
+        return shown_object(self.shown) | {"contested": self.contested} | to
+
+
+def is_same(one, other):
+    return one[0] == other[0] and [code.data() for code in one[1]] == [code.data() for code in other[1]]
+
+
+class Packets:
+    """When the last frame of each message came that was announced with a time; None once a packet of it came too late."""
+
+    def __init__(self, silence):
+        self.most, self.last = silence * 1000, {}
+
+    def is_late(self, message, time):
+        """A packet is late that comes more than that after the frame before it, and so is each behind it, until a message is announced."""
+        if not self.most:
+            return False
+        if message not in self.last:
+            reach("a packet of a message that was announced without a time")
+            return False
+        last = self.last[message]
+        if last is None:
+            reach("a packet behind a late one")
+            return True
+        if time is None:
+            reach("a packet without a time")
+            return False
+        if time - last > self.most:
+            reach("a late packet")
+            self.last[message] = None
+            return True
+        self.last[message] = time
+        return False
+
+    def announce(self, message, time):
+        self.last.pop(message, None)
+        if time is not None:
+            self.last[message] = time
+
+
+class Watch:
+    """What was read, and what is written of it, in text and in JSON."""
+
+    def __init__(self, options):
+        self.options, self.bus, self.heard = options, options.bus, options.heard()
+        self.packets = Packets(options.silence)
+        self.counts = dict.fromkeys([*COUNTS, "not_attributed"], 0)
+        self.now = None  # the time of the newest line of the bus that has one
+        self.runs = {}  # of each NAME and kind
+        self.taken_over = {}  # of each address the time at which a claim last took it from another NAME
+        self.told_unowned = set()
+        self.text, self.objects, self.errors = [], [], []
+        for address, name in options.assumed:
+            reach("an owner is assumed")
+            self.tell(0, self.heard.take(claim(name, address)))
+
+    # ---- what a line is to the bus
+
+    def is_watched(self, bus):
+        """A line without a bus is of none. The first one that is named is watched where none was given."""
+        if bus is None:
+            reach("a line of no bus")
+            self.counts["note"] += 1
+            return False
+        if self.bus is None:
+            reach("the first bus that a line names is watched")
+            self.bus = bus
+        if bus != self.bus:
+            reach("a line of another bus")
+            self.counts["other_bus"] += 1
+        return bus == self.bus
+
+    def pass_time(self, time):
+        if time is not None:
+            if self.now is not None and time <= self.now:
+                reach("a time that " + ("jumped back" if time < self.now else "is as before"))
+            self.now = time
+
+    def hear(self, number, line):
+        self.counts["all"] += 1
+        if line.kind == "frame" and self.is_watched(line.bus):
+            self.counts["frame"] += 1
+            self.pass_time(line.time)
+            self.hear_frame(number, line.what, line.time)
+        elif line.kind == "overflow" and self.is_watched(line.bus):
+            self.counts["error"] += 1
+            self.pass_time(line.time)
+            self.tell(number, self.heard.take_gap(1))
+        elif line.kind == "foreign" and self.is_watched(line.bus):
+            self.counts[FOREIGN[line.what]] += 1
+        elif line.kind == "dropped":
+            self.hear_drops(number, line)
+        elif line.kind == "note":
+            self.counts["note"] += 1
+        elif line.kind == "bad":
+            self.hear_bad(number, line.what)
+
+    def hear_drops(self, number, line):
+        """They may have been of the watched bus unless another one is named."""
+        if None not in (self.bus, line.bus) and line.bus != self.bus:
+            reach("frames were dropped on another bus")
+            return
+        self.counts["drop"] += 1
+        self.tell(number, self.heard.take_gap(line.what))
+
+    def hear_bad(self, number, reason):
+        """It may have been a claim, of any bus: a missed frame, unless bad lines are to be passed over."""
+        self.counts["bad"] += 1
+        self.errors.append(f"line {number}: {reason}\n")
+        reach("a bad line is " + ("passed over" if self.options.skips_bad else "a missed frame"))
+        if not self.options.skips_bad:
+            self.tell(number, self.heard.take_gap(1))
+
+    def hear_frame(self, number, frame, time):
+        """What is announced to all, or to one whose sessions are joined, has its times looked at (T1)."""
+        is_followed = frame.dest == GLOBAL or self.heard.joins_sessions_to(frame.dest)
+        if frame.pgn == PACKET and is_followed and self.packets.is_late(self.heard.message_of(frame.source, frame.dest), time):
+            self.counts["withheld"] += 1
+            return
+        self.tell(number, self.heard.take(frame))
+        if is_followed and control_of(frame) == (BAM if frame.dest == GLOBAL else RTS):
+            self.packets.announce(self.heard.message_of(frame.source, frame.dest), time)
+
+    # ---- what is told
+
+    def tell(self, number, changes):
+        for what, *of in changes:
+            {"displaced": self.displaced, "unit": self.tell_unit, "lost": self.tell_lost, "entry": self.tell_entry, "missed": self.tell_missed,
+             "unowned": self.tell_unowned, "ack": self.tell_ack, "unread": self.tell_unread}[what](number, *of)
+
+    def write(self, number, event, words, **told):
+        if self.now is None:
+            reach("an event before any time")
+        time = None if self.now is None else time_text(self.now)
+        self.text.append(f"{time or '-'} {words}\n")
+        self.objects.append(dumped({"line": number, "time": time, "event": event, **told}) + "\n")
+
+    def displaced(self, _, source):
+        """Told of by the entries that come soon after."""
+        self.taken_over[source] = self.now
+
+    def tell_unit(self, number, name, source):
+        self.told_unowned.discard(source)
+        self.write(number, "unit", f"unit {name_text(name)} at {source}", name=name_text(name), address=source)
+
+    def tell_lost(self, number, name):
+        self.write(number, "unit", f"unit {name_text(name)} has no address", name=name_text(name), address=None)
+
+    def tell_missed(self, number, count):
+        """With the owners all is forgotten that was told of addresses."""
+        self.taken_over.clear()
+        self.told_unowned.clear()
+        self.write(number, "missed", f"missed {count}: no owner is known until units claim again ({UNITS_CLAIM})", count=count)
+
+    def tell_unowned(self, number, source, counts=True):
+        """Once of an address, until somebody claims it or frames are missed."""
+        self.counts["not_attributed"] += counts
+        reach(("not told again" if source in self.told_unowned else "told") + " of an address without owner")
+        if source not in self.told_unowned:
+            self.told_unowned.add(source)
+            self.write(number, "unowned", f"unowned DM from {source}, which nobody has claimed in what was read: not shown", address=source)
+
+    def tell_ack(self, number, name, control, pgn, requester, to):
+        """A listener hears those to others too, and shows all, or those to the one address whose messages are shown."""
+        if self.options.listens and self.options.address not in (None, requester, to):
+            reach("an acknowledgment to another address than the one that is shown")
+            return
+        self.write(number, "ack", f"ack {name_text(name)} control {control} of {pgn}", name=name_text(name), control=control, pgn=pgn)
+
+    def tell_unread(self, number, count, who, how):
+        self.counts["not_attributed"] += isinstance(who, Unclaimed) and how == "single frame"
+        self.write(number, "unread", f"unread {count}", count=count)
+
+    def is_contested(self, source):
+        """Whether a claim took the address from another NAME less than 250 ms before."""
+        if source not in self.taken_over:
+            return False
+        if self.taken_over[source] is None:
+            reach("an entry of an address that was taken over by a line without a time")
+            return False
+        contested = self.now - self.taken_over[source] < CONTEST
+        reach("a contested entry" if contested else "an entry of an address that was taken over 250 ms ago or more")
+        return contested
+
+    def tell_entry(self, number, who, kind, source, to, shown, how):
+        """Only where it is not equal to the one before it, or of those two one alone is contested, or they went to different addresses."""
+        if isinstance(who, Unclaimed) and not self.options.lists_unclaimed:
+            self.tell_unowned(number, source, how == "single frame")
+            return
+        self.counts["not_attributed"] += isinstance(who, Unclaimed) and how == "single frame"
+        if not self.options.shows(to):
+            reach("an entry to another address than the one that is shown")
+            return
+        runs, contested = self.runs.setdefault((who, kind), []), self.is_contested(source)
+        if not runs or not is_same(runs[-1].shown, shown):
+            reach("an entry is another one than the one before it" if runs else "an entry begins a list")
+        elif self.options.listens and runs[-1].to != to:
+            reach("an entry is equal to the one before it, but went elsewhere")
+        elif runs[-1].contested != contested:
+            reach("an entry is equal to the one before it, " + ("but contested" if contested else "which was contested"))
+        else:
+            reach("an entry is equal to the one before it")
+            runs[-1].times += 1
+            runs[-1].last = self.now
+            return
+        runs.append(Run(shown, to, contested, self.now))
+        word, listens = WORD_OF[kind], self.options.listens
+        self.write(number, word, f"{word} {self.who_words(who)} {runs[-1].words(listens)}", **self.who_object(who), **runs[-1].object(listens),
+                   entry=self.entries(who, kind))
+
+    # ---- whose a message is
+
+    def address_of(self, who):
+        return who.address if isinstance(who, Unclaimed) else self.heard.address_of(who)
+
+    def who_words(self, who):
+        return f"address {who.address}, no claim seen" if isinstance(who, Unclaimed) else name_text(who)
+
+    def who_object(self, who):
+        return {"name": None if isinstance(who, Unclaimed) else name_text(who), "address": self.address_of(who)}
+
+    def rows(self):
+        """The NAMEs in the order of their first claims, then the addresses that nobody claimed, in the order of their first entries."""
+        unclaimed = dict.fromkeys(who for who, _ in self.runs if isinstance(who, Unclaimed))
+        for _ in unclaimed:
+            reach("a row of an address that nobody claimed")
+        return [*self.heard.names(), *unclaimed]
+
+    def entries(self, name, kind):
+        return sum(run.times for run in self.runs_of(name, kind))
+
+    def runs_of(self, name, kind):
+        return self.runs.get((name, kind), [])
+
+    # ---- the report
+
+    @staticmethod
+    def time(micros):
+        return None if micros is None else time_text(micros)
+
+    def is_assumed(self, who):
+        return any(assumed == who for _, assumed in self.options.assumed)
+
+    def text_row(self, who):
+        """The NAME, its address, how many messages of each kind, and of the newest DM1 the lamps and how many codes."""
+        address, newest = self.address_of(who), self.runs_of(who, KINDS["dm1"])[-1:]
+        if address is None:
+            reach("a row without an address")
+        if not newest:
+            reach("a row without a DM1")
+        if self.is_assumed(who):
+            reach("a row of a NAME that was assumed")
+        entries = " ".join(f"{self.entries(who, kind):6}" for kind in KINDS.values())
+        last = f"{newest[0].shown[0].hex().upper()} {len(newest[0].shown[1]):4}" if newest else "----    -"
+        if isinstance(who, Unclaimed):
+            return f"{self.who_words(who)} {entries} {last}"
+        return f"{name_text(who)} {'none' if address is None else f'{address:4}'} {entries} {last}" + (" assumed" if self.is_assumed(who) else "")
+
+    def report_text(self):
+        rows = [self.text_row(who) + "\n" for who in self.rows()]
+        counts = self.counts
+        return "".join(rows) + (
+            f"missed {self.heard.missed} unread {self.heard.unread}\n"
+            f"lines {counts['all']} frames {counts['frame']} bad {counts['bad']}; "
+            f"not J1939: 11-bit {counts['short']}, remote {counts['remote']}, CAN FD {counts['fd']}, error {counts['error']}; "
+            f"other bus {counts['other_bus']}; not attributed {counts['not_attributed']}"
+        ) + (f"; withheld {counts['withheld']}" if counts["withheld"] else "") + "\n"
+
+    def row_object(self, who):
+        row, listens = self.who_object(who) | ({"assumed": True} if self.is_assumed(who) else {}), self.options.listens
+        for word, kind in KINDS.items():
+            row[word] = [{"times": run.times, "first": self.time(run.first), "last": self.time(run.last), **run.object(listens)}
+                         for run in self.runs_of(who, kind)]
+        return row
+
+    def report_object(self):
+        return dumped({"event": "report", "rows": [self.row_object(who) for who in self.rows()], "missed": self.heard.missed,
+                       "unread": self.heard.unread, "lines": {key: self.counts[key] for key in COUNTS}, "not_attributed": self.counts["not_attributed"],
+                       "not_sent": self.heard.not_sent}) + "\n"
+
+    def report_rows(self):
+        """A row for each code of each run; without a code one for the run, and without entries one for the NAME."""
+        return HEADER + (",to" if self.options.listens else "") + "\n" + "".join(",".join(row) + "\n" for who in self.rows() for row in self.rows_of(who))
+
+    def rows_of(self, who):
+        address, found = self.address_of(who), False
+        before = ["" if isinstance(who, Unclaimed) else name_text(who), "" if address is None else str(address)]
+        for word, kind in KINDS.items():
+            for run in self.runs_of(who, kind):
+                found = True
+                times = ["" if time is None else time_text(time) for time in (run.first, run.last)]
+                to = ["" if run.to == GLOBAL else str(run.to)] if self.options.listens else []
+                for code in run.shown[1] or [None]:
+                    yield [*before, word, *times, str(run.times), run.shown[0].hex().upper(), *self.code_values(code), "true" if run.contested else "false", *to]
+        if not found:
+            reach("a row without entries")
+            yield before + [""] * (10 if self.options.listens else 9)
+
+    @staticmethod
+    def code_values(code):
+        if code is None:
+            return ["", "", ""]
+        if code.count == NOT_AVAILABLE:
+            reach("a count that is not available")
+        return [str(code.spn), str(code.fmi), "" if code.count == NOT_AVAILABLE else str(code.count)]
+
+
+def watched(lines, options):
+    """What is written of lines in text, JSON and CSV, what is told of bad ones, and the status."""
+    watch = Watch(options)
+    for number, line in enumerate(lines, 1):
+        watch.hear(number, line)
+        if line.kind == "bad" and options.strict:
+            reach("a bad line ends a strict run")
+            break
+    text = "".join(watch.text) + watch.report_text()
+    return {"text": text, "json": "".join(watch.objects) + watch.report_object(), "csv": watch.report_rows()}, "".join(watch.errors), 3 if watch.errors else 0

@@ -1,0 +1,167 @@
+"""What a frame says in words, and what stands of it in JSON: lamps, codes, NAMEs, groups (J1939-21, -73, -81)."""
+
+import json
+
+from .frames import (ABORT, ACKNOWLEDGMENT, BAM, CLAIM, COMMANDED_ADDRESS, CONTROL, CTS, DM3, DM11, END_OF_MESSAGE, GLOBAL, NULL, PACKET, REQUEST, RTS,
+                     TITLES, claimed_name, control_of, control_pgn, control_size, number, requested)
+from .log_cases import reach
+from .memory import read_message
+
+NOT_AVAILABLE = 127  # the occurrence count that says so
+LAMPS = [("mil", 6), ("stop", 4), ("amber", 2), ("protect", 0)]  # where the two bits of each stand, in the lamps' byte and in that of flashes
+FLASHES = {0: " flashing slowly", 1: " flashing fast"}
+GROUPS = {ACKNOWLEDGMENT: "ack", REQUEST: "request", PACKET: "TP.DT", CONTROL: "TP.CM", CLAIM: "claim", **TITLES, DM3: "DM3", DM11: "DM11",
+          COMMANDED_ADDRESS: "commanded address"}
+# Groups of engine, vehicle and driveline data (J1939-71), by the names of public documents.
+DATA_GROUPS = {
+    0: "TSC1 torque/speed control 1", 256: "TC1 transmission control 1", 61440: "ERC1 electronic retarder controller 1",
+    61441: "EBC1 electronic brake controller 1", 61442: "ETC1 electronic transmission controller 1", 61443: "EEC2 electronic engine controller 2",
+    61444: "EEC1 electronic engine controller 1", 61445: "ETC2 electronic transmission controller 2", 65132: "TCO1 tachograph",
+    65215: "EBC2 wheel speed information", 65217: "VDHR high resolution vehicle distance", 65242: "SOFT software identification",
+    65247: "EEC3 electronic engine controller 3", 65248: "VD vehicle distance", 65251: "EC1 engine configuration 1",
+    65253: "HOURS engine hours, revolutions", 65254: "TD time/date", 65257: "LFC fuel consumption (liquid)", 65259: "CI component identification",
+    65260: "VI vehicle identification", 65262: "ET1 engine temperature 1", 65263: "EFL/P1 engine fluid level/pressure 1",
+    65265: "CCVS1 cruise control/vehicle speed 1", 65266: "LFE1 fuel economy (liquid)", 65267: "VP vehicle position", 65269: "AMB ambient conditions",
+    65270: "IC1 intake/exhaust conditions 1", 65271: "VEP1 vehicle electrical power 1", 65272: "TRF1 transmission fluids 1", 65276: "DD1 dash display 1",
+}
+ANSWERS = {0: "positive", 1: "negative", 2: "access denied", 3: "cannot respond now"}
+
+dumped = json.JSONEncoder(ensure_ascii=False, separators=(",", ":")).encode
+
+
+def lamp_words(lamps):
+    """The lamps that are on (01), each with how it flashes (00 slowly, 01 fast) (J1939-73, 5.7.1)."""
+    on = [word + FLASHES.get(lamps[1] >> at & 3, "") for word, at in LAMPS if lamps[0] >> at & 3 == 1]
+    return ", ".join(on) or "no lamp"
+
+
+def code_words(codes):
+    return " ".join(code.text() for code in codes) or "-"
+
+
+def code_object(code, text=None):
+    count = {} if text is None else {"text": text}
+    return {"spn": code.spn, "fmi": code.fmi, "count": None if code.count == NOT_AVAILABLE else code.count, **count}
+
+
+def shown_words(shown, people):
+    lamps, codes = shown
+    return lamp_words(lamps) + (f" ({lamps.hex().upper()})" if people else "") + f"; {code_words(codes)}"
+
+
+def shown_object(shown):
+    lamps, codes = shown
+    return {"lamps": lamps.hex().upper(), "codes": [code_object(code) for code in codes]}
+
+
+def fault_of(payload):
+    """Why a DM1, DM2 or DM6 can't be read: its length, or what the first group at fault has."""
+    if len(payload) != 8 and (len(payload) < 10 or len(payload) > 1782 or len(payload) % 4 != 2):
+        return "bad length"
+    groups = [payload[2:6]] if len(payload) == 8 else [payload[at : at + 4] for at in range(2, len(payload), 4)]
+    return next("old conversion" if group[3] > 127 else "a code of zeros" for group in groups if group[3] > 127 or group == bytes(4))
+
+
+def name_text(name):
+    return f"{name:016X}"
+
+
+def name_fields(name):
+    """The fields of a NAME, from its highest bit on (J1939-81, 4.1.1); one bit between system and function is reserved."""
+    fields, at = {}, 64
+    for key, bits in (("arbitrary_capable", 1), ("industry_group", 3), ("system_instance", 4), ("vehicle_system", 7), (None, 1), ("function", 8),
+                      ("function_instance", 5), ("ecu_instance", 3), ("manufacturer", 11), ("identity", 21)):
+        at -= bits
+        if key:
+            fields[key] = name >> at & (1 << bits) - 1
+    return fields
+
+
+def name_words(word, name):
+    fields = name_fields(name)
+    return (f"{word}: NAME {name_text(name)}, function {fields['function']}.{fields['function_instance']}, ECU {fields['ecu_instance']}, "
+            f"manufacturer {fields['manufacturer']}, identity {fields['identity']}, industry {fields['industry_group']}, "
+            f"system {fields['vehicle_system']}.{fields['system_instance']}" + (", takes any address" if fields["arbitrary_capable"] else ""))
+
+
+def group_name(pgn, people):
+    """The name of a group; those of data are told to people alone, since programs know the words that stood there before."""
+    return (DATA_GROUPS.get(pgn) if people else None) or GROUPS.get(pgn)
+
+
+def group_words(pgn, people):
+    name = group_name(pgn, people)
+    return f"{pgn} ({name})" if name else str(pgn)
+
+
+def address_words(address, people):
+    """For people in decimal, with the two hexadecimal digits behind where they differ; for programs these digits alone."""
+    if address == GLOBAL:
+        return "all"
+    return f"{address:02X}" if not people else str(address) if address < 10 else f"{address}({address:02X})"
+
+
+def byte_words(data):
+    return "".join(f" {byte:02X}" for byte in data)
+
+
+def control_words(frame, people):
+    """A connection management message that can be read (J1939-21, 5.10.3)."""
+    data, what = frame.data, control_of(frame)
+    if what == RTS:
+        reach("says: RTS")
+        told = f"RTS {control_size(frame)} bytes in {data[3]} packets, at most {data[4]} at once,"
+    elif what == CTS:
+        reach("says: CTS")
+        told = f"CTS {data[1]} packets from {data[2]} on,"
+    elif what == END_OF_MESSAGE:
+        reach("says: the end")
+        told = f"all {control_size(frame)} bytes in {data[3]} packets came,"
+    elif what == BAM:
+        reach("says: BAM")
+        told = f"BAM {control_size(frame)} bytes in {data[3]} packets"
+    else:
+        assert what == ABORT
+        reach("says: abort")
+        told = f"abort for reason {data[1]},"
+    return f"TP.CM: {told} of {group_words(control_pgn(frame), people)}"
+
+
+def packet_words(data):
+    if not data:
+        reach("says: empty packet")
+        return "TP.DT: empty"
+    reach("says: packet")
+    return f"TP.DT: packet {data[0]}:{byte_words(data[1:])}"
+
+
+def message_words(frame, people):
+    """The name of a frame's group, and what it tells; of any other frame its data. For people or for programs."""
+    pgn, data = frame.pgn, frame.data
+    if claimed_name(frame) is not None:
+        word = "cannot claim" if frame.source == NULL else "claim"
+        reach("says: " + word)
+        return name_words(word, claimed_name(frame))
+    if requested(frame) is not None:
+        reach("says: request")
+        return f"request: of {group_words(requested(frame), people)}"
+    if pgn == ACKNOWLEDGMENT and len(data) == 8:
+        reach("says: acknowledgment")
+        return f"ack: {ANSWERS.get(data[0], f'control {data[0]}')}, to {address_words(data[4], people)}, of {group_words(number(data[5:8]), people)}"
+    if pgn in TITLES:
+        shown = read_message(data)
+        if shown:
+            reach("says: " + TITLES[pgn])
+            return f"{TITLES[pgn]}: {shown_words(shown, people)}"
+        reach("says: cannot be read, " + fault_of(data))  # (never four zeros among several groups, which one frame has no room for)
+        return f"{TITLES[pgn]}: cannot be read: {fault_of(data)}"
+    if control_of(frame) is not None:
+        return control_words(frame, people)
+    if pgn == PACKET:
+        return packet_words(data)
+    reach("says: data of a group with" + ("" if pgn in GROUPS else "out") + " a name")
+    return f"{group_name(pgn, people) or '-'}: data{byte_words(data)}"
+
+
+def time_text(micros):
+    return f"{micros // 1000000}.{micros % 1000000:06d}"

@@ -1,0 +1,162 @@
+"""Each refusal raises its name and number, and changes nothing; so do numbers beyond the library's types, and data that is none."""
+
+import copy
+import pickle
+import re
+
+import hidzgula
+from hidzgula import DM1, Frame, Refused, Station
+from hidzgula.refusals import OUT_OF_MEMORY, REFUSALS
+from tries import TOP, all_told, raised, same, sums
+
+A0 = bytes([0xA0] + 7 * [0])
+DATA = bytes.fromhex("04FFB8040301FFFF")
+seen = set()
+
+
+def refused(what, name, call, *words, **named):
+    """A call is refused by this name, with its number."""
+    error = raised(call, *words, **named)
+    seen.add(name)
+    number = [number for number, (called, _) in REFUSALS.items() if called == name]
+    same(what, (type(error), getattr(error, "name", None), [getattr(error, "number", None)]), (Refused, name, number))
+    same(f"{what}, a ValueError", isinstance(error, ValueError), True)
+    same(f"{what}, in words", str(error).startswith(f"{name} ("), True)
+    return error
+
+
+def wrong(what, call, *words, **named):
+    """A number that no type of the library holds."""
+    same(what, type(raised(call, *words, **named)), ValueError)
+
+
+def by_arguments(station):
+    before = all_told(station)
+    for id in (2**29, 2**32 - 1, 2**32, 2**70):
+        refused(f"identifier {id}", "ID_TOO_LARGE", station.take, id, DATA)
+        refused(f"identifier {id}, too long", "ID_TOO_LARGE", station.take, id, bytes(9))
+    for length in (9, 255, 256, 70000):
+        refused(f"{length} bytes", "TOO_LONG", station.take, 0x18FECA07, bytes(length))
+    for pgn in (2**24, 2**32 - 1, 2**32, 2**70):
+        refused(f"group {pgn}", "PGN_TOO_LARGE", station.ask, 0xA0, pgn)
+        refused(f"group {pgn} of all", "PGN_TOO_LARGE", station.ask_all, pgn)
+    refused("an unknown NAME", "NO_ADDRESS", station.ask, 0xA1, hidzgula.PGN_DM1)
+    for address in (254, 255, 256, 2**70):
+        refused(f"to address {address}", "NOT_AN_ADDRESS", station.command, 0xA0, address)
+        refused(f"at address {address}", "BAD_SETTING", Station, 1, address)
+        refused(f"at address {address}, listening", "BAD_SETTING", Station, 1, address, listening=True)
+    refused("grant 0", "BAD_SETTING", Station, 1, 1, grant=0)
+    for kind in (0, 3, 4, 5, 7, 255, 256, 2**70):
+        refused(f"kind {kind}", "NO_KIND", station.messages, 0xA0, kind)
+        refused(f"kind {kind}", "NO_KIND", station.count, 0xA0, kind)
+        refused(f"kind {kind}", "NO_KIND", station.newest, 0xA0, kind)
+        refused(f"kind {kind}", "NO_KIND", station.message, 0xA0, kind, 0)
+    for place in (4, 2**64 - 1, 2**64):
+        refused(f"place {place}", "NO_PLACE", station.message, 0xA0, DM1, place)
+    refused("kept no longer", "NOT_KEPT", station.message, 0xA0, DM1, 0)
+    same("nothing is changed", all_told(station), before)
+
+
+def beyond_types(station):
+    before = all_told(station)
+    for name in (2**64, -1):
+        wrong(f"NAME {name}", Station, name, 1)
+        wrong(f"NAME {name}", station.ask, name, 1)
+        wrong(f"NAME {name}", station.command, name, 1)
+        wrong(f"NAME {name}", station.messages, name, DM1)
+    wrong("a negative identifier", station.take, -1, DATA)
+    wrong("a negative address", Station, 1, -1)
+    wrong("a negative kind", station.count, 0xA0, -1)
+    wrong("a negative place", station.message, 0xA0, DM1, -1)
+    wrong("a negative group", station.ask_all, -1)
+    wrong("a negative identifier in a row", station.take_frames, [(0x18FECA07, DATA), (-1, DATA)])
+    wrong("grant 256", Station, 1, 1, grant=256)
+    wrong("keep 2^32", Station, 1, 1, keep=2**32)
+    wrong("a negative gap", station.missed, -1)
+    wrong("a gap of 2^32", station.missed, 2**32)
+    wrong("from behind the end", station.take_frames, [], 1)
+    for data in ("text", 5, None, [1, 2]):
+        same(f"data {data!r}", type(raised(station.take, 0x18FECA07, data)), TypeError)
+        same(f"data {data!r} in a row", type(raised(station.take_frames, [(0x18FECA07, DATA), (0x18FECA07, data)])), TypeError)
+    same("an identifier that is none", type(raised(station.take, "18FECA07", DATA)), AttributeError)
+    same("a pair that is none", isinstance(raised(station.take_frames, [(0x18FECA07, DATA), 5]), TypeError), True)
+    same("a copy", [type(raised(it, station)) for it in (copy.copy, copy.deepcopy, pickle.dumps)], 3 * [TypeError])
+    same("nothing is changed", all_told(station), before)
+
+
+def in_a_row():
+    """The frames before the refused one are taken, and the error tells of them; the caller goes on behind it."""
+    frames = [Frame(0x18EEFF07, A0), *[Frame(0x18FECA07, DATA)] * 5000]
+    for place in (0, 1, 77, 4095, 4096, 4097, 5000):
+        for name, bad in (("ID_TOO_LARGE", (2**29, DATA)), ("ID_TOO_LARGE", (2**33, bytes(300))), ("TOO_LONG", (1, bytes(9))), ("TOO_LONG", (1, bytes(300)))):
+            with Station(1, 248, keep=5) as station, Station(1, 248, keep=5) as other:
+                error = refused(f"at {place}", name, station.take_frames, [*frames[:place], bad, *frames[place:]])
+                same("what is before it is taken", (error.taken.count, len(error.taken.changes)), (place, place))
+                other.take_frames(frames[:place])
+                same("and nothing else", all_told(station), all_told(other))
+                same("it goes on", station.take_frames(frames, place).count, len(frames) - place)
+                other.take_frames(frames, place)
+                same("to the same end", all_told(station), all_told(other))
+
+
+def without_address():
+    with Station(1, 248) as station:
+        station.take(0x18EEFF07, A0)
+        station.take(0x18EEFFF8, bytes(8))
+        same("it holds none", station.address, None)
+        refused("asks", "NOT_HELD", station.ask, 0xA0, hidzgula.PGN_DM1)
+        refused("asks all", "NOT_HELD", station.ask_all, hidzgula.PGN_DM1)
+        refused("commands", "NOT_HELD", station.command, 0xA0, 9)
+
+
+def closed():
+    station = Station(1, 248)
+    station.close()
+    station.close()
+    for call, words in (
+        (station.take, (0, b"")),
+        (station.take_frames, ([],)),
+        (station.take_frames, ([(0, b"")],)),
+        (station.take_frames, ([(2**29, b"")],)),
+        (station.missed, (1,)),
+        (station.claim, ()),
+        (station.ask, (0xA0, 1)),
+        (station.ask_all, (1,)),
+        (station.command, (0xA0, 9)),
+        (station.units, ()),
+        (station.count, (0xA0, DM1)),
+        (station.messages, (0xA0, DM1)),
+        (station.newest, (0xA0, DM1)),
+        (station.message, (0xA0, DM1, 0)),
+        (station.counts, ()),
+        (lambda: station.address, ()),
+    ):
+        refused(f"closed {call}", "NO_STATION", call, *words)
+    with Station(1, 248) as left:
+        pass
+    refused("left", "NO_STATION", left.counts)
+
+
+def numbers():
+    """Each refusal of the header stands here, under its number."""
+    header = (TOP / "c/hidzgula_station.h").read_text()
+    answers = header[header.index("HIDZGULA_DONE = 0") : header.index("/* The kinds of diagnostic messages")]
+    wanted = {int(number): name for name, number in re.findall(r"HIDZGULA_(\w+) = (\d+)", answers) if name != "DONE"}
+    same("the numbers", {number: name for number, (name, _) in REFUSALS.items()}, wanted)
+    # HAS_STATION would be an open of a handle that a Station has open already, which no call does
+    same("each is seen", seen, set(wanted.values()) - {"OUT_OF_MEMORY", "HAS_STATION"})
+    same("of memory", (REFUSALS[OUT_OF_MEMORY][0], issubclass(hidzgula.OutOfMemory, MemoryError)), ("OUT_OF_MEMORY", True))
+    same("an unknown one", Refused(99).name, "UNKNOWN")
+
+
+with Station(1, 248, keep=3) as station:
+    station.take(0x18EEFF07, A0)
+    for _ in range(4):
+        station.take(0x18FECA07, DATA)
+    by_arguments(station)
+    beyond_types(station)
+in_a_row()
+without_address()
+closed()
+numbers()
+sums()

@@ -1,0 +1,82 @@
+"""The logs of tests/logs/whole: of each all that `watch` and `decode` write of it is stored, made by hand from the rules.
+
+NAME.log is the log, NAME.words are the words behind `watch`; NAME.watch.txt, .watch.json, .watch.csv, .decode.txt and .decode.json are what is
+written, NAME.errors is what both tell of bad lines. Where a listener stands behind `watch`, it is NAME.listening.txt and so on. `every-event` has each event, each count and each form of a line, with numbers
+that differ, so that no two of them can be taken for each other.
+"""
+
+import pathlib
+import sys
+
+TOP = pathlib.Path(__file__).resolve().parent.parent
+sys.path.insert(0, str(TOP / "tests"))
+
+from model import decode, log_line, watch  # noqa: E402
+
+FOLDER = TOP / "tests/logs/whole"
+FORMS = {"watch": {"text": "txt", "json": "json", "csv": "csv"}, "decode": {"text": "txt", "json": "json"}}
+
+
+def names():
+    return sorted(log.stem for log in FOLDER.glob("*.log"))
+
+
+def stored(name, what):
+    return (FOLDER / f"{name}.{what}").read_bytes()
+
+
+def words_of(name):
+    return stored(name, "words").decode().split()
+
+
+def wanted(name, listens):
+    """The command, its words, and the status, output and standard error that it is to give."""
+    errors = stored(name, "errors")
+    for command, forms in FORMS.items():
+        file = "listening" if listens and command == "watch" else command
+        for form, ending in forms.items():
+            words = [command, *(words_of(name) if command == "watch" else []), "--format", form]
+            yield words, (3 if errors else 0, stored(name, f"{file}.{ending}").decode(), errors.decode())
+
+
+def by_model(name, listens):
+    """The same by the model."""
+    lines = log_line.read_lines(stored(name, "log"))
+    for command, (texts, errors, status) in (("watch", watch.watched(lines, watch.Options.of(words_of(name), listens))), ("decode", decode.decoded(lines))):
+        for form in FORMS[command]:
+            yield status, texts[form], errors
+
+
+def tries(run, same):
+    """A name, and what says how a log differs, for each log; of those of examples/logs the changes, which the model has to tell too."""
+    changes = sorted((TOP / "tests/logs").glob("*.changes"))
+    return [(f"whole {name}", lambda name=name: differences(name, run, same)) for name in names()] + [
+        (f"changes of {it.stem} by the model", lambda it=it: changes_differ(it, same)) for it in changes]
+
+
+def changes_differ(file, same):
+    """The changes and the report, those of one moment in any order, as tests/run_logs has the program tell them."""
+    log = (TOP / "examples/logs" / f"{file.stem}.log").read_bytes()
+    texts, errors, status = watch.watched(log_line.read_lines(log), watch.Options.of(["--silence", "0", "--address", "248"], watch.PROGRAM_LISTENS))
+    lines = [line.removesuffix(" contested") for line in texts["text"].splitlines()]
+    return same(sorted(lines), sorted(file.read_text().splitlines()), "lines") + same((errors, status), ("", 0), "standard error and status")
+
+
+def differences(name, run, same):
+    """What of a log's stored bytes the program or the model does not write, which has a station and a listener. `run` and `same` are those of
+    tests/run_logs."""
+    found, log = [], stored(name, "log")
+    for listens in (False, True):
+        for (words, wanted_of_it), models in zip(wanted(name, listens), by_model(name, listens), strict=True):
+            found += differing("the model's " + " ".join(words), models, wanted_of_it, same)
+            if listens == watch.PROGRAM_LISTENS:
+                found += differing(" ".join(words), run(words, log), wanted_of_it, same)
+    return found
+
+
+def differing(what, given, wanted_of_it, same):
+    status, out, err = given
+    lines, wanted_lines = out.split("\n"), wanted_of_it[1].split("\n")
+    return same(status, wanted_of_it[0], what) + same(err, wanted_of_it[2], what) + [
+        text for at, pair in enumerate(zip(lines, wanted_lines), 1) for text in same(*pair, f"{what}, line {at}")
+    ] + same(len(lines), len(wanted_lines), f"lines of {what}")

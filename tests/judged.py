@@ -1,16 +1,16 @@
-"""Which edits were judged, and of what files: the lines of tests/judged, one for each crate whose edits were all refused.
+"""Which edits were refused, and of what files: the lines of tests/judged, one for each edit.
 
-A line has the crate, how many edits, and a sum of what their verdict rests on: the crate's own files and edits, and the definitions of
-the crates below it. (What else a crate below is made of can make this one fail its proof, and not an edit of it pass.)
+A line has the edit and a sum of what its verdict rests on: the edit, its crate's own files, and the definitions of the crates below. (What
+else a crate below is made of can make this one fail its proof, and not an edit of it pass.)
 """
 import hashlib
 import os
 
 TOP = os.path.dirname(os.path.dirname(os.path.realpath(__file__)))
 RECORD = f"{TOP}/tests/judged"
-OWN = ("src", "specs", "proofs", "edits")
+OWN = ("src", "specs", "proofs")
 HEAD = """\
-# The crates whose edits were all refused: how many they were, and a sum of the files that this rests on. tests/judge_edits --record writes it.
+# The edits that the prover refused, each with a sum of the files that this rests on. tests/judge_edits --record writes it.
 """
 
 
@@ -18,39 +18,44 @@ def files_below(folder):
     return sorted(f"{at}/{it}" for at, _, files in os.walk(folder) for it in files)
 
 
-def sum_of(crate, below):
-    """The sum of a crate's files and edits, and of the definitions of the crates below it."""
+def sums_of(crate, below):
+    """Of each edit of a crate the sum of itself, of the crate's files, and of the definitions of the crates below it."""
     folders = [f"crates/{crate}/{part}" for part in OWN] + [f"crates/{it}/specs" for it in sorted(below)]
     made = hashlib.sha256()
     for path in [path for folder in folders for path in files_below(f"{TOP}/{folder}")]:
-        with open(path, "rb") as it:
-            content = it.read()
-        made.update(f"{os.path.relpath(path, TOP)} {len(content)}\n".encode() + content)
-    return made.hexdigest()[:32]
+        add(made, path)
+    found = {}
+    for path in files_below(f"{TOP}/crates/{crate}/edits"):
+        one = made.copy()
+        add(one, path)
+        found[f"{crate}/{os.path.basename(path).removesuffix('.edit')}"] = one.hexdigest()[:16]
+    return found
+
+
+def add(made, path):
+    with open(path, "rb") as it:
+        content = it.read()
+    made.update(f"{os.path.relpath(path, TOP)} {len(content)}\n".encode() + content)
 
 
 def read():
-    """The sum of each crate on record."""
+    """The sum of each edit on record."""
     try:
         with open(RECORD, encoding="utf-8") as it:
-            rows = [line.split() for line in it if not line.startswith("#")]
+            return dict(line.split() for line in it if not line.startswith("#"))
     except FileNotFoundError:
         return {}
-    return {crate: made for crate, _, made in rows}
 
 
-def write(found, crates):
-    """Notes crates with their number of edits and their sum; lines of crates that have no edits any more go."""
-    rows = {}
-    if os.path.exists(RECORD):
-        with open(RECORD, encoding="utf-8") as it:
-            rows = {line.split()[0]: line for line in it if not line.startswith("#")}
-    rows.update({crate: f"{crate} {count} {made}\n" for crate, (count, made) in found.items()})
-    with open(RECORD, "w", encoding="utf-8") as it:
-        it.writelines([HEAD, *[rows[crate] for crate in sorted(rows) if crate in crates]])
+def write(found, edits):
+    """Notes edits with their sums. Of the lines that were there, those of edits that are no more go."""
+    rows = {**read(), **found}
+    with open(f"{RECORD}.new", "w", encoding="utf-8") as it:
+        it.writelines([HEAD, *[f"{edit} {rows[edit]}\n" for edit in sorted(rows) if edit in edits]])
+    os.replace(f"{RECORD}.new", RECORD)
 
 
-def in_turn(crate, sums, names):
-    """One of a crate's edits, another one for each state of the repository."""
-    turn = hashlib.sha256("\n".join([crate, *sorted(sums.values())]).encode()).digest()
-    return names[int.from_bytes(turn, "big") % len(names)]
+def in_turn(sums):
+    """One of some edits, another one whenever a file changes that their verdicts rest on."""
+    turn = hashlib.sha256("\n".join(sums.values()).encode()).digest()
+    return sorted(sums)[int.from_bytes(turn, "big") % len(sums)]

@@ -7,15 +7,15 @@ use crate::run::Run;
 use crate::run_list::RunList;
 use candump_line::Time;
 use dm_messages::Shown;
-use indexmap::IndexMap;
 use name_field::Name;
+use name_map::NameMap;
 use std::alloc::{AllocError, Global};
 use std::marker::Model;
 
 /// The runs of the entries of one kind, by NAME.
 #[derive(Drop)]
 pub(crate) struct RunTable {
-    lists: IndexMap<Name, RunList>,
+    lists: NameMap<RunList>,
 }
 
 impl Model for RunTable {
@@ -24,7 +24,7 @@ impl Model for RunTable {
 
     ghost Value = { List (ℕ × List Run) };
 
-    ghost view = { λ t. t.lists.entries };
+    ghost view = { λ t. t.lists };
 }
 
 impl RunTable {
@@ -33,7 +33,7 @@ impl RunTable {
         ensures { result ≡ [] }
     {
         RunTable {
-            lists: IndexMap::new(alloc),
+            lists: NameMap::new(alloc),
         }
     }
 
@@ -41,7 +41,7 @@ impl RunTable {
     pub(crate) fn runs(&self, name: Name) -> &[Run]
         ensures { result.now ≡ runs_of self.now name }
     {
-        match self.lists.get(&name) {
+        match self.lists.get(name) {
             Some(list) => list.runs(),
             None => &[],
         }
@@ -51,7 +51,7 @@ impl RunTable {
     pub(crate) fn entries(&self, name: Name) -> u64
         ensures { result ≡ counted (length (unrolled (runs_of self.now name))) }
     {
-        match self.lists.get(&name) {
+        match self.lists.get(name) {
             Some(list) => list.entries(),
             None => 0,
         }
@@ -72,7 +72,7 @@ impl RunTable {
         ensures begins { IfOk result (λ b. b ≡ has_begun (runs_of self.old name) (runs_of self.new name)) }
         ensures err { OnErr result (self.new ≡ self.old) }
     {
-        match self.lists.get_mut(&name) {
+        match self.lists.get_mut(name) {
             Some(list) => list.add(shown, to, time, contested),
             None => self.begin(alloc, name, shown, to, time, contested),
         }
@@ -95,7 +95,7 @@ impl RunTable {
     {
         let mut list = RunList::new(alloc);
         let begins = list.add(shown, to, time, contested)?;
-        self.lists.insert(name, list)?;
+        self.lists.push(name, list)?;
         Ok(begins)
     }
 }

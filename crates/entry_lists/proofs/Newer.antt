@@ -7,7 +7,6 @@ use Rattle.std.specs.Map.{lookup, set_value}
 use Rattle.std.proofs.lemmas.Bool.{eqb-true, ltb-true, ltb-false}
 use Rattle.std.proofs.lemmas.List.{length-append, length-drop, drop-drop, drop-append-le}
 use Rattle.std.proofs.lemmas.Map.{lookup-set_value}
-use Rattle.indexmap.specs.IndexMap.{insert_entry}
 use Rattle.dm_messages.specs.View.{same_kind}
 use Rattle.dm_messages.specs.declared.kind.Kind.{Kind}
 use Rattle.dm_messages.specs.declared.kind.Kind.TheVariants.{Dm1, Dm2, Dm6}
@@ -15,7 +14,7 @@ use Rattle.dm_messages.specs.declared.shown.Shown.{Shown}
 use Rattle.entry_lists.specs.Entries.{with_new}
 use Rattle.entry_lists.specs.Newest.{AreNewest, HasNewest, KeepsNewest, NewestKinds, NewestLists, NewestValue, newest_in, no_kinds, one_newer, with_newer, with_newest}
 use Rattle.entry_lists.specs.declared.entry.NewEntry.{NewEntry}
-use Rattle.entry_lists.proofs.Rows.{insert_new, lookup-last}
+use Rattle.name_map.proofs.Placing.{lookup-last}
 
 -- of a list with one more the newest
 newest_more : (keep : ℕ) (v : Shown) (all kept : List Shown) → kept ≡ drop (length all - keep) all
@@ -92,12 +91,12 @@ put_newest before rows e found = record { keep = refl; lists = λ all kept n k. 
 
 -- a NAME that had no lists
 pub begun : (before : NewestLists) (rows : List (ℕ × NewestKinds)) (e : NewEntry) (kinds : NewestKinds) → lookup (nat_eq e.name) before.rows ≡ None
-    → kinds ≡ with_newer before.keep e.kind e.shown no_kinds → rows ≡ insert_entry nat_eq before.rows e.name kinds
+    → kinds ≡ with_newer before.keep e.kind e.shown no_kinds → rows ≡ before.rows ++ (e.name, kinds) ∷ []
     → HasNewest before e (record { keep = before.keep; rows = rows })
 begun before rows e kinds none first added = put_newest before rows e (λ n. found n (e.name == n) refl)
   where
     there : (n : ℕ) → lookup (nat_eq n) rows ≡ (if e.name == n then Some kinds else lookup (nat_eq n) before.rows)
-    there n = ap (λ (l : List (ℕ × NewestKinds)). lookup (nat_eq n) l) (added ∙ insert_new before.rows e.name kinds none) ∙ lookup-last before.rows e.name n kinds none
+    there n = ap (λ (l : List (ℕ × NewestKinds)). lookup (nat_eq n) l) added ∙ lookup-last before.rows e.name n kinds none
 
     found : (n : ℕ) (b : Bool) → (e.name == n) ≡ b → unwrap_or (lookup (nat_eq n) rows) no_kinds
         ≡ (if b then with_newer before.keep e.kind e.shown (unwrap_or (lookup (nat_eq n) before.rows) no_kinds) else unwrap_or (lookup (nat_eq n) before.rows) no_kinds)

@@ -6,46 +6,20 @@ use Rattle.std.specs.Cmp.{nat_eq_equiv}
 use Rattle.std.specs.Map.{lookup, set_value}
 use Rattle.std.proofs.lemmas.Bool.{eqb-true, ne_eqb}
 use Rattle.std.proofs.lemmas.Map.{lookup-set_value}
-use Rattle.indexmap.specs.IndexMap.{insert_entry}
 use Rattle.dm_messages.specs.View.{same_kind}
 use Rattle.dm_messages.specs.declared.kind.Kind.{Kind}
 use Rattle.dm_messages.specs.declared.kind.Kind.TheVariants.{Dm1, Dm2, Dm6}
 use Rattle.dm_messages.specs.declared.shown.Shown.{Shown}
 use Rattle.entry_lists.specs.Entries.{HasAll, KindsValue, entries_of, entries_under, no_entries, put_under, with_entry, with_new}
 use Rattle.entry_lists.specs.declared.entry.NewEntry.{NewEntry}
-
--- a new key goes last
-pub insert_new : {V : Type 0} (rows : List (ℕ × V)) (n : ℕ) (v : V) → lookup (nat_eq n) rows ≡ None → insert_entry nat_eq rows n v ≡ rows ++ (n, v) ∷ []
-insert_new {V} [] n v none = refl
-insert_new {V} (e ∷ rows) n v none = go (nat_eq n e.0) none (insert_new rows n v)
-  where
-    go : (b : Bool) → cond b (Some e.1) (lookup (nat_eq n) rows) ≡ None
-        → (lookup (nat_eq n) rows ≡ None → insert_entry nat_eq rows n v ≡ rows ++ (n, v) ∷ [])
-        → cond b ((e.0, v) ∷ rows) (e ∷ insert_entry nat_eq rows n v) ≡ e ∷ (rows ++ (n, v) ∷ [])
-    go true h ih = absurd cc
-    go false h ih = ap (λ (l : List (ℕ × V)). e ∷ l) (ih h)
-
--- what is found where a new key went last
-pub lookup-last : {V : Type 0} (rows : List (ℕ × V)) (n m : ℕ) (v : V) → lookup (nat_eq n) rows ≡ None
-    → lookup (nat_eq m) (rows ++ (n, v) ∷ []) ≡ (if n == m then Some v else lookup (nat_eq m) rows)
-lookup-last {V} [] n m v none = rw (nat_eq_equiv.symm m n) refl
-lookup-last {V} (e ∷ rows) n m v none = go (nat_eq n e.0) (nat_eq m e.0) refl refl none (lookup-last rows n m v)
-  where
-    go : (b c : Bool) → nat_eq n e.0 ≡ b → nat_eq m e.0 ≡ c → cond b (Some e.1) (lookup (nat_eq n) rows) ≡ None
-        → (lookup (nat_eq n) rows ≡ None → lookup (nat_eq m) (rows ++ (n, v) ∷ []) ≡ (if n == m then Some v else lookup (nat_eq m) rows))
-        → cond c (Some e.1) (lookup (nat_eq m) (rows ++ (n, v) ∷ [])) ≡ (if n == m then Some v else cond c (Some e.1) (lookup (nat_eq m) rows))
-    go true c i j h ih = absurd cc
-    go false false i j h ih = ih h
-    go false true i j h ih =
-        let ne : (n == m) ≡ false = ne_eqb n m (λ e2. let q : nat_eq n e.0 ≡ true = subst (λ (v : ℕ). nat_eq v e.0 ≡ true) (sym e2) j in cc) in
-        rw (ne) refl
+use Rattle.name_map.proofs.Placing.{lookup-last}
 
 -- the lists of a NAME that had none begin with the entry
 pub begun : (rows new : List (ℕ × KindsValue)) (e : NewEntry) (kinds : KindsValue) → lookup (nat_eq e.name) rows ≡ None → kinds ≡ with_entry e.kind e.shown no_entries
-    → new ≡ insert_entry nat_eq rows e.name kinds → new ≡ put_under e rows
+    → new ≡ rows ++ (e.name, kinds) ∷ [] → new ≡ put_under e rows
 begun rows new e kinds none first added =
-    added ∙ (insert_new rows e.name kinds none ∙ (ap (λ (v : KindsValue). rows ++ (e.name, v) ∷ []) first
-    ∙ sym (ap (λ (o : Option KindsValue). option_map_or (λ kinds. set_value (nat_eq e.name) rows (with_entry e.kind e.shown kinds)) o (rows ++ (e.name, with_entry e.kind e.shown no_entries) ∷ [])) none)))
+    added ∙ (ap (λ (v : KindsValue). rows ++ (e.name, v) ∷ []) first
+    ∙ sym (ap (λ (o : Option KindsValue). option_map_or (λ kinds. set_value (nat_eq e.name) rows (with_entry e.kind e.shown kinds)) o (rows ++ (e.name, with_entry e.kind e.shown no_entries) ∷ [])) none))
 
 -- one more entry of a kind, newest last
 entries_with : (k l : Kind) (v : Shown) (x : KindsValue) → entries_of (with_entry k v x) l ≡ (if same_kind k l then entries_of x l ++ v ∷ [] else entries_of x l)

@@ -7,15 +7,15 @@ use crate::entry::NewEntry;
 use crate::kinds::KindEntries;
 use crate::lists::Lists;
 use dm_messages::{Kind, Shown};
-use indexmap::IndexMap;
 use name_field::Name;
+use name_map::NameMap;
 use std::alloc::{AllocError, Global};
 use std::marker::Model;
 
 /// Every entry, in the order in which they came.
 #[derive(Drop)]
 pub struct AllEntries {
-    rows: IndexMap<Name, KindEntries>,
+    rows: NameMap<KindEntries>,
 }
 
 impl Model for AllEntries {
@@ -24,7 +24,7 @@ impl Model for AllEntries {
 
     ghost Value = { List (ℕ × KindsValue) };
 
-    ghost view = { λ l. l.rows.entries };
+    ghost view = { λ l. l.rows };
 }
 
 impl AllEntries {
@@ -33,7 +33,7 @@ impl AllEntries {
         ensures { result ≡ [] }
     {
         AllEntries {
-            rows: IndexMap::new(alloc),
+            rows: NameMap::new(alloc),
         }
     }
 
@@ -41,7 +41,7 @@ impl AllEntries {
     pub fn shown(&self, name: Name, kind: Kind) -> &[Shown]
         ensures { result.now ≡ entries_under self.now name kind }
     {
-        match self.rows.get(&name) {
+        match self.rows.get(name) {
             Some(kinds) => kinds.shown(kind),
             None => &[],
         }
@@ -56,7 +56,7 @@ impl AllEntries {
     {
         let mut kinds = KindEntries::new(alloc);
         kinds.push(entry.kind, entry.shown)?;
-        self.rows.insert(entry.name, kinds)?;
+        self.rows.push(entry.name, kinds)?;
         Ok(())
     }
 
@@ -66,7 +66,7 @@ impl AllEntries {
         ensures ok { OnOk result (self.new ≡ put_under entry self.old) }
         ensures err { OnErr result (self.new ≡ self.old) }
     {
-        match self.rows.get_mut(&entry.name) {
+        match self.rows.get_mut(entry.name) {
             Some(kinds) => kinds.push(entry.kind, entry.shown),
             None => self.begin(alloc, entry),
         }

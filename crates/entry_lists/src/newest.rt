@@ -9,8 +9,8 @@ use crate::entry::NewEntry;
 use crate::lists::Lists;
 use crate::newest_list::NewestOfKinds;
 use dm_messages::{Kind, Shown};
-use indexmap::IndexMap;
 use name_field::Name;
+use name_map::NameMap;
 use std::alloc::{AllocError, Global};
 use std::marker::Model;
 
@@ -18,7 +18,7 @@ use std::marker::Model;
 #[derive(Drop)]
 pub struct NewestEntries {
     keep: u32,
-    rows: IndexMap<Name, NewestOfKinds>,
+    rows: NameMap<NewestOfKinds>,
 }
 
 impl Model for NewestEntries {
@@ -26,7 +26,7 @@ impl Model for NewestEntries {
 
     ghost Value = { NewestLists };
 
-    ghost view = { λ l. record { keep = l.keep; rows = l.rows.entries } };
+    ghost view = { λ l. record { keep = l.keep; rows = l.rows } };
 }
 
 impl NewestEntries {
@@ -38,7 +38,7 @@ impl NewestEntries {
     {
         NewestEntries {
             keep,
-            rows: IndexMap::new(alloc),
+            rows: NameMap::new(alloc),
         }
     }
 
@@ -53,7 +53,7 @@ impl NewestEntries {
     pub fn count(&self, name: Name, kind: Kind) -> u64
         ensures { result ≡ (newest_under self.now name kind).count }
     {
-        match self.rows.get(&name) {
+        match self.rows.get(name) {
             Some(kinds) => kinds.list(kind).count(),
             None => 0,
         }
@@ -63,7 +63,7 @@ impl NewestEntries {
     pub fn kept(&self, name: Name, kind: Kind) -> usize
         ensures { result ≡ length (newest_under self.now name kind).entries }
     {
-        match self.rows.get(&name) {
+        match self.rows.get(name) {
             Some(kinds) => kinds.list(kind).kept(),
             None => 0,
         }
@@ -73,7 +73,7 @@ impl NewestEntries {
     pub fn shown(&self, name: Name, kind: Kind, place: usize) -> Option<&Shown>
         ensures { option_copied result ≡ slice_get (newest_under self.now name kind).entries place }
     {
-        match self.rows.get(&name) {
+        match self.rows.get(name) {
             Some(kinds) => kinds.list(kind).get(place),
             None => None,
         }
@@ -88,7 +88,7 @@ impl NewestEntries {
     {
         let mut kinds = NewestOfKinds::new(alloc);
         kinds.push(self.keep, entry.kind, entry.shown)?;
-        self.rows.insert(entry.name, kinds)?;
+        self.rows.push(entry.name, kinds)?;
         Ok(())
     }
     /// Puts the entry. Where memory is refused, nothing changes.
@@ -98,7 +98,7 @@ impl NewestEntries {
         ensures err { OnErr result (self.new ≡ self.old) }
     {
         let keep = self.keep;
-        match self.rows.get_mut(&entry.name) {
+        match self.rows.get_mut(entry.name) {
             Some(kinds) => kinds.push(keep, entry.kind, entry.shown),
             None => self.begin(alloc, entry),
         }

@@ -2,7 +2,6 @@
 use Rattle.std.proofs.Common.{◌≡◌, ℕ, Bool, true, false, ◌==◌, ◌||◌, nat_eq, List, [], ◌∷◌, ◌++◌, Option, Some, None, is_some, if◌then◌else◌, unwrap_or, cond, map, length, take, arith, refl, sym, ap, ◌∙◌, subst}
 use Rattle.std.specs.Option.{option_map, option_map_or}
 use Rattle.std.specs.List.{list_any}
-use Rattle.indexmap.specs.IndexMap.{insert_entry}
 use Rattle.std.specs.Cmp.{nat_eq_equiv}
 use Rattle.std.specs.Map.{set_value}
 use Rattle.std.proofs.lemmas.Map.{lookup-set_value, keys-set_value}
@@ -106,27 +105,19 @@ names-with_row rows n = rw (has_row-names rows n) (go (list_any (λ m. m == n) (
     go true = refl
     go false = map-append named rows ((n, nothing_kept) ∷ [])
 
--- a new key goes last
-insert_new : (rows : List (ℕ × KeptValue)) (n : ℕ) (k : KeptValue) → kept_under rows n ≡ None → insert_entry nat_eq rows n k ≡ rows ++ (n, k) ∷ []
-insert_new [] n k none = refl
-insert_new (e ∷ rows) n k none = go (nat_eq n e.0) none (insert_new rows n k)
+-- a look-up that found nothing
+pub not_found : (rows : List (ℕ × KeptValue)) (n : ℕ) (found : Bool) → found ≡ false → found ≡ is_some (kept_under rows n) → kept_under rows n ≡ None
+not_found rows n found test was = go (kept_under rows n) (sym was ∙ test)
   where
-    go : (b : Bool) → cond b (Some e.1) (kept_under rows n) ≡ None
-        → (kept_under rows n ≡ None → insert_entry nat_eq rows n k ≡ rows ++ (n, k) ∷ [])
-        → cond b ((e.0, k) ∷ rows) (e ∷ insert_entry nat_eq rows n k) ≡ e ∷ (rows ++ (n, k) ∷ [])
-    go true h ih = absurd cc
-    go false h ih = ap (λ (l : List (ℕ × KeptValue)). e ∷ l) (ih h)
+    go : (o : Option KeptValue) → is_some o ≡ false → o ≡ None
+    go None h = refl
+    go (Some x) h = absurd (cc)
 
-nothing_found : {X : Type 0} (o : Option X) → is_some o ≡ false → o ≡ None
-nothing_found None h = refl
-nothing_found (Some x) h = absurd (cc)
-
--- an empty row is inserted where a look-up found none
+-- an empty row goes last where a look-up found none
 pub name_added : (rows new : List (ℕ × KeptValue)) (n : ℕ) (found : Bool) → found ≡ false → found ≡ is_some (kept_under rows n)
-    → new ≡ insert_entry nat_eq rows n nothing_kept → new ≡ with_row rows n
+    → new ≡ rows ++ (n, nothing_kept) ∷ [] → new ≡ with_row rows n
 name_added rows new n found test was added =
-    let none : kept_under rows n ≡ None = nothing_found (kept_under rows n) (sym was ∙ test) in
-    added ∙ (insert_new rows n nothing_kept none ∙ sym (ap (λ (o : Option KeptValue). cond (is_some o) rows (rows ++ (n, nothing_kept) ∷ [])) none))
+    added ∙ sym (ap (λ (o : Option KeptValue). cond (is_some o) rows (rows ++ (n, nothing_kept) ∷ [])) (not_found rows n found test was))
 
 -- the rows before a row was added
 pub rows_before : (rows : List (ℕ × KeptValue)) (n : ℕ) → take (length rows) (with_row rows n) ≡ rows

@@ -3,15 +3,15 @@ ghost use Rattle.std.specs.Option.{option_map};
 
 use crate::kept::Kept;
 use crate::row::AckSeen;
-use indexmap::IndexMap;
 use name_field::Name;
+use name_map::NameMap;
 use std::alloc::{AllocError, Global};
 use std::marker::Model;
 
 /// What the station keeps under each NAME, in the order in which the NAMEs first claimed.
 #[derive(Drop)]
 pub struct Rows {
-    rows: IndexMap<Name, Kept>,
+    rows: NameMap<Kept>,
 }
 
 impl Model for Rows {
@@ -20,7 +20,7 @@ impl Model for Rows {
 
     ghost Value = { List (ℕ × KeptValue) };
 
-    ghost view = { λ r. r.rows.entries };
+    ghost view = { λ r. r.rows };
 }
 
 impl Rows {
@@ -31,7 +31,7 @@ impl Rows {
         ensures { result ≡ [] }
     {
         Rows {
-            rows: IndexMap::new(alloc),
+            rows: NameMap::new(alloc),
         }
     }
 
@@ -46,22 +46,19 @@ impl Rows {
     pub fn name_at(&self, place: usize) -> Option<Name>
         ensures { result ≡ slice_get (map (λ e. e.0) self.now) place }
     {
-        match self.rows.get_index(place) {
-            Some((name, _)) => Some(*name),
-            None => None,
-        }
+        self.rows.name_at(place)
     }
 
     /// Gives the NAME a row at the end, where it has none. Where memory is refused, nothing changes.
-    #[tactic(auto, using(crate::proofs::RowLemmas::name_added))]
+    #[tactic(auto, using(crate::proofs::RowLemmas::name_added, crate::proofs::RowLemmas::not_found))]
     pub fn add(&mut self, name: Name) -> Result<(), AllocError>
         ensures ok { OnOk result (self.new ≡ with_row self.old name) }
         ensures err { OnErr result (self.new ≡ self.old) }
     {
-        if self.rows.contains_key(&name) {
+        if self.rows.contains(name) {
             return Ok(());
         }
-        self.rows.insert(name, Kept::new())?;
+        self.rows.push(name, Kept::new())?;
         Ok(())
     }
 
@@ -77,7 +74,7 @@ impl Rows {
     pub fn claim(&mut self, name: Name, address: Option<u8>)
         ensures { self.new ≡ changed_under (with_claimed address) self.old name }
     {
-        if let Some(kept) = self.rows.get_mut(&name) {
+        if let Some(kept) = self.rows.get_mut(name) {
             kept.claim(address);
         }
     }
@@ -87,7 +84,7 @@ impl Rows {
     pub fn acknowledge(&mut self, name: Name, ack: AckSeen)
         ensures { self.new ≡ changed_under (with_ack ack) self.old name }
     {
-        if let Some(kept) = self.rows.get_mut(&name) {
+        if let Some(kept) = self.rows.get_mut(name) {
             kept.acknowledge(ack);
         }
     }
@@ -96,7 +93,7 @@ impl Rows {
     pub fn claimed(&self, name: Name) -> Option<u8>
         ensures { result ≡ claimed_in (kept_under self.now name) }
     {
-        match self.rows.get(&name) {
+        match self.rows.get(name) {
             Some(kept) => kept.claimed(),
             None => None,
         }
@@ -106,7 +103,7 @@ impl Rows {
     pub fn get(&self, name: Name) -> Option<(Option<u8>, Option<AckSeen>)>
         ensures { result ≡ option_map (λ (k : KeptValue). (k.claimed, k.ack)) (kept_under self.now name) }
     {
-        match self.rows.get(&name) {
+        match self.rows.get(name) {
             Some(kept) => Some((kept.claimed(), kept.ack())),
             None => None,
         }

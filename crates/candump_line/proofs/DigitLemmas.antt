@@ -7,11 +7,11 @@ use Rattle.std.specs.List.{flat_map}
 use Rattle.std.specs.Str.Parse.{IsNumeral, AllDigits, digits_value}
 use Rattle.std.proofs.lemmas.Bool.{cases_lt}
 use Rattle.std.proofs.lemmas.Bool.Decides.{nat_tests}
-use Rattle.std.proofs.lemmas.Int.Digits.{digits_more, digits_value_more, digits_value-lt}
+use Rattle.std.proofs.lemmas.Int.Digits.{digits_more, digits_value-lt}
 use Rattle.std.proofs.Math.Nat.{pow-le-pow_right}
-use Rattle.std.proofs.lemmas.List.{length-append, length-drop, length-take-le, get_or-take, get_or_append_left, get_or-append_right, get_or_at, take_at, drop_at, take-append-le, take_all, take_rest, take_more, take_more_set}
+use Rattle.std.proofs.lemmas.List.{length-append, length-drop, length-take-le, get_or-take, get_or_append_left, get_or-append_right, get_or_at, take_at, drop_at, take_all, take_rest, take_more, take_more_set}
 use Rattle.std.proofs.lemmas.List.Elements.{All-get_or}
-use Rattle.std.proofs.lemmas.Str.Parse.{digit_at, digits_value-take-le}
+use Rattle.std.proofs.lemmas.Str.Parse.{digit_at}
 use Rattle.hex_text.specs.Hex.{hex_digit}
 use Rattle.hex_text.specs.Printed.{hex_glyphs}
 use Rattle.candump_line.specs.LineText.{byte_digits, BeginsWithElevenDigits, BeginsWithNoDigit}

@@ -1,5 +1,5 @@
 -- What stands in a line of plain candump, and in one that tells of dropped frames, as candump's source writes it.
-use Rattle.std.specs.Prelude.{ℕ, Bool, ◌&&◌, ◌==◌, ◌-◌, nat_le, if◌then◌else◌, List, length, slice_index}
+use Rattle.std.specs.Prelude.{ℕ, Bool, ◌&&◌, ◌==◌, nat_le, List, length, slice_index}
 use Rattle.candump_line.specs.Places.{is_at, digit_is_at}
 
 -- `[%d]`: the number of bytes of a frame, 0 to 8

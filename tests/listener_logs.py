@@ -19,8 +19,8 @@ from model import log_line, watch  # noqa: E402
 
 FOLDER = TOP / "tests/logs/listener"
 KINDS = ("dm1", "dm2", "dm6")
-PROGRAM_HAS = {word for word, has in (("listener", watch.PROGRAM_LISTENS), ("unclaimed rows", watch.LISTS_UNCLAIMED)) if has}
-MODEL_HAS = {"listener", "unclaimed rows"}
+PROGRAM_HAS = {"forms", "relative times"} | {word for word, has in (("listener", watch.PROGRAM_LISTENS), ("unclaimed rows", watch.LISTS_UNCLAIMED)) if has}
+MODEL_HAS = {"listener", "unclaimed rows", "relative times"}
 
 
 def log_of(name):

@@ -14,21 +14,32 @@ OTHER_ERRORS = [("20000088", "0000000000000000"), ("20000004", "0000040000000000
 NOTES = [b"", b"", b"# a comment", b"#", b"  ", b"\xef\xbb\xbf", b"interface = can0 29bits", b"total 12", b"\xff\xfe", b"\x00", b"18FECA00#04F", b"18FECA00#04FFB8040301FFFF X",
          b"18FECA00 04 F", b"18FECA0 04 FF", b"98FECA00 04 FF", b"20000004 00 01", b"can0", b"can0 18FECA00", b"18FECA00 00 01 02 03 04 05 06 07 08", b"x#y", b"DROPCOUNT",
          b"dropped 7 CAN frames on 'can0' socket"]
-# What the program reads otherwise than the rules say, written only where that is asked for (tests/random_logs --unsettled): white space of ASCII
-# that is no space beside a bus; brackets that hold no two digits; more than ten digits of seconds; counts that are no decimal digits, or above 32 bits.
-UNSETTLED = [b"(1.000000) \tcan0 18FECA00#04FFB8040301FFFF", b"(1.000000) can0\t 18FECA00#04FFB8040301FFFF", b"(1.000000) can\t0 18FECA00#04FFB8040301FFFF",
-             b"can0 18FECA00 [ab] 00", b"can0 18FECA00 [8]] 00", b"can0 18FECA00 [123 00", "can0 18FECA00 [\u00e9] 00".encode(),
-             b"(00000000001.000000) can0 18FECA00#04FFB8040301FFFF", b"DROPCOUNT: dropped +7 CAN frames on 'can0' socket",
-             b"DROPCOUNT: dropped 4294967296 CAN frames on 'can0' socket"]
-TIMES = [b"1.1", b"1", b"", b"1.0000001", b"-1.000000", b"1.00000x", b"1,000000", b".000001", b"1.", b" 1.000000", b"12345678901.000000", b"2026-11-26 10:00:00.000000", b"1.000000.0"]
+# White space of ASCII that is no space beside a bus; brackets that hold no count; more than ten digits of seconds; counts that are no decimal digits, or
+# above 32 bits.
+ODD = [b"(1.000000) \tcan0 18FECA00#04FFB8040301FFFF", b"(1.000000) can0\t 18FECA00#04FFB8040301FFFF", b"(1.000000) can\t0 18FECA00#04FFB8040301FFFF",
+       b"can0 18FECA00 [ab] 00", b"can0 18FECA00 [8]] 00", b"can0 18FECA00 [123 00", "can0 18FECA00 [\u00e9] 00".encode(), b"can0 18FECA00 [9] 00", b"can0 18FECA00 [1a] 00",
+       b"(00000000001.000000) can0 18FECA00#04FFB8040301FFFF", b"DROPCOUNT: dropped +7 CAN frames on 'can0' socket", b"DROPCOUNT: dropped 007 CAN frames on 'can0' socket",
+       b"DROPCOUNT: dropped 4294967296 CAN frames on 'can0' socket", b"DROPCOUNT: dropped 99999999999999999999 CAN frames on 'can0' socket", b"DROPCOUNT: dropped 7x CAN frames on 'can0' socket"]
+# The beginnings of logs in which nothing is a frame, of other programs' form and of none.
+WITHOUT_FRAMES = [
+    [[b"date Thu Nov 26 10:00:00.000 am 2026", b"base hex  timestamps absolute", b"   0.001000 1  18FECA00x       Rx   d 8 04 FF B8 04 03 01 FF FF"],
+     [b"// a comment", b"base hex  timestamps absolute", b"   0.001000 1  18FECA00x       Rx   d 8 04 FF B8 04 03 01 FF FF"]],
+    [[b"LOGG\x90\x00\x00\x00\x00\x08", b"\x00\xff(\x01LOBJ;,,,"], [b"LOGG"]],
+    [[b";$FILEVERSION=2.1", b";   Message   Time    Type", b"      1      1059.900 DT 18FECA00 Rx 8  04 FF B8 04 03 01 FF FF"], [b"", b";$FILEVERSION=1.1"]],
+    [[b"timestamp,arbitration_id,extended,remote,error,dlc,data", b"1.000000,0x18feca00,1,0,0,8,BP+4BAMB//8="],
+     [b"time;id;dlc;data", b"1,5;18FECA00;8;04FFB8040301FFFF"]],
+    [[b"hello", b"18FECA00", b"a,b,c"], [b"(1.000000) can0", b"# a comment"], [b"(x"]],
+]
+TIMES = [b"1.1", b"1", b"", b"1.0000001", b"-1.000000", b"1.00000x", b"1,000000", b".000001", b"1.", b" 1.000000", b"12345678901.000000", b"2026-11-26 10:00:00.000000", b"1.000000.0",
+         b"2026-1-26 10:00:00.000000", b"02026-11-26 10:00:00.000000", b"2026-11-26 1:00:00.000000", b"2026-11-26 10:00:060.000000", b"2026-11-26 10:00:6.000000"]
 
 
 class Lines:
     """The lines of one log. Each is written as `candump -L` does, or in another form, by how the log is."""
 
-    def __init__(self, seed, unsettled=False):
+    def __init__(self, seed):
         self.chance = chance = random.Random(seed)
-        self.notes = NOTES + (UNSETTLED if unsettled else [])
+        self.notes = NOTES + ODD
         self.buses = [Frames(chance) for _ in range(1 if chance.random() < 0.6 else 2)]
         self.words = chance.choice([["can0", "can1"], ["can0", "can1"], ["vcan0", "can0"], ["can1", "c\u00e4n\"1\\"], ["slcan_0123456789", "slcan_012345678"]])
         self.now = chance.choice([0, 1_000_000, 1_792_915_200_000_000, 1_792_915_200_000_000, LARGEST - 30_000_000])
@@ -41,9 +52,18 @@ class Lines:
         self.lines = []
         self.timeless = chance.choice([0] * 12 + [3, 30, 10**6])  # so many lines at the beginning have no time
         self.claimed = chance.random() < 0.9
+        self.relative = chance.choice([None] * 12 + ["-td", "-td", "-tz"])
+        self.before = None  # when the line before came, or the first one
+        self.often = self.bad_line(0) if chance.random() < 0.1 else None  # a bad line that comes again and again
 
     def written(self, count):
-        """A log of so many lines, or a few more. Some begin with what names no bus."""
+        """A log of so many lines, or a few more. Some begin with what names no bus, some are short, some have no frame."""
+        way = self.chance.random()
+        if way < 0.15:
+            return self.end.join([*self.chance.choice(self.chance.choice(WITHOUT_FRAMES)), *self.chance.choices([b"", b"#", b"text"], k=self.chance.randint(0, 3))])
+        if way < 0.21:
+            times = sorted(self.chance.sample(range(99_000_000), self.chance.randint(1, 8)))
+            return self.end.join(f" ({at // 1_000_000:03d}.{at % 1_000_000:06d})  can0  18FECA00   [8]  00 FF 00 00 00 00 FF FF".encode() for at in times)
         while self.chance.random() < 0.15:
             at = len(self.buses) - 1
             self.lines.append(self.chance.choice([self.bad_line, self.lost_frames, self.odd_line])(at))
@@ -60,8 +80,8 @@ class Lines:
     def step(self):
         chance, way = self.chance, self.chance.random()
         at = 0 if chance.random() < 0.8 else len(self.buses) - 1
-        if way < self.bad:
-            self.lines.append(self.bad_line(at))
+        if way < self.bad or self.often and way < 0.1:
+            self.lines.append(self.often or self.bad_line(at))
         elif way < self.bad + self.lost:
             self.lines.append(self.lost_frames(at))
         elif way < self.bad + self.lost + self.odd:
@@ -84,7 +104,13 @@ class Lines:
         self.now = min(max(self.now, 0), LARGEST)
 
     def time(self):
-        return f"{self.now // 1_000_000}.{self.now % 1_000_000:06d}"
+        """The seconds of a log; with `-td` since the line before, with `-tz` since the first one."""
+        if self.relative is None:
+            return f"{self.now // 1_000_000}.{self.now % 1_000_000:06d}"
+        since = max(self.now - (self.now if self.before is None else self.before), 0)
+        if self.relative == "-td" or self.before is None:
+            self.before = self.now
+        return f"{since // 1_000_000:03d}.{since % 1_000_000:06d}"
 
     # ---- frames
 
@@ -201,7 +227,7 @@ def words_of_watch(chance):
         words += ["--bad", chance.choice(["skip", "skip", "missed"])]
     if chance.random() < 0.4:
         words += ["--silence", str(chance.choice([0, 0, 1, 100, 749, 751, 3_600_000]))]
-    return words + ["--strict"] * (chance.random() < 0.09)
+    return words + ["--strict"] * (chance.random() < 0.12)
 
 
 TEXTS = """spn,fmi,text

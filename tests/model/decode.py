@@ -6,6 +6,7 @@ import io
 from .frames import GLOBAL, TITLES, claimed_name
 from .log_cases import reach
 from .memory import read_message
+from .notices import BadLines, without_frames
 from .words import DATA_GROUPS, address_words, code_object, dumped, message_words, name_fields, name_text, time_text
 
 
@@ -75,10 +76,10 @@ def in_json(number, line, texts):
 
 def decoded(lines, texts=""):
     """What is written of lines in text and in JSON, what is told of bad ones, and the status."""
-    texts, text, objects, errors = Texts(texts), [], [], []
+    texts, text, objects, bad, errors = Texts(texts), [], [], BadLines(), []
     for number, line in enumerate(lines, 1):
-        if line.kind == "bad":
-            errors.append(f"line {number}: {line.what}\n")
+        errors.append(bad.told(number, line))
         text.append(in_words(line, texts) + "\n")
         objects.append(dumped(in_json(number, line, texts)) + "\n")
-    return {"text": "".join(text), "json": "".join(objects)}, "".join(errors), 3 if errors else 0
+    errors = "".join([*errors, bad.rest(), without_frames(lines)])
+    return {"text": "".join(text), "json": "".join(objects)}, errors, 3 if errors else 0

@@ -168,7 +168,20 @@ an event before any time
 a count that is not available
 """
 
-COUNTS = {case: 0 for part in (LINES, WORDS, HEARD, STATION, LISTENER, UNCLAIMED_ROWS, WATCH) for case in part.strip().splitlines()}
+NOTICES = """
+a bad line that is counted alone
+relative times count
+times since the line before
+relative times, too few
+no line has a time
+an input without frames that looks like no log
+an input without frames that looks like a table (.csv)
+an input without frames that looks like PEAK's text (.trc)
+an input without frames that looks like Vector's text (.asc)
+an input without frames that looks like Vector's binary form (.blf)
+"""
+
+COUNTS = {case: 0 for part in (LINES, WORDS, HEARD, STATION, LISTENER, UNCLAIMED_ROWS, WATCH, NOTICES) for case in part.strip().splitlines()}
 
 
 def wanted(listens):

@@ -36,15 +36,19 @@ class Line:
     """What a line is: `frame`, `dropped`, `overflow`, `foreign`, `note` or `bad`. The time is in microseconds. `what` is the Frame, how many
     were dropped, which frame it is that is none of J1939, or the reason."""
 
-    __slots__ = ("kind", "what", "time", "bus")
+    __slots__ = ("kind", "what", "time", "bus", "text")
 
     def __init__(self, kind, what=None, time=None, bus=None):
-        self.kind, self.what, self.time, self.bus = kind, what, time, bus
+        self.kind, self.what, self.time, self.bus, self.text = kind, what, time, bus, b""
 
 
 def read_lines(data):
-    """The lines of an input. Each ends with LF, which the last one may lack."""
-    return [read_line(line) for line in re.findall(rb"[^\n]*\n|[^\n]+", data)]
+    """The lines of an input, each with its text. Each ends with LF, which the last one may lack."""
+    lines = []
+    for text in re.findall(rb"[^\n]*\n|[^\n]+", data):
+        lines.append(read_line(text))
+        lines[-1].text = text
+    return lines
 
 
 def read_line(line):
@@ -80,8 +84,9 @@ def note(case):
 
 
 def dropped(words):
-    """`DROPCOUNT: dropped 7 CAN frames on 'can0' socket ..`, as candump -d says. Where it is cut short: one frame, of any bus."""
-    count = int(words[1]) if len(words) > 1 and re.fullmatch("[0-9]+", words[1]) else 1
+    """`DROPCOUNT: dropped 7 CAN frames on 'can0' socket ..`, as candump -d says. Where it is cut short: one frame, of any bus. candump counts in 32
+    bits."""
+    count = min(int(words[1]), 2**32 - 1) if len(words) > 1 and re.fullmatch("[0-9]+", words[1]) else 1
     bus = words[5][1:-1] if len(words) > 5 and re.fullmatch("'.*'", words[5]) else None
     reach("frames were dropped" + ("" if bus is not None else ", of whatever bus"))
     return Line("dropped", count, bus=bus)

@@ -10,6 +10,7 @@ from .heard import Station
 from .listener import Listener, Unclaimed
 from .log_cases import reach
 from .log_line import ERROR, FD, REMOTE, SHORT
+from .notices import BadLines, Clock, without_frames
 from .words import NOT_AVAILABLE, code_words, dumped, lamp_words, name_text, shown_object, time_text
 
 # What the program has. To be switched on with it: all tests of lines of a log then try the program as one that listens.
@@ -190,7 +191,6 @@ class Watch:
     def hear_bad(self, number, reason):
         """It may have been a claim, of any bus: a missed frame, unless bad lines are to be passed over."""
         self.counts["bad"] += 1
-        self.errors.append(f"line {number}: {reason}\n")
         reach("a bad line is " + ("passed over" if self.options.skips_bad else "a missed frame"))
         if not self.options.skips_bad:
             self.tell(number, self.heard.take_gap(1))
@@ -391,11 +391,18 @@ class Watch:
 
 def watched(lines, options):
     """What is written of lines in text, JSON and CSV, what is told of bad ones, and the status."""
-    watch = Watch(options)
+    watch, bad, clock, unread = Watch(options), BadLines(), Clock(), ""
     for number, line in enumerate(lines, 1):
-        watch.hear(number, line)
+        heard, told = clock.heard(number, line)
+        watch.errors += [bad.told(number, line), told]
+        watch.hear(number, heard)
         if line.kind == "bad" and options.strict:
             reach("a bad line ends a strict run")
             break
+    else:
+        watch.errors.append(clock.rest())
+        unread = without_frames(lines)
+    watch.errors += [bad.rest(), unread]
     text = "".join(watch.text) + watch.report_text()
-    return {"text": text, "json": "".join(watch.objects) + watch.report_object(), "csv": watch.report_rows()}, "".join(watch.errors), 3 if watch.errors else 0
+    status = 3 if watch.counts["bad"] or unread else 0
+    return {"text": text, "json": "".join(watch.objects) + watch.report_object(), "csv": watch.report_rows()}, "".join(watch.errors), status

@@ -1,22 +1,23 @@
 -- What stands at the front of a text: digits, a word; and bytes in pairs of digits.
-use Rattle.std.proofs.Common.{◌≡◌, ℕ, zero, suc, ◌+◌, ◌-◌, ◌*◌, ◌/◌, ◌%◌, ◌^◌, ◌<◌, ◌≤◌, false, if◌then◌else◌, nat_lt, List, [], ◌∷◌, ◌++◌, length, get_or, take, drop, drop-drop, Option, None, Some, Bor, MatchOption, set, arith, refl, ap, sym, ◌∙◌, ⊎_elim}
-use Rattle.std.specs.Prelude.{All}
+use Rattle.std.proofs.Common.{◌≡◌, ℕ, zero, suc, ◌+◌, ◌-◌, ◌*◌, ◌/◌, ◌%◌, ◌^◌, ◌<◌, ◌≤◌, false, if◌then◌else◌, nat_lt, List, [], ◌∷◌, ◌++◌, length, get_or, take, drop, drop-drop, Option, None, Some, Bor, MatchOption, set, arith, refl, ap, sym, lit<, ◌∙◌, ⊎_elim}
+use Rattle.std.specs.Prelude.{All, IfSome}
 use Rattle.std.specs.Char.{digit_value, is_ascii_digit}
 use Rattle.std.specs.Int.{IsInRange}
 use Rattle.std.specs.List.{flat_map}
 use Rattle.std.specs.Str.Parse.{IsNumeral, AllDigits, digits_value}
 use Rattle.std.proofs.lemmas.Bool.{cases_lt}
 use Rattle.std.proofs.lemmas.Bool.Decides.{nat_tests}
-use Rattle.std.proofs.lemmas.Int.Digits.{digits_more, digits_value_more}
-use Rattle.std.proofs.lemmas.List.{length-append, length-take-le, get_or-take, get_or_append_left, get_or-append_right, get_or_at, take_at, drop_at, take-append-le, take_all, take_rest, take_more, take_more_set}
+use Rattle.std.proofs.lemmas.Int.Digits.{digits_more, digits_value-lt}
+use Rattle.std.proofs.Math.Nat.{pow-le-pow_right}
+use Rattle.std.proofs.lemmas.List.{length-append, length-drop, length-take-le, get_or-take, get_or_append_left, get_or-append_right, get_or_at, take_at, drop_at, take_all, take_rest, take_more, take_more_set}
 use Rattle.std.proofs.lemmas.List.Elements.{All-get_or}
-use Rattle.std.proofs.lemmas.Str.Parse.{digit_at, digits_value-take-le}
+use Rattle.std.proofs.lemmas.Str.Parse.{digit_at}
 use Rattle.hex_text.specs.Hex.{hex_digit}
 use Rattle.hex_text.specs.Printed.{hex_glyphs}
-use Rattle.candump_line.specs.LineText.{byte_digits, BeginsWithNoDigit}
+use Rattle.candump_line.specs.LineText.{byte_digits, BeginsWithElevenDigits, BeginsWithNoDigit}
 
 -- the value of a digit
-value_of : (c : ℕ) → 48 ≤ c → c ≤ 57 → digit_value c ≡ c - 48
+pub value_of : (c : ℕ) → 48 ≤ c → c ≤ 57 → digit_value c ≡ c - 48
 value_of c low high = grind (arith, nat_tests)
 
 -- digits at the front of a text reach no further than a word that no digit follows
@@ -35,7 +36,7 @@ within_word text word rest n digits fits ends e = ⊎_elim
     (λ (within : n ≤ length word). within)
     (cases_lt (length word) n)
 
-not_digit : (c : ℕ) → IsInRange 48 57 c → false ≡ is_ascii_digit c → ⊥
+pub not_digit : (c : ℕ) → IsInRange 48 57 c → false ≡ is_ascii_digit c → ⊥
 not_digit c range other = grind (arith, nat_tests, range.0, range.1, other)
 
 -- a numeral that no digit follows ends where the digits at the front of its text do
@@ -70,23 +71,52 @@ pub number_told : (text : List ℕ) (i j value : ℕ) (r : Option (ℕ × Bor (L
 number_told text i j value None word rest same told read = omega (arith, told, read.0)
 number_told text i j value (Some found) word rest same told read = (told.1 ∙ read.1, told.2 ∙ ap (λ k. drop k text) same ∙ read.2)
 
--- and where its first digits spell too great a number, it does
-pub numeral_too_great : (text word rest : List ℕ) (i value digit : ℕ) → i < length text → AllDigits 10 (take i text) → value ≡ digits_value 10 (take i text)
-    → 48 ≤ get_or text i 0 → get_or text i 0 ≤ 57 → digit ≡ get_or text i 0 - 48 → 10 ^ 10 ≤ value * 10 + digit
-    → digits_value 10 word < 10 ^ 10 → BeginsWithNoDigit rest → text ≡ word ++ rest → ⊥
-numeral_too_great text word rest i value digit below digits so_far low high is great small ends e =
+-- what stands behind some digits is shorter than the text
+pub rest_shorter : (text : List ℕ) (i value : ℕ) (r : Option (ℕ × Bor (List ℕ))) → i ≤ length text
+    → MatchOption r (i ≡ 0) (λ found. (0 < i) × (found.0 ≡ value) × (found.1.now ≡ drop i text)) → IfSome r (λ found. length found.1.now < length text)
+rest_shorter text i value None within told = tt
+rest_shorter text i value (Some found) within told = omega (arith, told.0, ap length told.2, length-drop i text)
+
+-- where digits reach further than a numeral may, it does too
+pub numeral_too_long : (text word rest : List ℕ) (i : ℕ) → i < length text → AllDigits 10 (take i text) → 48 ≤ get_or text i 0 → get_or text i 0 ≤ 57 → 10 ≤ i
+    → length word ≤ 10 → BeginsWithNoDigit rest → text ≡ word ++ rest → ⊥
+numeral_too_long text word rest i below digits low high long short ends e =
     let last = value_of (get_or text i 0) low high in
     let all : AllDigits 10 (take (i + 1) text) = digits_more 10 text i below digits (omega (arith, last)) in
     let within = within_word text word rest (i + 1) all (omega arith) ends e in
-    let front : take (i + 1) text ≡ take (i + 1) word = ap (take (i + 1)) e ∙ take-append-le (i + 1) word rest within in
-    let more = digits_value_more 10 text i below in
-    let most : digits_value 10 (take (i + 1) text) ≤ digits_value 10 word = rw front (digits_value-take-le 10 word (i + 1) (omega arith)) in
-    omega (arith, more, most, last)
+    omega arith
+
+-- at most ten digits spell a number below 10^10
+pub small_number : (text : List ℕ) (i : ℕ) → i ≤ length text → i ≤ 10 → AllDigits 10 (take i text) → digits_value 10 (take i text) < 10 ^ 10
+small_number text i within few digits =
+    let less = digits_value-lt 10 (take i text) digits in
+    let len = length-take-le i text within in
+    let most : 10 ^ length (take i text) ≤ 10 ^ 10 = pow-le-pow_right {n = 10} (lit< tt) {i = length (take i text)} {j = 10} (omega (arith, len)) in
+    omega (arith, less, most)
+
+-- of eleven digits each is one
+pub eleventh : (text : List ℕ) (i : ℕ) → BeginsWithElevenDigits text → i ≤ 10 → false ≡ is_ascii_digit (get_or text i 0) → ⊥
+eleventh text i h few other =
+    let long = h.long in
+    let there : i < length (take 11 text) = omega (arith, length-take-le 11 text long) in
+    let range = digit_at (take 11 text) i h.digits there in
+    let same : get_or (take 11 text) i 0 ≡ get_or text i 0 = get_or-take 11 text i 0 (omega arith) in
+    let first : IsInRange 48 57 (get_or text i 0) = rw same at range in
+    not_digit (get_or text i 0) first other
+
+-- each of the first characters is seen
+dark_before : (text : List ℕ) (i : ℕ) → All (λ c. 32 < c) (take i text) → i ≤ length text → (k : ℕ) → k < i → 32 < get_or text k 0
+dark_before text i before_it within k h =
+    let there : k < length (take i text) = omega (arith, length-take-le i text within) in
+    let same : get_or (take i text) k 0 ≡ get_or text k 0 = get_or-take i text k 0 h in
+    let dark : 32 < get_or (take i text) k 0 = All-get_or (λ c. 32 < c) (take i text) k 0 there before_it in
+    omega arith
 
 -- the first space of a text ends the word before it
-pub word_read : (text word rest : List ℕ) (i : ℕ) → All (λ c. 32 < c) word → text ≡ word ++ 32 ∷ rest → ((k : ℕ) → k < i → get_or text k 0 ≡ 32 → ⊥)
+pub word_read : (text word rest : List ℕ) (i : ℕ) → All (λ c. 32 < c) word → text ≡ word ++ 32 ∷ rest → All (λ c. 32 < c) (take i text)
     → i < length text → get_or text i 0 ≡ 32 → (take i text ≡ word) × (take (length text - (i + 1)) (drop (i + 1) text) ≡ rest)
-word_read text word rest i seen e none within is =
+word_read text word rest i seen e before_it within is =
+    let none = dark_before text i before_it (omega arith) in
     let there : get_or text (length word) 0 ≡ 32 = ap (λ t. get_or t (length word) 0) e ∙ get_or_at word 32 rest 0 (length word) refl in
     let end : length word ≡ i = ⊎_elim
     (λ (before : i < length word).
@@ -94,7 +124,7 @@ word_read text word rest i seen e none within is =
     let dark : 32 < get_or word i 0 = All-get_or (λ c. 32 < c) word i 0 before seen in
     absurd (omega arith))
     (λ (after : length word ≤ i). ⊎_elim
-    (λ (past : length word < i). absurd (none (length word) past there))
+    (λ (past : length word < i). let dark = none (length word) past in absurd (omega arith))
     (λ (here : i ≤ length word). omega arith)
     (cases_lt (length word) i))
     (cases_lt i (length word)) in
@@ -102,11 +132,31 @@ word_read text word rest i seen e none within is =
     (ap (take i) e ∙ take_at word (32 ∷ rest) i end, take_rest text (i + 1) ∙ sym (drop-drop 1 i text) ∙ ap (drop 1) behind)
 
 -- a text with a word before a space has a space
-pub space_there : (text word rest : List ℕ) → text ≡ word ++ 32 ∷ rest → ((k : ℕ) → k < length text → get_or text k 0 ≡ 32 → ⊥) → ⊥
-space_there text word rest e none =
+pub space_there : (text word rest : List ℕ) (i : ℕ) → text ≡ word ++ 32 ∷ rest → All (λ c. 32 < c) (take i text) → i ≡ length text → ⊥
+space_there text word rest i e before_it all =
     let len : length text ≡ length word + suc (length rest) = ap length e ∙ length-append word (32 ∷ rest) in
     let there : get_or text (length word) 0 ≡ 32 = ap (λ t. get_or t (length word) 0) e ∙ get_or_at word 32 rest 0 (length word) refl in
-    none (length word) (omega arith) there
+    let dark = dark_before text i before_it (omega arith) (length word) (omega arith) in
+    omega arith
+
+-- and before it no other character that is not seen
+pub mark_in_word : (text word rest : List ℕ) (i : ℕ) → All (λ c. 32 < c) word → text ≡ word ++ 32 ∷ rest → All (λ c. 32 < c) (take i text)
+    → i < length text → get_or text i 0 < 32 → ⊥
+mark_in_word text word rest i seen e before_it within mark =
+    let there : get_or text (length word) 0 ≡ 32 = ap (λ t. get_or t (length word) 0) e ∙ get_or_at word 32 rest 0 (length word) refl in
+    ⊎_elim
+    (λ (before : i < length word).
+    let same : get_or text i 0 ≡ get_or word i 0 = ap (λ t. get_or t i 0) e ∙ get_or_append_left word (32 ∷ rest) 0 i before in
+    let dark : 32 < get_or word i 0 = All-get_or (λ c. 32 < c) word i 0 before seen in
+    omega arith)
+    (λ (after : length word ≤ i). ⊎_elim
+    (λ (past : length word < i). let dark = dark_before text i before_it (omega arith) (length word) past in omega arith)
+    (λ (here : i ≤ length word).
+    let same : i ≡ length word = omega arith in
+    let at : get_or text i 0 ≡ 32 = ap (λ k. get_or text k 0) same ∙ there in
+    omega arith)
+    (cases_lt (length word) i))
+    (cases_lt i (length word))
 
 -- what a hexadecimal digit stands for, and 255 for what is none
 abbrev pub value_or_none : ℕ → ℕ
@@ -171,3 +221,7 @@ byte_read room bs i byte within len is so_far =
 -- all bytes are read
 pub bytes_read : (room bs : List ℕ) (i : ℕ) → length room ≤ i → length room ≡ length bs → take i room ≡ take i bs → room ≡ bs
 bytes_read room bs i end len so_far = sym (take_all i room end) ∙ so_far ∙ take_all i bs (omega arith)
+
+-- a word with a character that is no digit is no numeral
+pub no_numeral : (word : List ℕ) (i : ℕ) → i < length word → false ≡ is_ascii_digit (get_or word i 0) → IsNumeral 10 word → ⊥
+no_numeral word i there other numeral = not_digit (get_or word i 0) (digit_at word i numeral.1 there) other

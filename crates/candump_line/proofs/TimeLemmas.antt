@@ -1,6 +1,6 @@
 use Rattle.std.proofs.Common.{◌≡◌, ℕ, ◌+◌, ◌-◌, ◌*◌, ◌/◌, ◌%◌, ◌^◌, ◌<◌, ◌≤◌, false, Option, None, Some, Bor, List, [], ◌∷◌, ◌++◌, length, append_assoc, inl, inr, arith, refl, ◌∙◌, ap, lit<, lit≤}
 use Rattle.std.proofs.lemmas.Bool.Decides.{nat_tests}
-use Rattle.std.proofs.lemmas.Fmt.{decimal_is_IsNumeral}
+use Rattle.std.proofs.lemmas.Fmt.{decimal_is_IsNumeral, length-decimal-le}
 use Rattle.std.proofs.lemmas.List.{length-append}
 use Rattle.std.specs.Char.{digit_value}
 use Rattle.std.specs.Fmt.{digits, decimal, padded_integral, format_spec, digit_glyph}
@@ -31,14 +31,14 @@ IsNumeral-digits k n some = (omega (arith, length-digits k n), AllDigits-fixed_d
 
 -- what `leading_number` answers
 abbrev pub ReadsNumber : List ℕ → Option (ℕ × Bor (List ℕ)) → Type 0
-ReadsNumber text r = (word rest : List ℕ) → IsNumeral 10 word → digits_value 10 word < 10 ^ 10 → BeginsWithNoDigit rest → text ≡ word ++ rest
+ReadsNumber text r = (word rest : List ℕ) → IsNumeral 10 word → length word ≤ 10 → BeginsWithNoDigit rest → text ≡ word ++ rest
     → MatchOption r ⊥ (λ found. (found.0 ≡ digits_value 10 word) × (found.1.now ≡ rest))
 
-at_number : (text word rest : List ℕ) (r : Option (ℕ × Bor (List ℕ))) (value : ℕ) → ReadsNumber text r → IsNumeral 10 word → digits_value 10 word ≡ value → value < 10 ^ 10
+at_number : (text word rest : List ℕ) (r : Option (ℕ × Bor (List ℕ))) (value : ℕ) → ReadsNumber text r → IsNumeral 10 word → digits_value 10 word ≡ value → length word ≤ 10
     → BeginsWithNoDigit rest → text ≡ word ++ rest → MatchOption r ⊥ (λ found. (found.0 ≡ value) × (found.1.now ≡ rest))
-at_number text word rest None value h numeral is small ends e = h word rest numeral (omega arith) ends e
-at_number text word rest (Some found) value h numeral is small ends e =
-    let read = h word rest numeral (omega arith) ends e in
+at_number text word rest None value h numeral is short ends e = h word rest numeral short ends e
+at_number text word rest (Some found) value h numeral is short ends e =
+    let read = h word rest numeral short ends e in
     (read.0 ∙ is, read.1)
 
 -- what is known of the parts of a time
@@ -68,14 +68,16 @@ pub at_seconds : (text rest : List ℕ) (r : Option (ℕ × Bor (List ℕ))) (di
 unfolding ticks_text
 at_seconds text rest r digits ticks h parts e =
     let numeral = decimal_is_IsNumeral (ticks / 10 ^ digits) (omega (arith, parts.seconds)) in
-    at_number text (decimal (ticks / 10 ^ digits)) (46 ∷ (decimal_digits digits (ticks % 10 ^ digits) [] ++ rest)) r (ticks / 10 ^ digits) h numeral.0 numeral.1 parts.seconds (lit≤ tt)
+    at_number text (decimal (ticks / 10 ^ digits)) (46 ∷ (decimal_digits digits (ticks % 10 ^ digits) [] ++ rest)) r (ticks / 10 ^ digits) h numeral.0 numeral.1
+    (length-decimal-le 10 (ticks / 10 ^ digits) (lit< tt) parts.seconds (omega (arith, parts.seconds))) (lit≤ tt)
     (e ∙ append_assoc (decimal (ticks / 10 ^ digits)) (46 ∷ decimal_digits digits (ticks % 10 ^ digits) []) rest)
 
 pub at_fraction : (text rest : List ℕ) (r : Option (ℕ × Bor (List ℕ))) (digits ticks : ℕ) → ReadsNumber text r → HasParts digits ticks → BeginsWithNoDigit rest
     → text ≡ decimal_digits digits (ticks % 10 ^ digits) [] ++ rest → MatchOption r ⊥ (λ found. (found.0 ≡ ticks % 10 ^ digits) × (found.1.now ≡ rest))
 at_fraction text rest r digits ticks h parts ends e =
     at_number text (decimal_digits digits (ticks % 10 ^ digits) []) rest r (ticks % 10 ^ digits) h (IsNumeral-digits digits (ticks % 10 ^ digits) parts.some)
-    (value-fixed_digits 10 false decimal_digit decimal_glyphs digits (ticks % 10 ^ digits) parts.fraction) parts.short ends e
+    (value-fixed_digits 10 false decimal_digit decimal_glyphs digits (ticks % 10 ^ digits) parts.fraction)
+    (omega (arith, length-digits digits (ticks % 10 ^ digits), parts.most)) ends e
 
 -- of which there are so many
 pub length-fraction : (text rest : List ℕ) (digits n : ℕ) → text ≡ decimal_digits digits n [] ++ rest → length text ≡ digits + length rest

@@ -1,8 +1,9 @@
 -- The text of a line of a log, as `candump -L` writes it.
-use Rattle.std.specs.Prelude.{◌≡◌, ◌⊎◌, ℕ, ◌+◌, ◌*◌, ◌/◌, ◌%◌, ◌^◌, ◌<◌, ◌≤◌, List, [], ◌∷◌, ◌++◌, length, slice_index, All}
+use Rattle.std.specs.Prelude.{◌≡◌, ◌⊎◌, ℕ, ◌+◌, ◌*◌, ◌/◌, ◌%◌, ◌^◌, ◌<◌, ◌≤◌, List, [], ◌∷◌, ◌++◌, length, take, slice_index, All}
 use Rattle.std.specs.Char.{digit_value}
 use Rattle.std.specs.Fmt.{decimal}
 use Rattle.std.specs.List.{flat_map}
+use Rattle.std.specs.Str.Parse.{AllDigits}
 use Rattle.can_frame.specs.FrameValue.{FrameValue}
 use Rattle.can_frame.specs.FrameText.{id_text}
 use Rattle.hex_text.specs.Hex.{fixed_digits, hex_digits}
@@ -34,6 +35,11 @@ micros_of_ticks digits ticks = ticks * 10 ^ 6 / 10 ^ digits
 -- a text that does not begin with a decimal digit
 abbrev pub BeginsWithNoDigit : List ℕ → Type 0
 BeginsWithNoDigit text = 10 ≤ digit_value (slice_index text 0)
+
+-- a text that begins with more decimal digits than a time has of seconds
+pub record BeginsWithElevenDigits (text : List ℕ) : Type 0 where
+  pub long : 11 ≤ length text
+  pub digits : AllDigits 10 (take 11 text)
 
 -- the two upper-case digits of a byte
 unfoldable pub byte_digits : ℕ → List ℕ

@@ -1,15 +1,8 @@
 -- How the time is written that a line begins with.
-use Rattle.std.specs.Prelude.{ℕ, Bool, ◌&&◌, ◌==◌, if◌then◌else◌, List, Option, Some, None, drop, slice_index}
-use Rattle.std.specs.Char.{is_ascii_digit}
+use Rattle.std.specs.Prelude.{ℕ, Bool, ◌&&◌, if◌then◌else◌, List, Option, Some, None, drop}
+use Rattle.candump_line.specs.Places.{is_at, digit_is_at}
 use Rattle.candump_line.specs.declared.time_form.TimeForm.{TimeForm}
 use Rattle.candump_line.specs.declared.time_form.TimeForm.TheVariants.{Seconds, Date, Relative}
-
--- this character stands at a place
-abbrev pub is_at : List ℕ → ℕ → ℕ → Bool
-is_at text place character = slice_index text place == character
-
-abbrev pub digit_is_at : List ℕ → ℕ → Bool
-digit_is_at text place = is_ascii_digit (slice_index text place)
 
 -- three digits before the point, of which the first is 0
 abbrev pub is_relative : List ℕ → Bool

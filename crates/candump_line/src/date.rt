@@ -1,5 +1,6 @@
 //! A date and a time of day, as `candump -tA` writes them.
-ghost use Rattle.std.specs.Prelude.{◌≤◌, ◌<◌, ◌^◌, ◌*◌, IfSome};
+ghost use Rattle.std.specs.Prelude.{◌≡◌, ◌≤◌, ◌<◌, ◌^◌, ◌*◌, ◌+◌, IfSome, None, length};
+ghost use Rattle.candump_line.specs.LineText.{BeginsWithElevenDigits};
 
 use crate::digits::{behind, leading_number};
 use crate::time::leading_micros;
@@ -8,7 +9,9 @@ const DAY_MICROS: u64 = 86_400_000_000;
 
 /// The microseconds from the start of 1970 to the date and the time of day that stand at the front of a text, and what stands behind
 /// them.
-pub(crate) fn leading_date_micros(text: &[u8]) -> Option<(u64, &[u8])> {
+pub(crate) fn leading_date_micros(text: &[u8]) -> Option<(u64, &[u8])>
+    ensures too_long { BeginsWithElevenDigits text.now → result ≡ None }
+{
     let (days, rest) = leading_days(text)?;
     let rest = behind(rest, b' ')?;
     let (micros, rest) = leading_day_micros(rest)?;
@@ -17,13 +20,14 @@ pub(crate) fn leading_date_micros(text: &[u8]) -> Option<(u64, &[u8])> {
 
 /// The days from the start of 1970 to the date `YYYY-MM-DD` at the front of a text, and what stands behind it.
 fn leading_days(text: &[u8]) -> Option<(u64, &[u8])>
-    ensures { IfSome result (λ found. found.0 < 4_000_000) }
+    ensures days { IfSome result (λ found. found.0 < 4_000_000) }
+    ensures too_long { BeginsWithElevenDigits text.now → result ≡ None }
 {
-    let (year, rest) = leading_number(text)?;
+    let (year, rest) = number_of(text, 4)?;
     let rest = behind(rest, b'-')?;
-    let (month, rest) = leading_number(rest)?;
+    let (month, rest) = number_of(rest, 2)?;
     let rest = behind(rest, b'-')?;
-    let (day, rest) = leading_number(rest)?;
+    let (day, rest) = number_of(rest, 2)?;
     let days = days_to(year, month, day)?;
     Some((days, rest))
 }
@@ -33,10 +37,11 @@ fn leading_days(text: &[u8]) -> Option<(u64, &[u8])>
 fn leading_day_micros(text: &[u8]) -> Option<(u64, &[u8])>
     ensures { IfSome result (λ found. found.0 < 2 ^ 40) }
 {
-    let (hours, rest) = leading_number(text)?;
+    let (hours, rest) = number_of(text, 2)?;
     let rest = behind(rest, b':')?;
-    let (minutes, rest) = leading_number(rest)?;
+    let (minutes, rest) = number_of(rest, 2)?;
     let rest = behind(rest, b':')?;
+    let _seconds = number_of(rest, 2)?;
     let (micros, rest) = leading_micros(rest)?;
     if hours > 23 {
         return None;
@@ -48,6 +53,19 @@ fn leading_day_micros(text: &[u8]) -> Option<(u64, &[u8])>
         return None;
     }
     Some(((hours * 60 + minutes) * 60_000_000 + micros, rest))
+}
+
+/// The number that exactly so many decimal digits at the front of a text spell, and what stands behind them.
+fn number_of(text: &[u8], digits: usize) -> Option<(u64, &[u8])>
+    ensures bound { IfSome result (λ found. found.0 < 10 ^ 10) }
+    ensures digits { IfSome result (λ found. length found.1.now + digits ≡ length text.now) }
+    ensures too_long { BeginsWithElevenDigits text.now → result ≡ None }
+{
+    let (number, rest) = leading_number(text)?;
+    if text.len() - rest.len() != digits {
+        return None;
+    }
+    Some((number, rest))
 }
 
 /// The days from the start of 1970 to a date of the Gregorian calendar, from 1970 to 9999; none where there is no such date.

@@ -1,14 +1,15 @@
 //! What stands at the front of a text: one character, a decimal number; and hexadecimal digits in pairs.
-ghost use Rattle.std.specs.Prelude.{◌≡◌, ℕ, ◌+◌, ◌*◌, ◌<◌, ◌≤◌, ◌^◌, ◌++◌, ◌∷◌, ◌≢◌, List, Some, true, drop, length, All, IfSome, MatchOption};
+ghost use Rattle.std.specs.Prelude.{◌≡◌, ℕ, ◌+◌, ◌*◌, ◌<◌, ◌≤◌, ◌^◌, ◌++◌, ◌∷◌, ◌≢◌, List, Some, None, true, drop, length, All, IfSome, MatchOption};
 ghost use Rattle.std.specs.Char.{digit_value};
 ghost use Rattle.std.specs.List.{flat_map};
 ghost use Rattle.std.specs.Option.{SomeIff};
 ghost use Rattle.std.specs.Str.Parse.{IsNumeral, digits_value};
 ghost use Rattle.can_frame.specs.FrameText.{id_text};
-ghost use Rattle.candump_line.specs.LineText.{byte_digits, BeginsWithNoDigit};
+ghost use Rattle.candump_line.specs.LineText.{byte_digits, BeginsWithElevenDigits, BeginsWithNoDigit};
+ghost use Rattle.candump_line.specs.Places.{digit_is_at, is_at};
 
-/// The least number with eleven digits.
-const LIMIT: u64 = 10_000_000_000;
+/// The most digits of a number.
+const MOST_DIGITS: usize = 10;
 
 /// What each character stands for as a hexadecimal digit of either case; 255 where it is none.
 static HEX_VALUES: [u8; 256] = [
@@ -41,25 +42,26 @@ pub(crate) fn behind(text: &[u8], character: u8) -> Option<&[u8]>
     }
 }
 
-/// The number below 10^10 that the decimal digits at the front of a text spell, and what stands behind them; none where the
-/// text begins with no digit, or where they spell a greater number.
+/// The number that the decimal digits at the front of a text spell, and what stands behind them; none where the text begins with no
+/// digit, or with more than ten.
 #[inline(always)]
-#[tactic(auto, using(std::proofs::lemmas::Int::Digits::digits_more, std::proofs::lemmas::Int::Digits::digits_value_more))]
+#[tactic(auto, using(std::proofs::lemmas::Int::Digits::digits_more, std::proofs::lemmas::Int::Digits::digits_value_more, crate::proofs::DigitLemmas::small_number))]
 pub(crate) fn leading_number(text: &[u8]) -> Option<(u64, &[u8])>
     ensures bound { IfSome result (λ found. found.0 < 10 ^ 10) }
     ensures shorter { IfSome result (λ found. length found.1.now < length text.now) }
-    ensures reads_back { (word rest : List ℕ) → IsNumeral 10 word → digits_value 10 word < 10 ^ 10 → BeginsWithNoDigit rest → text.now ≡ word ++ rest
+    ensures reads_back { (word rest : List ℕ) → IsNumeral 10 word → length word ≤ 10 → BeginsWithNoDigit rest → text.now ≡ word ++ rest
         → MatchOption result ⊥ (λ found. (found.0 ≡ digits_value 10 word) × (found.1.now ≡ rest)) }
+    ensures too_long { BeginsWithElevenDigits text.now → result ≡ None }
 {
     let mut value = 0u64;
     for (place, byte) in text.iter().enumerate() {
         if !byte.is_ascii_digit() {
             return number_to(text, place, value);
         }
-        value = value * 10 + u64::from(*byte - b'0');
-        if value >= LIMIT {
+        if place >= MOST_DIGITS {
             return None;
         }
+        value = value * 10 + u64::from(*byte - b'0');
     }
     number_to(text, text.len(), value)
 }
@@ -74,6 +76,21 @@ fn number_to(text: &[u8], end: usize, value: u64) -> Option<(u64, &[u8])>
         return None;
     }
     Some((value, &text[end..]))
+}
+
+/// Whether this character, not the null character, stands at a place.
+pub(crate) fn is_at(text: &[u8], place: usize, character: u8) -> bool
+    requires { 0 < character }
+    ensures { result ≡ is_at text.now place character }
+{
+    place < text.len() && text[place] == character
+}
+
+/// Whether a decimal digit stands at a place.
+pub(crate) fn is_digit_at(text: &[u8], place: usize) -> bool
+    ensures { result ≡ digit_is_at text.now place }
+{
+    place < text.len() && text[place].is_ascii_digit()
 }
 
 /// The number that eight hexadecimal digits spell; none for any other text.

@@ -1,3 +1,7 @@
+ghost use Rattle.std.specs.Prelude.{◌≡◌, None};
+ghost use Rattle.candump_line.specs.Said.{time_of, untimed};
+ghost use Rattle.candump_line.specs.Said as said;
+
 use crate::reason::Reason;
 use crate::time::Time;
 use can_frame::Frame;
@@ -43,4 +47,55 @@ pub enum Line<'a> {
     Note,
     /// It begins as a line of a log, and is none.
     Bad(Reason),
+}
+
+impl<'a> Line<'a> {
+    /// Its time, where it has one.
+    pub fn time(&self) -> Option<Time>
+        ensures { result ≡ time_of self.now }
+    {
+        match self {
+            Line::Frame { time, .. } => *time,
+            Line::Overflow { time, .. } => *time,
+            _ => None,
+        }
+    }
+
+    /// The line without its time.
+    pub fn untimed(&self) -> Line<'a>
+        ensures same { result ≡ untimed self.now }
+        ensures time { time_of result ≡ None }
+    {
+        match self {
+            Line::Frame { bus, frame, .. } => Line::Frame {
+                time: None,
+                bus: *bus,
+                frame: *frame,
+            },
+            Line::Overflow { bus, .. } => Line::Overflow {
+                time: None,
+                bus: *bus,
+            },
+            Line::Dropped { bus, count } => Line::Dropped {
+                bus: *bus,
+                count: *count,
+            },
+            Line::Foreign { bus, what } => Line::Foreign {
+                bus: *bus,
+                what: *what,
+            },
+            Line::Note => Line::Note,
+            Line::Bad(reason) => Line::Bad(*reason),
+        }
+    }
+
+    /// Whether it tells of a frame: one of J1939, another one, or one that was lost.
+    pub fn is_of_frames(&self) -> bool
+        ensures { result ≡ said.is_of_frames self.now }
+    {
+        match self {
+            Line::Note | Line::Bad(_) => false,
+            _ => true,
+        }
+    }
 }

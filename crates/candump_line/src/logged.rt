@@ -1,4 +1,4 @@
-ghost use Rattle.std.specs.Prelude.{◌≡◌, ℕ, ◌+◌, ◌<◌, ◌^◌, ◌≤◌, ◌∷◌, [], ◌++◌, All, List, MatchOption, Some, length, OnOk, option_map};
+ghost use Rattle.std.specs.Prelude.{◌≡◌, ℕ, ◌+◌, ◌<◌, ◌^◌, ◌≤◌, ◌∷◌, [], ◌++◌, All, IfSome, List, MatchOption, Some, length, OnOk, option_map};
 ghost use Rattle.std.specs.Io.KnownBytes.{Appends};
 ghost use Rattle.std.specs.List.{flat_map};
 ghost use Rattle.can_frame.specs.FrameText.{id_text};
@@ -27,6 +27,7 @@ const ID_DIGITS: usize = 8;
 /// any other line.
 pub(crate) fn read_logged(line: &[u8]) -> Option<Logged<'_>>
     ensures reads { (digits ticks : ℕ) (bus : List ℕ) (f : FrameValue) → IsFraction digits → ticks < 10 ^ (10 + digits) → IsBusName bus → IsDataFrame f → line.now ≡ timed_line (ticks_text digits ticks) bus f → option_map logged_value result ≡ Some (micros_of_ticks digits ticks, bus, f) }
+    ensures bus { IfSome result (λ logged. All (λ c. 32 < c) logged.bus.now) }
 {
     let rest = behind(line, b'(')?;
     let (micros, rest) = leading_micros(rest)?;
@@ -42,14 +43,18 @@ pub(crate) fn read_logged(line: &[u8]) -> Option<Logged<'_>>
     })
 }
 
-/// What stands before the first space of a text, and what stands behind it.
+/// The word before the first space of a text, and what stands behind that; none where another character that is not seen stands before it.
 #[inline(always)]
 fn cut_at_space(text: &[u8]) -> Option<(&[u8], &[u8])>
     ensures reads_back { (word rest : List ℕ) → All (λ c. 32 < c) word → text.now ≡ word ++ 32 ∷ rest → MatchOption result ⊥ (λ cut. (cut.0.now ≡ word) × (cut.1.now ≡ rest)) }
+    ensures word { IfSome result (λ cut. All (λ c. 32 < c) cut.0.now) }
 {
     for (place, byte) in text.iter().enumerate() {
         if *byte == b' ' {
             return Some((&text[..place], &text[place + 1..]));
+        }
+        if *byte < b' ' {
+            return None;
         }
     }
     None
@@ -59,6 +64,7 @@ fn cut_at_space(text: &[u8]) -> Option<(&[u8], &[u8])>
 #[inline(always)]
 fn bus_name(word: &[u8]) -> Option<&str>
     ensures reads_back { IsBusName word.now → MatchOption result ⊥ (λ bus. bus.now ≡ word.now) }
+    ensures same { IfSome result (λ bus. bus.now ≡ word.now) }
 {
     if word.is_empty() {
         return None;

@@ -1,3 +1,7 @@
+ghost use Rattle.std.specs.Prelude.{◌≡◌, ℕ, ◌+◌, ◌<◌, ◌≤◌};
+ghost use Rattle.candump_line.specs.PlainText.{is_count, is_fd_count};
+
+use crate::digits::{is_at, is_digit_at};
 use crate::line::{Foreign, Line};
 use crate::reason::Reason;
 use crate::said::{Said, said_by};
@@ -125,13 +129,36 @@ fn read_told(id: &str, told: &str, words: SplitAsciiWhitespace<'_>) -> Said {
         Ok(id) => id,
         Err(reason) => return Said::Bad(reason),
     };
-    if told.len() == 4 {
+    let told = told.as_bytes();
+    if is_fd_count(told) {
         return Said::Foreign(Foreign::Fd);
     }
-    match told.as_bytes() {
-        [b'[', count @ b'0'..=b'8', b']'] => read_told_bytes(id, *count - b'0', words),
-        _ => Said::Bad(Reason::NoHash),
+    if is_count(told) {
+        return read_told_bytes(id, told[1] - b'0', words);
     }
+    Said::Bad(Reason::NoHash)
+}
+
+/// Whether brackets hold the number of bytes of a frame, 0 to 8: one digit.
+fn is_count(word: &[u8]) -> bool
+    ensures { result ≡ is_count word.now }
+{
+    word.len() == 3
+        && is_at(word, 0, b'[')
+        && b'0' <= word[1]
+        && word[1] <= b'8'
+        && is_at(word, 2, b']')
+}
+
+/// Whether brackets hold the number of bytes of a CAN FD frame: two digits.
+fn is_fd_count(word: &[u8]) -> bool
+    ensures { result ≡ is_fd_count word.now }
+{
+    word.len() == 4
+        && is_at(word, 0, b'[')
+        && is_digit_at(word, 1)
+        && is_digit_at(word, 2)
+        && is_at(word, 3, b']')
 }
 
 /// So many bytes of two digits, and candump's remarks behind.

@@ -3,6 +3,7 @@ ghost use Rattle.candump_line.specs.LineText.{line_text, micros_of_ticks, ticks_
 ghost use Rattle.candump_line.specs.Logged.{frame_read};
 ghost use Rattle.can_frame.specs.FrameValue.{FrameValue};
 
+use crate::dropped::read_dropped;
 use crate::line::Line;
 use crate::logged::read_logged;
 use crate::plain::{read_seen, read_untimed};
@@ -85,24 +86,4 @@ fn read_other(text: &str) -> Line<'_> {
         Some(time) => read_seen(time, rest),
         None => Line::Bad(Reason::NoTime),
     }
-}
-
-/// `dropped COUNT CAN frames on 'BUS' socket ..`, as candump tells; where it is cut, one frame of any bus.
-fn read_dropped(rest: &str) -> Line<'_> {
-    let mut words = rest.split_ascii_whitespace();
-    let _dropped = words.next();
-    let count = match words.next() {
-        Some(word) => word.parse::<u32>().unwrap_or(1),
-        None => 1,
-    };
-    let _can = words.next();
-    let _frames = words.next();
-    let _on = words.next();
-    let bus = match words.next() {
-        Some(word) => word
-            .strip_prefix('\'')
-            .and_then(|word| word.strip_suffix('\'')),
-        None => None,
-    };
-    Line::Dropped { bus, count }
 }

@@ -1,6 +1,6 @@
-ghost use Rattle.std.specs.Prelude.{◌≡◌, ℕ, ◌<◌, ◌^◌, ◌+◌, ◌++◌, List, IfSome, MatchOption, Some, length};
+ghost use Rattle.std.specs.Prelude.{◌≡◌, ℕ, ◌<◌, ◌^◌, ◌+◌, ◌++◌, List, IfSome, MatchOption, Some, None, length};
 ghost use Rattle.std.specs.Option.{SomeIff};
-ghost use Rattle.candump_line.specs.LineText.{micros_of_ticks, ticks_text, time_text, BeginsWithNoDigit, IsFraction};
+ghost use Rattle.candump_line.specs.LineText.{micros_of_ticks, ticks_text, time_text, BeginsWithElevenDigits, BeginsWithNoDigit, IsFraction};
 
 use crate::date::leading_date_micros;
 use crate::digits::{behind, leading_number};
@@ -59,12 +59,13 @@ impl Time {
 
     /// The time that a text spells; none for any other text.
     ///
-    /// That is seconds in decimal digits, a point and three, six or nine digits of a second, of which what is below a microsecond
+    /// That is seconds in one to ten decimal digits, a point and three, six or nine digits of a second, of which what is below a microsecond
     /// is cut; or a date and a time of day, `YYYY-MM-DD HH:MM:SS` and a fraction as before, as `candump -tA` writes it. A date is taken
     /// for one of the time zone UTC, and none is before 1970.
     pub fn read(text: &str) -> Option<Time>
         ensures reads { (digits ticks : ℕ) → IsFraction digits → ticks < 10 ^ (10 + digits) → text.now ≡ ticks_text digits ticks → result ≡ Some (micros_of_ticks digits ticks) }
         ensures reads_back { (n : ℕ) → n < 10 ^ 16 → text.now ≡ time_text n → result ≡ Some n }
+        ensures too_long { BeginsWithElevenDigits text.now → result ≡ None }
     {
         let text = text.as_bytes();
         match leading_micros(text) {
@@ -94,6 +95,7 @@ pub(crate) fn leading_micros(text: &[u8]) -> Option<(u64, &[u8])>
     ensures bound { IfSome result (λ found. found.0 < 10 ^ 16) }
     ensures reads { (digits ticks : ℕ) (rest : List ℕ) → IsFraction digits → ticks < 10 ^ (10 + digits) → BeginsWithNoDigit rest → text.now ≡ ticks_text digits ticks ++ rest
         → MatchOption result ⊥ (λ found. (found.0 ≡ micros_of_ticks digits ticks) × (found.1.now ≡ rest)) }
+    ensures too_long { BeginsWithElevenDigits text.now → result ≡ None }
 {
     let (seconds, rest) = leading_number(text)?;
     let fraction = behind(rest, b'.')?;

@@ -1,6 +1,8 @@
 //! How the time of a line is written, by which a reader tells relative times.
-ghost use Rattle.std.specs.Prelude.{◌≡◌, ◌<◌};
-ghost use Rattle.candump_line.specs.TimeForms.{digit_is_at, is_at, is_dated, is_relative, is_timed};
+ghost use Rattle.std.specs.Prelude.{◌≡◌};
+ghost use Rattle.candump_line.specs.TimeForms.{is_dated, is_relative, is_timed};
+
+use crate::digits::{is_at, is_digit_at};
 
 /// How the time of a line is written.
 #[derive(Clone, Copy, Debug, PartialEq, Eq)]
@@ -76,19 +78,4 @@ fn is_timed(text: &[u8]) -> bool
     ensures { result ≡ is_timed text.now }
 {
     is_at(text, 0, b'(') && is_digit_at(text, 1)
-}
-
-/// Whether this character, not the null character, stands at a place.
-fn is_at(text: &[u8], place: usize, character: u8) -> bool
-    requires { 0 < character }
-    ensures { result ≡ is_at text.now place character }
-{
-    place < text.len() && text[place] == character
-}
-
-/// Whether a decimal digit stands at a place.
-fn is_digit_at(text: &[u8], place: usize) -> bool
-    ensures { result ≡ digit_is_at text.now place }
-{
-    place < text.len() && text[place].is_ascii_digit()
 }

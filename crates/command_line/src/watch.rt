@@ -22,7 +22,8 @@ Limits: on a real bus the last claim is not always the holder (an entry within 2
 marked contested); frames lost without notice can mix two messages (a packet after --silence is withheld); a log without claims
 shows nothing but unowned messages (have the units claim: cansend can0 18EAFFFE#00EE00; or --assume).
 
-Status: 0 done; 1 a read or write failed, or memory ran out; 2 the command line; 3 done, but lines were bad."
+Status: 0 done; 1 a read or write failed, or memory ran out; 2 the command line; 3 done, but lines were bad,
+or none was a frame (what it looks like is told, and what converts it)."
 }
 
 /// The subcommand `watch`.

@@ -72,7 +72,7 @@ impl Joining {
         }
         let bus = Bus {
             name: String::from_str(self.alloc, name)?,
-            halves: Halves::new(self.alloc),
+            halves: Halves::new(self.alloc)?,
         };
         self.buses.push(bus)?;
         Ok(Some(place))

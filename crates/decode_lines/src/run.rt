@@ -5,7 +5,7 @@ use can_frame::{Frame, Pgn};
 use candump_line::{Line, Time, read_line};
 use dm_messages::{Shown, read};
 use frame_words::{write_joined_words, write_line_words};
-use log_lines::{Ended, LogFault, ROOM, next_line};
+use log_lines::{Ended, LogFault, Notices, ROOM, next_line};
 use pair_joining::Joined;
 use parameter_group::ParameterGroup;
 use std::alloc::Global;
@@ -31,8 +31,9 @@ pub struct Options<'a> {
     pub join: bool,
 }
 
-/// Reads lines to their end and answers each by one. A bad line is told on `errors` besides, with its number. Where packets are joined, a
-/// message has a line of its own behind that of its last packet.
+/// Reads lines to their end and answers each by one. Of bad lines the first ten of each kind are told on `errors` besides, with their numbers,
+/// and how many further ones there were; so is that no line is a frame. Where packets are joined, a message has a line of its own behind that
+/// of its last packet.
 ///
 /// Lines are answered before the program waits for another.
 pub fn decode<R: Read + Drop, W: Write + Drop, E: Write>(
@@ -58,7 +59,7 @@ pub fn decode<R: Read + Drop, W: Write + Drop, E: Write>(
     }
 }
 
-/// Answers all lines.
+/// Answers all lines, and tells on `errors` of bad ones and of an input without frames.
 fn answer_lines<R: Read + Drop, W: Write + Drop, E: Write>(
     alloc: Global,
     reader: &mut BufReader<R>,
@@ -66,60 +67,56 @@ fn answer_lines<R: Read + Drop, W: Write + Drop, E: Write>(
     errors: &mut E,
     options: &Options<'_>,
 ) -> Ended {
-    let mut line = Vec::new(alloc);
-    let mut joining = Joining::new(alloc);
-    let mut bad = 0u64;
-    for number in 1..u64::MAX {
-        let answered = match next_line(reader, writer, &mut line) {
-            Ok(true) => answer(
-                alloc,
-                writer,
-                errors,
-                options,
-                &mut joining,
-                line.as_slice(),
-                number,
-            ),
-            Ok(false) => break,
-            Err(fault) => Err(fault),
-        };
-        match answered {
-            Ok(false) => {}
-            Ok(true) => bad = bad.saturating_add(1),
-            Err(fault) => return Ended {
-                bad,
-                fault: Some(fault),
-            },
-        }
-    }
-    Ended { bad, fault: None }
+    let mut notices = Notices::new();
+    let end = answer_each(alloc, reader, writer, errors, options, &mut notices);
+    notices.ended(errors, end)
 }
 
-/// Answers a line, and a message that it makes whole where packets are joined. Tells whether the line is bad.
-fn answer<W: Write, E: Write>(
+/// Answers line by line. Tells whether the input came to its end.
+fn answer_each<R: Read + Drop, W: Write + Drop, E: Write>(
     alloc: Global,
-    writer: &mut W,
+    reader: &mut BufReader<R>,
+    writer: &mut BufWriter<W>,
     errors: &mut E,
     options: &Options<'_>,
-    joining: &mut Joining,
-    line: &[u8],
-    number: u64,
+    notices: &mut Notices,
 ) -> Result<bool, LogFault> {
-    let said = read_line(line);
-    let is_bad = tell_where_bad(errors, number, &said)?;
+    let mut line = Vec::new(alloc);
+    let mut joining = Joining::new(alloc);
+    for number in 1..u64::MAX {
+        if !next_line(reader, writer, &mut line)? {
+            break;
+        }
+        let text = line.as_slice();
+        let said = read_line(text);
+        notices.take(errors, number, text, &said)?;
+        answer(alloc, writer, options, &mut joining, &said, number)?;
+    }
+    Ok(true)
+}
+
+/// Answers a line, and a message that it makes whole where packets are joined.
+fn answer<W: Write>(
+    alloc: Global,
+    writer: &mut W,
+    options: &Options<'_>,
+    joining: &mut Joining,
+    said: &Line<'_>,
+    number: u64,
+) -> Result<(), LogFault> {
     match options.form {
-        Form::Text => write_words(alloc, writer, options.texts, &said)?,
+        Form::Text => write_words(alloc, writer, options.texts, said)?,
         Form::Json => {
-            let object = line_object(alloc, options.texts, number, &said)?;
+            let object = line_object(alloc, options.texts, number, said)?;
             write_object(writer, object)?;
         }
     }
     if options.join {
-        if let Some(joined) = joining.take(&said)? {
-            write_joined(alloc, writer, options, number, &said, &joined)?;
+        if let Some(joined) = joining.take(said)? {
+            write_joined(alloc, writer, options, number, said, &joined)?;
         }
     }
-    Ok(is_bad)
+    Ok(())
 }
 
 /// Writes a message that a line makes whole.
@@ -168,21 +165,6 @@ pub(crate) fn place_of<'a>(line: &Line<'a>) -> (Option<Time>, Option<&'a str>) {
     match line {
         Line::Frame { time, bus, .. } => (*time, *bus),
         _ => (None, None),
-    }
-}
-
-/// Tells on `errors` why a line is bad, where it is. Tells whether it is.
-fn tell_where_bad<E: Write>(
-    errors: &mut E,
-    number: u64,
-    said: &Line<'_>,
-) -> Result<bool, LogFault> {
-    let Line::Bad(reason) = said else {
-        return Ok(false);
-    };
-    match writeln!(errors, "line {number}: {reason}") {
-        Ok(()) => Ok(true),
-        Err(_) => Err(LogFault::Write),
     }
 }
 

@@ -1,13 +1,18 @@
+ghost use Rattle.std.specs.Prelude.{◌≡◌, ◌<◌, None, Err, true};
+
 use log_lines::{Ended, LogFault};
 use program_io::Fault;
 
 /// How a run over lines ends the program.
-pub(crate) fn outcome(ended: Ended) -> Result<(), Fault> {
+pub(crate) fn outcome(ended: Ended) -> Result<(), Fault>
+    ensures bad { ended.fault ≡ None → 0 < ended.bad → result ≡ Err Fault.BadLines }
+    ensures unread { ended.fault ≡ None → ended.is_unread ≡ true → result ≡ Err Fault.BadLines }
+{
     match ended.fault {
         Some(LogFault::Read) => Err(Fault::Read),
         Some(LogFault::Write) => Err(Fault::Write),
         Some(LogFault::Memory) => Err(Fault::Memory),
-        None if ended.bad > 0 => Err(Fault::BadLines),
+        None if ended.bad > 0 || ended.is_unread => Err(Fault::BadLines),
         None => Ok(()),
     }
 }

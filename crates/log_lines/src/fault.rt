@@ -47,6 +47,8 @@ impl LogFault {
 pub struct Ended {
     /// How many lines were bad.
     pub bad: u64,
+    /// Whether all lines were read, and none was a frame.
+    pub is_unread: bool,
     /// Why it ended before the last line, where it did.
     pub fault: Option<LogFault>,
 }
@@ -56,6 +58,7 @@ impl Ended {
     pub fn failed(fault: LogFault) -> Ended {
         Ended {
             bad: 0,
+            is_unread: false,
             fault: Some(fault),
         }
     }

@@ -1,8 +1,14 @@
-//! The lines of a log or of a live bus, read one by one, and how such a run ends.
+//! The lines of a log or of a live bus, read one by one, what is told beside the output of such a run, and how it ends.
 #![tactic(auto)]
 
+mod bad_lines;
+mod clock;
 mod fault;
 mod lines;
+mod notices;
+mod recognised;
 
+pub use clock::Clock;
 pub use fault::{Ended, LogFault};
 pub use lines::{ROOM, next_line};
+pub use notices::Notices;

@@ -1,28 +1,24 @@
 -- Messages half joined between any two addresses (SAE J1939-21, 5.10).
-use Rattle.std.specs.Prelude.{◌≡◌, ℕ, Bool, ◌&&◌, ◌||◌, ◌==◌, not, List, Option, Some, None, length, unwrap_or, if◌then◌else◌}
+use Rattle.std.specs.Prelude.{◌≡◌, ℕ, ◌<◌, Bool, ◌&&◌, ◌||◌, ◌==◌, not, List, Option, Some, None, length, if◌then◌else◌}
 use Rattle.can_frame.specs.declared.address.TheConstants.{GLOBAL_ADDRESS}
 use Rattle.parameter_group.specs.Group.{Group, ConnectionManagement, DataTransfer}
 use Rattle.reassembly.specs.Partials.{PartialValue, begun, with_packet, after_packet, is_whole}
-use Rattle.reassembly.specs.Tables.{at, empty_table}
+use Rattle.reassembly.specs.Pairs.{pair_at, pairs_from}
 use Rattle.transport.specs.Pieces.{joined}
 use Rattle.transport.specs.declared.control.Control.TheVariants.{Rts, EndAck, Bam, Abort}
 
--- what is half joined: by destination, and by source; its tag is its group
+-- what is half joined: by source, and by destination; its tag is its group
 abbrev pub Halves : Type 0
-Halves = List (Option (List (Option (PartialValue ℕ))))
-
--- what is half joined to a destination: nothing where nothing was announced to it yet
-abbrev pub row_at : Halves → ℕ → List (Option (PartialValue ℕ))
-row_at halves destination = unwrap_or (at halves destination) empty_table
+Halves = List (List (Option (PartialValue ℕ)))
 
 -- the message half joined from a source to a destination; a broadcast's destination is 255
 abbrev pub half : Halves → ℕ → ℕ → Option (PartialValue ℕ)
-half halves source destination = at (row_at halves destination) source
+half = pair_at
 
 -- every table is of 256 addresses
 pub record AreWhole (halves : Halves) : Type 0 where
-  pub places : length halves ≡ 256
-  pub rows : (destination : ℕ) (row : List (Option (PartialValue ℕ))) → at halves destination ≡ Some row → length row ≡ 256
+  pub sources : length halves ≡ 256
+  pub destinations : (source : ℕ) → source < 256 → length (pairs_from halves source) ≡ 256
 
 -- the message goes from the one address to the other
 abbrev pub is_of : ℕ → ℕ → ℕ → ℕ → Bool

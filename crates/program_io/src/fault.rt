@@ -22,7 +22,7 @@ pub enum Fault {
     Vehicle,
     /// A file of texts holds none.
     Texts,
-    /// All is done, but lines were bad: each was told with its number, and no line follows.
+    /// All is done, but lines were bad, or none was a frame: that was told, and no line follows.
     BadLines,
 }
 

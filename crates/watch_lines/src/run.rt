@@ -45,7 +45,8 @@ pub(crate) fn is_assumed(assumed: &[Assumed], name: Name) -> bool {
 
 /// Reads lines to their end, writes what each of them changes, and then the report.
 ///
-/// What a line changed is written before the program waits for another. A bad line is told on `errors`, with its number.
+/// What a line changed is written before the program waits for another. Of bad lines the first ten of each kind are told on `errors`, with their
+/// numbers, and how many further ones there were; so are times that do not count, and that no line is a frame.
 /// Where a read failed, or memory was refused, what was found until then is reported.
 pub fn watch<R: Read + Drop, W: Write + Drop, E: Write>(
     alloc: Global,

@@ -1,6 +1,7 @@
-use Rattle.std.proofs.Common.{◌≡◌, ℕ, ◌<◌, get_or}
+use Rattle.std.proofs.Common.{◌<◌, take}
+use Rattle.std.specs.Prelude.{All}
 use Rattle.candump_line.proofs.logged.cut_at_space.Given as goal
 
--- no space so far
+-- only characters that are seen so far
 abbrev pub invariant-loop-place : goal.invariant-loop-place
-invariant-loop-place l = (k : ℕ) → k < l.place → get_or l.text k 0 ≡ 32 → ⊥
+invariant-loop-place l = All (λ c. 32 < c) (take l.place l.text)

@@ -1,0 +1,84 @@
+//! The times of the lines of a log, as far as they count.
+ghost use Rattle.std.specs.Prelude.{◌≡◌, IfOk};
+ghost use Rattle.candump_line.specs.Times.{is_counted};
+
+use candump_line::{Line, Times};
+use std::io;
+use std::io::Write;
+
+/// The times of a log: those that are since the line before count for nothing.
+#[derive(Clone, Copy, Debug)]
+pub struct Clock {
+    times: Times,
+    /// Whether a frame had no time before any had one.
+    has_untimed: bool,
+}
+
+impl Clock {
+    /// No line was read.
+    pub fn new() -> Clock {
+        Clock {
+            times: Times::Unseen,
+            has_untimed: false,
+        }
+    }
+
+    /// Takes a line and what it says, and tells whether its time counts: else the line is to be heard without it. Where the times are found to
+    /// be since the line before, that is told on `errors`, once.
+    ///
+    /// # Errors
+    /// That could not be written.
+    pub fn counts<E: Write>(
+        &mut self,
+        errors: &mut E,
+        number: u64,
+        line: &[u8],
+        said: &Line<'_>,
+    ) -> io::Result<bool>
+        ensures { IfOk result (λ counts. counts ≡ is_counted self.new.times) }
+    {
+        if self.times.is_counted() {
+            return Ok(true);
+        }
+        let Some(time) = said.time() else {
+            self.note_untimed(said);
+            return Ok(false);
+        };
+        let was_passed = self.times.is_passed();
+        self.times.take(line, time);
+        if self.times.is_passed() && !was_passed {
+            writeln!(
+                errors,
+                "line {number}: times since the line before (candump -td) count for nothing: no packet is late by them, no entry contested; candump -L has times that count"
+            )?;
+        }
+        Ok(self.times.is_counted())
+    }
+
+    /// Keeps that a frame has no time.
+    fn note_untimed(&mut self, said: &Line<'_>)
+        ensures { self.new.times ≡ self.old.times }
+    {
+        if let Line::Frame { .. } = said {
+            self.has_untimed = true;
+        }
+    }
+
+    /// Tells at the end that no time counted, where that was not told: no frame had one, or relative ones were too few.
+    ///
+    /// # Errors
+    /// That could not be written.
+    pub fn tell_rest<E: Write>(&self, errors: &mut E) -> io::Result<()> {
+        match self.times {
+            Times::Unseen if self.has_untimed => writeln!(
+                errors,
+                "no line has a time: no packet is late, no entry contested; candump -L has times"
+            ),
+            Times::Undecided { .. } => writeln!(
+                errors,
+                "relative times (candump -tz, -td), too few to tell since when, count for nothing: no packet is late by them, no entry contested; candump -L has times that count"
+            ),
+            _ => Ok(()),
+        }
+    }
+}

@@ -1,0 +1,107 @@
+"""What is told on standard error of the lines of a log, beside what is written of them: bad lines, times that do not count, an input without frames."""
+
+import re
+
+from .log_cases import reach
+from .log_line import Line
+
+TOLD = 10  # bad lines of one kind that are told each
+ENOUGH = 10  # relative times that are looked at
+KINDS = ["longer than 4096 bytes", "no text", "no time (SECONDS.MICROSECONDS)", "no bus behind the time", "no frame behind the bus", "no # behind the identifier",
+         "8 digits of identifier wanted", "identifier above 1FFFFFFF", "more than 8 bytes", "other bytes than told of", "odd number of digits", "no hexadecimal digit",
+         "words behind the data"]
+RELATIVE = re.compile(rb" ?\(0[0-9][0-9]\.")
+ABSOLUTE = "candump -L has times that count"
+
+
+def kind_of(reason):
+    """What a reason says, but for its numbers and characters."""
+    return next((kind for kind in KINDS if reason.startswith(kind)), "other bytes than told of")
+
+
+class BadLines:
+    """Of each kind the first ten are told, and at the end how many more there were."""
+
+    def __init__(self):
+        self.counts = dict.fromkeys(KINDS, 0)
+
+    def told(self, number, line):
+        if line.kind != "bad":
+            return ""
+        kind = kind_of(line.what)
+        self.counts[kind] += 1
+        if self.counts[kind] > TOLD:
+            reach("a bad line that is counted alone")
+        return f"line {number}: {line.what}\n" if self.counts[kind] <= TOLD else ""
+
+    def rest(self):
+        more = {kind: count - TOLD for kind, count in self.counts.items() if count > TOLD}
+        return f"and {sum(more.values())} more bad lines: " + ", ".join(f"{count} {kind}" for kind, count in more.items()) + "\n" if more else ""
+
+
+class Clock:
+    """Whether the times of a log count. Relative times (candump -tz, -td) do where of the first ten none is less than the one before it, and the
+    tenth is above the second: then they are since the first line."""
+
+    def __init__(self):
+        self.times, self.relative, self.untimed = [], False, False
+
+    def state(self):
+        first = self.times[:ENOUGH]
+        if not self.relative:
+            return "count" if first else "unseen"
+        if any(one > other for one, other in zip(first, first[1:])) or len(first) == ENOUGH and first[-1] <= first[1]:
+            return "passed"
+        return "count" if len(first) == ENOUGH else "undecided"
+
+    def heard(self, number, line):
+        """The line as it is heard, with its time where that counts, else without; and what is told."""
+        before = self.state()
+        if line.kind not in ("frame", "overflow") or line.time is None:
+            self.untimed |= line.kind == "frame" and before == "unseen"
+            return line, ""
+        if before == "unseen":
+            self.relative = RELATIVE.match(line.text) is not None
+        self.times.append(line.time)
+        after = self.state()
+        if after == "count":
+            if before == "undecided":
+                reach("relative times count")
+            return line, ""
+        untimed = Line(line.kind, line.what, None, line.bus)
+        if after != "passed" or before == "passed":
+            return untimed, ""
+        reach("times since the line before")
+        return untimed, f"line {number}: times since the line before (candump -td) count for nothing: no packet is late by them, no entry contested; {ABSOLUTE}\n"
+
+    def rest(self):
+        if self.state() == "undecided":
+            reach("relative times, too few")
+            return f"relative times (candump -tz, -td), too few to tell since when, count for nothing: no packet is late by them, no entry contested; {ABSOLUTE}\n"
+        if self.state() == "unseen" and self.untimed:
+            reach("no line has a time")
+            return "no line has a time: no packet is late, no entry contested; candump -L has times\n"
+        return ""
+
+
+def other_log(text):
+    """What a line of another program's log looks like, and what converts it."""
+    if text.startswith(b"LOGG"):
+        return "Vector's binary form (.blf)", "can_logconvert IN.blf OUT.log"
+    if text.startswith(b";"):
+        return "PEAK's text (.trc)", "can_logconvert IN.trc OUT.log"
+    if text.startswith((b"date ", b"base ")):
+        return "Vector's text (.asc)", "asc2log -I IN.asc -O OUT.log"
+    if text.count(b",") >= 3 or text.count(b";") >= 3:
+        return "a table (.csv)", "can_logconvert IN.csv OUT.log"
+    return None
+
+
+def without_frames(lines):
+    """What is told of an input in which no line tells of a frame."""
+    if not lines or any(line.kind not in ("note", "bad") for line in lines):
+        return ""
+    looks = next(filter(None, (other_log(line.text) for line in lines)), None)
+    reach("an input without frames that looks like " + (looks[0] if looks else "no log"))
+    words = f"{looks[0]}, which is read once it is converted: {looks[1]}" if looks else "no log of candump (candump -L can0 > OUT.log)"
+    return f"no frame in {len(lines)} lines: this looks like {words}\n"

@@ -1,10 +1,10 @@
 """The logs of tests/logs/listener: where a station that takes part would have answered, and one who only reads has to hear it otherwise.
 
-NAME.log is the log, NAME.lists.json what is to be listed, made by hand: for each unit, or address that nobody claimed (`"name": null`), its runs of
-equal entries, each with the address that it went to (`"to"`, null for all). `needs` says what a program must have to read the log
+NAME.log, here or in examples/logs, is the log, NAME.lists.json what is to be listed, made by hand: for each unit, or address that nobody claimed
+(`"name": null`), its runs of equal entries, each with the address that it went to (`"to"`, null for all). `needs` says what a program must have to read the log
 so: `listener`, `unclaimed rows` (a row for an address that nobody claimed), `forms` (of times), `relative times`.
 
-What the program has not yet is not tried with it, and the model alone is. A listener and its rows are switched on in tests/model/watch.py; for
+What the program has not yet is not tried with it, and the model alone is; for
 another log the word of its `needs` is put into PROGRAM_HAS.
 """
 
@@ -19,12 +19,13 @@ from model import log_line, watch  # noqa: E402
 
 FOLDER = TOP / "tests/logs/listener"
 KINDS = ("dm1", "dm2", "dm6")
-PROGRAM_HAS = {"forms", "relative times"} | {word for word, has in (("listener", watch.PROGRAM_LISTENS), ("unclaimed rows", watch.LISTS_UNCLAIMED)) if has}
+PROGRAM_HAS = {"forms", "relative times"} | ({"listener", "unclaimed rows"} if watch.PROGRAM_LISTENS else set())
 MODEL_HAS = {"listener", "unclaimed rows", "relative times"}
 
 
 def log_of(name):
-    return (FOLDER / f"{name}.log").read_bytes()
+    log = FOLDER / f"{name}.log"
+    return (log if log.exists() else TOP / "examples/logs" / log.name).read_bytes()
 
 
 def wanted(name):
@@ -60,7 +61,7 @@ def differences(name, report, same):
 def tries(run, same):
     """A name, and what says how a log differs, for each log that the model or the program has what it needs. `run` and `same` are those of
     tests/run_logs."""
-    for name in sorted(log.stem for log in FOLDER.glob("*.log")):
+    for name in sorted(lists.name.removesuffix(".lists.json") for lists in FOLDER.glob("*.lists.json")):
         if wanted(name)["needs"] in MODEL_HAS:
             yield f"{name} by the model", lambda name=name: differences(name, by_model(name), same)
         if wanted(name)["needs"] in PROGRAM_HAS:
@@ -68,6 +69,4 @@ def tries(run, same):
 
 
 def by_model(name):
-    options = watch.Options.of([], listens=True)
-    options.lists_unclaimed = True
-    return watch.watched(log_line.read_lines(log_of(name)), options)[0]["json"]
+    return watch.watched(log_line.read_lines(log_of(name)), watch.Options.of([], listens=True))[0]["json"]

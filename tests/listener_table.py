@@ -94,5 +94,5 @@ class Table:
         shown = read_message(payload)
         if shown is None:
             self.unread += 1
-            return [("unread", self.unread, who, how)]
+            return [("unread", self.unread, who, kind, dest, how)]
         return [("entry", who, kind, source, dest, shown, how)]

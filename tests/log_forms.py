@@ -227,6 +227,8 @@ def words_of_watch(chance):
         words += ["--bad", chance.choice(["skip", "skip", "missed"])]
     if chance.random() < 0.4:
         words += ["--silence", str(chance.choice([0, 0, 1, 100, 749, 751, 3_600_000]))]
+    if chance.random() < 0.3:
+        words += ["--unclaimed", chance.choice(["hide", "hide", "show"])]
     return words + ["--strict"] * (chance.random() < 0.12)
 
 

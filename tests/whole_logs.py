@@ -1,8 +1,9 @@
 """The logs of tests/logs/whole: of each all that `watch` and `decode` write of it is stored, made by hand from the rules.
 
 NAME.log is the log, NAME.words are the words behind `watch`; NAME.watch.txt, .watch.json, .watch.csv, .decode.txt and .decode.json are what is
-written, NAME.errors is what both tell of bad lines. Where a listener stands behind `watch`, it is NAME.listening.txt and so on. `every-event` has each event, each count and each form of a line, with numbers
-that differ, so that no two of them can be taken for each other.
+written, NAME.errors is what both tell of bad lines. Where a listener stands behind `watch`, it is NAME.listening.txt and so on with `--unclaimed hide`, and
+NAME.unclaimed.txt and so on without it. `every-event` has each event, each count and each form of a line, with numbers that differ, so that no two
+of them can be taken for each other.
 """
 
 import pathlib
@@ -29,20 +30,23 @@ def words_of(name):
     return stored(name, "words").decode().split()
 
 
-def wanted(name, listens):
+# What stands behind `watch`, the words behind those of the log, and what the files are named after.
+WAYS = [(False, [], "watch"), (True, ["--unclaimed", "hide"], "listening"), (True, [], "unclaimed")]
+
+
+def wanted(name, more, file):
     """The command, its words, and the status, output and standard error that it is to give."""
     errors = stored(name, "errors")
     for command, forms in FORMS.items():
-        file = "listening" if listens and command == "watch" else command
         for form, ending in forms.items():
-            words = [command, *(words_of(name) if command == "watch" else []), "--format", form]
-            yield words, (3 if errors else 0, stored(name, f"{file}.{ending}").decode(), errors.decode())
+            words = [command, *(words_of(name) + more if command == "watch" else []), "--format", form]
+            yield words, (3 if errors else 0, stored(name, f"{file if command == 'watch' else command}.{ending}").decode(), errors.decode())
 
 
-def by_model(name, listens):
+def by_model(name, listens, more):
     """The same by the model."""
     lines = log_line.read_lines(stored(name, "log"))
-    for command, (texts, errors, status) in (("watch", watch.watched(lines, watch.Options.of(words_of(name), listens))), ("decode", decode.decoded(lines))):
+    for command, (texts, errors, status) in (("watch", watch.watched(lines, watch.Options.of(words_of(name) + more, listens))), ("decode", decode.decoded(lines))):
         for form in FORMS[command]:
             yield status, texts[form], errors
 
@@ -56,8 +60,9 @@ def tries(run, same):
 
 def changes_differ(file, same):
     """The changes and the report, those of one moment in any order, as tests/run_logs has the program tell them."""
-    log = (TOP / "examples/logs" / f"{file.stem}.log").read_bytes()
-    texts, errors, status = watch.watched(log_line.read_lines(log), watch.Options.of(["--silence", "0", "--address", "248"], watch.PROGRAM_LISTENS))
+    log, _, hidden = file.stem.partition(".")
+    words = ["--silence", "0", "--address", "248", *(["--unclaimed", "hide"] if hidden else [])]
+    texts, errors, status = watch.watched(log_line.read_lines((TOP / "examples/logs" / f"{log}.log").read_bytes()), watch.Options.of(words, watch.PROGRAM_LISTENS))
     lines = [line.removesuffix(" contested") for line in texts["text"].splitlines()]
     return same(sorted(lines), sorted(file.read_text().splitlines()), "lines") + same((errors, status), ("", 0), "standard error and status")
 
@@ -66,8 +71,8 @@ def differences(name, run, same):
     """What of a log's stored bytes the program or the model does not write, which has a station and a listener. `run` and `same` are those of
     tests/run_logs."""
     found, log = [], stored(name, "log")
-    for listens in (False, True):
-        for (words, wanted_of_it), models in zip(wanted(name, listens), by_model(name, listens), strict=True):
+    for listens, more, file in WAYS:
+        for (words, wanted_of_it), models in zip(wanted(name, more, file), by_model(name, listens, more), strict=True):
             found += differing("the model's " + " ".join(words), models, wanted_of_it, same)
             if listens == watch.PROGRAM_LISTENS:
                 found += differing(" ".join(words), run(words, log), wanted_of_it, same)

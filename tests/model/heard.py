@@ -202,7 +202,7 @@ class Heard:
         if shown is None:
             reach(f"a {how} cannot be read")
             self.unread += 1
-            return [("unread", self.unread, who, how)]
+            return [("unread", self.unread, who, kind, dest, how)]
         reach(f"a {how} is listed")
         return [("entry", who, kind, source, dest, shown, how)]
 

@@ -15,7 +15,6 @@ from .words import NOT_AVAILABLE, code_words, dumped, lamp_words, name_text, sho
 
 # What the program has. To be switched on with it: all tests of lines of a log then try the program as one that listens.
 PROGRAM_LISTENS = True  # whether a listener stands behind `watch`, or still a station
-LISTS_UNCLAIMED = False  # whether an address that nobody claimed has a row; else it is told of as a station tells of it
 
 T1 = 750  # milliseconds: how late a packet may come (J1939-21, 5.10.3)
 CONTEST = 250_000  # microseconds: as long as a unit waits for a contender before it sends (J1939-81, 4.4)
@@ -28,11 +27,12 @@ UNITS_CLAIM = "cansend can0 18EAFFFE#00EE00"
 
 class Options:
     """How a bus is watched. The silence is in milliseconds; 0 lets a packet come at any time. Behind the watch stands a station, or a listener:
-    then the address says whose sessions are shown, and without one all are."""
+    then the address says whose sessions are shown, and without one all are; and an address that nobody claimed has a row, or it is told
+    of it as a station tells."""
 
     def __init__(self, listens=False):
         self.listens = listens
-        self.lists_unclaimed = LISTS_UNCLAIMED
+        self.lists_unclaimed = listens
         self.bus, self.address, self.name, self.assumed = None, None if listens else 248, 1, []
         self.skips_bad, self.silence, self.strict = False, T1, False
 
@@ -58,6 +58,8 @@ class Options:
                 given.skips_bad = value == "skip"
             elif word == "--silence":
                 given.silence = int(value)
+            elif word == "--unclaimed":
+                given.lists_unclaimed = listens and value == "show"
             else:
                 assert word == "--format", word
         return given
@@ -237,10 +239,14 @@ class Watch:
         self.write(number, "missed", f"missed {count}: no owner is known until units claim again ({UNITS_CLAIM})", count=count)
 
     def tell_unowned(self, number, source, counts=True):
-        """Once of an address, until somebody claims it or frames are missed."""
+        """Once of an address, until somebody claims it or frames are missed; not where what it sends is shown."""
         self.counts["not_attributed"] += counts
+        if self.options.lists_unclaimed:
+            return
         reach(("not told again" if source in self.told_unowned else "told") + " of an address without owner")
         if source not in self.told_unowned:
+            if self.options.listens:
+                reach("an address that nobody claimed is told of, and has no row")
             self.told_unowned.add(source)
             self.write(number, "unowned", f"unowned DM from {source}, which nobody has claimed in what was read: not shown", address=source)
 
@@ -251,9 +257,15 @@ class Watch:
             return
         self.write(number, "ack", f"ack {name_text(name)} control {control} of {pgn}", name=name_text(name), control=control, pgn=pgn)
 
-    def tell_unread(self, number, count, who, how):
+    def tell_unread(self, number, count, who, kind, to, how):
+        """A listener says whose it is."""
         self.counts["not_attributed"] += isinstance(who, Unclaimed) and how == "single frame"
-        self.write(number, "unread", f"unread {count}", count=count)
+        if not self.options.listens:
+            self.write(number, "unread", f"unread {count}", count=count)
+            return
+        word, sent = WORD_OF[kind], f" to {to}" if to != GLOBAL else ""
+        self.write(number, "unread", f"unread {count}: {word} of {self.who_words(who)}{sent}", count=count, **self.who_object(who), kind=word,
+                   **({"to": to} if sent else {}))
 
     def is_contested(self, source):
         """Whether a claim took the address from another NAME less than 250 ms before."""
@@ -289,7 +301,8 @@ class Watch:
             return
         runs.append(Run(shown, to, contested, self.now))
         word, listens = WORD_OF[kind], self.options.listens
-        self.write(number, word, f"{word} {self.who_words(who)} {runs[-1].words(listens)}", **self.who_object(who), **runs[-1].object(listens),
+        unit = self.who_words(who) + (":" if isinstance(who, Unclaimed) else "")
+        self.write(number, word, f"{word} {unit} {runs[-1].words(listens)}", **self.who_object(who), **runs[-1].object(listens),
                    entry=self.entries(who, kind))
 
     # ---- whose a message is
@@ -298,16 +311,21 @@ class Watch:
         return who.address if isinstance(who, Unclaimed) else self.heard.address_of(who)
 
     def who_words(self, who):
-        return f"address {who.address}, no claim seen" if isinstance(who, Unclaimed) else name_text(who)
+        """An address that nobody claimed is another unit behind each gap, and is told apart."""
+        if not isinstance(who, Unclaimed):
+            return name_text(who)
+        return f"address {who.address}, no claim seen" + (f" since gap {who.gaps}" if who.gaps else "")
 
     def who_object(self, who):
-        return {"name": None if isinstance(who, Unclaimed) else name_text(who), "address": self.address_of(who)}
+        if isinstance(who, Unclaimed):
+            return {"name": None, "address": who.address, "gaps": who.gaps}
+        return {"name": name_text(who), "address": self.address_of(who)}
 
     def rows(self):
         """The NAMEs in the order of their first claims, then the addresses that nobody claimed, in the order of their first entries."""
         unclaimed = dict.fromkeys(who for who, _ in self.runs if isinstance(who, Unclaimed))
-        for _ in unclaimed:
-            reach("a row of an address that nobody claimed")
+        for who in unclaimed:
+            reach("a row of an address that nobody claimed" + (" since a gap" if who.gaps else ""))
         return [*self.heard.names(), *unclaimed]
 
     def entries(self, name, kind):
@@ -368,7 +386,7 @@ class Watch:
 
     def rows_of(self, who):
         address, found = self.address_of(who), False
-        before = ["" if isinstance(who, Unclaimed) else name_text(who), "" if address is None else str(address)]
+        before = [f'"{self.who_words(who)}"' if isinstance(who, Unclaimed) else name_text(who), "" if address is None else str(address)]
         for word, kind in KINDS.items():
             for run in self.runs_of(who, kind):
                 found = True

@@ -1,19 +1,15 @@
 -- A reading that was taken, once the bus is named and the times of packets are noted; and what was told of it.
-use Rattle.std.proofs.Common.{◌≡◌, ℕ, Bool, true, false, List, ◌∷◌, Option, Some, if◌then◌else◌, refl, sym, ap, ◌∙◌, subst}
+use Rattle.std.proofs.Common.{◌≡◌, ℕ, false, List, Option, Some, refl, sym, ap, ◌∙◌, subst}
 use Rattle.std.specs.Borrow.{Bor}
-use Rattle.std.specs.Prelude.{Result, Ok, Err, IfOk, OnOk}
+use Rattle.std.specs.Prelude.{Result, Ok, Err, IfOk}
 use Rattle.address_claim.specs.Frames.{claim_frame_value}
-use Rattle.bus_model.specs.OverheardChanged.{change_overheard}
 use Rattle.can_frame.specs.FrameValue.{FrameValue}
 use Rattle.can_frame.specs.declared.reading.Reading.{Reading}
-use Rattle.can_frame.specs.declared.reading.Reading.TheVariants.{Frame, Gap, Empty}
-use Rattle.candump_line.specs.declared.line.Line.{Line}
+use Rattle.can_frame.specs.declared.reading.Reading.TheVariants.{Frame}
 use Rattle.parameter_group.specs.Group.{Group, group_of}
-use Rattle.bus_watch.specs.Followed.{Followed, bus_after, followed_with, frame_reading, is_withheld, reading_by, renamed, with_bus, with_bus_name}
-use Rattle.bus_watch.specs.Runs.{ListsValue}
-use Rattle.bus_watch.specs.Tellings.{is_news, told_of}
+use Rattle.bus_watch.specs.Followed.{Followed, bus_after, followed_with, frame_reading, is_withheld, renamed, with_bus, with_bus_name}
 use Rattle.bus_watch.specs.Told.{Assumed, IsToldAs}
-use Rattle.bus_watch.specs.WatchValue.{StandsInRuns, Takes, Tells, TellsLine, WatchValue}
+use Rattle.bus_watch.specs.WatchValue.{Takes, Tells, WatchValue}
 use Rattle.bus_watch.specs.declared.change.Changes.{Changes}
 use Rattle.bus_watch.proofs.Steps.{told_of_assumed}
 
@@ -23,7 +19,7 @@ knowing w f = record w { followed = f }
 
 pub takes_knowing : (old mid new : WatchValue) (x : Reading) (f : Followed) → Takes old mid x old.followed → new ≡ knowing mid f → Takes old new x f
 takes_knowing old mid new x f t e = subst (λ (w : WatchValue). Takes old w x f) (sym e) (record {
-  stands = λ a h s. (let now = t.stands a h s in record { listener = now.listener; shows = now.shows; lists = now.lists; told = now.told });
+  stands = λ a h s. (let now = t.stands a h s in record { listener = now.listener; shows = now.shows; lists = now.lists; units = now.units; told = now.told });
   followed = refl;
 })
 

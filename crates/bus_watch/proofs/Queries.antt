@@ -6,12 +6,13 @@ use Rattle.std.proofs.lemmas.List.{length-map}
 use Rattle.dm_messages.specs.declared.kind.Kind.{Kind}
 use Rattle.bus_model.specs.Overheard.{EntrySent, row_overheard, unread_overheard}
 use Rattle.bus_model.specs.Heard.{counted, missed_count, names_heard}
+use Rattle.bus_model.specs.declared.who.Who.{Who}
 use Rattle.station_table.specs.declared.row.Row.{Row}
 use Rattle.station_table.specs.KeptValue.{kept_under}
 use Rattle.station_table.specs.StandsFor.{row_heard_as, row_of}
 use Rattle.station_table.proofs.Queries.{row_words}
 use Rattle.station_table.proofs.RowLemmas.{named}
-use Rattle.bus_watch.specs.Runs.{entries_in, lists_shown, runs_under, unrolled}
+use Rattle.bus_watch.specs.Runs.{entries_in, lists_shown, runs_under, units_in, units_shown, unrolled, who_of}
 use Rattle.bus_watch.specs.Told.{Beginning, StandsForAll, Told, all_said}
 use Rattle.bus_watch.specs.WatchValue.{WatchValue}
 use Rattle.bus_watch.specs.declared.run.Run.{Run}
@@ -28,13 +29,20 @@ pub row_as_heard : (w : WatchValue) (b : Beginning) (ts : List Told) (name : ℕ
 row_as_heard w b ts name o e s =
     ap (option_map row_heard_as) e ∙ (row_words w.listener.owners name (kept_under w.listener.rows name) ∙ s.heard.listener.rows name)
 
-pub runs_as_heard : (w : WatchValue) (b : Beginning) (ts : List Told) (name : ℕ) (kind : Kind) (l : List Run) → l ≡ runs_under w.lists name kind → StandsForAll b ts w
-    → unrolled l ≡ lists_shown b.address (all_said b ts).readings name kind
-runs_as_heard w b ts name kind l e s = ap unrolled e ∙ s.heard.lists name kind
+pub units_as_heard : (w : WatchValue) (b : Beginning) (ts : List Told) (n : ℕ) → n ≡ length w.lists.units → StandsForAll b ts w → n ≡ length (units_shown b.selection (all_said b ts).readings)
+units_as_heard w b ts n e s = e ∙ (sym (length-map w.lists.units (λ e. who_of e.0)) ∙ ap (λ (l : List Who). length l) s.heard.units)
 
-pub entries_as_heard : (w : WatchValue) (b : Beginning) (ts : List Told) (name : ℕ) (kind : Kind) (n : ℕ) → n ≡ counted (length (entries_in w.lists name kind)) → StandsForAll b ts w
-    → n ≡ counted (length (lists_shown b.address (all_said b ts).readings name kind))
-entries_as_heard w b ts name kind n e s = e ∙ ap (λ (l : List EntrySent). counted (length l)) (s.heard.lists name kind)
+pub unit_as_heard : (w : WatchValue) (b : Beginning) (ts : List Told) (place : ℕ) (o : Option Who)
+    → o ≡ slice_get (units_in w.lists) place → StandsForAll b ts w → o ≡ slice_get (units_shown b.selection (all_said b ts).readings) place
+unit_as_heard w b ts place o e s = e ∙ ap (λ (l : List Who). slice_get l place) s.heard.units
+
+pub runs_as_heard : (w : WatchValue) (b : Beginning) (ts : List Told) (who : Who) (kind : Kind) (l : List Run) → l ≡ runs_under w.lists who kind → StandsForAll b ts w
+    → unrolled l ≡ lists_shown b.selection (all_said b ts).readings who kind
+runs_as_heard w b ts who kind l e s = ap unrolled e ∙ s.heard.lists who kind
+
+pub entries_as_heard : (w : WatchValue) (b : Beginning) (ts : List Told) (who : Who) (kind : Kind) (n : ℕ) → n ≡ counted (length (entries_in w.lists who kind)) → StandsForAll b ts w
+    → n ≡ counted (length (lists_shown b.selection (all_said b ts).readings who kind))
+entries_as_heard w b ts who kind n e s = e ∙ ap (λ (l : List EntrySent). counted (length l)) (s.heard.lists who kind)
 
 pub missed_as_heard : (w : WatchValue) (b : Beginning) (ts : List Told) (n : ℕ) → n ≡ w.listener.missed → StandsForAll b ts w → n ≡ missed_count (all_said b ts).readings
 missed_as_heard w b ts n e s = e ∙ s.heard.listener.missed

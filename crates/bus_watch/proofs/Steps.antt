@@ -1,5 +1,5 @@
 -- A watch after one more line stands for the lines with it.
-use Rattle.std.proofs.Common.{◌≡◌, ℕ, List, [], ◌∷◌, Option, Some, IfOk, OnOk, Result, Ok, Err, subst, ap, ◌∙◌}
+use Rattle.std.proofs.Common.{◌≡◌, ℕ, Bool, List, [], ◌∷◌, Some, IfOk, OnOk, Result, Ok, Err, subst, ap, ◌∙◌}
 use Rattle.address_claim.specs.Frames.{claim_frame_value}
 use Rattle.bus_model.specs.OverheardChanged.{change_overheard}
 use Rattle.can_frame.specs.declared.reading.Reading.{Reading}
@@ -10,18 +10,18 @@ use Rattle.bus_watch.specs.Followed.{followed_after, reading_by}
 use Rattle.bus_watch.specs.Tellings.{is_news, none_told, told_of}
 use Rattle.bus_watch.specs.declared.change.Changes.{Changes}
 use Rattle.bus_watch.specs.Told.{Assumed, Beginning, IsToldAs, Read, StandsForAll, Told, all_said, nothing_said}
-use Rattle.bus_watch.specs.Runs.{ListsValue, entries_in, no_runs}
+use Rattle.bus_watch.specs.Runs.{ListsValue, entries_in, none_listed, units_in}
 use Rattle.bus_watch.specs.WatchValue.{HearsLine, TellsLine, StandsInRuns, Takes, Tells, WatchValue}
-use Rattle.bus_watch.proofs.Taking.{nothing_listed}
 
 -- a watch that was told nothing
-pub opened : (b : Beginning) (w : WatchValue) → HasOverheard w.listener [] → w.lists ≡ no_runs b.address → w.told ≡ none_told → w.followed ≡ (nothing_said b).followed
+pub opened : (b : Beginning) (w : WatchValue) → HasOverheard w.listener [] → w.lists ≡ none_listed b.selection → w.told ≡ none_told → w.followed ≡ (nothing_said b).followed
     → StandsForAll b [] w
 opened b w st none t f = record {
   heard = record {
     listener = st;
-    shows = ap (λ (l : ListsValue). l.address) none;
-    lists = λ n k. ap (λ (l : ListsValue). entries_in l n k) none ∙ nothing_listed b.address n k;
+    shows = ap (λ (l : ListsValue). l.selection) none;
+    lists = λ u k. ap (λ (l : ListsValue). entries_in l u k) none;
+    units = ap units_in none;
     told = t;
   };
   followed = f;
@@ -34,20 +34,20 @@ reading_said b ts w l s = ap (λ f. reading_by f l) s.followed
 -- a line: its reading is taken, and what is known of the bus goes on
 pub stands_for_line : (old new : WatchValue) (l : Line) → HearsLine old new l → (b : Beginning) (ts : List Told) → StandsForAll b ts old → StandsForAll b (Read l ∷ ts) new
 stands_for_line old new l hears b ts s = record {
-  heard = subst (λ y. StandsInRuns b.address new (y ∷ (all_said b ts).readings)) (reading_said b ts old l s) (hears.stands b.address (all_said b ts).readings s.heard);
+  heard = subst (λ y. StandsInRuns b.selection new (y ∷ (all_said b ts).readings)) (reading_said b ts old l s) (hears.stands b.selection (all_said b ts).readings s.heard);
   followed = hears.followed ∙ ap (λ f. followed_after f l) s.followed;
 }
 
 -- what is told of a reading, and of the same one
-told_same : (old new : WatchValue) (h : List Reading) (x y : Reading) (c : Changes) → x ≡ y
-    → c ≡ told_of (is_news old.told old.lists new.lists (change_overheard x h)) (change_overheard x h)
-    → c ≡ told_of (is_news old.told old.lists new.lists (change_overheard y h)) (change_overheard y h)
-told_same old new h x y c e is = is ∙ ap (λ (z : Reading). told_of (is_news old.told old.lists new.lists (change_overheard z h)) (change_overheard z h)) e
+told_same : (old new : WatchValue) (u : Bool) (h : List Reading) (x y : Reading) (c : Changes) → x ≡ y
+    → c ≡ told_of u (is_news old.told old.lists new.lists (change_overheard x h)) (change_overheard x h)
+    → c ≡ told_of u (is_news old.told old.lists new.lists (change_overheard y h)) (change_overheard y h)
+told_same old new u h x y c e is = is ∙ ap (λ (z : Reading). told_of u (is_news old.told old.lists new.lists (change_overheard z h)) (change_overheard z h)) e
 
 -- and what is told is of what the line changed
 pub told_of_line : (old new : WatchValue) (l : Line) (c : Changes) → TellsLine old new l c → IsToldAs (Read l) old new c
 told_of_line old new l c tells b ts s =
-    told_same old new (all_said b ts).readings _ _ c (reading_said b ts old l s) (tells b.address (all_said b ts).readings s.heard)
+    told_same old new b.selection.unclaimed (all_said b ts).readings _ _ c (reading_said b ts old l s) (tells b.selection (all_said b ts).readings s.heard)
 
 -- the same at a call's answer
 pub stands_line_ok : {T E : Type 0} (result : Result T E) (start old new : WatchValue) (l : Line) → start ≡ old → OnOk result (HearsLine start new l)
@@ -65,14 +65,14 @@ pub stands_for_assumed : (old new : WatchValue) (name address : ℕ) (x : Readin
     → x ≡ Frame (claim_frame_value name (Some address)) → Takes old new x old.followed
     → (b : Beginning) (ts : List Told) → StandsForAll b ts old → StandsForAll b (Assumed name address ∷ ts) new
 stands_for_assumed old new name address x e takes b ts s = record {
-  heard = subst (λ y. StandsInRuns b.address new (y ∷ (all_said b ts).readings)) e (takes.stands b.address (all_said b ts).readings s.heard);
+  heard = subst (λ y. StandsInRuns b.selection new (y ∷ (all_said b ts).readings)) e (takes.stands b.selection (all_said b ts).readings s.heard);
   followed = takes.followed ∙ s.followed;
 }
 
 pub told_of_assumed : (old new : WatchValue) (name address : ℕ) (x : Reading) (c : Changes)
     → x ≡ Frame (claim_frame_value name (Some address)) → Tells old new x c → IsToldAs (Assumed name address) old new c
 told_of_assumed old new name address x c e tells b ts s =
-    told_same old new (all_said b ts).readings x _ c e (tells b.address (all_said b ts).readings s.heard)
+    told_same old new b.selection.unclaimed (all_said b ts).readings x _ c e (tells b.selection (all_said b ts).readings s.heard)
 
 pub on_ok : {T E P Q : Type 0} (r : Result T E) → (P → Q) → OnOk r P → OnOk r Q
 on_ok (Ok v) f h = f h

@@ -8,10 +8,11 @@ use Rattle.bus_model.specs.declared.who.Who.{Who}
 use Rattle.bus_model.specs.declared.who.Who.TheVariants.{Named, Unclaimed}
 use Rattle.can_frame.specs.declared.reading.Reading.{Reading}
 use Rattle.dm_messages.specs.declared.kind.Kind.{Kind}
-use Rattle.bus_watch.specs.Runs.{ListsValue, run_begun_by}
+use Rattle.bus_watch.specs.Runs.{ListsValue, is_shown_of, run_begun_by}
 use Rattle.bus_watch.specs.declared.change.Change.{Change}
 use Rattle.bus_watch.specs.declared.change.Change.TheVariants.{At, NoAddress, Entry, Missed, Unowned, Ack, Unread}
 use Rattle.bus_watch.specs.declared.change.Changes.{Changes}
+use Rattle.bus_watch.specs.declared.selection.Selection.{Selection}
 
 -- the NAME that lost its address to another one, if one did
 abbrev pub who_lost : Option Displaced → Option ℕ
@@ -27,21 +28,20 @@ one_told c = record { lost = None; change = Some c }
 abbrev pub told_if : Bool → Change → Changes
 told_if is_news c = if is_news then one_told c else nothing_told
 
--- an entry of a NAME, or that a message came from an address that nobody has claimed
-abbrev pub entry_of_who : Who → Kind → ℕ → Change
-entry_of_who (Named n) kind source = Entry n kind
-entry_of_who (Unclaimed a gaps) kind source = Unowned source
+-- an entry of a unit; or, where those of addresses that nobody has claimed are not shown, that a message came from such a one
+abbrev pub entry_of_who : Bool → Who → Kind → ℕ → Change
+entry_of_who unclaimed who kind source = if is_shown_of unclaimed who then Entry who kind else Unowned source
 
--- what is told of a change
-abbrev pub told_of : Bool → Overheard → Changes
-told_of is_news heard.Nothing = nothing_told
-told_of is_news (heard.Claimed name address displaced) = record { lost = who_lost displaced; change = Some (At name address) }
-told_of is_news (heard.GaveUp name) = one_told (NoAddress name)
-told_of is_news (heard.Acknowledged name control pgn requester to again) = told_if is_news (Ack name control pgn)
-told_of is_news (heard.Listed who kind source to) = told_if is_news (entry_of_who who kind source)
-told_of is_news (heard.Unreadable who kind source to) = one_told Unread
-told_of is_news (heard.Unowned kind source) = told_if is_news (Unowned source)
-told_of is_news (heard.Missed count) = one_told (Missed count)
+-- what is told of a change, where entries of addresses that nobody has claimed are shown or not
+abbrev pub told_of : Bool → Bool → Overheard → Changes
+told_of unclaimed is_news heard.Nothing = nothing_told
+told_of unclaimed is_news (heard.Claimed name address displaced) = record { lost = who_lost displaced; change = Some (At name address) }
+told_of unclaimed is_news (heard.GaveUp name) = one_told (NoAddress name)
+told_of unclaimed is_news (heard.Acknowledged name control pgn requester to again) = told_if is_news (Ack name control pgn)
+told_of unclaimed is_news (heard.Listed who kind source to) = told_if is_news (entry_of_who unclaimed who kind source)
+told_of unclaimed is_news (heard.Unreadable who kind source to) = one_told (Unread who kind to)
+told_of unclaimed is_news (heard.Unowned kind source) = told_if is_news (Unowned source)
+told_of unclaimed is_news (heard.Missed count) = one_told (Missed count)
 
 -- that a message came from an address without owner is told once, until somebody claims it or frames are missed
 unfoldable pub none_told : List Bool
@@ -69,22 +69,23 @@ abbrev pub is_ack_shown : Option ℕ → ℕ → ℕ → Bool
 is_ack_shown None requester to = true
 is_ack_shown (Some address) requester to = requester == address || to == address
 
--- an entry is news where it begins a run of its NAME's list; a message from an address without owner where of that it was not told
-abbrev pub is_entry_news : List Bool → Bool → Who → ℕ → Bool
-is_entry_news told began (Named n) source = began
-is_entry_news told began (Unclaimed a gaps) source = not (slice_index_or told source false)
+-- an entry is news where it begins a run of its unit's list; where it is not shown, since nobody has claimed its address, where of that it was
+-- not told
+abbrev pub is_entry_news : List Bool → Bool → Bool → Who → ℕ → Bool
+is_entry_news told unclaimed began who source = if is_shown_of unclaimed who then began else not (slice_index_or told source false)
 
 -- whether a change is news: such an entry, an acknowledgment that is another one than the last and is shown, a message from an address
--- without owner of which that was not told; all else is
-abbrev pub is_news : List Bool → ListsValue → ListsValue → Overheard → Bool
-is_news told before after (heard.Listed who kind source to) = is_entry_news told (run_begun_by before after who kind) who source
-is_news told before after (heard.Acknowledged name control pgn requester to again) = not again && is_ack_shown before.address requester to
-is_news told before after (heard.Unowned kind source) = not (slice_index_or told source false)
-is_news told before after _ = true
+-- without owner of which that was not told, where it will not be shown; all else is
+abbrev pub news_by : List Bool → Selection → Bool → Overheard → Bool
+news_by told s began (heard.Listed who kind source to) = is_entry_news told s.unclaimed began who source
+news_by told s began (heard.Acknowledged name control pgn requester to again) = not again && is_ack_shown s.address requester to
+news_by told s began (heard.Unowned kind source) = not s.unclaimed && not (slice_index_or told source false)
+news_by told s began _ = true
 
--- the same, where it is known whether the newest entry began a run
-abbrev pub news_by : List Bool → Option ℕ → Bool → Overheard → Bool
-news_by told address began (heard.Listed who kind source to) = is_entry_news told began who source
-news_by told address began (heard.Acknowledged name control pgn requester to again) = not again && is_ack_shown address requester to
-news_by told address began (heard.Unowned kind source) = not (slice_index_or told source false)
-news_by told address began _ = true
+-- whether a run of the list of which a change tells has begun
+abbrev pub has_run_begun : ListsValue → ListsValue → Overheard → Bool
+has_run_begun before after (heard.Listed who kind source to) = run_begun_by before after who kind
+has_run_begun before after _ = false
+
+abbrev pub is_news : List Bool → ListsValue → ListsValue → Overheard → Bool
+is_news told before after c = news_by told before.selection (has_run_begun before after c) c

@@ -10,6 +10,7 @@ use Rattle.reassembly.specs.Pairs.{no_pairs}
 use Rattle.bus_watch.specs.Followed.{Followed, reading_by, followed_after}
 use Rattle.bus_watch.specs.Tellings.{is_news, told_of}
 use Rattle.bus_watch.specs.declared.change.Changes.{Changes}
+use Rattle.bus_watch.specs.declared.selection.Selection.{Selection}
 use Rattle.bus_watch.specs.WatchValue.{WatchValue, StandsInRuns}
 
 -- a line, or that a NAME is taken to hold an address
@@ -17,10 +18,9 @@ pub data Told : Type 0 where
   Read : Line → Told
   Assumed : (name address : ℕ) → Told
 
--- how a watch begins: whose messages are shown beside those to all, if not everybody's, whether bad lines are passed over, how late a packet
--- may come, and the bus, if it is named
+-- how a watch begins: which messages are shown, whether bad lines are passed over, how late a packet may come, and the bus, if it is named
 pub record Beginning : Type 0 where
-  pub address : Option ℕ
+  pub selection : Selection
   pub skips_bad : Bool
   pub silence : Option ℕ
   pub bus : Option (List ℕ)
@@ -52,11 +52,11 @@ change_said b (Assumed name address) older = change_overheard (Frame (claim_fram
 
 -- a watch that began so, and was told this
 pub record StandsForAll (b : Beginning) (told : List Told) (w : WatchValue) : Type 0 where
-  pub heard : StandsInRuns b.address w (all_said b told).readings
+  pub heard : StandsInRuns b.selection w (all_said b told).readings
   pub followed : w.followed ≡ (all_said b told).followed
 
 -- what is told of one more line, or of what is assumed: of what it changed, where that is news
 abbrev pub IsToldAs : Told → WatchValue → WatchValue → Changes → Type 0
 IsToldAs next old new told =
     (b : Beginning) (ts : List Told) → StandsForAll b ts old
-    → told ≡ told_of (is_news old.told old.lists new.lists (change_said b next ts)) (change_said b next ts)
+    → told ≡ told_of b.selection.unclaimed (is_news old.told old.lists new.lists (change_said b next ts)) (change_said b next ts)

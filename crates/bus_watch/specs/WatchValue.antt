@@ -1,15 +1,17 @@
 -- What a watch is: its listener, the lists that it fills, what it knows of the bus that it follows, and of which addresses it told that a
 -- message came from there without an owner.
-use Rattle.std.specs.Prelude.{◌≡◌, ℕ, Bool, List, ◌∷◌, Option}
+use Rattle.std.specs.Prelude.{◌≡◌, Bool, List, ◌∷◌}
 use Rattle.bus_model.specs.OverheardChanged.{change_overheard}
+use Rattle.bus_model.specs.declared.who.Who.{Who}
 use Rattle.can_frame.specs.declared.reading.Reading.{Reading}
 use Rattle.candump_line.specs.declared.line.Line.{Line}
 use Rattle.dm_messages.specs.declared.kind.Kind.{Kind}
 use Rattle.listener.specs.ListenerValue.{HasOverheard, ListenerValue}
 use Rattle.bus_watch.specs.Followed.{Followed, followed_after, reading_by}
-use Rattle.bus_watch.specs.Runs.{ListsValue, entries_in, lists_shown}
+use Rattle.bus_watch.specs.Runs.{ListsValue, entries_in, lists_shown, units_in, units_shown}
 use Rattle.bus_watch.specs.Tellings.{is_news, told_heard, told_of}
 use Rattle.bus_watch.specs.declared.change.Changes.{Changes}
+use Rattle.bus_watch.specs.declared.selection.Selection.{Selection}
 
 pub record WatchValue : Type 0 where
   pub listener : ListenerValue
@@ -17,23 +19,24 @@ pub record WatchValue : Type 0 where
   pub followed : Followed
   pub told : List Bool
 
--- the listener stands for the readings, newest first; each list is what its runs say, of what is shown; and it was told of unowned addresses
--- as they were heard
-pub record StandsInRuns (address : Option ℕ) (w : WatchValue) (h : List Reading) : Type 0 where
+-- the listener stands for the readings, newest first; each list is what its runs say, of what is shown; the units with entries are those of
+-- which one is; and it was told of unowned addresses as they were heard
+pub record StandsInRuns (s : Selection) (w : WatchValue) (h : List Reading) : Type 0 where
   pub listener : HasOverheard w.listener h
-  pub shows : w.lists.address ≡ address
-  pub lists : (n : ℕ) (k : Kind) → entries_in w.lists n k ≡ lists_shown address h n k
+  pub shows : w.lists.selection ≡ s
+  pub lists : (u : Who) (k : Kind) → entries_in w.lists u k ≡ lists_shown s h u k
+  pub units : units_in w.lists ≡ units_shown s h
   pub told : w.told ≡ told_heard h
 
 -- what is told of a reading is of what it changed
 abbrev pub Tells : WatchValue → WatchValue → Reading → Changes → Type 0
 Tells old new reading told =
-    (address : Option ℕ) (h : List Reading) → StandsInRuns address old h
-    → told ≡ told_of (is_news old.told old.lists new.lists (change_overheard reading h)) (change_overheard reading h)
+    (s : Selection) (h : List Reading) → StandsInRuns s old h
+    → told ≡ told_of s.unclaimed (is_news old.told old.lists new.lists (change_overheard reading h)) (change_overheard reading h)
 
 -- a reading is taken, and this is known of the bus
 pub record Takes (old new : WatchValue) (reading : Reading) (known : Followed) : Type 0 where
-  pub stands : (address : Option ℕ) (h : List Reading) → StandsInRuns address old h → StandsInRuns address new (reading ∷ h)
+  pub stands : (s : Selection) (h : List Reading) → StandsInRuns s old h → StandsInRuns s new (reading ∷ h)
   pub followed : new.followed ≡ known
 
 -- the reading that a line is is taken, and it is known of the bus what the line says

@@ -1,6 +1,7 @@
 ghost use Rattle.std.specs.Prelude.{◌≡◌};
 ghost use Rattle.bus_watch.specs.Tellings as tellings;
 
+use crate::selection::Selection;
 use can_frame::Pgn;
 use dm_messages::Kind;
 use listener::{Displaced, Overheard, Who};
@@ -13,17 +14,17 @@ pub enum Change {
     At { name: Name, address: u8 },
     /// The NAME holds no address.
     NoAddress { name: Name },
-    /// An entry came under the NAME that is not equal to the one before it, or went elsewhere: the newest run of this kind.
-    Entry { name: Name, kind: Kind },
+    /// An entry came of the unit that is not equal to the one before it, or went elsewhere: the newest run of this kind.
+    Entry { who: Who, kind: Kind },
     /// So many frames were missed: no owner is known until units claim again.
     Missed { count: u32 },
-    /// A diagnostic message came from an address that nobody has claimed in what was read. Told once until someone
-    /// claims it or frames are missed.
+    /// A diagnostic message came from an address that nobody has claimed in what was read, and such are not shown. Told once until
+    /// someone claims it or frames are missed.
     Unowned { source: u8 },
     /// The NAME acknowledged a request: 0 positive, 1 negative, 2 access denied, 3 cannot respond now.
     Ack { name: Name, control: u8, pgn: Pgn },
-    /// A message could not be read.
-    Unread,
+    /// A message of the unit, of this kind, could not be read. It went to this address, 255 for all.
+    Unread { who: Who, kind: Kind, to: u8 },
 }
 
 /// What is told of a line: nothing, one thing, or two where a claim took its address from another NAME.
@@ -36,10 +37,10 @@ pub struct Changes {
 }
 
 impl Changes {
-    /// What is told of what the listener heard. An entry, an acknowledgment and a message from an address without owner are told where
-    /// they are news.
-    pub(crate) fn of(heard: &Overheard, is_news: bool) -> Changes
-        ensures { result ≡ tellings.told_of is_news heard.now }
+    /// What is told of what the listener heard, where entries are shown of addresses that nobody has claimed, or not. An entry, an
+    /// acknowledgment and a message from such an address are told where they are news.
+    pub(crate) fn of(heard: &Overheard, selection: Selection, is_news: bool) -> Changes
+        ensures { result ≡ tellings.told_of selection.unclaimed is_news heard.now }
     {
         match *heard {
             Overheard::Nothing => nothing(),
@@ -63,21 +64,23 @@ impl Changes {
                 kind,
                 source,
                 ..
-            } => where_news(is_news, entry_of(who, kind, source)),
-            Overheard::Unreadable { .. } => one(Change::Unread),
+            } => where_news(is_news, entry_of(selection, who, kind, source)),
+            Overheard::Unreadable { who, kind, to, .. } => one(Change::Unread { who, kind, to }),
             Overheard::Unowned { source, .. } => where_news(is_news, Change::Unowned { source }),
             Overheard::Missed { count } => one(Change::Missed { count }),
         }
     }
 }
 
-/// An entry of a NAME, or that a message came from an address that nobody has claimed.
-fn entry_of(who: Who, kind: Kind, source: u8) -> Change
-    ensures { result ≡ tellings.entry_of_who who kind source }
+/// An entry of a unit; or, where those of addresses that nobody has claimed are not shown, that a message came from such a one.
+fn entry_of(selection: Selection, who: Who, kind: Kind, source: u8) -> Change
+    ensures { result ≡ tellings.entry_of_who selection.unclaimed who kind source }
 {
-    match who {
-        Who::Named(name) => Change::Entry { name, kind },
-        Who::Unclaimed { .. } => Change::Unowned { source },
+    let unit = who;
+    if selection.shows_of(unit) {
+        Change::Entry { who, kind }
+    } else {
+        Change::Unowned { source }
     }
 }
 

@@ -1,22 +1,27 @@
 //! A diagnostic reader over the lines of a log or of a live bus: a listener reads them, and what changes is told.
 //!
-//! Each line is at most one reading of the listener: its frame, or frames that were missed. What a reading lists under a
-//! NAME goes to lists of runs of equal entries (`listener`), so memory grows by what changes. After every line each list
-//! is what was heard of the readings of the lines so far.
+//! Each line is at most one reading of the listener: its frame, or frames that were missed. What a reading lists under a NAME, or under an
+//! address that nobody has claimed, goes to lists of runs of equal entries (`listener`), so memory grows by what changes. After every line
+//! each list is what was heard of the readings of the lines so far.
 #![tactic(auto)]
 
 mod change;
 mod contests;
 mod counts;
+mod key;
 mod lists;
 mod packets;
 mod run;
 mod run_list;
 mod run_table;
+mod selection;
+mod unit_runs;
 mod unowned;
 mod watch;
 
 pub use change::{Change, Changes};
 pub use counts::Counts;
+pub use listener::Who;
 pub use run::Run;
+pub use selection::Selection;
 pub use watch::{Settings, Watch};

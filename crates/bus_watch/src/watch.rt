@@ -1,7 +1,7 @@
 ghost use Rattle.std.specs.Prelude.{◌≡◌, [], List, length, slice_get, IfOk, option_map};
 ghost use Rattle.bus_model.specs.Heard.{counted, missed_count, names_heard};
 ghost use Rattle.bus_model.specs.Overheard.{row_overheard, unread_overheard};
-ghost use Rattle.bus_watch.specs.Runs.{lists_shown, unrolled};
+ghost use Rattle.bus_watch.specs.Runs.{lists_shown, units_shown, unrolled};
 ghost use Rattle.bus_watch.specs.Told.{Beginning, StandsForAll, Told, all_said};
 ghost use Rattle.station_table.specs.StandsFor.{row_heard_as};
 
@@ -9,10 +9,11 @@ use crate::counts::Counts;
 use crate::lists::Lists;
 use crate::packets::Packets;
 use crate::run::Run;
+use crate::selection::Selection;
 use crate::unowned::Unowned;
 use candump_line::Time;
 use dm_messages::Kind;
-use listener::Listener;
+use listener::{Listener, Who};
 use name_field::Name;
 use station_table::Row;
 use std::alloc::{AllocError, Global};
@@ -24,8 +25,8 @@ mod readings;
 /// How a bus is watched.
 #[derive(Clone, Copy, Debug)]
 pub struct Settings {
-    /// The address whose messages are shown beside those to all, 0 to 255; none: everybody's.
-    pub address: Option<u8>,
+    /// Which messages are shown.
+    pub selection: Selection,
     /// Whether a bad line is passed over; else it is a frame that was missed.
     pub skips_bad: bool,
     /// How many microseconds a packet may come after the frame before it; none: any.
@@ -69,7 +70,7 @@ impl Watch {
     #[tactic(auto, using(crate::proofs::Steps::opened))]
     pub fn new(alloc: Global, settings: Settings, bus: Option<&str>) -> Result<Watch, AllocError>
         ensures { IfOk result (λ w. StandsForAll (record {
-          address = settings.address;
+          selection = settings.selection;
           skips_bad = settings.skips_bad;
           silence = settings.silence;
           bus = option_map (λ name. name.now) bus.entry;
@@ -87,7 +88,7 @@ impl Watch {
             bus,
             unowned: Unowned::new(),
             packets,
-            lists: Lists::new(alloc, settings.address),
+            lists: Lists::new(alloc, settings.selection),
             counts: Counts::default(),
         })
     }
@@ -126,22 +127,40 @@ impl Watch {
         self.listener.row(name)
     }
 
-    /// The entries of a kind under a NAME as runs of equal ones, oldest first.
+    /// How many units have entries that are shown: NAMEs, and addresses that nobody has claimed.
+    #[tactic(auto, using(crate::proofs::Queries::units_as_heard))]
+    pub fn units(&self) -> usize
+        ensures heard { (b : Beginning) (ts : List Told) → StandsForAll b ts self.entry.now → result ≡ length (units_shown b.selection (all_said b ts).readings) }
+    {
+        self.lists.units()
+    }
+
+    /// The unit at this place, from 0, in the order of the first entries that are shown.
+    ///
+    /// An address that nobody has claimed is a unit of its own between two gaps, and no more of it from a claim of it on.
+    #[tactic(auto, using(crate::proofs::Queries::unit_as_heard))]
+    pub fn unit_at(&self, place: usize) -> Option<Who>
+        ensures heard { (b : Beginning) (ts : List Told) → StandsForAll b ts self.entry.now → result ≡ slice_get (units_shown b.selection (all_said b ts).readings) place }
+    {
+        self.lists.unit_at(place)
+    }
+
+    /// The entries of a unit and kind as runs of equal ones, oldest first.
     ///
     /// One after the other, their entries are the list that was heard, of what is shown.
     #[tactic(auto, using(crate::proofs::Queries::runs_as_heard))]
-    pub fn runs(&self, name: Name, kind: Kind) -> &[Run]
-        ensures heard { (b : Beginning) (ts : List Told) → StandsForAll b ts self.entry.now → unrolled result.now ≡ lists_shown b.address (all_said b ts).readings name kind }
+    pub fn runs(&self, who: Who, kind: Kind) -> &[Run]
+        ensures heard { (b : Beginning) (ts : List Told) → StandsForAll b ts self.entry.now → unrolled result.now ≡ lists_shown b.selection (all_said b ts).readings who kind }
     {
-        self.lists.runs(name, kind)
+        self.lists.runs(who, kind)
     }
 
-    /// How many entries of a kind are under a NAME, up to the greatest 64-bit number.
+    /// How many entries a unit has of a kind, up to the greatest 64-bit number.
     #[tactic(auto, using(crate::proofs::Queries::entries_as_heard))]
-    pub fn entries(&self, name: Name, kind: Kind) -> u64
-        ensures heard { (b : Beginning) (ts : List Told) → StandsForAll b ts self.entry.now → result ≡ counted (length (lists_shown b.address (all_said b ts).readings name kind)) }
+    pub fn entries(&self, who: Who, kind: Kind) -> u64
+        ensures heard { (b : Beginning) (ts : List Told) → StandsForAll b ts self.entry.now → result ≡ counted (length (lists_shown b.selection (all_said b ts).readings who kind)) }
     {
-        self.lists.entries(name, kind)
+        self.lists.entries(who, kind)
     }
 
     /// How many frames were missed, up to the greatest 64-bit number.

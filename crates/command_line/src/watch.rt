@@ -19,8 +19,8 @@ address, how many DM1, DM2 and DM6 stand under it, the lamps and the number of c
 code of each run of equal entries, with the times of the first and the last, whether they are contested, and where they went.
 
 Limits: on a real bus the last claim is not always the holder (an entry within 250 ms of a claim that displaced another NAME is
-marked contested); frames lost without notice can mix two messages (a packet after --silence is withheld); a log without claims
-shows nothing but unowned messages (have the units claim: cansend can0 18EAFFFE#00EE00; or --assume).
+marked contested); frames lost without notice can mix two messages (a packet after --silence is withheld); where no claim of an address
+was seen, its entries stand under the address alone (have the units claim: cansend can0 18EAFFFE#00EE00; or --assume).
 
 Status: 0 done; 1 a read or write failed, or memory ran out; 2 the command line; 3 done, but lines were bad,
 or none was a frame (what it looks like is told, and what converts it)."
@@ -69,6 +69,12 @@ pub(crate) fn command<'a>(alloc: Global) -> Result<Command<'a>, AllocError>
             given: Given::Once,
         },
         CommandOption {
+            name: "unclaimed",
+            value: "show|hide",
+            help: "Whether entries of addresses that nobody claimed are shown [show]",
+            given: Given::Once,
+        },
+        CommandOption {
             name: "format",
             value: "text|json|csv",
             help: "How changes and report are written [text]; csv: the report alone",
@@ -104,6 +110,7 @@ pub(crate) fn words<'a>(found: &ArgMatches<'a>) -> WatchWords<'a> {
         name: found.get_str("name"),
         bad: found.get_str("bad"),
         silence: found.get_str("silence"),
+        unclaimed: found.get_str("unclaimed"),
         format: found.get_str("format"),
         strict: found.get_flag("strict"),
         file: found.get_str("file"),

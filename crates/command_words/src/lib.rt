@@ -51,6 +51,8 @@ pub struct WatchWords<'a> {
     pub bad: Option<&'a str>,
     /// How late a packet may come, in milliseconds.
     pub silence: Option<&'a str>,
+    /// Whether messages of addresses that nobody has claimed are shown: `show` or `hide`.
+    pub unclaimed: Option<&'a str>,
     /// How changes and report are written.
     pub format: Option<&'a str>,
     /// Whether the first bad line ends the run.

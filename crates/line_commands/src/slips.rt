@@ -1,7 +1,9 @@
 //! Which word of a command line is none that its option takes. What an option takes is read by the call that its words are read by.
 
 use crate::decoding::form_of as decode_form_of;
-use crate::watch_words::{address_of, bus_of, form_of, name_of, silence_of, skips_bad};
+use crate::watch_words::{
+    address_of, bus_of, form_of, name_of, shows_unclaimed, silence_of, skips_bad,
+};
 use command_words::{DecodeWords, Slip, WatchWords};
 use program_io::{Failure, Fault};
 use std::alloc::Global;
@@ -84,12 +86,19 @@ fn slip_of_lines<'a>(words: &WatchWords<'a>) -> Option<Slip<'a>> {
     let is_bad = skips_bad(words.bad).is_ok();
     let is_silence = silence_of(words.silence).is_ok();
     let is_form = form_of(words.format).is_ok();
+    let is_unclaimed = shows_unclaimed(words.unclaimed).is_ok();
     slip("bad <missed|skip>", words.bad, is_bad, "missed or skip")
         .or(slip(
             "silence <MS>",
             words.silence,
             is_silence,
             "a number from 0 to 3600000",
+        ))
+        .or(slip(
+            "unclaimed <show|hide>",
+            words.unclaimed,
+            is_unclaimed,
+            "show or hide",
         ))
         .or(slip(
             "format <text|json|csv>",

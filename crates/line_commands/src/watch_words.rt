@@ -3,7 +3,7 @@
 ghost use Rattle.std.specs.Prelude.{◌≤◌, IfOk};
 ghost use Rattle.can_frame.specs.declared.address.TheConstants.{GREATEST_ADDRESS};
 
-use bus_watch::Settings;
+use bus_watch::{Selection, Settings};
 use can_frame::GREATEST_ADDRESS;
 use command_words::{WatchWords, is_bus};
 use name_field::Name;
@@ -37,7 +37,10 @@ fn settings_of(words: &WatchWords<'_>) -> Result<Settings, Fault> {
         name_of(word)?;
     }
     Ok(Settings {
-        address: shown_of(words.address)?,
+        selection: Selection {
+            address: shown_of(words.address)?,
+            unclaimed: shows_unclaimed(words.unclaimed)?,
+        },
         skips_bad: skips_bad(words.bad)?,
         silence: silence_of(words.silence)?,
     })
@@ -93,6 +96,15 @@ pub(crate) fn skips_bad(word: Option<&str>) -> Result<bool, Fault> {
     match word {
         None | Some("missed") => Ok(false),
         Some("skip") => Ok(true),
+        Some(_) => Err(Fault::CommandLine),
+    }
+}
+
+/// Whether messages of addresses that nobody has claimed are shown.
+pub(crate) fn shows_unclaimed(word: Option<&str>) -> Result<bool, Fault> {
+    match word {
+        None | Some("show") => Ok(true),
+        Some("hide") => Ok(false),
         Some(_) => Err(Fault::CommandLine),
     }
 }

@@ -3,12 +3,12 @@
 #![tactic(auto)]
 
 mod form;
-mod kinds;
 mod lines;
 mod objects;
 mod rows;
 mod run;
 mod text;
+mod units;
 
 pub use form::{Form, write_changes, write_report};
 pub use run::{Assumed, Options, watch};

@@ -1,6 +1,6 @@
-use crate::kinds::{KINDS, address_of, kind_word};
-use crate::run::{Assumed, is_assumed};
-use bus_watch::{Change, Counts, Run, Watch};
+use crate::run::Assumed;
+use crate::units::{KINDS, address_of, is_assumed_unit, kind_word, row_at, row_places};
+use bus_watch::{Change, Counts, Run, Watch, Who};
 use can_frame::{GLOBAL_ADDRESS, Pgn};
 use candump_line::Time;
 use dm_messages::Kind;
@@ -36,11 +36,11 @@ fn put_event(
     match change {
         Change::At { name, address } => put_unit(json, alloc, name, Some(address)),
         Change::NoAddress { name } => put_unit(json, alloc, name, None),
-        Change::Entry { name, kind } => put_entry(json, alloc, watch, name, kind),
+        Change::Entry { who, kind } => put_entry(json, alloc, watch, &who, kind),
         Change::Missed { count } => put_counted(json, "missed", "count", u64::from(count)),
         Change::Unowned { source } => put_counted(json, "unowned", "address", u64::from(source)),
         Change::Ack { name, control, pgn } => put_ack(json, alloc, name, control, pgn),
-        Change::Unread => put_counted(json, "unread", "count", watch.unread()),
+        Change::Unread { who, kind, to } => put_unread(json, alloc, watch, &who, kind, to),
     }
 }
 
@@ -75,21 +75,48 @@ fn put_ack(
     put_number(json, "pgn", u64::from(pgn.number()))
 }
 
-/// The newest entry of a NAME, with its number in the list, from 1.
+/// The newest entry of a unit, with its number in the list, from 1.
 fn put_entry(
     json: &mut Writer,
     alloc: Global,
     watch: &Watch,
-    name: Name,
+    who: &Who,
     kind: Kind,
 ) -> Result<(), AllocError> {
     json.string(kind_word(kind))?;
-    put_name(json, alloc, name)?;
-    put_address(json, address_of(watch, name))?;
-    if let Some(run) = watch.runs(name, kind).last() {
+    put_who(json, alloc, watch, who)?;
+    if let Some(run) = watch.runs(*who, kind).last() {
         put_shown(json, alloc, run)?;
     }
-    put_number(json, "entry", watch.entries(name, kind))
+    put_number(json, "entry", watch.entries(*who, kind))
+}
+
+/// How many messages could not be read, whose the newest of them is, its kind, and where it went, if not to all.
+fn put_unread(
+    json: &mut Writer,
+    alloc: Global,
+    watch: &Watch,
+    who: &Who,
+    kind: Kind,
+    to: u8,
+) -> Result<(), AllocError> {
+    put_counted(json, "unread", "count", watch.unread())?;
+    put_who(json, alloc, watch, who)?;
+    put_text(json, "kind", kind_word(kind))?;
+    put_destination(json, to)
+}
+
+/// A unit: its NAME, null where nobody has claimed its address; that address; and of such a one how many gaps of missed frames were before it.
+fn put_who(json: &mut Writer, alloc: Global, watch: &Watch, who: &Who) -> Result<(), AllocError> {
+    match *who {
+        Who::Named(name) => put_name(json, alloc, name)?,
+        Who::Unclaimed { .. } => put_null(json, "name")?,
+    }
+    put_address(json, address_of(watch, who))?;
+    match *who {
+        Who::Named(_) => Ok(()),
+        Who::Unclaimed { gaps, .. } => put_number(json, "gaps", gaps),
+    }
 }
 
 /// The lamps, the codes, whether the entry is contested, and where it went, if not to all.
@@ -128,7 +155,7 @@ fn put_flag(json: &mut Writer, key: &str, holds: bool) -> Result<(), AllocError>
     json.boolean(holds)
 }
 
-/// The report: a row for each NAME with its runs of entries, the counts of what was heard, and those of the lines.
+/// The report: a row for each unit with its runs of entries, the counts of what was heard, and those of the lines.
 pub(crate) fn report_object(
     alloc: Global,
     watch: &Watch,
@@ -146,7 +173,7 @@ pub(crate) fn report_object(
     Ok(json.into_inner())
 }
 
-/// A row for each NAME.
+/// A row for each unit.
 fn put_rows(
     json: &mut Writer,
     alloc: Global,
@@ -154,9 +181,9 @@ fn put_rows(
     assumed: &[Assumed],
 ) -> Result<(), AllocError> {
     begin_list(json, "rows")?;
-    for place in 0..watch.names() {
-        if let Some(name) = watch.name_at(place) {
-            put_row(json, alloc, watch, name, is_assumed(assumed, name))?;
+    for place in 0..row_places(watch) {
+        if let Some(who) = &row_at(watch, place) {
+            put_row(json, alloc, watch, who, is_assumed_unit(assumed, who))?;
         }
     }
     json.end_array()
@@ -166,17 +193,16 @@ fn put_row(
     json: &mut Writer,
     alloc: Global,
     watch: &Watch,
-    name: Name,
+    who: &Who,
     is_assumed: bool,
 ) -> Result<(), AllocError> {
     json.begin_object()?;
-    put_name(json, alloc, name)?;
-    put_address(json, address_of(watch, name))?;
+    put_who(json, alloc, watch, who)?;
     if is_assumed {
         put_flag(json, "assumed", true)?;
     }
     for kind in KINDS {
-        put_runs(json, alloc, kind_word(kind), watch.runs(name, kind))?;
+        put_runs(json, alloc, kind_word(kind), watch.runs(*who, kind))?;
     }
     json.end_object()
 }

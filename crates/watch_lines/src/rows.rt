@@ -1,11 +1,10 @@
-use crate::kinds::{KINDS, address_of, kind_word};
-use bus_watch::{Run, Watch};
+use crate::units::{KINDS, WhoWords, address_of, kind_word, row_at, row_places};
+use bus_watch::{Run, Watch, Who};
 use can_frame::GLOBAL_ADDRESS;
 use candump_line::Time;
 use csv::Writer;
 use dm_messages::Kind;
 use dm_words::NO_COUNT;
-use name_field::Name;
 use std::alloc::{AllocError, Global};
 use trouble_code::{Dtc, Lamps};
 
@@ -29,13 +28,13 @@ const HEADER: [&[u8]; 12] = [
 type Rows = Writer<Vec<u8>>;
 
 /// The report: a row for each code of each run of equal entries, one without a code for a run without codes, and one
-/// without a kind for a NAME without entries.
+/// without a kind for a unit without entries.
 pub(crate) fn report_rows(alloc: Global, watch: &Watch) -> Result<Vec<u8>, AllocError> {
     let mut rows = Writer::from_writer(Vec::new(alloc));
     put_row(&mut rows, &HEADER)?;
-    for place in 0..watch.names() {
-        if let Some(name) = watch.name_at(place) {
-            put_name(&mut rows, alloc, watch, name)?;
+    for place in 0..row_places(watch) {
+        if let Some(who) = &row_at(watch, place) {
+            put_unit(&mut rows, alloc, watch, who)?;
         }
     }
     match rows.into_inner() {
@@ -51,28 +50,29 @@ fn put_row(rows: &mut Rows, fields: &[&[u8]]) -> Result<(), AllocError> {
     }
 }
 
-/// The rows of a NAME.
-fn put_name(rows: &mut Rows, alloc: Global, watch: &Watch, name: Name) -> Result<(), AllocError> {
-    let address = address_text(alloc, address_of(watch, name))?;
-    let name_text = format!(in alloc; "{name}")?;
+/// The rows of a unit. In the place of a NAME stands that nobody has claimed its address, so that no two units have the same there.
+fn put_unit(rows: &mut Rows, alloc: Global, watch: &Watch, who: &Who) -> Result<(), AllocError> {
+    let address = address_text(alloc, address_of(watch, who))?;
+    let words = WhoWords(*who);
+    let unit = format!(in alloc; "{words}")?;
     put_entries(
         rows,
         alloc,
-        [name_text.as_bytes(), address.as_bytes()],
+        [unit.as_bytes(), address.as_bytes()],
         watch,
-        name,
+        who,
     )
 }
 
-/// The rows of a NAME behind these two values.
+/// The rows of a unit behind these two values.
 fn put_entries(
     rows: &mut Rows,
     alloc: Global,
     before: [&[u8]; 2],
     watch: &Watch,
-    name: Name,
+    who: &Who,
 ) -> Result<(), AllocError> {
-    if !has_entries(watch, name) {
+    if !has_entries(watch, who) {
         let none: &[u8] = b"";
         return put_row(
             rows,
@@ -82,15 +82,15 @@ fn put_entries(
         );
     }
     for kind in KINDS {
-        put_runs(rows, alloc, before, watch.runs(name, kind), kind)?;
+        put_runs(rows, alloc, before, watch.runs(*who, kind), kind)?;
     }
     Ok(())
 }
 
-/// Whether a NAME has an entry of some kind.
-fn has_entries(watch: &Watch, name: Name) -> bool {
+/// Whether a unit has an entry of some kind.
+fn has_entries(watch: &Watch, who: &Who) -> bool {
     for kind in KINDS {
-        if !watch.runs(name, kind).is_empty() {
+        if !watch.runs(*who, kind).is_empty() {
             return true;
         }
     }

@@ -1,11 +1,10 @@
-use crate::kinds::{KINDS, address_of, kind_word};
-use crate::run::{Assumed, is_assumed};
-use bus_watch::{Change, Counts, Run, Watch};
+use crate::run::Assumed;
+use crate::units::{KINDS, WhoWords, address_of, is_assumed_unit, kind_word, row_at, row_places};
+use bus_watch::{Change, Counts, Run, Watch, Who};
 use can_frame::GLOBAL_ADDRESS;
 use candump_line::Time;
 use dm_messages::Kind;
 use dm_words::{CodeWords, LampWords};
-use name_field::Name;
 use std::io;
 use std::io::Write;
 
@@ -15,7 +14,7 @@ pub fn write_change<W: Write>(writer: &mut W, watch: &Watch, change: Change) -> 
     match change {
         Change::At { name, address } => writeln!(writer, " unit {name} at {address}"),
         Change::NoAddress { name } => writeln!(writer, " unit {name} has no address"),
-        Change::Entry { name, kind } => write_entry(writer, watch, name, kind),
+        Change::Entry { who, kind } => write_entry(writer, watch, &who, kind),
         Change::Missed { count } => writeln!(
             writer,
             " missed {count}: no owner is known until units claim again (cansend can0 18EAFFFE#00EE00)"
@@ -28,10 +27,7 @@ pub fn write_change<W: Write>(writer: &mut W, watch: &Watch, change: Change) -> 
             let number = pgn.number();
             writeln!(writer, " ack {name} control {control} of {number}")
         }
-        Change::Unread => {
-            let unread = watch.unread();
-            writeln!(writer, " unread {unread}")
-        }
+        Change::Unread { who, kind, to } => write_unread(writer, watch, &who, kind, to),
     }
 }
 
@@ -42,11 +38,33 @@ fn write_time<W: Write>(writer: &mut W, time: Option<Time>) -> io::Result<()> {
     }
 }
 
-/// The newest entry of a NAME.
-fn write_entry<W: Write>(writer: &mut W, watch: &Watch, name: Name, kind: Kind) -> io::Result<()> {
+/// How many messages could not be read, whose the newest of them is, and where it went, if not to all.
+fn write_unread<W: Write>(
+    writer: &mut W,
+    watch: &Watch,
+    who: &Who,
+    kind: Kind,
+    to: u8,
+) -> io::Result<()> {
+    let unread = watch.unread();
     let word = kind_word(kind);
-    write!(writer, " {word} {name}")?;
-    if let Some(run) = watch.runs(name, kind).last() {
+    let unit = WhoWords(*who);
+    write!(writer, " unread {unread}: {word} of {unit}")?;
+    write_destination(writer, to)?;
+    writeln!(writer)
+}
+
+/// The newest entry of a unit.
+fn write_entry<W: Write>(writer: &mut W, watch: &Watch, who: &Who, kind: Kind) -> io::Result<()> {
+    let word = kind_word(kind);
+    let unit = WhoWords(*who);
+    let colon = if let Who::Unclaimed { .. } = *who {
+        ":"
+    } else {
+        ""
+    };
+    write!(writer, " {word} {unit}{colon}")?;
+    if let Some(run) = watch.runs(*who, kind).last() {
         write_shown(writer, run)?;
     }
     writeln!(writer)
@@ -69,15 +87,15 @@ fn write_destination<W: Write>(writer: &mut W, to: u8) -> io::Result<()> {
     write!(writer, " to {to}")
 }
 
-/// Writes a line for each NAME, the counts of what was heard, and those of the lines.
+/// Writes a line for each unit, the counts of what was heard, and those of the lines.
 pub fn write_report<W: Write>(
     writer: &mut W,
     watch: &Watch,
     assumed: &[Assumed],
 ) -> io::Result<()> {
-    for place in 0..watch.names() {
-        if let Some(name) = watch.name_at(place) {
-            write_row(writer, watch, name, is_assumed(assumed, name))?;
+    for place in 0..row_places(watch) {
+        if let Some(who) = &row_at(watch, place) {
+            write_row(writer, watch, who, is_assumed_unit(assumed, who))?;
         }
     }
     let missed = watch.missed();
@@ -86,20 +104,23 @@ pub fn write_report<W: Write>(
     write_counts(writer, watch.counts())
 }
 
-/// The NAME, its address, how many messages of each kind stand under it, and the lamps and the number of codes of the
+/// The unit, the address of its NAME, how many messages of each kind stand under it, and the lamps and the number of codes of the
 /// newest DM1.
 fn write_row<W: Write>(
     writer: &mut W,
     watch: &Watch,
-    name: Name,
+    who: &Who,
     is_assumed: bool,
 ) -> io::Result<()> {
-    write!(writer, "{name} ")?;
-    write_address(writer, address_of(watch, name))?;
-    for kind in KINDS {
-        write_entries(writer, watch.entries(name, kind))?;
+    let unit = WhoWords(*who);
+    write!(writer, "{unit} ")?;
+    if let Who::Named(_) = *who {
+        write_address(writer, address_of(watch, who))?;
     }
-    write_newest(writer, watch.runs(name, Kind::Dm1).last())?;
+    for kind in KINDS {
+        write_entries(writer, watch.entries(*who, kind))?;
+    }
+    write_newest(writer, watch.runs(*who, Kind::Dm1).last())?;
     let assumed = if is_assumed { " assumed" } else { "" };
     writeln!(writer, "{assumed}")
 }

@@ -51,7 +51,7 @@ impl Watch {
     /// Tells of what the listener heard, of a diagnostic message in one frame or not, and takes note of it.
     fn tell(&mut self, heard: &Overheard, single: bool) -> Changes
         ensures noted { self.new ≡ record self.old { told = told_after heard.now self.old.told } }
-        ensures told { result ≡ told_of (news_by self.old.told self.old.lists.address self.old.lists.began heard.now) heard.now }
+        ensures told { result ≡ told_of self.old.lists.selection.unclaimed (news_by self.old.told self.old.lists.selection self.old.lists.began heard.now) heard.now }
     {
         if let Overheard::Nothing = *heard {
             return nothing();
@@ -59,13 +59,14 @@ impl Watch {
         let is_news = self.is_news(heard);
         self.unowned.follow(heard);
         self.note(heard, single);
-        Changes::of(heard, is_news)
+        Changes::of(heard, self.lists.selection(), is_news)
     }
 
     /// Whether what the listener heard is news. Its entry, if it listed one, is in the lists.
     fn is_news(&self, heard: &Overheard) -> bool
-        ensures { result ≡ news_by self.now.told self.now.lists.address self.now.lists.began heard.now }
+        ensures { result ≡ news_by self.now.told self.now.lists.selection self.now.lists.began heard.now }
     {
+        let selection = self.lists.selection();
         match *heard {
             Overheard::Listed { who, source, .. } => self.is_entry_news(who, source),
             Overheard::Acknowledged {
@@ -73,29 +74,22 @@ impl Watch {
                 to,
                 again,
                 ..
-            } => !again && self.is_ack_shown(requester, to),
-            Overheard::Unowned { source, .. } => !self.unowned.is_told(source),
+            } => !again && selection.shows_ack(requester, to),
+            Overheard::Unowned { source, .. } => {
+                !selection.unclaimed && !self.unowned.is_told(source)
+            }
             _ => true,
         }
     }
 
-    /// Whether the newest entry is news: it began a run, or came from an address without owner of which that was not told.
+    /// Whether the newest entry is news: it began a run; or it is not shown, and of its address without owner it was not told.
     fn is_entry_news(&self, who: Who, source: u8) -> bool
-        ensures { result ≡ tellings.is_entry_news self.now.told self.now.lists.began who source }
+        ensures { result ≡ tellings.is_entry_news self.now.told self.now.lists.selection.unclaimed self.now.lists.began who source }
     {
-        match who {
-            Who::Named(_) => self.lists.has_begun(),
-            Who::Unclaimed { .. } => !self.unowned.is_told(source),
-        }
-    }
-
-    /// Whether an acknowledgment is shown that names this requester and went to this address.
-    fn is_ack_shown(&self, requester: u8, to: u8) -> bool
-        ensures { result ≡ tellings.is_ack_shown self.now.lists.address requester to }
-    {
-        match self.lists.address() {
-            Some(address) => requester == address || to == address,
-            None => true,
+        if self.lists.selection().shows_of(who) {
+            self.lists.has_begun()
+        } else {
+            !self.unowned.is_told(source)
         }
     }
 

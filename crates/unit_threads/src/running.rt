@@ -1,4 +1,4 @@
-ghost use Rattle.std.specs.Prelude.{◌≡◌, ◌+◌, ◌^◌, ◌<◌, ◌≤◌, IfErr, IfOk, IfSome, vec_capacity, vec_len};
+ghost use Rattle.std.specs.Prelude.{◌≡◌, ◌+◌, ◌≤◌, min, IfErr, IfOk, IfSome, vec_capacity, vec_len};
 ghost use Rattle.std.specs.List.{All};
 ghost use Rattle.garage.specs.Calls.{IsWant};
 ghost use Rattle.unit_threads.specs.Ends.{Agrees, HaveOwnSeats};
@@ -10,8 +10,14 @@ use garage::{Garage, GarageError};
 use std::alloc::{AllocError, Global};
 use std::sync::{Mutex, Wait};
 use std::thread;
-use std::thread::{Scope, Threads};
+use std::thread::{JoinHandle, Scope, Threads};
 use unit_trait::Unit;
+
+/// How many units find a seat in a garage without live ones (`TooManySeats`).
+const MOST_UNITS: usize = 64;
+
+/// The thread of a unit, where it was started.
+type Started = Option<JoinHandle<Ended>>;
 
 /// What a unit waits for before each turn.
 pub trait Gate: Sync {
@@ -31,6 +37,8 @@ pub struct Ran {
 /// Runs each unit, given with the address that it wants, in a thread of its own: it joins, has so many turns (`one_turn`) and
 /// leaves. Meanwhile the caller's thread has the stations read so often (`one_read`).
 ///
+/// The first 64 units have a thread. For each further one no seat may be left: it is let go without a thread (`TooManySeats`).
+///
 /// The garage comes back as the threads left it, each seat's counts agree with what is told of it, and no seat is told of
 /// twice. A unit whose thread cannot be started is let go (`NoThread`); a lock of this toolchain is never poisoned, since a
 /// panic ends the process. It returns only if each unit's `think` and the gate do.
@@ -46,7 +54,6 @@ pub fn run<R: Threads + Wait + Sync, G: Gate>(
     reads: u32,
     gate: &G,
 ) -> (Garage, Result<Ran, AllocError>)
-    requires { vec_len units < 2 ^ 32 }
     ensures none { IfErr result.1 (λ _. result.0 ≡ garage) }
     ensures all { IfOk result.1 (λ r. vec_len r.ended ≡ vec_len units) }
     ensures agree { IfOk result.1 (λ r. All (Agrees turns result.0) r.ended.items) }
@@ -57,25 +64,34 @@ pub fn run<R: Threads + Wait + Sync, G: Gate>(
         Ok(ended) => ended,
         Err(error) => return (garage, Err(error)),
     };
+    let threads: Vec<Started> = match Vec::with_capacity(alloc, units.len().min(MOST_UNITS)) {
+        Ok(threads) => threads,
+        Err(error) => return (garage, Err(error)),
+    };
     let shared = Mutex::new(garage);
     let lock = &shared;
     let (ended, station) = thread::scope(
         thread::scope_env(),
         rt,
         move |scope| -> (Vec<Ended>, Option<GarageError>)
-            requires few { vec_len units < 2 ^ 32 }
-            requires room { vec_len ended + vec_len units ≤ vec_capacity ended }
-            ensures { (vec_len result.0 ≡ vec_len ended + vec_len units) × IfSome result.1 IsWant }
-        { start_all(scope, rt, alloc, lock, gate, units, turns, reads, ended) },
+            requires none { (vec_len ended ≡ 0) × (vec_len threads ≡ 0) }
+            requires room { vec_len units ≤ vec_capacity ended }
+            requires seats { min (vec_len units) MOST_UNITS ≤ vec_capacity threads }
+            ensures { (vec_len result.0 ≡ vec_len units) × IfSome result.1 IsWant }
+        {
+            run_all(
+                scope, rt, alloc, lock, gate, units, turns, reads, threads, ended,
+            )
+        },
     );
     let garage = shared.into_inner();
     let ended = compared_ends(&garage, turns, ended);
     (garage, Ok(Ran { ended, station }))
 }
 
-/// Starts the thread of each unit, the last one first, and does the caller's part once all have one. Their ends come in the
+/// Has each unit that can find a seat run in a thread of its own, and does the caller's part meanwhile. The ends come in the
 /// order of the units.
-fn start_all<'s, 'e, R: Threads + Wait + Sync, G: Gate>(
+fn run_all<'s, 'e, R: Threads + Wait + Sync, G: Gate>(
     scope: &'s Scope<'s, &'e ()>,
     rt: &'e R,
     alloc: Global,
@@ -84,28 +100,71 @@ fn start_all<'s, 'e, R: Threads + Wait + Sync, G: Gate>(
     mut units: Vec<(Box<dyn Unit>, u8)>,
     turns: u32,
     reads: u32,
+    threads: Vec<Started>,
     ended: Vec<Ended>,
 ) -> (Vec<Ended>, Option<GarageError>)
-    requires few { vec_len units < 2 ^ 32 }
-    requires room { vec_len ended + vec_len units ≤ vec_capacity ended }
-    ensures len { vec_len result.0 ≡ vec_len ended + vec_len units }
-    ensures capacity { vec_capacity result.0 ≡ vec_capacity ended }
+    requires none { (vec_len ended ≡ 0) × (vec_len threads ≡ 0) }
+    requires room { vec_len units ≤ vec_capacity ended }
+    requires seats { min (vec_len units) MOST_UNITS ≤ vec_capacity threads }
+    ensures len { vec_len result.0 ≡ vec_len units }
     ensures station { IfSome result.1 IsWant }
 {
-    let Some((unit, want)) = units.pop() else {
-        return (ended, read_often(rt, alloc, shared, reads));
-    };
-    let number = units.len() as u32;
-    let started = scope.spawn(move || drive(rt, alloc, shared, gate, unit, want, number, turns));
-    let (mut ended, station) = start_all(
-        scope, rt, alloc, shared, gate, units, turns, reads, ended,
-    );
-    let end = match started {
-        Ok(thread) => thread.join(rt),
-        Err(_) => never_joined(EndReason::NoThread),
-    };
-    ended.push_reserved(end);
-    (ended, station)
+    let seatless = units.len().saturating_sub(MOST_UNITS);
+    units.truncate(MOST_UNITS);
+    let threads = start_each(scope, rt, alloc, shared, gate, units, turns, threads);
+    let station = read_often(rt, alloc, shared, reads);
+    let ended = join_each(rt, threads, ended);
+    (with_seatless(seatless, ended), station)
+}
+
+/// Starts the thread of each unit, the last one first.
+fn start_each<'s, 'e, R: Threads + Wait + Sync, G: Gate>(
+    scope: &'s Scope<'s, &'e ()>,
+    rt: &'e R,
+    alloc: Global,
+    shared: &'e Mutex<Garage>,
+    gate: &'e G,
+    mut units: Vec<(Box<dyn Unit>, u8)>,
+    turns: u32,
+    mut threads: Vec<Started>,
+) -> Vec<Started>
+    requires few { vec_len units ≤ MOST_UNITS }
+    requires room { vec_len threads + vec_len units ≤ vec_capacity threads }
+    ensures { vec_len result ≡ vec_len threads + vec_len units }
+{
+    while let Some((unit, want)) = units.pop() {
+        let number = units.len() as u32;
+        let thread = scope.spawn(move || drive(rt, alloc, shared, gate, unit, want, number, turns));
+        threads.push_reserved(thread.ok());
+    }
+    threads
+}
+
+/// Waits for each of these threads, the one that was started last first, and puts their ends behind the others.
+fn join_each<R: Threads>(rt: &R, mut threads: Vec<Started>, mut ended: Vec<Ended>) -> Vec<Ended>
+    requires room { vec_len ended + vec_len threads ≤ vec_capacity ended }
+    ensures len { vec_len result ≡ vec_len ended + vec_len threads }
+    ensures capacity { vec_capacity result ≡ vec_capacity ended }
+{
+    while let Some(started) = threads.pop() {
+        let end = match started {
+            Some(thread) => thread.join(rt),
+            None => never_joined(EndReason::NoThread),
+        };
+        ended.push_reserved(end);
+    }
+    ended
+}
+
+/// The ends of so many units more, for which no seat was left.
+fn with_seatless(seatless: usize, mut ended: Vec<Ended>) -> Vec<Ended>
+    requires room { vec_len ended + seatless ≤ vec_capacity ended }
+    ensures { vec_len result ≡ vec_len ended + seatless }
+{
+    for _ in 0..seatless {
+        ended.push_reserved(never_joined(EndReason::Garage(GarageError::TooManySeats)));
+    }
+    ended
 }
 
 /// All that a unit does: it joins, has its turns and leaves.

@@ -32,5 +32,3 @@ pub use time::Time;
 pub use time_form::TimeForm;
 pub use times::Times;
 
-#[cfg(test)]
-mod tests;

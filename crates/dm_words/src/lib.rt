@@ -9,5 +9,3 @@ pub use codes::CodeWords;
 pub use lamps::{LampBytes, LampWords};
 pub use objects::{NO_COUNT, put_code, put_lamps, put_number};
 
-#[cfg(test)]
-mod tests;

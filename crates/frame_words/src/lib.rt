@@ -12,5 +12,3 @@ pub use line::{write_joined_words, write_line_words};
 pub use message::{write_message, write_payload};
 pub use names::data_group_name;
 
-#[cfg(test)]
-mod tests;

@@ -38,5 +38,3 @@ pub fn write<W: Write>(snapshot: &Snapshot, writer: &mut W) -> io::Result<()>
     write_total(writer, snapshot.missed, snapshot.unread)
 }
 
-#[cfg(test)]
-mod tests;

@@ -31,4 +31,3 @@ pub use reason_kind::{REASON_KINDS, ReasonKind};
 pub use time::Time;
 pub use time_form::TimeForm;
 pub use times::Times;
-

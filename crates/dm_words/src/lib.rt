@@ -8,4 +8,3 @@ mod objects;
 pub use codes::CodeWords;
 pub use lamps::{LampBytes, LampWords};
 pub use objects::{NO_COUNT, put_code, put_lamps, put_number};
-

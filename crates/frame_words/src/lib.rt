@@ -11,4 +11,3 @@ pub use audience::Audience;
 pub use line::{write_joined_words, write_line_words};
 pub use message::{write_message, write_payload};
 pub use names::data_group_name;
-

@@ -37,4 +37,3 @@ pub fn write<W: Write>(snapshot: &Snapshot, writer: &mut W) -> io::Result<()>
     }
     write_total(writer, snapshot.missed, snapshot.unread)
 }
-

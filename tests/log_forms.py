@@ -59,9 +59,9 @@ class Lines:
     def written(self, count):
         """A log of so many lines, or a few more. Some begin with what names no bus, some are short, some have no frame."""
         way = self.chance.random()
-        if way < 0.15:
+        if way < 0.2:
             return self.end.join([*self.chance.choice(self.chance.choice(WITHOUT_FRAMES)), *self.chance.choices([b"", b"#", b"text"], k=self.chance.randint(0, 3))])
-        if way < 0.21:
+        if way < 0.26:
             times = sorted(self.chance.sample(range(99_000_000), self.chance.randint(1, 8)))
             return self.end.join(f" ({at // 1_000_000:03d}.{at % 1_000_000:06d})  can0  18FECA00   [8]  00 FF 00 00 00 00 FF FF".encode() for at in times)
         while self.chance.random() < 0.15:

@@ -47,11 +47,16 @@ def read():
         return {}
 
 
-def write(found, edits):
-    """Notes edits with their sums. Of the lines that were there, those of edits that are no more go."""
+def is_there(edit):
+    crate, _, name = edit.partition("/")
+    return os.path.exists(f"{TOP}/crates/{crate}/edits/{name}.edit")
+
+
+def write(found):
+    """Notes edits with their sums. The lines of edits that are not there any more go."""
     rows = {**read(), **found}
     with open(f"{RECORD}.new", "w", encoding="utf-8") as it:
-        it.writelines([HEAD, *[f"{edit} {rows[edit]}\n" for edit in sorted(rows) if edit in edits]])
+        it.writelines([HEAD, *[f"{edit} {rows[edit]}\n" for edit in sorted(rows) if is_there(edit)]])
     os.replace(f"{RECORD}.new", RECORD)
 
 

@@ -1,5 +1,5 @@
 //! Bad lines: the first of each kind are told each, the rest are counted.
-ghost use Rattle.std.specs.Prelude.{◌≡◌, ◌-◌, ◌<◌, nat_lt, slice_index};
+ghost use Rattle.std.specs.Prelude.{◌≡◌, ◌+◌, ◌-◌, ◌<◌, ◌^◌, min, nat_lt, replicate, slice_index, slice_set};
 
 use candump_line::{REASON_KINDS, Reason};
 use std::io;
@@ -16,7 +16,9 @@ pub(crate) struct BadLines {
 
 impl BadLines {
     /// No line was bad.
-    pub(crate) fn new() -> BadLines {
+    pub(crate) fn new() -> BadLines
+        ensures { result.counts ≡ replicate 13 0 }
+    {
         BadLines { counts: [0; 13] }
     }
 
@@ -37,6 +39,7 @@ impl BadLines {
     fn count(&mut self, place: usize) -> bool
         requires { place < 13 }
         ensures told { result ≡ nat_lt (slice_index self.old.counts place) 10 }
+        ensures counted { self.new.counts ≡ slice_set self.old.counts place (min (slice_index self.old.counts place + 1) (2 ^ 64 - 1)) }
     {
         let before = self.counts[place];
         self.counts[place] = before.saturating_add(1);

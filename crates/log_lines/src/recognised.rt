@@ -1,5 +1,6 @@
 //! What is recognised of an input.
-ghost use Rattle.std.specs.Prelude.{◌≡◌, ◌||◌, false, true, None};
+ghost use Rattle.std.specs.Prelude.{◌≡◌, ◌||◌, false, true, None, Some};
+ghost use Rattle.candump_line.specs.declared.other.OtherLog.{OtherLog as AnyLog};
 ghost use Rattle.candump_line.specs.OtherLogs.{other_log};
 ghost use Rattle.candump_line.specs.Said.{is_of_frames};
 
@@ -17,7 +18,10 @@ pub(crate) struct Recognised {
 
 impl Recognised {
     /// Nothing was read.
-    pub(crate) fn new() -> Recognised {
+    pub(crate) fn new() -> Recognised
+        ensures frames { result.has_frames ≡ false }
+        ensures looks { result.looks ≡ None }
+    {
         Recognised {
             lines: 0,
             has_frames: false,
@@ -28,6 +32,7 @@ impl Recognised {
     /// Takes a line, and what it says.
     pub(crate) fn take(&mut self, line: &[u8], said: &Line<'_>)
         ensures frames { self.new.has_frames ≡ (self.old.has_frames || is_of_frames said.now) }
+        ensures kept { (other : AnyLog) → self.old.looks ≡ Some other → self.new.looks ≡ Some other }
         ensures first { self.old.has_frames ≡ false → is_of_frames said.now ≡ false → self.old.looks ≡ None → self.new.looks ≡ other_log line.now }
     {
         self.lines = self.lines.saturating_add(1);

@@ -26,6 +26,11 @@ impl Contests {
         self.table = none();
     }
 
+    /// Goes on with the contests of another table.
+    pub(crate) fn go_on_with(&mut self, other: &Contests) {
+        self.table = other.table;
+    }
+
     /// Whether what comes from the address at this time is contested.
     pub(crate) fn is_contested(&self, address: u8, time: Option<Time>) -> bool {
         match (self.table[usize::from(address)], time) {

@@ -28,4 +28,4 @@ pub use laws::shown_lists_are_what_was_overheard;
 pub use listener::Who;
 pub use run::Run;
 pub use selection::{Selection, UnitShown};
-pub use watch::{Settings, Watch};
+pub use watch::{Limits, Settings, Watch};

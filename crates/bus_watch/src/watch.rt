@@ -17,10 +17,14 @@ use listener::{Listener, Who};
 use name_field::Name;
 use station_table::Row;
 use std::alloc::{AllocError, Global};
+use self::over::Before;
 use std::marker::Model;
 
 mod changes;
+mod over;
 mod readings;
+
+pub use over::Limits;
 
 /// How a bus is watched.
 #[derive(Clone, Copy, Debug)]
@@ -43,6 +47,9 @@ pub struct Watch {
     packets: Packets,
     lists: Lists,
     counts: Counts,
+    /// How many runs were begun; one of several codes counts as many.
+    kept: u64,
+    before: Before,
 }
 
 /// Seen as its listener, the lists that it fills, what it knows of the bus that it follows, and what it told once.
@@ -90,6 +97,8 @@ impl Watch {
             packets,
             lists: Lists::new(alloc, settings.selection),
             counts: Counts::default(),
+            kept: 0,
+            before: Before::default(),
         })
     }
 

@@ -1,5 +1,6 @@
-use crate::objects::{change_object, report_object};
-use crate::rows::report_rows;
+use crate::objects::change_object;
+use crate::report_object;
+use crate::rows;
 use crate::run::Options;
 use crate::text;
 use bus_watch::{BusShown, BusWatch, Buses, Change, Changes};
@@ -59,28 +60,21 @@ fn write_change<W: Write>(
 }
 
 /// Writes the report: a line for each NAME, the counts of what was heard, and those of the lines.
+///
+/// It is written as it goes, and no memory is asked for.
 pub fn write_report<W: Write>(
     writer: &mut W,
-    alloc: Global,
     buses: &Buses,
     options: &Options<'_>,
 ) -> Result<(), LogFault> {
-    match options.form {
-        Form::Text => match text::write_report(writer, buses, options.assumed) {
-            Ok(()) => Ok(()),
-            Err(_) => Err(LogFault::Write),
-        },
-        Form::Json => {
-            let object = report_object(alloc, buses, options.assumed)?;
-            write_object(writer, object)
-        }
-        Form::Csv => {
-            let rows = report_rows(alloc, buses, options.bus == BusShown::Each)?;
-            match writer.write_all(rows.as_slice()) {
-                Ok(()) => Ok(()),
-                Err(_) => Err(LogFault::Write),
-            }
-        }
+    let written = match options.form {
+        Form::Text => text::write_report(writer, buses, options.assumed),
+        Form::Json => report_object::write_object(writer, buses, options.assumed),
+        Form::Csv => rows::write_rows(writer, buses, options.bus == BusShown::Each),
+    };
+    match written {
+        Ok(()) => Ok(()),
+        Err(_) => Err(LogFault::Write),
     }
 }
 

@@ -6,6 +6,7 @@ mod form;
 mod hearing;
 mod lines;
 mod objects;
+mod report_object;
 mod rows;
 mod run;
 mod text;

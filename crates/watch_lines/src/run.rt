@@ -104,12 +104,11 @@ fn read_and_report<R: Read + Drop, W: Write + Drop, E: Write>(
     options: &Options<'_>,
 ) -> Ended {
     let ended = read_lines(alloc, reader, writer, errors, buses, options);
-    reported(alloc, writer, buses, options, ended)
+    reported(writer, buses, options, ended)
 }
 
 /// Writes the report, but where writing has failed.
 fn reported<W: Write>(
-    alloc: Global,
     writer: &mut W,
     buses: &Buses,
     options: &Options<'_>,
@@ -118,7 +117,7 @@ fn reported<W: Write>(
     if ended.fault == Some(LogFault::Write) {
         return ended;
     }
-    let fault = match written_out(alloc, writer, buses, options) {
+    let fault = match written_out(writer, buses, options) {
         Ok(()) => ended.fault,
         Err(fault) => Some(fault),
     };
@@ -127,12 +126,11 @@ fn reported<W: Write>(
 
 /// Writes the report, and what is still to be written.
 fn written_out<W: Write>(
-    alloc: Global,
     writer: &mut W,
     buses: &Buses,
     options: &Options<'_>,
 ) -> Result<(), LogFault> {
-    write_report(writer, alloc, buses, options)?;
+    write_report(writer, buses, options)?;
     match writer.flush() {
         Ok(()) => Ok(()),
         Err(_) => Err(LogFault::Write),

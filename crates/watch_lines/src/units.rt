@@ -2,6 +2,7 @@ use crate::run::{Assumed, is_assumed};
 use bus_watch::{UnitShown, Watch, Who};
 use dm_messages::Kind;
 use frame_words::{AddressWords, Audience};
+use name_field::Name;
 use std::fmt;
 
 /// The kinds of messages that are listed, in the order in which a report has them.
@@ -94,12 +95,20 @@ pub(crate) fn has_entries(watch: &Watch, who: &Who) -> bool {
 
 /// Whether the row of a unit is shown: it is the unit of which alone it is told, or has or had the address of which it is.
 fn shows_row(watch: &Watch, who: &Who) -> bool {
-    match watch.selection().unit {
-        Some(UnitShown::Name(name)) => *who == Who::Named(name),
+    let selection = watch.selection();
+    match &selection.unit {
+        Some(UnitShown::Name(name)) => is_named(name, who),
         Some(UnitShown::Address(address)) => {
-            address_of(watch, who) == Some(address) || has_entries(watch, who)
+            address_of(watch, who) == Some(*address) || has_entries(watch, who)
         }
         None => true,
+    }
+}
+
+fn is_named(name: &Name, who: &Who) -> bool {
+    match who {
+        Who::Named(own) => *name == *own,
+        Who::Unclaimed { .. } => false,
     }
 }
 

@@ -13,6 +13,7 @@ mod key;
 mod laws;
 mod lists;
 mod packets;
+mod pairs;
 mod run;
 mod run_list;
 mod run_table;

@@ -8,6 +8,7 @@ ghost use Rattle.station_table.specs.StandsFor.{row_heard_as};
 use crate::counts::Counts;
 use crate::lists::Lists;
 use crate::packets::Packets;
+use crate::pairs::Pairs;
 use crate::run::Run;
 use crate::selection::Selection;
 use crate::unowned::Unowned;
@@ -49,6 +50,7 @@ pub struct Watch {
     counts: Counts,
     /// How many runs were begun; one of several codes counts as many.
     kept: u64,
+    pairs: Pairs,
     before: Before,
 }
 
@@ -89,6 +91,7 @@ impl Watch {
         };
         let listener = Listener::new(alloc)?;
         let packets = Packets::new(alloc)?;
+        let pairs = Pairs::new(alloc)?;
         Ok(Watch {
             settings,
             listener,
@@ -98,6 +101,7 @@ impl Watch {
             lists: Lists::new(alloc, settings.selection),
             counts: Counts::default(),
             kept: 0,
+            pairs,
             before: Before::default(),
         })
     }

@@ -19,6 +19,15 @@ pub enum Form {
     Csv,
 }
 
+/// What a report is of.
+#[derive(Clone, Copy, Debug, PartialEq, Eq)]
+pub enum Part {
+    /// What was heard before the line of this number, at which it is begun anew; whether it is the first such part.
+    Before { line: u64, is_first: bool },
+    /// What was heard to the end; whether that is all.
+    Last { is_all: bool },
+}
+
 /// Writes what is told of the line of this number: of a NAME that lost its address before the change that took it.
 pub fn write_changes<W: Write>(
     writer: &mut W,
@@ -66,11 +75,12 @@ pub fn write_report<W: Write>(
     writer: &mut W,
     buses: &Buses,
     options: &Options<'_>,
+    part: Part,
 ) -> Result<(), LogFault> {
     let written = match options.form {
-        Form::Text => text::write_report(writer, buses, options.assumed),
-        Form::Json => report_object::write_object(writer, buses, options.assumed),
-        Form::Csv => rows::write_rows(writer, buses, options.bus == BusShown::Each),
+        Form::Text => text::write_report(writer, buses, options.assumed, part),
+        Form::Json => report_object::write_object(writer, buses, options.assumed, part),
+        Form::Csv => rows::write_rows(writer, buses, options.bus == BusShown::Each, part),
     };
     match written {
         Ok(()) => Ok(()),

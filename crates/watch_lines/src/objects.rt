@@ -122,7 +122,7 @@ fn put_unread(
     to: u8,
     why: ReadError,
 ) -> Result<(), AllocError> {
-    put_counted(json, "unread", "count", watch.unread())?;
+    put_counted(json, "unread", "count", watch.unread_in_all())?;
     put_who(json, alloc, watch, who)?;
     put_text(json, "kind", kind_word(kind))?;
     put_destination(json, to)?;

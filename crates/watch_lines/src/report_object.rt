@@ -1,5 +1,6 @@
 //! The report as a JSON object, written as it goes: nothing of it is held, and no memory is asked for.
 
+use crate::form::Part;
 use crate::run::Assumed;
 use crate::units::{KINDS, address_of, is_assumed_unit, kind_word, row_at, row_places};
 use bus_watch::{BusWatch, Buses, Counts, Run, Who};
@@ -16,8 +17,13 @@ pub(crate) fn write_object<W: Write>(
     writer: &mut W,
     buses: &Buses,
     assumed: &[Assumed],
+    part: Part,
 ) -> io::Result<()> {
-    write!(writer, "{{\"event\":\"report\",\"rows\":[")?;
+    match part {
+        Part::Before { line, .. } => write!(writer, "{{\"line\":{line},\"event\":\"over\"")?,
+        Part::Last { .. } => write!(writer, "{{\"event\":\"report\"")?,
+    }
+    write!(writer, ",\"rows\":[")?;
     let mut follows = false;
     for one in buses.watches() {
         follows = write_rows(writer, one, assumed, follows)?;
@@ -154,8 +160,8 @@ fn write_heard<W: Write>(writer: &mut W, watches: &[BusWatch]) -> io::Result<()>
     let mut missed = 0u64;
     let mut unread = 0u64;
     for one in watches {
-        missed = missed.saturating_add(one.watch.missed());
-        unread = unread.saturating_add(one.watch.unread());
+        missed = missed.saturating_add(one.watch.missed_in_all());
+        unread = unread.saturating_add(one.watch.unread_in_all());
     }
     write!(writer, ",\"missed\":{missed},\"unread\":{unread}")
 }
@@ -169,8 +175,8 @@ fn write_buses<W: Write>(writer: &mut W, watches: &[BusWatch]) -> io::Result<()>
             follows = true;
             write!(writer, "{{\"bus\":")?;
             write_text(writer, bus.as_str())?;
-            let missed = one.watch.missed();
-            let unread = one.watch.unread();
+            let missed = one.watch.missed_in_all();
+            let unread = one.watch.unread_in_all();
             write!(writer, ",\"missed\":{missed},\"unread\":{unread}}}")?;
         }
     }

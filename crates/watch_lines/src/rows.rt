@@ -1,5 +1,6 @@
 //! The report as comma-separated values, written as it goes: nothing of it is held, and no memory is asked for.
 
+use crate::form::Part;
 use crate::units::{KINDS, WhoValue, address_of, has_entries, kind_word, row_at, row_places};
 use bus_watch::{BusWatch, Buses, Run, Who};
 use can_frame::GLOBAL_ADDRESS;
@@ -16,20 +17,37 @@ const HEADER: &str =
 
 /// Writes the report: a row for each code of each run of equal entries, one without a code for a run without codes, and one
 /// without a kind for a unit without entries. Where each bus is watched, the bus is the last value.
+/// The names of the values stand before the first part.
 pub(crate) fn write_rows<W: Write>(
     writer: &mut W,
     buses: &Buses,
     names_bus: bool,
+    part: Part,
 ) -> io::Result<()> {
-    write!(writer, "{HEADER}")?;
-    if names_bus {
-        write!(writer, ",bus")?;
+    if is_first(part) {
+        write_header(writer, names_bus)?;
     }
-    writeln!(writer)?;
     for one in buses.watches() {
         write_bus_rows(writer, one)?;
     }
     Ok(())
+}
+
+/// Whether no rows stand before this part.
+fn is_first(part: Part) -> bool {
+    match part {
+        Part::Before { is_first, .. } => is_first,
+        Part::Last { is_all } => is_all,
+    }
+}
+
+/// The names of the values.
+fn write_header<W: Write>(writer: &mut W, names_bus: bool) -> io::Result<()> {
+    write!(writer, "{HEADER}")?;
+    if names_bus {
+        write!(writer, ",bus")?;
+    }
+    writeln!(writer)
 }
 
 /// The rows of a bus.

@@ -7,6 +7,9 @@ use can_frame::GREATEST_ADDRESS;
 use station_table::Row;
 use std::alloc::{AllocError, Global};
 
+/// Between how many pairs of addresses messages of several packets may be half joined: all units of a bus have fewer.
+const MOST_PAIRS: usize = 4_096;
+
 /// How much is kept of a bus before what was heard is reported and let go.
 #[derive(Clone, Copy, Debug)]
 pub struct Limits {
@@ -24,7 +27,8 @@ pub(crate) struct Before {
 }
 
 impl Watch {
-    /// Whether as much is kept as may be. Else there is room for a row and a unit more.
+    /// Whether as much is kept as may be, or messages were announced between 4,096 pairs of addresses. Else there is room for a row and a unit
+    /// more.
     pub fn is_full(&self, limits: Limits) -> bool
         ensures rows { result ≡ false → length self.entry.now.listener.rows < limits.most }
         ensures units { result ≡ false → length self.entry.now.lists.units.order < limits.most }
@@ -32,6 +36,7 @@ impl Watch {
         self.listener.names() >= limits.most
             || self.lists.units() >= limits.most
             || self.kept >= limits.keep
+            || self.pairs.count() >= MOST_PAIRS
     }
 
     /// How many frames were missed, also before it started over, up to the greatest 64-bit number.
@@ -51,6 +56,7 @@ impl Watch {
     ///
     /// # Errors
     /// Memory was refused. The watch is as it was.
+    #[inline(never)]
     pub fn start_over(&mut self, alloc: Global) -> Result<(), AllocError>
         ensures anew { OnOk result (HasOwnersAlone self.old self.new) }
         ensures err { OnErr result (self.new ≡ self.old) }

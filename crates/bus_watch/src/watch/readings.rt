@@ -168,8 +168,23 @@ impl Watch {
     fn follow_group(&mut self, time: Option<Time>, group: &ParameterGroup<'_>)
         ensures { self.new ≡ record self.old { followed = followed.followed_with self.old.followed.silence time (group_said group.now) self.old.followed } }
     {
+        self.note_pair(group);
         if let Some(most) = self.settings.silence {
             self.follow_packets(time, most, group);
+        }
+    }
+
+    /// Takes note of between whom a message is announced.
+    fn note_pair(&mut self, group: &ParameterGroup<'_>)
+        ensures { self.new ≡ self.old }
+    {
+        if let ParameterGroup::ConnectionManagement {
+            source,
+            dest,
+            control: Control::Rts { .. } | Control::Bam { .. },
+        } = *group
+        {
+            self.pairs.add(source, dest);
         }
     }
 

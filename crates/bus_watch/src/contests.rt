@@ -28,7 +28,9 @@ impl Contests {
 
     /// Goes on with the contests of another table.
     pub(crate) fn go_on_with(&mut self, other: &Contests) {
-        self.table = other.table;
+        for address in 0..256usize {
+            self.table[address] = other.table[address];
+        }
     }
 
     /// Whether what comes from the address at this time is contested.

@@ -15,7 +15,7 @@ impl Pairs {
     pub(crate) fn new(alloc: Global) -> Result<Pairs, AllocError> {
         let mut announced = Vec::with_capacity(alloc, WORDS)?;
         for _ in 0..WORDS {
-            announced.push_reserved(0);
+            announced.push(0)?;
         }
         Ok(Pairs {
             announced,

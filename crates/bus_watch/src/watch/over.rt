@@ -1,10 +1,11 @@
-ghost use Rattle.std.specs.Prelude.{◌≡◌, ◌<◌, List, false, length, OnOk, OnErr, IfOk};
-ghost use Rattle.bus_watch.specs.Over.{AreOwners, HasOwnersAlone, beginning_of};
-ghost use Rattle.bus_watch.specs.Told.{Beginning, StandsForAll, Told};
+ghost use Rattle.std.specs.Prelude.{◌≡◌, ◌<◌, ◌≤◌, [], false, length, OnOk, OnErr, IfOk, IfSome};
+ghost use Rattle.bus_watch.specs.Over.{HasOwnersAlone, HoldsAddress, beginning_of};
+ghost use Rattle.bus_watch.specs.Told.{StandsForAll};
+ghost use Rattle.can_frame.specs.declared.address.TheConstants.{GREATEST_ADDRESS};
 
 use crate::watch::{Settings, Watch};
 use can_frame::GREATEST_ADDRESS;
-use station_table::Row;
+use name_field::Name;
 use std::alloc::{AllocError, Global};
 
 /// Between how many pairs of addresses messages of several packets may be half joined: all units of a bus have fewer.
@@ -67,12 +68,15 @@ impl Watch {
     }
 
     /// A watch that is told of the owners alone.
+    #[tactic(auto, using(crate::proofs::Over::none_yet, crate::proofs::Over::one_more))]
     fn with_owners(&self, alloc: Global) -> Result<Watch, AllocError>
         ensures { IfOk result (λ w. HasOwnersAlone self.now w) }
     {
         let mut fresh = self.anew(alloc)?;
         for place in 0..self.listener.names() {
-            self.hand_over(alloc, place, &mut fresh)?;
+            if let Some((name, address)) = self.owner_at(place) {
+                fresh.take_over(alloc, name, address)?;
+            }
         }
         Ok(fresh)
     }
@@ -98,25 +102,28 @@ impl Watch {
         Ok(fresh)
     }
 
-    /// Has another watch assume that the NAME of the row at this place holds its address, where it does.
-    fn hand_over(&self, alloc: Global, place: usize, fresh: &mut Watch) -> Result<(), AllocError>
-        ensures { OnOk result ((b : Beginning) (ts : List Told) → AreOwners self.now ts → StandsForAll b ts fresh.old
-            → (more : List Told) × AreOwners self.now more × StandsForAll b more fresh.new) }
+    /// The NAME of the row at this place and its address, where it holds one.
+    fn owner_at(&self, place: usize) -> Option<(Name, u8)>
+        ensures holds { IfSome result (λ o. HoldsAddress self.now o.0 o.1) }
+        ensures address { IfSome result (λ o. o.1 ≤ GREATEST_ADDRESS) }
     {
         let Some(name) = self.listener.name_at(place) else {
-            return Ok(());
+            return None;
         };
-        let Some(Row {
-            address: Some(address),
-            ..
-        }) = self.listener.row(name)
-        else {
-            return Ok(());
-        };
-        if address > GREATEST_ADDRESS {
-            return Ok(());
+        let owner = name;
+        match self.address_of(name) {
+            Some(address) if address <= GREATEST_ADDRESS => Some((owner, address)),
+            _ => None,
         }
-        fresh.assume(alloc, name, address)?;
-        Ok(())
+    }
+
+    /// The address that a NAME holds.
+    fn address_of(&self, name: Name) -> Option<u8>
+        ensures { IfSome result (λ address. HoldsAddress self.now name address) }
+    {
+        match self.listener.row(name) {
+            Some(row) => row.address,
+            None => None,
+        }
     }
 }

@@ -56,6 +56,22 @@ impl Watch {
         self.take(alloc, Reading::Frame(claim), None)
     }
 
+    /// Assumes it, and tells nothing of it.
+    pub(super) fn take_over(
+        &mut self,
+        alloc: Global,
+        name: Name,
+        address: u8,
+    ) -> Result<(), AllocError>
+        requires { address ≤ GREATEST_ADDRESS }
+        ensures { OnOk result ((b : Beginning) (ts : List Told) → StandsForAll b ts self.old → StandsForAll b (told.Assumed name address ∷ ts) self.new) }
+    {
+        match self.assume(alloc, name, address) {
+            Ok(_) => Ok(()),
+            Err(error) => Err(error),
+        }
+    }
+
     /// Has the listener take the reading that a line is, and tells what it changed.
     fn hear_line(&mut self, alloc: Global, line: &Line<'_>) -> Result<Changes, AllocError>
         ensures hears { OnOk result (HearsLine self.old self.new line.now) }

@@ -3,6 +3,7 @@
 They stand in tests/in_rattle/NAME, each source as a .module file, and tests/in_rattle/crates says what each of them uses. A copy
 has them as crates beside the others. There they are built and run as they are, and nothing is proved.
 """
+import os
 import re
 import shutil
 import subprocess
@@ -50,8 +51,9 @@ def copy_to(folder):
             shutil.copy(path, there)
 
 
-def results(folder, name):
-    """What each test of a crate came to in the copy, by its name; the exit status, and what was said."""
-    how = {"stdin": subprocess.DEVNULL, "stdout": subprocess.PIPE, "stderr": subprocess.STDOUT, "text": True, "errors": "replace"}
+def results(folder, name, more=None):
+    """What each test of a crate came to in the copy, by its name; the exit status, and what was said. With more of an environment."""
+    how = {"stdin": subprocess.DEVNULL, "stdout": subprocess.PIPE, "stderr": subprocess.STDOUT, "text": True, "errors": "replace",
+           "env": os.environ | (more or {})}
     ran = subprocess.run(["rt", "try", "--test"], cwd=folder / "crates" / name, **how)
     return dict(re.findall(r"^test (\S+) \.\.\. (\w+)", ran.stdout, re.M)), ran.returncode, ran.stdout

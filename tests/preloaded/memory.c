@@ -4,12 +4,19 @@
  * the address space may grow by so many KiB from then on; a stack of two MiB is taken first, since a stack that cannot grow is no
  * request. The file that REFUSE_COUNTS names has two 64-bit numbers: how many requests there were, and how many of them were
  * refused, here or for want of space.
+ *
+ * With REFUSE_SWEEP a program of tests, which the toolchain builds as `program`, is run once for each of its requests, with that one refused,
+ * and then as it is. The file that REFUSE_SWEEP names gets a line for each of these runs: the number of the request, the status, and whether it
+ * was refused. All other programs are left alone.
  */
 #include <errno.h>
 #include <fcntl.h>
+#include <stdio.h>
 #include <stdlib.h>
+#include <string.h>
 #include <sys/mman.h>
 #include <sys/resource.h>
+#include <sys/wait.h>
 #include <unistd.h>
 
 extern void *__libc_malloc(size_t), *__libc_calloc(size_t, size_t), *__libc_realloc(void *, size_t);
@@ -34,7 +41,43 @@ static void leave_space(unsigned long kibibytes) {
     if (setrlimit(RLIMIT_AS, &limit)) _exit(99);
 }
 
+static int is_program(void) {
+    char path[4096];
+    const ssize_t length = readlink("/proc/self/exe", path, sizeof path - 1);
+    if (length < 0) return 0;
+    path[length] = 0;
+    return !strcmp(strrchr(path, '/'), "/program");
+}
+
+/* Runs what is loaded once for each request; returns in each run, and in the last one with nothing refused. */
+static void sweep(const char *path) {
+    if (!is_program()) return;
+    const int file = open(path, O_WRONLY | O_CREAT | O_APPEND, 0600);
+    counts = mmap(NULL, 16, PROT_READ | PROT_WRITE, MAP_SHARED | MAP_ANONYMOUS, -1, 0);
+    if (file < 0 || counts == MAP_FAILED) _exit(99);
+    int status = 0;
+    for (unsigned long number = 1; number == 1 || counts[1]; number++) {
+        counts[0] = counts[1] = 0;
+        const pid_t child = fork();
+        if (!child) {
+            const int nothing = open("/dev/null", O_WRONLY);
+            dup2(nothing, 1), dup2(nothing, 2), close(nothing), close(file);
+            first = last = number;
+            return;
+        }
+        if (child < 0 || waitpid(child, &status, 0) != child) _exit(99);
+        dprintf(file, "%lu %d %lu\n", number, status, counts[1]);
+    }
+    close(file);
+    munmap(counts, 16);
+    counts = NULL;
+}
+
 __attribute__((constructor)) static void begin(void) {
+    if (getenv("REFUSE_SWEEP")) {
+        sweep(getenv("REFUSE_SWEEP"));
+        return;
+    }
     const char *space = getenv("LEAVE_SPACE"), *path = getenv("REFUSE_COUNTS"), *from = getenv("REFUSE_FROM"), *to = getenv("REFUSE_TO");
     int file = path ? open(path, O_RDWR) : -1;
     first = from ? strtoul(from, NULL, 10) : 0;

@@ -29,8 +29,8 @@ pub row_as_heard : (w : WatchValue) (b : Beginning) (ts : List Told) (name : ℕ
 row_as_heard w b ts name o e s =
     ap (option_map row_heard_as) e ∙ (row_words w.listener.owners name (kept_under w.listener.rows name) ∙ s.heard.listener.rows name)
 
-pub units_as_heard : (w : WatchValue) (b : Beginning) (ts : List Told) (n : ℕ) → n ≡ length w.lists.units → StandsForAll b ts w → n ≡ length (units_shown b.selection (all_said b ts).readings)
-units_as_heard w b ts n e s = e ∙ (sym (length-map w.lists.units (λ e. who_of e.0)) ∙ ap (λ (l : List Who). length l) s.heard.units)
+pub units_as_heard : (w : WatchValue) (b : Beginning) (ts : List Told) (n : ℕ) → n ≡ length w.lists.units.order → StandsForAll b ts w → n ≡ length (units_shown b.selection (all_said b ts).readings)
+units_as_heard w b ts n e s = e ∙ (sym (length-map w.lists.units.order who_of) ∙ ap (λ (l : List Who). length l) s.heard.units)
 
 pub unit_as_heard : (w : WatchValue) (b : Beginning) (ts : List Told) (place : ℕ) (o : Option Who)
     → o ≡ slice_get (units_in w.lists) place → StandsForAll b ts w → o ≡ slice_get (units_shown b.selection (all_said b ts).readings) place

@@ -1,8 +1,9 @@
 -- Runs of equal entries, and the lists that they stand for.
-use Rattle.std.specs.Prelude.{◌≡◌, ℕ, Bool, true, false, ◌&&◌, ◌||◌, ◌==◌, List, [], ◌∷◌, ◌++◌, Option, Some, None, if◌then◌else◌, length, map, nat_lt, replicate, reverse}
+use Rattle.std.specs.Prelude.{◌≡◌, ℕ, Bool, true, false, ◌&&◌, ◌||◌, ◌==◌, List, [], ◌∷◌, ◌++◌, Option, Some, None, if◌then◌else◌, is_some, length, map, nat_lt, replicate, reverse}
 use Rattle.std.specs.List.{list_any}
 use Rattle.std.specs.Map.{lookup}
 use Rattle.std.specs.Option.{option_map_or}
+use Rattle.std.specs.Ordering.{eq_by_cmp}
 use Rattle.bus_model.specs.Overheard.{EntrySent, entries_overheard, same_who}
 use Rattle.bus_model.specs.declared.who.Who.{Who}
 use Rattle.bus_model.specs.declared.who.Who.TheVariants as who
@@ -13,7 +14,7 @@ use Rattle.dm_messages.specs.declared.kind.Kind.{Kind}
 use Rattle.dm_messages.specs.declared.kind.Kind.TheVariants.{Dm1, Dm2, Dm6}
 use Rattle.listener.specs.SentEntries.{entry_sent}
 use Rattle.listener.specs.declared.entry.SentEntry.{SentEntry}
-use Rattle.bus_watch.specs.contracts.key.KeyPartialEq.TheImpl as key_eq
+use Rattle.bus_watch.specs.contracts.key.KeyOrd.TheImpl as key_order
 use Rattle.bus_watch.specs.declared.key.Key.{Key}
 use Rattle.bus_watch.specs.declared.key.Key.TheVariants as key
 use Rattle.bus_watch.specs.declared.run.Run.{Run}
@@ -52,25 +53,37 @@ who_of (key.Named n) = who.Named n
 who_of (key.Unclaimed a gaps) = who.Unclaimed a gaps
 
 abbrev pub same_key : Key → Key → Bool
-same_key = (key_eq.ghosts).eq
+same_key = eq_by_cmp (key_order.ghosts).cmp
+
+-- the units that have runs, in the order of their first entries, and the runs of each, in the order of the keys
+pub record UnitsValue : Type 0 where
+  pub order : List Key
+  pub runs : List (Key × UnitValue)
+
+abbrev pub no_units : UnitsValue
+no_units = record { order = []; runs = [] }
+
+-- those that have runs are those in the order
+abbrev pub HasOrder : UnitsValue → Type 0
+HasOrder units = (q : Key) → list_any (same_key q) units.order ≡ is_some (lookup (same_key q) units.runs)
 
 -- the runs of a unit and kind, none where it has none
-abbrev pub runs_in : List (Key × UnitValue) → Who → Kind → List Run
-runs_in units w k = option_map_or (λ u. runs_of u k) (lookup (same_key (key_of w)) units) []
+abbrev pub runs_in : UnitsValue → Who → Kind → List Run
+runs_in units w k = option_map_or (λ u. runs_of u k) (lookup (same_key (key_of w)) units.runs) []
 
 -- the units that have some
-abbrev pub units_of : List (Key × UnitValue) → List Who
-units_of units = map (λ e. who_of e.0) units
+abbrev pub units_of : UnitsValue → List Who
+units_of units = map who_of units.order
 
 -- the runs of each unit, in the order of the units' first entries; whether the newest entry began one; and what is shown
 pub record ListsValue : Type 0 where
-  pub units : List (Key × UnitValue)
+  pub units : UnitsValue
   pub began : Bool
   pub selection : Selection
 
 -- no runs of any unit
 abbrev pub none_listed : Selection → ListsValue
-none_listed selection = record { units = []; began = false; selection = selection }
+none_listed selection = record { units = no_units; began = false; selection = selection }
 
 -- the runs of a unit and kind
 abbrev pub runs_under : ListsValue → Who → Kind → List Run

@@ -50,7 +50,7 @@ impl Lists {
 
     /// How many units have entries.
     pub(crate) fn units(&self) -> usize
-        ensures { result ≡ length self.now.units }
+        ensures { result ≡ length self.now.units.order }
     {
         self.units.len()
     }

@@ -13,7 +13,8 @@ OTHER_ERRORS = [("20000088", "0000000000000000"), ("20000004", "0000040000000000
                 ("20000100", "0001000000000000"), ("20000004", ""), ("20000008", "0101010101010101")]
 NOTES = [b"", b"", b"# a comment", b"#", b"  ", b"\xef\xbb\xbf", b"interface = can0 29bits", b"total 12", b"\xff\xfe", b"\x00", b"18FECA00#04F", b"18FECA00#04FFB8040301FFFF X",
          b"18FECA00 04 F", b"18FECA0 04 FF", b"98FECA00 04 FF", b"20000004 00 01", b"can0", b"can0 18FECA00", b"18FECA00 00 01 02 03 04 05 06 07 08", b"x#y", b"DROPCOUNT",
-         b"dropped 7 CAN frames on 'can0' socket"]
+         b"dropped 7 CAN frames on 'can0' socket", b"18FECA00 04FF", b"18FECA00 0 4F", b"123 04 FF", b" \xef\xbb\xbf(1.000000) can0 18FECA00#04FFB8040301FFFF",
+         b"(1.000000) can0 18FECA00 [2] 04 remote request"]
 # White space of ASCII that is no space beside a bus; brackets that hold no count; more than ten digits of seconds; counts that are no decimal digits, or
 # above 32 bits.
 ODD = [b"(1.000000) \tcan0 18FECA00#04FFB8040301FFFF", b"(1.000000) can0\t 18FECA00#04FFB8040301FFFF", b"(1.000000) can\t0 18FECA00#04FFB8040301FFFF",

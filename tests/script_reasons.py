@@ -60,6 +60,11 @@ hear 6 3
 leave 4
 leave 4
 think 4
+at 1 read
+at 1 read 5
+at 2 shown 00000000000000A0 dm6
+at 1 command 00000000000000A0 9
+at 1 report
 """
 REASONS = """\
 4: ADDRESS: '0x11' is no decimal number from 0 to 255
@@ -109,6 +114,11 @@ REASONS = """\
 56: no seat 6; seats given so far: 4
 58: no seat 4; seats given so far: 4
 59: no seat 4; seats given so far: 4
+60: no station 1
+61: no station 1
+62: no station 2
+63: no station 1
+64: no station 1
 """
 
 # Before there is a garage.

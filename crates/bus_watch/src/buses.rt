@@ -86,6 +86,11 @@ impl Buses {
         Ok(())
     }
 
+    /// Whether each bus is watched, so that what is told of one has to say which.
+    pub fn are_each(&self) -> bool {
+        self.each
+    }
+
     /// The watches, in the order in which their buses were first named.
     pub fn watches(&self) -> &[BusWatch] {
         self.watches.as_slice()

@@ -2,7 +2,7 @@ use crate::objects::{change_object, report_object};
 use crate::rows::report_rows;
 use crate::run::Options;
 use crate::text;
-use bus_watch::{BusShown, BusWatch, Buses, Change, Changes};
+use bus_watch::{BusWatch, Buses, Change, Changes};
 use log_lines::LogFault;
 use std::alloc::Global;
 use std::io::Write;
@@ -75,7 +75,7 @@ pub fn write_report<W: Write>(
             write_object(writer, object)
         }
         Form::Csv => {
-            let rows = report_rows(alloc, buses, options.bus == BusShown::Each)?;
+            let rows = report_rows(alloc, buses)?;
             match writer.write_all(rows.as_slice()) {
                 Ok(()) => Ok(()),
                 Err(_) => Err(LogFault::Write),

@@ -5,7 +5,7 @@ ghost use Rattle.dm_messages.specs.View.{decoding};
 use crate::audience::Audience;
 use crate::group::{AddressWords, ByteWords, ControlWords, GroupWords, UnreadWords, group_name};
 use can_frame::{Frame, Pgn};
-use dm_messages::{Kind, Shown, read};
+use dm_messages::{Kind, ReadError, Shown, read};
 use dm_words::{CodeWords, LampBytes, LampWords};
 use name_field::{Name, NameFields};
 use parameter_group::ParameterGroup;

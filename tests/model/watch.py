@@ -493,13 +493,13 @@ class Watch:
         return row | self.bus_object()
 
     @staticmethod
-    def report_object(watches, counts, head={"event": "report"}):
+    def report_object(watches, counts, options, head={"event": "report"}):
         buses = [watch.bus_object() | {"missed": watch.missed(), "unread": watch.unread()} for watch in watches]
         return dumped(head | {"rows": [watch.row_object(who) for watch in watches for who in watch.rows()],
                        "missed": sum(bus["missed"] for bus in buses), "unread": sum(bus["unread"] for bus in buses),
                        "lines": {key: counts[key] for key in COUNTS}, "not_attributed": counts["not_attributed"],
                        "not_sent": sum(watch.heard.not_sent for watch in watches)}
-                      | ({"buses": buses} if any(watch.name for watch in watches) else {})) + "\n"
+                      | ({"buses": buses} if options.each else {})) + "\n"
 
     @staticmethod
     def header(options):
@@ -589,7 +589,7 @@ class Buses:
             return ""
         watches, counts = self.watches(), self.all_counts()
         self.told[0].append(f"over at line {number}, so far:\n" + Watch.report_text(watches, counts))
-        self.told[1].append(Watch.report_object(watches, counts, {"line": number, "event": "over"}))
+        self.told[1].append(Watch.report_object(watches, counts, self.options, {"line": number, "event": "over"}))
         self.rows.append(Watch.report_rows(watches, self.options))
         for watch in watches:
             watch.start_over()
@@ -620,5 +620,5 @@ def watched(lines, options):
     watches, counts = buses.watches(), buses.all_counts()
     text = "".join(buses.told[0]) + Watch.report_text(watches, counts)
     status = 3 if counts["bad"] or unread or buses.rows else 0
-    report = {"text": text, "json": "".join(buses.told[1]) + Watch.report_object(watches, counts), "csv": Watch.header(options) + "".join(buses.rows) + Watch.report_rows(watches, options)}
+    report = {"text": text, "json": "".join(buses.told[1]) + Watch.report_object(watches, counts, options), "csv": Watch.header(options) + "".join(buses.rows) + Watch.report_rows(watches, options)}
     return report, "".join(errors), status

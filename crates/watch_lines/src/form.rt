@@ -3,7 +3,7 @@ use crate::report_object;
 use crate::rows;
 use crate::run::Options;
 use crate::text;
-use bus_watch::{BusShown, BusWatch, Buses, Change, Changes};
+use bus_watch::{BusWatch, Buses, Change, Changes};
 use log_lines::LogFault;
 use std::alloc::Global;
 use std::io::Write;
@@ -80,7 +80,7 @@ pub fn write_report<W: Write>(
     let written = match options.form {
         Form::Text => text::write_report(writer, buses, options.assumed, part),
         Form::Json => report_object::write_object(writer, buses, options.assumed, part),
-        Form::Csv => rows::write_rows(writer, buses, options.bus == BusShown::Each, part),
+        Form::Csv => rows::write_rows(writer, buses, part),
     };
     match written {
         Ok(()) => Ok(()),

@@ -31,7 +31,9 @@ pub(crate) fn write_object<W: Write>(
     write!(writer, "]")?;
     write_heard(writer, buses.watches())?;
     write_counts(writer, buses.counts())?;
-    write_buses(writer, buses.watches())?;
+    if buses.are_each() {
+        write_buses(writer, buses.watches())?;
+    }
     writeln!(writer, "}}")
 }
 
@@ -166,24 +168,24 @@ fn write_heard<W: Write>(writer: &mut W, watches: &[BusWatch]) -> io::Result<()>
     write!(writer, ",\"missed\":{missed},\"unread\":{unread}")
 }
 
-/// The same of each bus, where each is watched.
+/// The same of each bus.
 fn write_buses<W: Write>(writer: &mut W, watches: &[BusWatch]) -> io::Result<()> {
+    write!(writer, ",\"buses\":[")?;
     let mut follows = false;
     for one in watches {
+        write_comma(writer, follows)?;
+        write!(writer, "{{")?;
         if let Some(bus) = &one.bus {
-            write!(writer, "{}", if follows { "," } else { ",\"buses\":[" })?;
-            follows = true;
-            write!(writer, "{{\"bus\":")?;
+            write!(writer, "\"bus\":")?;
             write_text(writer, bus.as_str())?;
-            let missed = one.watch.missed_in_all();
-            let unread = one.watch.unread_in_all();
-            write!(writer, ",\"missed\":{missed},\"unread\":{unread}}}")?;
+            write!(writer, ",")?;
         }
+        let missed = one.watch.missed_in_all();
+        let unread = one.watch.unread_in_all();
+        write!(writer, "\"missed\":{missed},\"unread\":{unread}}}")?;
+        follows = true;
     }
-    if follows {
-        write!(writer, "]")?;
-    }
-    Ok(())
+    write!(writer, "]")
 }
 
 fn write_counts<W: Write>(writer: &mut W, counts: Counts) -> io::Result<()> {

@@ -21,11 +21,10 @@ const HEADER: &str =
 pub(crate) fn write_rows<W: Write>(
     writer: &mut W,
     buses: &Buses,
-    names_bus: bool,
     part: Part,
 ) -> io::Result<()> {
     if is_first(part) {
-        write_header(writer, names_bus)?;
+        write_header(writer, buses.are_each())?;
     }
     for one in buses.watches() {
         write_bus_rows(writer, one)?;

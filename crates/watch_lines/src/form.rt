@@ -1,8 +1,6 @@
 use crate::objects::change_object;
-use crate::report_object;
-use crate::rows;
 use crate::run::Options;
-use crate::text;
+use crate::{report_object, rows, text};
 use bus_watch::{BusWatch, Buses, Change, Changes};
 use log_lines::LogFault;
 use std::alloc::Global;

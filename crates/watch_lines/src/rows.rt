@@ -18,11 +18,7 @@ const HEADER: &str =
 /// Writes the report: a row for each code of each run of equal entries, one without a code for a run without codes, and one
 /// without a kind for a unit without entries. Where each bus is watched, the bus is the last value.
 /// The names of the values stand before the first part.
-pub(crate) fn write_rows<W: Write>(
-    writer: &mut W,
-    buses: &Buses,
-    part: Part,
-) -> io::Result<()> {
+pub(crate) fn write_rows<W: Write>(writer: &mut W, buses: &Buses, part: Part) -> io::Result<()> {
     if is_first(part) {
         write_header(writer, buses.are_each())?;
     }
@@ -166,7 +162,10 @@ fn end_row<W: Write>(writer: &mut W, one: &BusWatch) -> io::Result<()> {
 
 /// A text, in quotes where it has a comma, a quote or an end of a line.
 fn write_text<W: Write>(writer: &mut W, text: &str) -> io::Result<()> {
-    if !text.bytes().any(|byte| matches!(byte, b',' | b'"' | b'\r' | b'\n')) {
+    if !text
+        .bytes()
+        .any(|byte| matches!(byte, b',' | b'"' | b'\r' | b'\n'))
+    {
         return write!(writer, "{text}");
     }
     write!(writer, "\"")?;

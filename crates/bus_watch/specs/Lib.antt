@@ -5,3 +5,5 @@ pub mod Tellings
 pub mod WatchValue
 pub mod Told
 pub mod AsOverheard
+pub mod Contested
+pub mod Counted

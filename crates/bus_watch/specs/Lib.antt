@@ -7,3 +7,4 @@ pub mod Told
 pub mod AsOverheard
 pub mod Contested
 pub mod Counted
+pub mod Hearing

@@ -33,8 +33,8 @@ loop-preserved g c =
       box = box_more (λ i. (g.dyn-1.0.entry i).1.name_of) (λ i. (g.dyn-1.0.entry i).1.memory_of) (λ i. (g.dyn-1.0.entry i).1.Answers) p.seat q.seat p.garage.now q.garage.now r.garage.now p.unit q.unit r.unit p.events q.events r.events c.in_ok-hear.field-0 hear.ok.0 inv.box inv.seat hear.ok.1 hear.ok.2 hear.kept.2 hear.counted;
     }
 
-pub returns-in-Nothing-clause-box : goal.returns-in-Nothing-clause-box
-returns-in-Nothing-clause-box g c =
+pub returns-in-Nothing-clause-unit : goal.returns-in-Nothing-clause-unit
+returns-in-Nothing-clause-unit g c =
     let inv = c.loop.invariant in
     let hear = c.in_ok-hear.ensures in
     let p = c.args.plug.now in
@@ -42,8 +42,8 @@ returns-in-Nothing-clause-box g c =
     let r = c.hear.new.self in
     box_more (λ i. (g.dyn-1.0.entry i).1.name_of) (λ i. (g.dyn-1.0.entry i).1.memory_of) (λ i. (g.dyn-1.0.entry i).1.Answers) p.seat q.seat p.garage.now q.garage.now r.garage.now p.unit q.unit r.unit p.events q.events r.events c.in_ok-hear.field-0 hear.ok.0 inv.box inv.seat hear.ok.1 hear.ok.2 hear.kept.2 hear.counted
 
-pub returns-in_err-hear-clause-box : goal.returns-in_err-hear-clause-box
-returns-in_err-hear-clause-box g c =
+pub returns-in_err-hear-clause-unit : goal.returns-in_err-hear-clause-unit
+returns-in_err-hear-clause-unit g c =
     let p = c.args.plug.now in
     let q = c.loop.plug in
     let r = c.hear.new.self in

@@ -1,5 +1,5 @@
 -- A unit in a box that hears: what is said of it, with its count of events, at the vtable that it was handed over with.
-use Rattle.std.proofs.Common.{◌≡◌, ℕ, zero, suc, ◌+◌, Bool, Option, refl, sym, ap, ◌∙◌, subst}
+use Rattle.std.proofs.Common.{◌≡◌, ℕ, zero, suc, ◌+◌, Bool, Option, Result, Ok, IfOk, refl, sym, ap, ◌∙◌, subst}
 use Rattle.std.specs.declared.alloc.Global.{Global}
 use Rattle.std.specs.declared.dyn_box.DynBox.{DynBox}
 use Rattle.can_frame.specs.FrameValue.{FrameValue}
@@ -78,3 +78,6 @@ box_of {I} {D} name_of wants memory_of answers k j e e' a a' b b' x x' y y' turn
     (subst (λ (w : DynBox I Global D). IsTurnInBox name_of wants memory_of answers k a w e' b' y') box
     (subst (λ (v : GarageValue). IsTurnInBox name_of wants memory_of answers k v x' e' b' y') start
     (subst (λ (n : ℕ). IsTurnInBox name_of wants memory_of answers n a' x' e' b' y') seat turn)))))
+
+pub of_ok : {T E : Type 0} (r : Result T E) (x : T) (P : T → Type 0) → r ≡ Ok x → IfOk r P → P x
+of_ok {T} {E} r x P e h = subst (λ (y : Result T E). IfOk y P) e h

@@ -14,7 +14,8 @@ use unit_trait::Unit;
 const MOST_CARRIED: u32 = 8;
 
 /// One turn of a unit: it hears the whole wire, begins a DM1 if it wants to and can, and ends its turn; then up to eight
-/// frames are carried.
+/// frames are carried. The box that is given back is the one that was handed over, changed only by what the frames that it heard
+/// asked of it.
 ///
 /// # Errors
 /// - `Stranger`: the garage has no live seat with the unit's seat number, NAME and count of events. Nothing changed, and the

@@ -35,6 +35,13 @@ impl Contests {
         self.table = none();
     }
 
+    /// Goes on with the contests of another table.
+    pub(crate) fn go_on_with(&mut self, other: &Contests) {
+        for address in 0..256usize {
+            self.table[address] = other.table[address];
+        }
+    }
+
     /// Whether what comes from the address at this time is contested.
     pub(crate) fn is_contested(&self, address: u8, time: Option<Time>) -> bool
         ensures { result ≡ is_contested (slice_index_or self.now.table address None) time }

@@ -1,10 +1,10 @@
 ghost use Rattle.std.specs.Prelude.{◌≤◌};
 ghost use Rattle.can_frame.specs.declared.address.TheConstants.{GREATEST_ADDRESS};
 
-use crate::form::{Form, write_report};
+use crate::form::{Form, Part, write_report};
 use crate::hearing::assume_owners;
 use crate::lines::read_lines;
-use bus_watch::{BusShown, Buses, Settings};
+use bus_watch::{BusShown, Buses, Limits, Settings};
 use log_lines::{Ended, LogFault, ROOM};
 use name_field::Name;
 use std::alloc::Global;
@@ -28,10 +28,30 @@ pub struct Options<'a> {
     pub bus: BusShown<'a>,
     /// Who holds an address before the first line, on each bus.
     pub assumed: &'a [Assumed],
+    /// How much is kept at once.
+    pub limits: Limits,
     /// How changes and report are written.
     pub form: Form,
     /// Whether the first bad line ends the run.
     pub strict: bool,
+}
+
+/// How a run ended that watched lines.
+#[derive(Clone, Copy, Debug)]
+pub struct Watched {
+    pub ended: Ended,
+    /// Whether it was begun anew, since as much was kept as may be.
+    pub is_anew: bool,
+}
+
+impl Watched {
+    /// It ended by this fault before any line.
+    fn failed(fault: LogFault) -> Watched {
+        Watched {
+            ended: Ended::failed(fault),
+            is_anew: false,
+        }
+    }
 }
 
 /// Whether a NAME was taken to hold an address before the first line.
@@ -55,12 +75,12 @@ pub fn watch<R: Read + Drop, W: Write + Drop, E: Write>(
     writer: W,
     errors: &mut E,
     options: &Options<'_>,
-) -> Ended {
+) -> Watched {
     let (Ok(mut reader), Ok(mut writer)) = (
         BufReader::with_capacity(alloc, ROOM, reader),
         BufWriter::with_capacity(alloc, ROOM, writer),
     ) else {
-        return Ended::failed(LogFault::Memory);
+        return Watched::failed(LogFault::Memory);
     };
     watch_from(alloc, &mut reader, &mut writer, errors, options)
 }
@@ -72,10 +92,10 @@ fn watch_from<R: Read + Drop, W: Write + Drop, E: Write>(
     writer: &mut BufWriter<W>,
     errors: &mut E,
     options: &Options<'_>,
-) -> Ended {
+) -> Watched {
     match Buses::new(alloc, options.settings, options.bus) {
         Ok(mut buses) => watch_with(alloc, reader, writer, errors, &mut buses, options),
-        Err(_) => Ended::failed(LogFault::Memory),
+        Err(_) => Watched::failed(LogFault::Memory),
     }
 }
 
@@ -87,10 +107,10 @@ fn watch_with<R: Read + Drop, W: Write + Drop, E: Write>(
     errors: &mut E,
     buses: &mut Buses,
     options: &Options<'_>,
-) -> Ended {
+) -> Watched {
     match assume_owners(alloc, writer, buses, 0, options) {
         Ok(()) => read_and_report(alloc, reader, writer, errors, buses, options),
-        Err(fault) => Ended::failed(fault),
+        Err(fault) => Watched::failed(fault),
     }
 }
 
@@ -102,23 +122,26 @@ fn read_and_report<R: Read + Drop, W: Write + Drop, E: Write>(
     errors: &mut E,
     buses: &mut Buses,
     options: &Options<'_>,
-) -> Ended {
-    let ended = read_lines(alloc, reader, writer, errors, buses, options);
-    reported(alloc, writer, buses, options, ended)
+) -> Watched {
+    let watched = read_lines(alloc, reader, writer, errors, buses, options);
+    Watched {
+        ended: reported(writer, buses, options, watched),
+        is_anew: watched.is_anew,
+    }
 }
 
 /// Writes the report, but where writing has failed.
 fn reported<W: Write>(
-    alloc: Global,
     writer: &mut W,
     buses: &Buses,
     options: &Options<'_>,
-    ended: Ended,
+    watched: Watched,
 ) -> Ended {
+    let Watched { ended, is_anew } = watched;
     if ended.fault == Some(LogFault::Write) {
         return ended;
     }
-    let fault = match written_out(alloc, writer, buses, options) {
+    let fault = match written_out(writer, buses, options, !is_anew) {
         Ok(()) => ended.fault,
         Err(fault) => Some(fault),
     };
@@ -127,12 +150,12 @@ fn reported<W: Write>(
 
 /// Writes the report, and what is still to be written.
 fn written_out<W: Write>(
-    alloc: Global,
     writer: &mut W,
     buses: &Buses,
     options: &Options<'_>,
+    is_all: bool,
 ) -> Result<(), LogFault> {
-    write_report(writer, alloc, buses, options)?;
+    write_report(writer, buses, options, Part::Last { is_all })?;
     match writer.flush() {
         Ok(()) => Ok(()),
         Err(_) => Err(LogFault::Write),

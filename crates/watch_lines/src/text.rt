@@ -1,3 +1,4 @@
+use crate::form::Part;
 use crate::run::Assumed;
 use crate::units::{
     KINDS, WhoWords, address_of, address_words, is_assumed_unit, kind_word, row_at, row_places,
@@ -77,7 +78,7 @@ fn write_unread<W: Write>(
     to: u8,
     why: ReadError,
 ) -> io::Result<()> {
-    let unread = watch.unread();
+    let unread = watch.unread_in_all();
     let word = kind_word(kind);
     let unit = WhoWords(*who);
     let why = UnreadWords(why);
@@ -126,7 +127,11 @@ pub fn write_report<W: Write>(
     writer: &mut W,
     buses: &Buses,
     assumed: &[Assumed],
+    part: Part,
 ) -> io::Result<()> {
+    if let Part::Before { line, .. } = part {
+        writeln!(writer, "over at line {line}, so far:")?;
+    }
     for one in buses.watches() {
         write_bus(writer, one, assumed)?;
     }
@@ -142,8 +147,8 @@ fn write_bus<W: Write>(writer: &mut W, one: &BusWatch, assumed: &[Assumed]) -> i
         }
     }
     write_bus_name(writer, one)?;
-    let missed = watch.missed();
-    let unread = watch.unread();
+    let missed = watch.missed_in_all();
+    let unread = watch.unread_in_all();
     writeln!(writer, "missed {missed} unread {unread}")
 }
 

@@ -12,7 +12,7 @@ use Rattle.parameter_group.specs.Group.{Acknowledgment, AddressClaimed, CannotCl
 use Rattle.listener.specs.SentEntries.{entry_if_sent, entry_sent, entry_shown, group_sent, with_entry_sent}
 use Rattle.listener.specs.declared.entry.SentEntry.{SentEntry}
 use Rattle.bus_watch.specs.AsOverheard.{AsksForAll, entries_shown, is_shown_between, overheard_shown}
-use Rattle.bus_watch.specs.Runs.{Moment, if_shown, is_shown, is_shown_at, lists_shown, readings_of}
+use Rattle.bus_watch.specs.Runs.{Moment, if_shown, is_shown, is_shown_at, lists_shown, readings_in}
 use Rattle.bus_watch.specs.declared.selection.Selection.{Selection}
 use Rattle.bus_watch.proofs.Units.{same_who_is}
 
@@ -117,6 +117,6 @@ after s (Frame f) h w k = group_after s h w k (group_of f)
 pub shown_as_overheard : (s : Selection) → AsksForAll s → (h : List Moment) (w : Who) (k : Kind) → lists_shown s h w k ≡ overheard_shown s h w k
 shown_as_overheard s all [] w k = refl
 shown_as_overheard s all (m ∷ older) w k =
-    one_more s m.time (entry_sent m.reading (readings_of older)) (lists_shown s older) w k all
-    ∙ (ap (λ (l : List EntrySent). with_one_if s (entry_sent m.reading (readings_of older)) l w k) (shown_as_overheard s all older w k)
-    ∙ after s m.reading (readings_of older) w k)
+    one_more s m.time (entry_sent m.reading (readings_in older)) (lists_shown s older) w k all
+    ∙ (ap (λ (l : List EntrySent). with_one_if s (entry_sent m.reading (readings_in older)) l w k) (shown_as_overheard s all older w k)
+    ∙ after s m.reading (readings_in older) w k)

@@ -16,7 +16,7 @@ use Rattle.listener.specs.declared.entry.SentEntry.{SentEntry}
 use Rattle.listener.proofs.Entering.{listed_by_group}
 use Rattle.listener.proofs.Stands.{stands_by_group}
 use Rattle.listener.proofs.Told.{heard_by_group}
-use Rattle.bus_watch.specs.Runs.{HasRuns, ListsValue, Moment, entries_in, if_shown, lists_shown, newest_time, passed, readings_of, run_begun_by, units_in, with_moment, with_unit_of}
+use Rattle.bus_watch.specs.Runs.{HasRuns, ListsValue, Moment, entries_in, if_shown, lists_shown, newest_time, readings_in, run_begun_by, time_after, units_in, with_moment, with_unit_of}
 use Rattle.bus_watch.specs.Tellings.{is_news, is_told, news_by, nothing_told, told_after, told_heard, told_of}
 use Rattle.bus_watch.specs.WatchValue.{StandsInRuns, Takes, Tells, WatchValue}
 use Rattle.bus_watch.specs.declared.change.Changes.{Changes}
@@ -24,7 +24,7 @@ use Rattle.bus_watch.specs.declared.selection.Selection.{Selection}
 
 -- lists at the time of a line, if it has one
 abbrev pub at_time : Option ℕ → ListsValue → ListsValue
-at_time time lists = record lists { time = passed time lists.time }
+at_time time lists = record lists { time = time_after time lists.time }
 
 -- the runs of each list once an entry was put, if one was
 put_in_runs : (before after : ListsValue) (o : Option SentEntry) → HasTaken HasRuns before o after → (w : Who) (k : Kind)
@@ -93,27 +93,27 @@ takes start old new t after x time c same read e = subst (λ (w : WatchValue). T
   where
     taken : (v : Selection) (h : List Moment) → StandsInRuns v start h → StandsInRuns v (noted t after c start) (with_moment x time h)
     taken v h s =
-        let older = readings_of h in
+        let older = readings_in h in
         let put : HasTaken HasRuns (at_time time start.lists) (entry_sent x older) after = read.listed older s.listener in
-        let at : passed time start.lists.time ≡ passed time (newest_time h) = ap (passed time) s.time in
-        let o : if_shown start.lists.selection (passed time start.lists.time) (entry_sent x older) ≡ if_shown v (passed time (newest_time h)) (entry_sent x older) =
-        ap (λ (a : Selection). if_shown a (passed time start.lists.time) (entry_sent x older)) s.shows ∙ ap (λ (n : Option ℕ). if_shown v n (entry_sent x older)) at in
+        let at : time_after time start.lists.time ≡ time_after time (newest_time h) = ap (time_after time) s.time in
+        let o : if_shown start.lists.selection (time_after time start.lists.time) (entry_sent x older) ≡ if_shown v (time_after time (newest_time h)) (entry_sent x older) =
+        ap (λ (a : Selection). if_shown a (time_after time start.lists.time) (entry_sent x older)) s.shows ∙ ap (λ (n : Option ℕ). if_shown v n (entry_sent x older)) at in
         let shows : after.selection ≡ v = selection_stays (at_time time start.lists) after (entry_sent x older) put ∙ s.shows in
-        let now : after.time ≡ passed time (newest_time h) = time_stays (at_time time start.lists) after (entry_sent x older) put ∙ at in
+        let now : after.time ≡ time_after time (newest_time h) = time_stays (at_time time start.lists) after (entry_sent x older) put ∙ at in
         record {
           listener = read.stands older s.listener;
           shows = shows;
           time = now;
           lists = λ n k. put_in_runs (at_time time start.lists) after (entry_sent x older) put n k
               ∙ (ap (λ (e : Option SentEntry). with_entry_sent e (entries_in start.lists) n k) o
-              ∙ listed_same (entries_in start.lists) (lists_shown v h) (if_shown v (passed time (newest_time h)) (entry_sent x older)) n k (s.lists n k));
+              ∙ listed_same (entries_in start.lists) (lists_shown v h) (if_shown v (time_after time (newest_time h)) (entry_sent x older)) n k (s.lists n k));
           units = put_in_units (at_time time start.lists) after (entry_sent x older) put
               ∙ (ap (λ (e : Option SentEntry). with_unit_of e (units_in start.lists)) o
-              ∙ ap (λ (l : List Who). with_unit_of (if_shown v (passed time (newest_time h)) (entry_sent x older)) l) s.units);
+              ∙ ap (λ (l : List Who). with_unit_of (if_shown v (time_after time (newest_time h)) (entry_sent x older)) l) s.units);
           told = ap (λ (a : Selection). told_after (is_told a after.time c) c start.told) shows
               ∙ (ap (λ (n : Option ℕ). told_after (is_told v n c) c start.told) now
-              ∙ (ap (λ (l : List Bool). told_after (is_told v (passed time (newest_time h)) c) c l) s.told
-              ∙ ap (λ (d : Overheard). told_after (is_told v (passed time (newest_time h)) d) d (told_heard v h)) (read.heard older s.listener)));
+              ∙ (ap (λ (l : List Bool). told_after (is_told v (time_after time (newest_time h)) c) c l) s.told
+              ∙ ap (λ (d : Overheard). told_after (is_told v (time_after time (newest_time h)) d) d (told_heard v h)) (read.heard older s.listener)));
         }
 
 -- and what is told is of what it changed
@@ -124,8 +124,8 @@ tells start old new t after x time c entry told same read says put e is = subst 
     is
     ∙ (ap (λ (a : Selection). told_of a.unclaimed (news_by start.told after.selection after.time after.began c) c) (selection_stays (at_time time start.lists) after entry put ∙ s.shows)
     ∙ (ap (λ (b : Bool). told_of v.unclaimed b c) (news_same start.told start.lists after time entry c says put)
-    ∙ (ap (λ (o : Overheard). told_of v.unclaimed (is_news start.told start.lists after o) o) (read.heard (readings_of h) s.listener)
-    ∙ ap (λ (w : WatchValue). told_of v.unclaimed (is_news start.told start.lists w.lists (change_overheard x (readings_of h))) (change_overheard x (readings_of h))) (sym e)))))
+    ∙ (ap (λ (o : Overheard). told_of v.unclaimed (is_news start.told start.lists after o) o) (read.heard (readings_in h) s.listener)
+    ∙ ap (λ (w : WatchValue). told_of v.unclaimed (is_news start.told start.lists w.lists (change_overheard x (readings_in h))) (change_overheard x (readings_in h))) (sym e)))))
 
 -- the same where the lists were at that time before
 pub takes_from : (start old new : WatchValue) (t : ListenerValue) (mid after : ListsValue) (x : Reading) (time : Option ℕ) (c : Overheard) → start ≡ old → mid ≡ at_time time start.lists
@@ -155,11 +155,11 @@ takes_other w new f time is e = takes w w new w.listener (at_time time w.lists) 
     kept false = refl
 
     unnoted : record w { lists = at_time time w.lists } ≡ noted w.listener (at_time time w.lists) Nothing w
-    unnoted = ap (λ (l : List Bool). record w { lists = at_time time w.lists; told = l }) (sym (kept (is_told w.lists.selection (passed time w.lists.time) Nothing)))
+    unnoted = ap (λ (l : List Bool). record w { lists = at_time time w.lists; told = l }) (sym (kept (is_told w.lists.selection (time_after time w.lists.time) Nothing)))
 
 pub tells_other : (w new : WatchValue) (f : FrameValue) (told : Changes) → group_of f ≡ Other → told ≡ nothing_told → Tells w new (Frame f) told
 tells_other w new f told is none v h s = none ∙ (sym (none_told (is_news w.told w.lists new.lists Nothing))
-    ∙ ap (λ (o : Overheard). told_of v.unclaimed (is_news w.told w.lists new.lists o) o) ((other_read w.listener w.lists f is).heard (readings_of h) s.listener))
+    ∙ ap (λ (o : Overheard). told_of v.unclaimed (is_news w.told w.lists new.lists o) o) ((other_read w.listener w.lists f is).heard (readings_in h) s.listener))
   where
     none_told : (b : Bool) → told_of v.unclaimed b Nothing ≡ nothing_told
     none_told true = refl

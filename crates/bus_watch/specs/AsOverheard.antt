@@ -3,7 +3,7 @@ use Rattle.std.specs.Prelude.{◌≡◌, ℕ, Bool, ◌&&◌, List, [], ◌∷�
 use Rattle.bus_model.specs.Overheard.{EntrySent, entries_overheard}
 use Rattle.bus_model.specs.declared.who.Who.{Who}
 use Rattle.dm_messages.specs.declared.kind.Kind.{Kind}
-use Rattle.bus_watch.specs.Runs.{Moment, is_shown_of, is_shown_to, readings_of}
+use Rattle.bus_watch.specs.Runs.{Moment, is_shown_of, is_shown_to, readings_in}
 use Rattle.bus_watch.specs.declared.selection.Selection.{Selection}
 
 -- neither a unit nor a time is asked for
@@ -23,4 +23,4 @@ entries_shown s w (e ∷ entries) = if is_shown_between s w e.to then e ∷ entr
 
 -- those of a unit and kind that were overheard, oldest first
 abbrev pub overheard_shown : Selection → List Moment → Who → Kind → List EntrySent
-overheard_shown s h w k = reverse (entries_shown s w (entries_overheard w k (readings_of h)))
+overheard_shown s h w k = reverse (entries_shown s w (entries_overheard w k (readings_in h)))

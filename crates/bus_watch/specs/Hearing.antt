@@ -16,11 +16,11 @@ pub record BusesValue : Type 0 where
   pub watches : List BusWatch
 
 -- a watch is of the bus of its name
-abbrev pub is_of : List ℕ → BusWatch → Bool
-is_of bus one = option_map_or (λ name. bytes_eq (string_bytes name) bus) one.bus false
+abbrev pub is_on : List ℕ → BusWatch → Bool
+is_on bus one = option_map_or (λ name. bytes_eq (string_bytes name) bus) one.bus false
 
-abbrev pub place_of : List ℕ → List BusWatch → Option ℕ
-place_of bus watches = position (is_of bus) watches
+abbrev pub watch_place : List ℕ → List BusWatch → Option ℕ
+watch_place bus watches = position (is_on bus) watches
 
 -- a line of a bus is for its watch; the first one begins that, while there are not too many
 abbrev pub hearer_at : Option ℕ → ℕ → Hearers
@@ -28,7 +28,7 @@ hearer_at (Some place) count = One place
 hearer_at None count = if nat_lt count MOST_BUSES then New count else Nobody
 
 abbrev pub hearer_of : List ℕ → List BusWatch → Hearers
-hearer_of bus watches = hearer_at (place_of bus watches) (length watches)
+hearer_of bus watches = hearer_at (watch_place bus watches) (length watches)
 
 -- frames that were dropped of a bus are for its watch, if it has one
 abbrev pub hearer_known : Option ℕ → Hearers
@@ -36,7 +36,7 @@ hearer_known (Some place) = One place
 hearer_known None = Nobody
 
 abbrev pub hearer_of_drops : List ℕ → List BusWatch → Hearers
-hearer_of_drops bus watches = hearer_known (place_of bus watches)
+hearer_of_drops bus watches = hearer_known (watch_place bus watches)
 
 abbrev pub hearers_by : List BusWatch → Line → Hearers
 hearers_by watches (line.Frame time (Some bus) frame) = hearer_of bus.now watches

@@ -123,9 +123,9 @@ is_of_unit (Some (Name n)) w source = is_of_name n w
 is_of_unit (Some (Address a)) w source = source == a
 
 -- a time is shown from the first to the last that is asked for; and what has none
-abbrev pub is_from : Option ℕ → ℕ → Bool
-is_from None time = true
-is_from (Some first) time = nat_le first time
+abbrev pub is_since : Option ℕ → ℕ → Bool
+is_since None time = true
+is_since (Some first) time = nat_le first time
 
 abbrev pub is_until : Option ℕ → ℕ → Bool
 is_until None time = true
@@ -133,7 +133,7 @@ is_until (Some last) time = nat_le time last
 
 abbrev pub is_shown_at : Option ℕ → Option ℕ → Option ℕ → Bool
 is_shown_at first last None = true
-is_shown_at first last (Some time) = is_from first time && is_until last time
+is_shown_at first last (Some time) = is_since first time && is_until last time
 
 -- so an entry that came at this time is
 abbrev pub is_shown : Selection → Option ℕ → SentEntry → Bool
@@ -151,9 +151,9 @@ pub record Moment : Type 0 where
   pub reading : Reading
   pub time : Option ℕ
 
-abbrev pub readings_of : List Moment → List Reading
-readings_of [] = []
-readings_of (m ∷ older) = m.reading ∷ readings_of older
+abbrev pub readings_in : List Moment → List Reading
+readings_in [] = []
+readings_in (m ∷ older) = m.reading ∷ readings_in older
 
 -- the time of the newest of them
 abbrev pub newest_time : List Moment → Option ℕ
@@ -161,22 +161,22 @@ newest_time [] = None
 newest_time (m ∷ older) = m.time
 
 -- a line's own time, or else the one before
-abbrev pub passed : Option ℕ → Option ℕ → Option ℕ
-passed None before = before
-passed (Some time) before = Some time
+abbrev pub time_after : Option ℕ → Option ℕ → Option ℕ
+time_after None before = before
+time_after (Some time) before = Some time
 
 -- one more reading, from a line with this time or with none
 abbrev pub with_moment : Reading → Option ℕ → List Moment → List Moment
-with_moment reading time older = record { reading = reading; time = passed time (newest_time older) } ∷ older
+with_moment reading time older = record { reading = reading; time = time_after time (newest_time older) } ∷ older
 
 -- the entry that a reading lists with those before it, where it is shown
-abbrev pub entry_shown : Selection → Moment → List Moment → Option SentEntry
-entry_shown s m older = if_shown s m.time (entry_sent m.reading (readings_of older))
+abbrev pub entry_selected : Selection → Moment → List Moment → Option SentEntry
+entry_selected s m older = if_shown s m.time (entry_sent m.reading (readings_in older))
 
 -- each list, oldest first: of each reading the entry that it lists, where that is shown
 abbrev pub lists_shown : Selection → List Moment → Who → Kind → List EntrySent
 lists_shown s [] w k = []
-lists_shown s (m ∷ older) w k = with_entry_sent (entry_shown s m older) (lists_shown s older) w k
+lists_shown s (m ∷ older) w k = with_entry_sent (entry_selected s m older) (lists_shown s older) w k
 
 -- the units with one more behind them, where it is none of them yet
 abbrev pub with_unit : Who → List Who → List Who
@@ -190,7 +190,7 @@ with_unit_of (Some e) units = with_unit e.who units
 -- the units of which an entry is shown, in the order of their first ones
 abbrev pub units_shown : Selection → List Moment → List Who
 units_shown s [] = []
-units_shown s (m ∷ older) = with_unit_of (entry_shown s m older) (units_shown s older)
+units_shown s (m ∷ older) = with_unit_of (entry_selected s m older) (units_shown s older)
 
 -- whether a run of a unit's list has begun
 abbrev pub run_begun_by : ListsValue → ListsValue → Who → Kind → Bool

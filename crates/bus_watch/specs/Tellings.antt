@@ -7,7 +7,7 @@ use Rattle.bus_model.specs.declared.change.Displaced.{Displaced}
 use Rattle.bus_model.specs.declared.who.Who.{Who}
 use Rattle.bus_model.specs.declared.who.Who.TheVariants.{Named, Unclaimed}
 use Rattle.dm_messages.specs.declared.kind.Kind.{Kind}
-use Rattle.bus_watch.specs.Runs.{ListsValue, Moment, is_of_unit, is_shown_at, is_shown_of, readings_of, run_begun_by}
+use Rattle.bus_watch.specs.Runs.{ListsValue, Moment, is_of_unit, is_shown_at, is_shown_of, readings_in, run_begun_by}
 use Rattle.bus_watch.specs.declared.change.Change.{Change}
 use Rattle.bus_watch.specs.declared.change.Change.TheVariants.{At, NoAddress, Entry, Missed, Unowned, Ack, Unread}
 use Rattle.bus_watch.specs.declared.change.Changes.{Changes}
@@ -31,19 +31,19 @@ abbrev pub entry_of_who : Bool → Who → Kind → ℕ → Change
 entry_of_who unclaimed who kind source = if is_shown_of unclaimed who then Entry who kind else Unowned source
 
 -- what is told of a change, where entries of addresses that nobody has claimed are shown or not
-abbrev pub told_by : Bool → Overheard → Changes
-told_by unclaimed heard.Nothing = nothing_told
-told_by unclaimed (heard.Claimed name address displaced) = record { lost = who_lost displaced; change = Some (At name address) }
-told_by unclaimed (heard.GaveUp name) = one_told (NoAddress name)
-told_by unclaimed (heard.Acknowledged name control pgn source requester to again) = one_told (Ack name control pgn requester)
-told_by unclaimed (heard.Listed who kind source to) = one_told (entry_of_who unclaimed who kind source)
-told_by unclaimed (heard.Unreadable who kind source to why) = one_told (Unread who kind to why)
-told_by unclaimed (heard.Unowned kind source) = one_told (Unowned source)
-told_by unclaimed (heard.Missed count) = one_told (Missed count)
+abbrev pub telling_of : Bool → Overheard → Changes
+telling_of unclaimed heard.Nothing = nothing_told
+telling_of unclaimed (heard.Claimed name address displaced) = record { lost = who_lost displaced; change = Some (At name address) }
+telling_of unclaimed (heard.GaveUp name) = one_told (NoAddress name)
+telling_of unclaimed (heard.Acknowledged name control pgn source requester to again) = one_told (Ack name control pgn requester)
+telling_of unclaimed (heard.Listed who kind source to) = one_told (entry_of_who unclaimed who kind source)
+telling_of unclaimed (heard.Unreadable who kind source to why) = one_told (Unread who kind to why)
+telling_of unclaimed (heard.Unowned kind source) = one_told (Unowned source)
+telling_of unclaimed (heard.Missed count) = one_told (Missed count)
 
 -- and that where it is news
 abbrev pub told_of : Bool → Bool → Overheard → Changes
-told_of unclaimed is_news c = if is_news then told_by unclaimed c else nothing_told
+told_of unclaimed is_news c = if is_news then telling_of unclaimed c else nothing_told
 
 -- ---- of what it is told
 
@@ -101,7 +101,7 @@ told_after is_told c told = if is_told then told_with c told else told
 abbrev pub told_heard : Selection → List Moment → List Bool
 told_heard s [] = none_told
 told_heard s (m ∷ older) =
-    told_after (is_told s m.time (change_overheard m.reading (readings_of older))) (change_overheard m.reading (readings_of older)) (told_heard s older)
+    told_after (is_told s m.time (change_overheard m.reading (readings_in older))) (change_overheard m.reading (readings_in older)) (told_heard s older)
 
 -- an acknowledgment is shown that names this address or goes to it, where there is one; else all are
 abbrev pub is_ack_shown : Option ℕ → ℕ → ℕ → Bool

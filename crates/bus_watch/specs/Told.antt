@@ -8,7 +8,7 @@ use Rattle.can_frame.specs.declared.reading.Reading.TheVariants.{Frame}
 use Rattle.candump_line.specs.declared.line.Line.{Line}
 use Rattle.reassembly.specs.Pairs.{no_pairs}
 use Rattle.bus_watch.specs.Followed.{Followed, followed_after, reading_by, time_by}
-use Rattle.bus_watch.specs.Runs.{Moment, readings_of, with_moment}
+use Rattle.bus_watch.specs.Runs.{Moment, readings_in, with_moment}
 use Rattle.bus_watch.specs.Tellings.{is_news, told_of}
 use Rattle.bus_watch.specs.declared.change.Changes.{Changes}
 use Rattle.bus_watch.specs.declared.selection.Selection.{Selection}
@@ -51,7 +51,7 @@ all_said b (t ∷ older) = said_with t (all_said b older)
 
 -- the readings alone
 abbrev pub readings_said : Beginning → List Told → List Reading
-readings_said b ts = readings_of (all_said b ts).moments
+readings_said b ts = readings_in (all_said b ts).moments
 
 -- what the next one changes, with those before it
 abbrev pub change_said : Beginning → Told → List Told → Overheard

@@ -8,7 +8,7 @@ use Rattle.candump_line.specs.declared.line.Line.{Line}
 use Rattle.dm_messages.specs.declared.kind.Kind.{Kind}
 use Rattle.listener.specs.ListenerValue.{HasOverheard, ListenerValue}
 use Rattle.bus_watch.specs.Followed.{Followed, followed_after, reading_by, time_by}
-use Rattle.bus_watch.specs.Runs.{ListsValue, Moment, entries_in, lists_shown, newest_time, readings_of, units_in, units_shown, with_moment}
+use Rattle.bus_watch.specs.Runs.{ListsValue, Moment, entries_in, lists_shown, newest_time, readings_in, units_in, units_shown, with_moment}
 use Rattle.bus_watch.specs.Tellings.{is_news, told_heard, told_of}
 use Rattle.bus_watch.specs.declared.change.Changes.{Changes}
 use Rattle.bus_watch.specs.declared.selection.Selection.{Selection}
@@ -22,7 +22,7 @@ pub record WatchValue : Type 0 where
 -- the listener stands for the readings, newest first; each list is what its runs say, of what is shown; the units with entries are those of
 -- which one is; and it was told of unowned addresses as they were heard
 pub record StandsInRuns (s : Selection) (w : WatchValue) (h : List Moment) : Type 0 where
-  pub listener : HasOverheard w.listener (readings_of h)
+  pub listener : HasOverheard w.listener (readings_in h)
   pub shows : w.lists.selection ≡ s
   pub time : w.lists.time ≡ newest_time h
   pub lists : (u : Who) (k : Kind) → entries_in w.lists u k ≡ lists_shown s h u k
@@ -33,7 +33,7 @@ pub record StandsInRuns (s : Selection) (w : WatchValue) (h : List Moment) : Typ
 abbrev pub Tells : WatchValue → WatchValue → Reading → Changes → Type 0
 Tells old new reading told =
     (s : Selection) (h : List Moment) → StandsInRuns s old h
-    → told ≡ told_of s.unclaimed (is_news old.told old.lists new.lists (change_overheard reading (readings_of h))) (change_overheard reading (readings_of h))
+    → told ≡ told_of s.unclaimed (is_news old.told old.lists new.lists (change_overheard reading (readings_in h))) (change_overheard reading (readings_in h))
 
 -- a reading is taken, of a line with this time or with none, and this is known of the bus
 pub record Takes (old new : WatchValue) (reading : Reading) (time : Option ℕ) (known : Followed) : Type 0 where

@@ -168,7 +168,7 @@ impl Buses {
         ensures who { IfOk result (λ h. h ≡ hearing.hearer_of bus.entry.now self.old.watches) }
         ensures err { OnErr result (self.new ≡ self.old) }
     {
-        if let Some(place) = place_of(self.watches.as_slice(), bus) {
+        if let Some(place) = watch_place(self.watches.as_slice(), bus) {
             return Ok(Hearers::One(place));
         }
         let place = self.watches.len();
@@ -184,7 +184,7 @@ impl Buses {
     fn hearer_of_drops(&self, bus: &str) -> Hearers
         ensures { result ≡ hearing.hearer_of_drops bus.now self.entry.now.watches }
     {
-        match place_of(self.watches.as_slice(), bus) {
+        match watch_place(self.watches.as_slice(), bus) {
             Some(place) => Hearers::One(place),
             None => Hearers::Nobody,
         }
@@ -192,15 +192,15 @@ impl Buses {
 }
 
 /// The place of the watch of a bus.
-fn place_of(watches: &[BusWatch], bus: &str) -> Option<usize>
-    ensures { result ≡ hearing.place_of bus.now watches.now }
+fn watch_place(watches: &[BusWatch], bus: &str) -> Option<usize>
+    ensures { result ≡ hearing.watch_place bus.now watches.now }
 {
-    watches.iter().position(|one| is_of(one, bus))
+    watches.iter().position(|one| is_on(one, bus))
 }
 
 /// Whether a watch is of the bus of this name.
-fn is_of(one: &BusWatch, bus: &str) -> bool
-    ensures { result ≡ hearing.is_of bus.now one.now }
+fn is_on(one: &BusWatch, bus: &str) -> bool
+    ensures { result ≡ hearing.is_on bus.now one.now }
 {
     match &one.bus {
         Some(name) => name.as_str() == bus,

@@ -1,6 +1,6 @@
 ghost use Rattle.std.specs.Prelude.{◌≡◌, true, length, slice_get, OnOk, OnErr};
 ghost use Rattle.bus_model.specs.Heard.{counted};
-ghost use Rattle.bus_watch.specs.Runs.{HasRuns, entries_in, none_listed, passed, runs_under, units_in};
+ghost use Rattle.bus_watch.specs.Runs.{HasRuns, entries_in, none_listed, runs_under, time_after, units_in};
 ghost use Rattle.bus_watch.specs.Runs as runs;
 ghost use Rattle.bus_watch.specs.Tellings.{is_told};
 
@@ -93,7 +93,7 @@ impl Lists {
 
     /// Keeps the time of the line that is read, where it has one.
     pub(crate) fn pass(&mut self, time: Option<Time>)
-        ensures { self.new ≡ record self.old { time = passed time self.old.time } }
+        ensures { self.new ≡ record self.old { time = time_after time self.old.time } }
     {
         if time.is_some() {
             self.newest = time;

@@ -78,7 +78,7 @@ impl Selection {
         ensures { result ≡ runs.is_shown_at self.now.from self.now.to time }
     {
         match time {
-            Some(time) => is_from(self.from, time) && is_until(self.to, time),
+            Some(time) => is_since(self.from, time) && is_until(self.to, time),
             None => true,
         }
     }
@@ -168,8 +168,8 @@ fn is_named(name: &Name, who: &Who) -> bool
     }
 }
 
-fn is_from(from: Option<Time>, time: Time) -> bool
-    ensures { result ≡ runs.is_from from time }
+fn is_since(from: Option<Time>, time: Time) -> bool
+    ensures { result ≡ runs.is_since from time }
 {
     match from {
         Some(from) => from.micros() <= time.micros(),

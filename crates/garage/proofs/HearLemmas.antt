@@ -259,6 +259,19 @@ out_some sitting asked n most g p g' p' h sits few all l = elim (same_or_not n m
 pub many_count : {P : Type 0} (sitting : P → Sitting) (asked : P → P → Option Question → UnitAnswer → Type 0) (n m : ℕ) (g : GarageValue) (p : P) (g' : GarageValue) (p' : P) → n ≡ m → HearsMany sitting asked n g p g' p' → HearsMany sitting asked m g p g' p'
 many_count sitting asked n m g p g' p' e h = subst (λ (k : ℕ). HearsMany sitting asked k g p g' p') e h
 
+-- where nothing happened before
+pub out_from : {P : Type 0} (sitting : P → Sitting) (asked : P → P → Option Question → UnitAnswer → Type 0) (f : FrameValue) (h g : GarageValue) (q p : P) (g' : GarageValue) (p' : P) → h ≡ g → q ≡ p
+    → HearsFrame sitting asked f h q g' p' → Sits g (sitting p) → (seat_at (state_of g).traffic (sitting p).seat).heard + 1 ≡ length (state_of g).traffic.wire → HearsOut sitting asked g p g' p'
+out_from {P} sitting asked f h g q p g' p' same kept hears sits one =
+    out_one sitting asked f g p g' p' (subst (λ (x : P). HearsFrame sitting asked f g x g' p') kept (subst (λ (v : GarageValue). HearsFrame sitting asked f v q g' p') same hears)) sits one
+
+pub cut_from : {P T : Type 0} (sitting : P → Sitting) (asked : P → P → Option Question → UnitAnswer → Type 0) (r : Result T GarageError) (f : FrameValue) (h g g' : GarageValue) (q p p' : P) → h ≡ g → q ≡ p
+    → Sits g (sitting p) → next_for (state_of g) (sitting p).seat ≡ Some f → IfErr r IsWant → OnErr r ((g' ≡ h) × (p' ≡ q)) → (IsErrOf r BookFull ↔ IsFull h) → IfErr r (λ e. (n : ℕ) × IsHearingCut sitting asked n e g p g' p')
+cut_from {P} {T} sitting asked r f h g g' q p p' same kept sits next want left full =
+    cut_first sitting asked r f g g' p p' sits next want
+    (subst (λ (x : P). OnErr r ((g' ≡ g) × (p' ≡ x))) kept (subst (λ (v : GarageValue). OnErr r ((g' ≡ v) × (p' ≡ q))) same left))
+    (subst (λ (v : GarageValue). IsErrOf r BookFull ↔ IsFull v) same full)
+
 -- passing over is hearing that frame
 pub passes_this : (v w : GarageValue) (k : ℕ) (m : MemoryValue) (f : FrameValue) → PassesNext v k m w → next_for (state_of v) k ≡ Some f → Passes v k m f w
 passes_this v w k m f h next =

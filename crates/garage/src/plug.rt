@@ -156,6 +156,7 @@ impl Garage {
     }
 
     /// How many events of its own a live unit has.
+    #[inline(always)]
     #[tactic(auto, using(crate::proofs::Standing::seat_low, crate::proofs::Standing::seat_placed, crate::proofs::Standing::place_told))]
     pub(crate) fn events_of(&self, seat: u32) -> u32
         requires { IsUnit (state_of self.now).traffic seat }

@@ -5,7 +5,6 @@
 mod joining;
 mod objects;
 mod run;
-mod texts;
 
+pub use code_texts::{Texts, TextsFault};
 pub use run::{Form, Options, decode};
-pub use texts::{Texts, TextsFault};

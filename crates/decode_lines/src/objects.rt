@@ -1,5 +1,5 @@
 use crate::run::{place_of, shown_by, shown_in};
-use crate::texts::Texts;
+use code_texts::Texts;
 use can_frame::{Frame, GLOBAL_ADDRESS, Id, Pgn};
 use candump_line::{Line, Time};
 use dm_messages::Shown;

@@ -1,6 +1,6 @@
 use crate::joining::Joining;
 use crate::objects::{joined_object, line_object};
-use crate::texts::Texts;
+use code_texts::Texts;
 use can_frame::{Frame, Pgn};
 use candump_line::{Line, Time, read_line};
 use dm_messages::{Shown, read};

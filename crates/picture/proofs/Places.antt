@@ -53,11 +53,12 @@ all_there first spans last place l h told t =
     rw e at (h told t)
 
 -- the newest two are joined
-pub newest_joined : (spans : List Span) (i : ℕ) (one other both : Span) → i + 2 ≡ length spans → one ≡ get_or spans i one → other ≡ get_or spans (i + 1) other → IsJoined one other both
-    → Redraws spans (take (i + 1) (set spans i both))
-newest_joined spans i one other both n is other_is j told t =
-    let all : spans ≡ there spans i (i + 1) = sym (take-append-drop (i + 1) spans) in
-    let now = rw (ahead spans i (i + 1) one other (omega arith) (omega (arith, n)) is other_is) at (rw all at t) in
-    let end : drop (i + 1 + 1) spans ≡ [] = drop_all (i + 1 + 1) spans (omega (arith, n)) in
-    let done = drawn_joined told (take i spans) (drop (i + 1 + 1) spans) one other both j now in
-    rw (take_more_set spans i both (omega (arith, n))) (rw end at done)
+pub newest_joined : (spans : List Span) (i n : ℕ) (one other both : Span) → i + 2 ≡ length spans → n ≡ i + 1 → one ≡ get_or spans i one → other ≡ get_or spans n other
+    → IsJoined one other both → Redraws spans (take n (set spans i both))
+newest_joined spans i n one other both len is_n is other_is j told t =
+    let all : spans ≡ there spans i n = rw is_n (sym (take-append-drop (i + 1) spans)) in
+    let now = rw (ahead spans i n one other (omega (arith, is_n)) (omega (arith, len, is_n)) is other_is) at (rw all at t) in
+    let end : drop (n + 1) spans ≡ [] = drop_all (n + 1) spans (omega (arith, len, is_n)) in
+    let done = drawn_joined told (take i spans) (drop (n + 1) spans) one other both j now in
+    let same : take n (set spans i both) ≡ take i spans ++ both ∷ [] = ap (λ m. take m (set spans i both)) is_n ∙ take_more_set spans i both (omega (arith, len)) in
+    rw same (rw end at done)

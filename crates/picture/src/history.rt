@@ -1,4 +1,5 @@
-ghost use Rattle.std.specs.Prelude.{◌≡◌, [], ◌∷◌, ◌++◌, List, IfOk, OnOk, OnErr};
+ghost use Rattle.std.specs.Prelude.{◌≡◌, ◌<◌, ◌≤◌, [], ◌∷◌, ◌++◌, List, length, nat_lt, not, IfOk, OnOk, OnErr};
+ghost use Rattle.circular_buffer.specs.Buffer.{buffer, keep_last};
 ghost use Rattle.picture.specs.Histories.{Remembers};
 ghost use Rattle.picture.specs.declared.history.Happened.{Happened as AChange};
 
@@ -106,18 +107,51 @@ impl History {
     ///
     /// # Errors
     /// Memory was refused; nothing is changed.
-    #[tactic(auto, using(crate::proofs::Remembering::among_the_first, crate::proofs::Remembering::room_at_the_end, crate::proofs::Remembering::oldest_left_out))]
-    pub fn add(&mut self, change: Happened) -> Result<(), AllocError>
-        ensures ok { OnOk result ((told : List AChange) → Remembers told self.old → Remembers (told ++ change ∷ []) self.new) }
+    pub fn add(&mut self, change: &Happened) -> Result<(), AllocError>
+        ensures ok { OnOk result ((told : List AChange) → Remembers told self.old → Remembers (told ++ change.now ∷ []) self.new) }
         ensures err { OnErr result (self.new ≡ self.old) }
     {
         if self.first.len() < FIRST {
-            self.first.push(change)?;
-            return Ok(());
+            return self.add_first(change);
         }
-        if self.last.push_back(change).is_some() {
-            self.left_out = self.left_out.saturating_add(1);
-        }
+        self.add_last(change);
         Ok(())
     }
+
+    #[tactic(auto, using(crate::proofs::Remembering::among_the_first))]
+    fn add_first(&mut self, change: &Happened) -> Result<(), AllocError>
+        requires { length self.old.first < FIRST }
+        ensures ok { OnOk result ((told : List AChange) → Remembers told self.old → Remembers (told ++ change.now ∷ []) self.new) }
+        ensures err { OnErr result (self.new ≡ self.old) }
+    {
+        put(&mut self.first, change)
+    }
+
+    #[tactic(auto, using(crate::proofs::Remembering::room_at_the_end, crate::proofs::Remembering::oldest_left_out))]
+    fn add_last(&mut self, change: &Happened)
+        requires { FIRST ≤ length self.old.first }
+        ensures { (told : List AChange) → Remembers told self.old → Remembers (told ++ change.now ∷ []) self.new }
+    {
+        if is_one_lost(&mut self.last, change) {
+            self.left_out = self.left_out.saturating_add(1);
+        }
+    }
+}
+
+/// Puts a change behind all others. Where memory is refused, nothing changes.
+fn put(changes: &mut Vec<Happened>, change: &Happened) -> Result<(), AllocError>
+    ensures ok { OnOk result (changes.new.items ≡ changes.old.items ++ change.now ∷ []) }
+    ensures err { OnErr result (changes.new.items ≡ changes.old.items) }
+{
+    changes.push(*change)?;
+    Ok(())
+}
+
+/// Puts a change behind all others. Tells whether the first of them goes for it, since there was no room.
+#[tactic(auto, using(crate::proofs::Remembering::one_is_lost))]
+fn is_one_lost(changes: &mut HeapCircularBuffer<Happened>, change: &Happened) -> bool
+    ensures items { changes.new ≡ buffer (keep_last changes.old.capacity (changes.old.items ++ change.now ∷ [])) changes.old.capacity }
+    ensures lost { result ≡ not (nat_lt (length changes.old.items) changes.old.capacity) }
+{
+    changes.push_back(*change).is_some()
 }

@@ -1,4 +1,7 @@
+ghost use Rattle.std.specs.Prelude.{◌≤◌};
+
 use crate::brief::Brief;
+use crate::severity::Severity;
 use crate::span::{Shows, Span};
 use crate::track::Track;
 use crate::unit::Unit;
@@ -82,7 +85,8 @@ impl Messages {
         let Some(newest) = self.newest.take() else {
             return Ok(());
         };
-        self.ended.add(newest.ended(moment, end))
+        let span = newest.ended(moment, end);
+        self.ended.add(&span)
     }
 }
 
@@ -104,9 +108,9 @@ impl Newest {
 
 impl Lane {
     /// A lane of a unit of which nothing was told.
-    pub(crate) fn new(alloc: Global, unit: Unit) -> Lane {
+    pub(crate) fn new(alloc: Global, unit: &Unit) -> Lane {
         Lane {
-            unit,
+            unit: *unit,
             addresses: Track::new(alloc, ADDRESS_SPANS),
             holding: Holding::Never,
             dm1: Messages::new(alloc, DM1_SPANS),
@@ -116,8 +120,27 @@ impl Lane {
     }
 
     /// Whose it is.
-    pub fn unit(&self) -> Unit {
-        self.unit
+    pub fn unit(&self) -> &Unit {
+        &self.unit
+    }
+
+    /// Whether it is of this unit.
+    pub(crate) fn is_of(&self, unit: &Unit) -> bool {
+        self.unit == *unit
+    }
+
+    /// Whether its unit is on this bus.
+    pub(crate) fn is_on(&self, bus: u16) -> bool {
+        self.unit.bus == bus
+    }
+
+    /// The worst that it told by a DM1 that ended.
+    pub fn worst(&self) -> Severity {
+        let mut worst = Severity::Fine;
+        for span in self.dm1.ended.spans() {
+            worst = worst.worse(span.shows.severity());
+        }
+        worst
     }
 
     /// When it held which address.
@@ -175,9 +198,10 @@ impl Lane {
             Holding::Since {
                 address,
                 moment: since,
-            } => self
-                .addresses
-                .add(Span::new(since, moment, Shows::Address(address))),
+            } => {
+                let span = Span::new(since, moment, Shows::Address(address));
+                self.addresses.add(&span)
+            }
             _ => Ok(()),
         }
     }

@@ -1,3 +1,5 @@
+ghost use Rattle.std.specs.Prelude.{◌≡◌, ◌++◌, ◌∷◌, [], OnOk, OnErr};
+
 use crate::brief::Brief;
 use crate::handover::Handover;
 use crate::history::{Happened, History, Told};
@@ -109,7 +111,7 @@ impl Picture {
     }
 
     /// The lane of a unit.
-    pub fn lane_of(&self, unit: Unit) -> Option<&Lane> {
+    pub fn lane_of(&self, unit: &Unit) -> Option<&Lane> {
         match self.place_of(unit) {
             Some(place) => self.lanes.get(place),
             None => None,
@@ -145,25 +147,26 @@ impl Picture {
     ///
     /// # Errors
     /// Memory was refused: the change may be kept in part.
-    pub fn tell(&mut self, told: Told, before: Option<RunEnd>) -> Result<(), AllocError> {
+    pub fn tell(&mut self, told: &Told, before: Option<RunEnd>) -> Result<(), AllocError> {
         if self.axis.is_none() {
             self.axis = Some(self.axis());
         }
         let moment = self.end();
-        self.history.add(Happened {
+        let change = Happened {
             line: self.line,
             moment,
-            told,
-        })?;
+            told: *told,
+        };
+        self.history.add(&change)?;
         match told {
             Told::At {
                 unit,
                 address,
                 lost_by,
-            } => self.hand_over(unit, address, lost_by, moment),
+            } => self.hand_over(unit, *address, lost_by, moment),
             Told::NoAddress { unit } => self.lose(unit, moment),
-            Told::Message { unit, kind, brief } => self.begin(unit, kind, brief, moment, before),
-            Told::Missed { bus, count } => self.miss(bus, count, moment),
+            Told::Message { unit, kind, brief } => self.begin(unit, *kind, brief, moment, before),
+            Told::Missed { bus, count } => self.miss(*bus, *count, moment),
             Told::Unowned { .. } | Told::Acknowledged { .. } | Told::Unread { .. } => Ok(()),
         }
     }
@@ -188,7 +191,7 @@ impl Picture {
     /// Memory was refused.
     pub fn end_messages(
         &mut self,
-        unit: Unit,
+        unit: &Unit,
         kind: Kind,
         end: Option<RunEnd>,
     ) -> Result<(), AllocError> {
@@ -205,19 +208,20 @@ impl Picture {
     /// The unit holds the address, which another one lost by that, if one did.
     fn hand_over(
         &mut self,
-        unit: Unit,
+        unit: &Unit,
         address: u8,
-        lost_by: Option<Unit>,
+        lost_by: &Option<Unit>,
         moment: u64,
     ) -> Result<(), AllocError> {
         if let Some(from) = lost_by {
             self.lose(from, moment)?;
-            self.note_handover(Handover {
+            let handover = Handover {
                 moment,
                 address,
-                from,
-                to: unit,
-            })?;
+                from: *from,
+                to: *unit,
+            };
+            self.note_handover(&handover)?;
         }
         match self.lane_for(unit)? {
             Some(place) => match self.lanes.get_mut(place) {
@@ -228,16 +232,15 @@ impl Picture {
         }
     }
 
-    fn note_handover(&mut self, handover: Handover) -> Result<(), AllocError> {
+    fn note_handover(&mut self, handover: &Handover) -> Result<(), AllocError> {
         if self.handovers.len() >= HANDOVERS {
             self.handovers_left_out = self.handovers_left_out.saturating_add(1);
             return Ok(());
         }
-        self.handovers.push(handover)?;
-        Ok(())
+        put(&mut self.handovers, handover)
     }
 
-    fn lose(&mut self, unit: Unit, moment: u64) -> Result<(), AllocError> {
+    fn lose(&mut self, unit: &Unit, moment: u64) -> Result<(), AllocError> {
         match self.lane_for(unit)? {
             Some(place) => match self.lanes.get_mut(place) {
                 Some(lane) => lane.lose(moment),
@@ -249,15 +252,15 @@ impl Picture {
 
     fn begin(
         &mut self,
-        unit: Unit,
+        unit: &Unit,
         kind: Kind,
-        brief: Brief,
+        brief: &Brief,
         moment: u64,
         before: Option<RunEnd>,
     ) -> Result<(), AllocError> {
         match self.lane_for(unit)? {
             Some(place) => match self.lanes.get_mut(place) {
-                Some(lane) => lane.tell(kind, brief, moment, before),
+                Some(lane) => lane.tell(kind, *brief, moment, before),
                 None => Ok(()),
             },
             None => Ok(()),
@@ -266,11 +269,11 @@ impl Picture {
 
     /// Frames of a bus were missed: which unit holds which address there is not known any more.
     fn miss(&mut self, bus: u16, count: u64, moment: u64) -> Result<(), AllocError> {
-        self.gaps
-            .add(Span::new(moment, moment, Shows::Missed { bus, count }))?;
+        let gap = Span::new(moment, moment, Shows::Missed { bus, count });
+        self.gaps.add(&gap)?;
         for place in 0..self.lanes.len() {
             if let Some(lane) = self.lanes.get_mut(place) {
-                if lane.unit().bus == bus {
+                if lane.is_on(bus) {
                     lane.forget(moment)?;
                 }
             }
@@ -279,9 +282,9 @@ impl Picture {
     }
 
     /// The place of the lane of a unit.
-    fn place_of(&self, unit: Unit) -> Option<usize> {
+    fn place_of(&self, unit: &Unit) -> Option<usize> {
         for (place, lane) in self.lanes.iter().enumerate() {
-            if lane.unit() == unit {
+            if lane.is_of(unit) {
                 return Some(place);
             }
         }
@@ -289,7 +292,7 @@ impl Picture {
     }
 
     /// The place of the lane of a unit, which gets one where there is room; else the change is counted.
-    fn lane_for(&mut self, unit: Unit) -> Result<Option<usize>, AllocError> {
+    fn lane_for(&mut self, unit: &Unit) -> Result<Option<usize>, AllocError> {
         if let Some(place) = self.place_of(unit) {
             return Ok(Some(place));
         }
@@ -298,7 +301,18 @@ impl Picture {
             return Ok(None);
         }
         let place = self.lanes.len();
-        self.lanes.push(Lane::new(self.alloc, unit))?;
+        self.lanes.reserve(1)?;
+        let lane = Lane::new(self.alloc, unit);
+        self.lanes.push_reserved(lane);
         Ok(Some(place))
     }
+}
+
+/// Puts a handover behind all others. Where memory is refused, nothing changes.
+fn put(handovers: &mut Vec<Handover>, handover: &Handover) -> Result<(), AllocError>
+    ensures ok { OnOk result (handovers.new.items ≡ handovers.old.items ++ handover.now ∷ []) }
+    ensures err { OnErr result (handovers.new.items ≡ handovers.old.items) }
+{
+    handovers.push(*handover)?;
+    Ok(())
 }

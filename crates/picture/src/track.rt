@@ -50,16 +50,16 @@ impl Track {
     ///
     /// # Errors
     /// Memory was refused; what was told before is still drawn.
-    pub fn add(&mut self, span: Span) -> Result<(), AllocError>
+    #[tactic(auto, using(crate::proofs::Joining::kept_more, crate::proofs::Joining::kept_thinned))]
+    pub fn add(&mut self, span: &Span) -> Result<(), AllocError>
         ensures same_bound { self.new.most ≡ self.old.most }
-        ensures kept { OnOk result ((told : List ASpan) → Keeps told self.old → Keeps (told ++ span ∷ []) self.new) }
+        ensures kept { OnOk result ((told : List ASpan) → Keeps told self.old → Keeps (told ++ span.now ∷ []) self.new) }
         ensures err { OnErr result ((told : List ASpan) → Keeps told self.old → AreDrawnAs told self.new.spans) }
     {
         if self.spans.len() >= self.most {
             self.thin();
         }
-        self.spans.push(span)?;
-        Ok(())
+        put(&mut self.spans, span)
     }
 
     /// Joins neighbours, so that there is room for one more.
@@ -88,7 +88,17 @@ impl Track {
     }
 }
 
+/// Puts a span behind all others. Where memory is refused, nothing changes.
+fn put(spans: &mut Vec<Span>, span: &Span) -> Result<(), AllocError>
+    ensures ok { OnOk result (spans.new.items ≡ spans.old.items ++ span.now ∷ []) }
+    ensures err { OnErr result (spans.new.items ≡ spans.old.items) }
+{
+    spans.push(*span)?;
+    Ok(())
+}
+
 /// Joins neighbours that are together no longer than this.
+#[tactic(auto, using(crate::proofs::Places::at_first, crate::proofs::Places::all_there))]
 fn join_within(spans: &mut Vec<Span>, reach: u64)
     requires { 2 ≤ length spans.old.items }
     ensures drawn { (told : List ASpan) → AreDrawnAs told spans.old.items → AreDrawnAs told spans.new.items }

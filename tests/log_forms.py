@@ -218,8 +218,13 @@ def words_of_watch(chance):
         words += ["--address", str(chance.choice([249, 249, 249, 249, 250, 0, 3, 128, 253]))]
     if chance.random() < 0.2:
         words += ["--name", f"{chance.choice([0, 2, 0xFFFFFFFFFFFFFFFF, 0x9000000000000000, 0x7000000000000000]):016x}"]
+    if chance.random() < 0.35:
+        words += ["--bus", chance.choice(["can0", "can1", "can1", "vcan9", "all", "all", "all", "all"])]
     if chance.random() < 0.2:
-        words += ["--bus", chance.choice(["can0", "can1", "can1", "vcan9"])]
+        words += ["--unit", chance.choice(["0", "3", "249", "253", "33", "1000000001419907", "00000000000000A0", "0", "3", "249"])]
+    for word in ("--from", "--to"):
+        if chance.random() < 0.12:
+            words += [word, chance.choice(["0", "1.500000", "2.000", "1792915201", "1792915202.250", "1792915203.123456789", "10", "9999999999"])]
     if chance.random() < 0.25:
         for _ in range(chance.randint(1, 3)):
             words += ["--assume", f"{chance.choice([0, 3, 249, 253])}={chance.choice([0xA0, 0x1000000001419907]):016X}"]

@@ -3,7 +3,7 @@
 NAME.log is the log, NAME.words are the words behind `watch`; NAME.watch.txt, .watch.json, .watch.csv, .decode.txt and .decode.json are what is
 written, NAME.errors is what both tell of bad lines. Where a listener stands behind `watch`, it is NAME.listening.txt and so on with `--unclaimed hide`, and
 NAME.unclaimed.txt and so on without it. `every-event` has each event, each count and each form of a line, with numbers that differ, so that no two
-of them can be taken for each other.
+of them can be taken for each other. `times` has times that jump back, repeat, and pass 2^63.
 """
 
 import pathlib

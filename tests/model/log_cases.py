@@ -144,6 +144,10 @@ an entry is equal to the one before it, but went elsewhere
 a row of an address that nobody claimed
 a row of an address that nobody claimed since a gap
 an address that nobody claimed is told of, and has no row
+a change at a time of which it is not told
+a change of another unit than the one of which it is told
+missed frames of each bus
+one more of several buses
 """
 NEVER_LISTENING = """
 a single frame from an address without owner

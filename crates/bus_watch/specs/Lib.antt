@@ -4,3 +4,4 @@ pub mod Runs
 pub mod Tellings
 pub mod WatchValue
 pub mod Told
+pub mod AsOverheard

@@ -1,4 +1,4 @@
-use candump_line::Foreign;
+use candump_line::{Foreign, Line};
 
 /// How many lines there were of each sort.
 #[derive(Clone, Copy, Debug, Default, PartialEq, Eq)]
@@ -39,5 +39,34 @@ impl Counts {
             Foreign::Error => &mut self.error,
         };
         *count = count.saturating_add(1);
+    }
+    /// Counts a line where each bus is watched: one that none of them hears is of another bus, or of none.
+    pub(crate) fn add_line(&mut self, line: &Line<'_>, is_unheard: bool) {
+        self.lines = self.lines.saturating_add(1);
+        let count = match line {
+            Line::Frame { bus: None, .. }
+            | Line::Overflow { bus: None, .. }
+            | Line::Foreign { bus: None, .. }
+            | Line::Note => &mut self.notes,
+            Line::Bad(_) => &mut self.bad,
+            Line::Dropped { .. } => &mut self.drops,
+            _ if is_unheard => &mut self.other_bus,
+            Line::Frame { .. } => &mut self.frames,
+            Line::Overflow { .. } => &mut self.error,
+            Line::Foreign { what, .. } => return self.add_foreign(*what),
+        };
+        *count = count.saturating_add(1);
+    }
+
+    /// These with those of a watch: all, or where lines are counted for each bus together, those of its messages alone.
+    pub(crate) fn with_watch(self, watch: Counts, is_one_of_many: bool) -> Counts {
+        if !is_one_of_many {
+            return watch;
+        }
+        Counts {
+            withheld: self.withheld.saturating_add(watch.withheld),
+            not_attributed: self.not_attributed.saturating_add(watch.not_attributed),
+            ..self
+        }
     }
 }

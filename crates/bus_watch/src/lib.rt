@@ -5,10 +5,12 @@
 //! each list is what was heard of the readings of the lines so far.
 #![tactic(auto)]
 
+mod buses;
 mod change;
 mod contests;
 mod counts;
 mod key;
+mod laws;
 mod lists;
 mod packets;
 mod run;
@@ -19,9 +21,11 @@ mod unit_runs;
 mod unowned;
 mod watch;
 
+pub use buses::{BusShown, BusWatch, Buses, Hearers};
 pub use change::{Change, Changes};
 pub use counts::Counts;
+pub use laws::shown_lists_are_what_was_overheard;
 pub use listener::Who;
 pub use run::Run;
-pub use selection::Selection;
+pub use selection::{Selection, UnitShown};
 pub use watch::{Settings, Watch};

@@ -15,8 +15,12 @@ Input: what candump -L writes, plain candump, log2long, a file of candump -l. Li
 
 A line for each change: a unit that claims or loses an address, a DM1, DM2 or DM6 that differs from the one before it (lamps;
 then SPN/FMI/COUNT; and where it went, if not to all), missed frames, an acknowledgment. At the end, also of an input that breaks off, a line for each NAME: its
-address, how many DM1, DM2 and DM6 stand under it, the lamps and the number of codes of the newest DM1. As csv: a row for each
+address, how many DM1, DM2 and DM6 stand under it, the number of codes and the lamps of the newest DM1. As csv: a row for each
 code of each run of equal entries, with the times of the first and the last, whether they are contested, and where they went.
+An address stands in decimal, from 10 on with its hexadecimal digits behind it: 249(F9).
+
+All is heard, whatever is shown: --address, --unclaimed, --unit, --from and --to leave out what they do not ask for, in the changes and in the
+entries of the report. With --bus all each bus has units of its own, and a line says its bus.
 
 Limits: on a real bus the last claim is not always the holder (an entry within 250 ms of a claim that displaced another NAME is
 marked contested); frames lost without notice can mix two messages (a packet after --silence is withheld); where no claim of an address
@@ -35,7 +39,7 @@ pub(crate) fn command<'a>(alloc: Global) -> Result<Command<'a>, AllocError>
         CommandOption {
             name: "bus",
             value: "BUS",
-            help: "The bus to watch; the first in the input where none is given",
+            help: "The bus to watch, or all of them; the first in the input where none is given",
             given: Given::Once,
         },
         CommandOption {
@@ -75,6 +79,24 @@ pub(crate) fn command<'a>(alloc: Global) -> Result<Command<'a>, AllocError>
             given: Given::Once,
         },
         CommandOption {
+            name: "unit",
+            value: "NAME|N",
+            help: "Tells of one unit alone: of this NAME, or of whoever sends from address N, 0 to 253",
+            given: Given::Once,
+        },
+        CommandOption {
+            name: "from",
+            value: "TIME",
+            help: "Tells of what came at this time or later, as the log has it, or a date YYYY-MM-DD HH:MM:SS.mmm",
+            given: Given::Once,
+        },
+        CommandOption {
+            name: "to",
+            value: "TIME",
+            help: "Tells of what came at this time or before",
+            given: Given::Once,
+        },
+        CommandOption {
             name: "format",
             value: "text|json|csv",
             help: "How changes and report are written [text]; csv: the report alone",
@@ -111,6 +133,9 @@ pub(crate) fn words<'a>(found: &ArgMatches<'a>) -> WatchWords<'a> {
         bad: found.get_str("bad"),
         silence: found.get_str("silence"),
         unclaimed: found.get_str("unclaimed"),
+        unit: found.get_str("unit"),
+        from: found.get_str("from"),
+        to: found.get_str("to"),
         format: found.get_str("format"),
         strict: found.get_flag("strict"),
         file: found.get_str("file"),

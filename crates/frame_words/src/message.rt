@@ -1,7 +1,7 @@
 use crate::audience::Audience;
-use crate::group::{AddressWords, ByteWords, ControlWords, GroupWords, group_name};
+use crate::group::{AddressWords, ByteWords, ControlWords, GroupWords, UnreadWords, group_name};
 use can_frame::{Frame, Pgn};
-use dm_messages::{Kind, ReadError, Shown, read};
+use dm_messages::{Kind, Shown, read};
 use dm_words::{CodeWords, LampBytes, LampWords};
 use name_field::{Name, NameFields};
 use parameter_group::ParameterGroup;
@@ -122,7 +122,7 @@ fn write_diagnostic<W: Write>(
     match read(alloc, bytes) {
         Ok(shown) => write_shown(writer, word, &shown, audience),
         Err(error) => {
-            let reason = unread_word(error);
+            let reason = UnreadWords(error);
             write!(writer, "{word}: cannot be read: {reason}")
         }
     }
@@ -150,16 +150,6 @@ fn kind_word(kind: Kind) -> &'static str {
         Kind::Dm1 => "DM1",
         Kind::Dm2 => "DM2",
         Kind::Dm6 => "DM6",
-    }
-}
-
-/// Why a message cannot be read.
-fn unread_word(error: ReadError) -> &'static str {
-    match error {
-        ReadError::BadLength => "bad length",
-        ReadError::OldConversion => "old conversion",
-        ReadError::NoCodeInside => "a code of zeros",
-        ReadError::OutOfMemory => "memory",
     }
 }
 

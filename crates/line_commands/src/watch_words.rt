@@ -3,8 +3,9 @@
 ghost use Rattle.std.specs.Prelude.{◌≤◌, IfOk};
 ghost use Rattle.can_frame.specs.declared.address.TheConstants.{GREATEST_ADDRESS};
 
-use bus_watch::{Selection, Settings};
+use bus_watch::{BusShown, Selection, Settings, UnitShown};
 use can_frame::GREATEST_ADDRESS;
+use candump_line::Time;
 use command_words::{WatchWords, is_bus};
 use name_field::Name;
 use program_io::Fault;
@@ -40,6 +41,9 @@ fn settings_of(words: &WatchWords<'_>) -> Result<Settings, Fault> {
         selection: Selection {
             address: shown_of(words.address)?,
             unclaimed: shows_unclaimed(words.unclaimed)?,
+            unit: unit_of(words.unit)?,
+            from: time_of(words.from)?,
+            to: time_of(words.to)?,
         },
         skips_bad: skips_bad(words.bad)?,
         silence: silence_of(words.silence)?,
@@ -84,10 +88,49 @@ pub(crate) fn address_of(word: &str) -> Result<u8, Fault>
     }
 }
 
-pub(crate) fn bus_of(word: Option<&str>) -> Result<Option<&str>, Fault> {
+/// The word that stands for each bus.
+const EACH_BUS: &str = "all";
+
+/// Which buses are watched: the first that a line names where that is not said.
+pub(crate) fn bus_of(word: Option<&str>) -> Result<BusShown<'_>, Fault> {
     match word {
-        Some(word) if !is_bus(word) => Err(Fault::CommandLine),
-        word => Ok(word),
+        None => Ok(BusShown::First),
+        Some(word) if word == EACH_BUS => Ok(BusShown::Each),
+        Some(word) if is_bus(word) => Ok(BusShown::Named(word)),
+        Some(_) => Err(Fault::CommandLine),
+    }
+}
+
+/// The unit of which alone it is told, by its NAME or by its address; none: of all.
+pub(crate) fn unit_of(word: Option<&str>) -> Result<Option<UnitShown>, Fault> {
+    let Some(word) = word else {
+        return Ok(None);
+    };
+    match name_of(word) {
+        Ok(name) => Ok(Some(UnitShown::Name(name))),
+        Err(_) => Ok(Some(UnitShown::Address(address_of(word)?))),
+    }
+}
+
+/// A time as a log has it, or whole seconds; none where it is not said.
+pub(crate) fn time_of(word: Option<&str>) -> Result<Option<Time>, Fault> {
+    let Some(word) = word else {
+        return Ok(None);
+    };
+    match Time::read(word).or(whole_seconds(word)) {
+        Some(time) => Ok(Some(time)),
+        None => Err(Fault::CommandLine),
+    }
+}
+
+/// The greatest number of seconds that a log tells.
+const MOST_SECONDS: u64 = 9_999_999_999;
+
+/// The time of so many seconds, in one to ten decimal digits.
+fn whole_seconds(word: &str) -> Option<Time> {
+    match word.parse::<u64>() {
+        Ok(seconds) if seconds <= MOST_SECONDS => Time::from_micros(seconds * 1_000_000),
+        Ok(_) | Err(_) => None,
     }
 }
 

@@ -1,5 +1,4 @@
 use crate::columns::Column;
-use csv::Position;
 use std::alloc::{AllocError, AllocFailed, Global};
 use std::fmt;
 
@@ -27,8 +26,6 @@ impl<T: Drop> From<AllocFailed<T>> for UnitsFault {
 /// What is wrong with a line.
 #[derive(Clone, Copy)]
 pub(crate) enum Wrong<'a> {
-    /// It is no row of values.
-    NoValues,
     /// It has so many values, and the first line so many others.
     Values(usize, usize),
     /// The first line names this column, which is none of them.
@@ -50,7 +47,6 @@ pub(crate) enum Wrong<'a> {
 impl fmt::Display for Wrong<'_> {
     fn fmt<W: fmt::Write>(&self, f: &mut fmt::Formatter<W>) -> fmt::Result {
         match self {
-            Wrong::NoValues => write!(f, "no comma-separated values"),
             Wrong::Values(count, first) => {
                 write!(f, "{count} values, and the first line has {first}")
             }
@@ -98,20 +94,14 @@ impl Telling {
     pub(crate) fn tell(
         &mut self,
         alloc: Global,
-        place: Option<Position>,
+        line: u64,
         wrong: Wrong<'_>,
     ) -> Result<(), AllocError> {
         self.count = self.count.saturating_add(1);
         if self.count > TOLD {
             return Ok(());
         }
-        let line = match place {
-            Some(place) => {
-                let line = place.line();
-                format!(in alloc; "line {line}: {wrong}\n")?
-            }
-            None => format!(in alloc; "{wrong}\n")?,
-        };
+        let line = format!(in alloc; "line {line}: {wrong}\n")?;
         self.words.push_str(line.as_str())
     }
 

@@ -2,7 +2,7 @@ use crate::columns::{Column, Columns, word_at};
 use crate::fault::{Telling, UnitsFault, Wrong};
 use crate::row::UnitRow;
 use crate::texts::UnitTexts;
-use csv::{ByteRecord, Reader, ReaderBuilder};
+use csv_rows::{Row, Rows};
 use name_field::Name;
 use std::alloc::{AllocError, Global};
 
@@ -34,20 +34,17 @@ fn read_all(
     texts: &mut UnitTexts,
     telling: &mut Telling,
 ) -> Result<(), AllocError> {
-    let mut rows = ReaderBuilder::new()
-        .has_headers(false)
-        .flexible(true)
-        .from_reader(alloc, text);
-    let mut row = ByteRecord::new(alloc);
-    if !next_row(alloc, &mut rows, &mut row, telling)? {
-        return telling.tell(alloc, None, Wrong::TooFewColumns);
+    let mut rows = Rows::of(text);
+    let mut row = Row::new(alloc);
+    if !rows.read(&mut row)? {
+        return telling.tell(alloc, 1, Wrong::TooFewColumns);
     }
     let columns = match Columns::read(&row) {
         Ok(columns) => columns,
-        Err(wrong) => return telling.tell(alloc, row.position(), wrong),
+        Err(wrong) => return telling.tell(alloc, row.line(), wrong),
     };
     for _ in 0..u64::MAX {
-        if !next_row(alloc, &mut rows, &mut row, telling)? {
+        if !rows.read(&mut row)? {
             break;
         }
         add_row(alloc, &row, &columns, texts, telling)?;
@@ -55,29 +52,10 @@ fn read_all(
     Ok(())
 }
 
-/// Reads the next row. Tells whether there is one.
-fn next_row(
-    alloc: Global,
-    rows: &mut Reader<&[u8]>,
-    row: &mut ByteRecord,
-    telling: &mut Telling,
-) -> Result<bool, AllocError> {
-    match rows.read_byte_record(row) {
-        Ok(found) => Ok(found),
-        Err(error) => {
-            if let csv::ErrorKind::OutOfMemory = error.kind() {
-                return Err(AllocError);
-            }
-            telling.tell(alloc, None, Wrong::NoValues)?;
-            Ok(false)
-        }
-    }
-}
-
 /// Adds the text of a row, or tells what is wrong with it.
 fn add_row(
     alloc: Global,
-    row: &ByteRecord,
+    row: &Row,
     columns: &Columns,
     texts: &mut UnitTexts,
     telling: &mut Telling,
@@ -92,7 +70,7 @@ fn add_row(
                 text,
             })
         }
-        Err(wrong) => telling.tell(alloc, row.position(), wrong),
+        Err(wrong) => telling.tell(alloc, row.line(), wrong),
     }
 }
 
@@ -105,7 +83,7 @@ struct Values<'a> {
     text: &'a str,
 }
 
-fn values_of<'a>(row: &'a ByteRecord, columns: &Columns) -> Result<Values<'a>, Wrong<'a>> {
+fn values_of<'a>(row: &'a Row, columns: &Columns) -> Result<Values<'a>, Wrong<'a>> {
     if row.len() != columns.count() {
         return Err(Wrong::Values(row.len(), columns.count()));
     }
@@ -129,7 +107,7 @@ fn values_of<'a>(row: &'a ByteRecord, columns: &Columns) -> Result<Values<'a>, W
 
 /// The word of a row in this column; an empty one where there is no such column.
 fn word_of<'a>(
-    row: &'a ByteRecord,
+    row: &'a Row,
     columns: &Columns,
     column: Column,
 ) -> Result<&'a str, Wrong<'a>> {

@@ -2,7 +2,7 @@ use crate::objects::{change_object, report_object};
 use crate::rows::report_rows;
 use crate::run::Options;
 use crate::text;
-use bus_watch::{Change, Changes, Watch};
+use bus_watch::{BusShown, BusWatch, Buses, Change, Changes};
 use log_lines::LogFault;
 use std::alloc::Global;
 use std::io::Write;
@@ -22,23 +22,16 @@ pub enum Form {
 pub fn write_changes<W: Write>(
     writer: &mut W,
     alloc: Global,
-    watch: &Watch,
+    one: &BusWatch,
     form: Form,
     number: u64,
     changes: Changes,
 ) -> Result<(), LogFault> {
     if let Some(name) = changes.lost {
-        write_change(
-            writer,
-            alloc,
-            watch,
-            form,
-            number,
-            Change::NoAddress { name },
-        )?;
+        write_change(writer, alloc, one, form, number, Change::NoAddress { name })?;
     }
     match changes.change {
-        Some(change) => write_change(writer, alloc, watch, form, number, change),
+        Some(change) => write_change(writer, alloc, one, form, number, change),
         None => Ok(()),
     }
 }
@@ -47,18 +40,18 @@ pub fn write_changes<W: Write>(
 fn write_change<W: Write>(
     writer: &mut W,
     alloc: Global,
-    watch: &Watch,
+    one: &BusWatch,
     form: Form,
     number: u64,
     change: Change,
 ) -> Result<(), LogFault> {
     match form {
-        Form::Text => match text::write_change(writer, watch, change) {
+        Form::Text => match text::write_change(writer, one, change) {
             Ok(()) => Ok(()),
             Err(_) => Err(LogFault::Write),
         },
         Form::Json => {
-            let object = change_object(alloc, watch, number, change)?;
+            let object = change_object(alloc, one, number, change)?;
             write_object(writer, object)
         }
         Form::Csv => Ok(()),
@@ -69,20 +62,20 @@ fn write_change<W: Write>(
 pub fn write_report<W: Write>(
     writer: &mut W,
     alloc: Global,
-    watch: &Watch,
+    buses: &Buses,
     options: &Options<'_>,
 ) -> Result<(), LogFault> {
     match options.form {
-        Form::Text => match text::write_report(writer, watch, options.assumed) {
+        Form::Text => match text::write_report(writer, buses, options.assumed) {
             Ok(()) => Ok(()),
             Err(_) => Err(LogFault::Write),
         },
         Form::Json => {
-            let object = report_object(alloc, watch, options.assumed)?;
+            let object = report_object(alloc, buses, options.assumed)?;
             write_object(writer, object)
         }
         Form::Csv => {
-            let rows = report_rows(alloc, watch)?;
+            let rows = report_rows(alloc, buses, options.bus == BusShown::Each)?;
             match writer.write_all(rows.as_slice()) {
                 Ok(()) => Ok(()),
                 Err(_) => Err(LogFault::Write),

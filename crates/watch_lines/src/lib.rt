@@ -3,6 +3,7 @@
 #![tactic(auto)]
 
 mod form;
+mod hearing;
 mod lines;
 mod objects;
 mod rows;

@@ -1,6 +1,6 @@
-use crate::form::write_changes;
+use crate::hearing::hear_line;
 use crate::run::Options;
-use bus_watch::Watch;
+use bus_watch::Buses;
 use candump_line::read_line;
 use log_lines::{Clock, Ended, LogFault, Notices, next_line};
 use std::alloc::Global;
@@ -13,11 +13,11 @@ pub(crate) fn read_lines<R: Read + Drop, W: Write + Drop, E: Write>(
     reader: &mut BufReader<R>,
     writer: &mut BufWriter<W>,
     errors: &mut E,
-    watch: &mut Watch,
+    buses: &mut Buses,
     options: &Options<'_>,
 ) -> Ended {
     let mut notices = Notices::new();
-    let end = hear_lines(alloc, reader, writer, errors, watch, options, &mut notices);
+    let end = hear_lines(alloc, reader, writer, errors, buses, options, &mut notices);
     notices.ended(errors, end)
 }
 
@@ -27,7 +27,7 @@ fn hear_lines<R: Read + Drop, W: Write + Drop, E: Write>(
     reader: &mut BufReader<R>,
     writer: &mut BufWriter<W>,
     errors: &mut E,
-    watch: &mut Watch,
+    buses: &mut Buses,
     options: &Options<'_>,
     notices: &mut Notices,
 ) -> Result<bool, LogFault> {
@@ -40,12 +40,11 @@ fn hear_lines<R: Read + Drop, W: Write + Drop, E: Write>(
         let text = line.as_slice();
         let said = read_line(text);
         let is_bad = notices.take(errors, number, text, &said)?;
-        let changes = match clock.counts(errors, number, text, &said) {
-            Ok(true) => watch.hear(alloc, &said)?,
-            Ok(false) => watch.hear(alloc, &said.untimed())?,
+        match clock.counts(errors, number, text, &said) {
+            Ok(true) => hear_line(alloc, writer, buses, options, number, &said)?,
+            Ok(false) => hear_line(alloc, writer, buses, options, number, &said.untimed())?,
             Err(error) => return Err(LogFault::of_write(error)),
-        };
-        write_changes(writer, alloc, watch, options.form, number, changes)?;
+        }
         if is_bad && options.strict {
             return Ok(false);
         }

@@ -1,5 +1,5 @@
-use crate::units::{KINDS, WhoWords, address_of, kind_word, row_at, row_places};
-use bus_watch::{Run, Watch, Who};
+use crate::units::{KINDS, WhoValue, address_of, has_entries, kind_word, row_at, row_places};
+use bus_watch::{BusWatch, Buses, Run, Watch, Who};
 use can_frame::GLOBAL_ADDRESS;
 use candump_line::Time;
 use csv::Writer;
@@ -28,14 +28,17 @@ const HEADER: [&[u8]; 12] = [
 type Rows = Writer<Vec<u8>>;
 
 /// The report: a row for each code of each run of equal entries, one without a code for a run without codes, and one
-/// without a kind for a unit without entries.
-pub(crate) fn report_rows(alloc: Global, watch: &Watch) -> Result<Vec<u8>, AllocError> {
+/// without a kind for a unit without entries. Where each bus is watched, the bus is the last value.
+pub(crate) fn report_rows(
+    alloc: Global,
+    buses: &Buses,
+    names_bus: bool,
+) -> Result<Vec<u8>, AllocError> {
     let mut rows = Writer::from_writer(Vec::new(alloc));
-    put_row(&mut rows, &HEADER)?;
-    for place in 0..row_places(watch) {
-        if let Some(who) = &row_at(watch, place) {
-            put_unit(&mut rows, alloc, watch, who)?;
-        }
+    let bus_header = if names_bus { Some("bus") } else { None };
+    put_row(&mut rows, &HEADER, bus_header)?;
+    for one in buses.watches() {
+        put_bus(&mut rows, alloc, one)?;
     }
     match rows.into_inner() {
         Ok(text) => Ok(text),
@@ -43,17 +46,45 @@ pub(crate) fn report_rows(alloc: Global, watch: &Watch) -> Result<Vec<u8>, Alloc
     }
 }
 
-fn put_row(rows: &mut Rows, fields: &[&[u8]]) -> Result<(), AllocError> {
-    match rows.write_fields(fields) {
+/// The rows of a bus.
+fn put_bus(rows: &mut Rows, alloc: Global, one: &BusWatch) -> Result<(), AllocError> {
+    let bus = match &one.bus {
+        Some(bus) => Some(bus.as_str()),
+        None => None,
+    };
+    for place in 0..row_places(&one.watch) {
+        if let Some(who) = &row_at(&one.watch, place) {
+            put_unit(rows, alloc, &one.watch, who, bus)?;
+        }
+    }
+    Ok(())
+}
+
+/// A row of these values, and of the bus behind them, where one is given.
+fn put_row(rows: &mut Rows, fields: &[&[u8]; 12], bus: Option<&str>) -> Result<(), AllocError> {
+    let written = match bus {
+        None => rows.write_fields(fields),
+        Some(bus) => {
+            let [a, b, c, d, e, f, g, h, i, j, k, l] = *fields;
+            rows.write_fields(&[a, b, c, d, e, f, g, h, i, j, k, l, bus.as_bytes()])
+        }
+    };
+    match written {
         Ok(()) => Ok(()),
         Err(_) => Err(AllocError),
     }
 }
 
 /// The rows of a unit. In the place of a NAME stands that nobody has claimed its address, so that no two units have the same there.
-fn put_unit(rows: &mut Rows, alloc: Global, watch: &Watch, who: &Who) -> Result<(), AllocError> {
+fn put_unit(
+    rows: &mut Rows,
+    alloc: Global,
+    watch: &Watch,
+    who: &Who,
+    bus: Option<&str>,
+) -> Result<(), AllocError> {
     let address = address_text(alloc, address_of(watch, who))?;
-    let words = WhoWords(*who);
+    let words = WhoValue(*who);
     let unit = format!(in alloc; "{words}")?;
     put_entries(
         rows,
@@ -61,6 +92,7 @@ fn put_unit(rows: &mut Rows, alloc: Global, watch: &Watch, who: &Who) -> Result<
         [unit.as_bytes(), address.as_bytes()],
         watch,
         who,
+        bus,
     )
 }
 
@@ -71,6 +103,7 @@ fn put_entries(
     before: [&[u8]; 2],
     watch: &Watch,
     who: &Who,
+    bus: Option<&str>,
 ) -> Result<(), AllocError> {
     if !has_entries(watch, who) {
         let none: &[u8] = b"";
@@ -79,22 +112,13 @@ fn put_entries(
             &[
                 before[0], before[1], none, none, none, none, none, none, none, none, none, none,
             ],
+            bus,
         );
     }
     for kind in KINDS {
-        put_runs(rows, alloc, before, watch.runs(*who, kind), kind)?;
+        put_runs(rows, alloc, before, watch.runs(*who, kind), kind, bus)?;
     }
     Ok(())
-}
-
-/// Whether a unit has an entry of some kind.
-fn has_entries(watch: &Watch, who: &Who) -> bool {
-    for kind in KINDS {
-        if !watch.runs(*who, kind).is_empty() {
-            return true;
-        }
-    }
-    false
 }
 
 /// The rows of a kind.
@@ -104,9 +128,10 @@ fn put_runs(
     before: [&[u8]; 2],
     runs: &[Run],
     kind: Kind,
+    bus: Option<&str>,
 ) -> Result<(), AllocError> {
     for run in runs {
-        put_run(rows, alloc, before, kind_word(kind).as_bytes(), run)?;
+        put_run(rows, alloc, before, kind_word(kind).as_bytes(), run, bus)?;
     }
     Ok(())
 }
@@ -118,6 +143,7 @@ fn put_run(
     before: [&[u8]; 2],
     kind: &[u8],
     run: &Run,
+    bus: Option<&str>,
 ) -> Result<(), AllocError> {
     let first = time_text(alloc, &run.first)?;
     let last = time_text(alloc, &run.last)?;
@@ -135,7 +161,7 @@ fn put_run(
         if run.contested { b"true" } else { b"false" },
         to.as_bytes(),
     ];
-    put_codes(rows, alloc, run_fields, run.shown.codes.as_slice())
+    put_codes(rows, alloc, run_fields, run.shown.codes.as_slice(), bus)
 }
 
 /// A row for each code; one without a code where there are none.
@@ -144,12 +170,13 @@ fn put_codes(
     alloc: Global,
     run: [&[u8]; 9],
     codes: &[Dtc],
+    bus: Option<&str>,
 ) -> Result<(), AllocError> {
     if codes.is_empty() {
-        return put_code(rows, run, [b"", b"", b""]);
+        return put_code(rows, run, [b"", b"", b""], bus);
     }
     for code in codes {
-        put_code_of(rows, alloc, run, *code)?;
+        put_code_of(rows, alloc, run, *code, bus)?;
     }
     Ok(())
 }
@@ -159,6 +186,7 @@ fn put_code_of(
     alloc: Global,
     run: [&[u8]; 9],
     code: Dtc,
+    bus: Option<&str>,
 ) -> Result<(), AllocError> {
     let spn = number_text(alloc, u64::from(code.spn()))?;
     let fmi = number_text(alloc, u64::from(code.fmi()))?;
@@ -167,16 +195,22 @@ fn put_code_of(
         rows,
         run,
         [spn.as_bytes(), fmi.as_bytes(), count.as_bytes()],
+        bus,
     )
 }
 
 /// The values of a code stand before the last two of its run.
-fn put_code(rows: &mut Rows, run: [&[u8]; 9], code: [&[u8]; 3]) -> Result<(), AllocError> {
+fn put_code(
+    rows: &mut Rows,
+    run: [&[u8]; 9],
+    code: [&[u8]; 3],
+    bus: Option<&str>,
+) -> Result<(), AllocError> {
     let fields = [
         run[0], run[1], run[2], run[3], run[4], run[5], run[6], code[0], code[1], code[2], run[7],
         run[8],
     ];
-    put_row(rows, &fields)
+    put_row(rows, &fields, bus)
 }
 
 fn time_text(alloc: Global, time: &Option<Time>) -> Result<String, AllocError> {

@@ -7,6 +7,7 @@ mod errors;
 use command_line::{LineFault, read_line};
 use command_words::{DecodeWords, Job, LogWords, WatchWords, path_of};
 use errors::Errors;
+use line_commands::ShopFiles;
 use program_io::{Failure, Fault};
 use std::io::Read;
 use std::process::ExitCode;
@@ -123,9 +124,32 @@ fn watch<R: Runtime + AllocGlobal>(
     assumed: &[&str],
 ) -> Result<(), Failure> {
     line_commands::look_at_watch_words(rt.alloc(), &words, assumed)?;
+    let units = read_texts(rt, words.units)?;
+    let texts = read_texts(rt, words.texts)?;
+    let files = ShopFiles {
+        units: named(words.units, &units),
+        texts: named(words.texts, &texts),
+    };
     match path_of(words.file) {
-        Some(path) => watch_from(rt, words, assumed, open(rt, path)?),
-        None => watch_from(rt, words, assumed, &mut rt.reader()),
+        Some(path) => watch_from(rt, words, assumed, files, open(rt, path)?),
+        None => watch_from(rt, words, assumed, files, &mut rt.reader()),
+    }
+}
+
+/// What a file of texts has; nothing where none is named.
+#[inline(never)]
+fn read_texts<R: Runtime + AllocGlobal>(rt: &R, path: Option<&str>) -> Result<Vec<u8>, Failure> {
+    match path {
+        Some(path) => read_file(rt, path),
+        None => Ok(Vec::new(rt.alloc())),
+    }
+}
+
+/// What a file has, where one is named.
+fn named<'a>(path: Option<&str>, file: &'a Vec<u8>) -> Option<&'a [u8]> {
+    match path {
+        Some(_) => Some(file.as_slice()),
+        None => None,
     }
 }
 
@@ -134,17 +158,18 @@ fn watch_from<R: Runtime + AllocGlobal, I: Read + Drop>(
     rt: &R,
     words: WatchWords<'_>,
     assumed: &[&str],
+    files: ShopFiles<'_>,
     reader: I,
 ) -> Result<(), Failure> {
     line_commands::watch(
         rt.alloc(),
         words,
         assumed,
+        files,
         reader,
         io::writer(rt),
         Errors::new(rt),
-    )?;
-    Ok(())
+    )
 }
 
 #[inline(never)]
@@ -164,21 +189,19 @@ fn check<R: Runtime + AllocGlobal>(rt: &R) -> Result<(), Failure> {
     Ok(())
 }
 
-/// Reads the file of texts, where there is one, and answers the lines of a file, where one is named, or of standard input.
+/// Reads the files of texts, where there are such, and answers the lines of a file, where one is named, or of standard input.
 #[inline(never)]
 fn decode<R: Runtime + AllocGlobal>(rt: &R, words: DecodeWords<'_>) -> Result<(), Failure> {
     line_commands::look_at_decode_words(rt.alloc(), &words)?;
-    let file = match words.texts {
-        Some(path) => read_file(rt, path)?,
-        None => Vec::new(rt.alloc()),
-    };
-    let texts = match words.texts {
-        Some(_) => Some(file.as_slice()),
-        None => None,
+    let units = read_texts(rt, words.units)?;
+    let texts = read_texts(rt, words.texts)?;
+    let files = ShopFiles {
+        units: named(words.units, &units),
+        texts: named(words.texts, &texts),
     };
     match path_of(words.file) {
-        Some(path) => decode_from(rt, words, texts, open(rt, path)?),
-        None => decode_from(rt, words, texts, &mut rt.reader()),
+        Some(path) => decode_from(rt, words, files, open(rt, path)?),
+        None => decode_from(rt, words, files, &mut rt.reader()),
     }
 }
 
@@ -186,13 +209,13 @@ fn decode<R: Runtime + AllocGlobal>(rt: &R, words: DecodeWords<'_>) -> Result<()
 fn decode_from<R: Runtime + AllocGlobal, I: Read + Drop>(
     rt: &R,
     words: DecodeWords<'_>,
-    texts: Option<&[u8]>,
+    files: ShopFiles<'_>,
     reader: I,
 ) -> Result<(), Failure> {
     line_commands::decode(
         rt.alloc(),
         words,
-        texts,
+        files,
         reader,
         io::writer(rt),
         Errors::new(rt),

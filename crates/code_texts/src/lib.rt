@@ -3,4 +3,4 @@
 
 mod texts;
 
-pub use texts::{Texts, TextsFault};
+pub use texts::{TextWords, Texts, TextsFault};

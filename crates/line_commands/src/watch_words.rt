@@ -6,7 +6,9 @@ ghost use Rattle.can_frame.specs.declared.address.TheConstants.{GREATEST_ADDRESS
 use bus_watch::{BusShown, Selection, Settings, UnitShown};
 use can_frame::GREATEST_ADDRESS;
 use candump_line::Time;
-use command_words::{WatchWords, is_bus};
+use crate::shop::ShopTexts;
+use clock_words::Clock;
+use command_words::{WatchWords, is_bus, path_of};
 use name_field::Name;
 use program_io::Fault;
 use std::alloc::Global;
@@ -22,12 +24,17 @@ const LONGEST_SILENCE: u64 = 3_600_000;
 pub(crate) fn options_of<'a>(
     words: &'a WatchWords<'_>,
     assumed: &'a [Assumed],
+    shop: &'a ShopTexts,
 ) -> Result<Options<'a>, Fault> {
     Ok(Options {
         settings: settings_of(words)?,
         bus: bus_of(words.bus)?,
         assumed,
         form: form_of(words.format)?,
+        title: path_of(words.file).unwrap_or("standard input"),
+        units: &shop.units,
+        texts: &shop.texts,
+        clock: clock_of(words.clock)?,
         strict: words.strict,
     })
 }
@@ -170,6 +177,18 @@ pub(crate) fn form_of(word: Option<&str>) -> Result<Form, Fault> {
         None | Some("text") => Ok(Form::Text),
         Some("json") => Ok(Form::Json),
         Some("csv") => Ok(Form::Csv),
+        Some("html") => Ok(Form::Html),
+        Some(_) => Err(Fault::CommandLine),
+    }
+}
+
+/// How times are told; none where that is not said.
+pub(crate) fn clock_of(word: Option<&str>) -> Result<Option<Clock>, Fault> {
+    match word {
+        None => Ok(None),
+        Some("utc") => Ok(Some(Clock::Utc)),
+        Some("log") => Ok(Some(Clock::Log)),
+        Some("relative") => Ok(Some(Clock::Relative)),
         Some(_) => Err(Fault::CommandLine),
     }
 }

@@ -16,7 +16,7 @@ mod span;
 mod track;
 mod unit;
 
-pub use brief::{Brief, LISTED};
+pub use brief::{Brief, BriefCode, LISTED};
 pub use history::{Happened, History, Told};
 pub use handover::Handover;
 pub use lane::{Holding, Lane, RunEnd};

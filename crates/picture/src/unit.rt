@@ -8,11 +8,21 @@ pub struct Unit {
     pub sender: Sender,
 }
 
+impl Unit {
+    /// The unit of a NAME on a bus.
+    pub fn named(bus: u16, name: Name) -> Unit {
+        Unit {
+            bus,
+            sender: Sender::Named(name.number()),
+        }
+    }
+}
+
 /// Who sends on a bus.
 #[derive(Clone, Copy, Debug, PartialEq, Eq)]
 pub enum Sender {
-    /// The unit of a NAME.
-    Named(Name),
+    /// The unit whose NAME has this number.
+    Named(u64),
     /// Whoever sends from an address that nobody was seen to claim, between two gaps of missed frames.
     Unclaimed {
         /// 0 to 255.

@@ -5,7 +5,7 @@ use std::fmt;
 /// Why texts for units were refused.
 #[derive(Debug, Drop)]
 pub enum UnitsFault {
-    /// A line of them is wrong. Each is told by its number and with its end, `line 7: function: 300 is not 0 to 255`; of many the first ten.
+    /// A line of them is wrong. Each is told by its number and with its end, `units, line 7: function: 300 is not 0 to 255`; of many the first ten.
     Refused(String),
     /// Memory was refused.
     Memory,
@@ -101,7 +101,7 @@ impl Telling {
         if self.count > TOLD {
             return Ok(());
         }
-        let line = format!(in alloc; "line {line}: {wrong}\n")?;
+        let line = format!(in alloc; "units, line {line}: {wrong}\n")?;
         self.words.push_str(line.as_str())
     }
 
@@ -114,7 +114,7 @@ impl Telling {
         let mut words = words;
         if count > TOLD {
             let more = count - TOLD;
-            let line = format!(in alloc; "and {more} more lines\n")?;
+            let line = format!(in alloc; "units: and {more} more lines\n")?;
             words.push_str(line.as_str())?;
         }
         Err(UnitsFault::Refused(words))

@@ -2,10 +2,14 @@ use crate::objects::{change_object, report_object};
 use crate::rows::report_rows;
 use crate::run::Options;
 use crate::text;
+use crate::kept::Kept;
 use bus_watch::{BusShown, BusWatch, Buses, Change, Changes};
+use candump_line::Time;
+use clock_words::Clock;
 use log_lines::LogFault;
 use std::alloc::Global;
 use std::io::Write;
+use watch_page::{PageFault, View, write_page};
 
 /// How changes and the report are written.
 #[derive(Clone, Copy, Debug, PartialEq, Eq)]
@@ -16,22 +20,26 @@ pub enum Form {
     Json,
     /// No changes; the report has a line of comma-separated values for each code of each run of equal entries.
     Csv,
+    /// No changes; the report is a page of HTML.
+    Html,
 }
 
 /// Writes what is told of the line of this number: of a NAME that lost its address before the change that took it.
-pub fn write_changes<W: Write>(
+pub(crate) fn write_changes<W: Write>(
     writer: &mut W,
     alloc: Global,
     one: &BusWatch,
-    form: Form,
+    options: &Options<'_>,
+    start: Option<Time>,
     number: u64,
     changes: Changes,
 ) -> Result<(), LogFault> {
     if let Some(name) = changes.lost {
-        write_change(writer, alloc, one, form, number, Change::NoAddress { name })?;
+        let lost = Change::NoAddress { name };
+        write_change(writer, alloc, one, options, start, number, lost)?;
     }
     match changes.change {
-        Some(change) => write_change(writer, alloc, one, form, number, change),
+        Some(change) => write_change(writer, alloc, one, options, start, number, change),
         None => Ok(()),
     }
 }
@@ -41,37 +49,39 @@ fn write_change<W: Write>(
     writer: &mut W,
     alloc: Global,
     one: &BusWatch,
-    form: Form,
+    options: &Options<'_>,
+    start: Option<Time>,
     number: u64,
     change: Change,
 ) -> Result<(), LogFault> {
-    match form {
-        Form::Text => match text::write_change(writer, one, change) {
+    match options.form {
+        Form::Text => match text::write_change(writer, one, options, start, change) {
             Ok(()) => Ok(()),
             Err(_) => Err(LogFault::Write),
         },
         Form::Json => {
-            let object = change_object(alloc, one, number, change)?;
+            let object = change_object(alloc, one, options, number, change)?;
             write_object(writer, object)
         }
-        Form::Csv => Ok(()),
+        Form::Csv | Form::Html => Ok(()),
     }
 }
 
 /// Writes the report: a line for each NAME, the counts of what was heard, and those of the lines.
-pub fn write_report<W: Write>(
+pub(crate) fn write_report<W: Write>(
     writer: &mut W,
     alloc: Global,
     buses: &Buses,
+    kept: &mut Kept,
     options: &Options<'_>,
 ) -> Result<(), LogFault> {
     match options.form {
-        Form::Text => match text::write_report(writer, buses, options.assumed) {
+        Form::Text => match text::write_report(writer, buses, options) {
             Ok(()) => Ok(()),
             Err(_) => Err(LogFault::Write),
         },
         Form::Json => {
-            let object = report_object(alloc, buses, options.assumed)?;
+            let object = report_object(alloc, buses, options)?;
             write_object(writer, object)
         }
         Form::Csv => {
@@ -81,6 +91,47 @@ pub fn write_report<W: Write>(
                 Err(_) => Err(LogFault::Write),
             }
         }
+        Form::Html => write_html(writer, alloc, buses, kept, options),
+    }
+}
+
+/// Writes the report as a page.
+fn write_html<W: Write>(
+    writer: &mut W,
+    alloc: Global,
+    buses: &Buses,
+    kept: &mut Kept,
+    options: &Options<'_>,
+) -> Result<(), LogFault> {
+    kept.finish(buses)?;
+    let Some(picture) = kept.picture() else {
+        return Ok(());
+    };
+    let view = View {
+        alloc,
+        title: options.title,
+        picture,
+        buses: buses.watches(),
+        units: options.units,
+        texts: options.texts,
+        clock: options.clock.unwrap_or(clock_for(picture.start())),
+    };
+    match write_page(writer, &view) {
+        Ok(()) => Ok(()),
+        Err(PageFault::Write) => Err(LogFault::Write),
+        Err(PageFault::Memory) => Err(LogFault::Memory),
+    }
+}
+
+/// The least time that is taken for one since the start of 1970, in microseconds: one of the year 2001.
+const LEAST_DATE: u64 = 1_000_000_000_000_000;
+
+/// The clock for a page whose times begin so, where none is asked for.
+fn clock_for(start: u64) -> Clock {
+    if start >= LEAST_DATE {
+        Clock::Utc
+    } else {
+        Clock::Relative
     }
 }
 

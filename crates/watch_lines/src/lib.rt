@@ -4,6 +4,7 @@
 
 mod form;
 mod hearing;
+mod kept;
 mod lines;
 mod objects;
 mod rows;
@@ -11,5 +12,5 @@ mod run;
 mod text;
 mod units;
 
-pub use form::{Form, write_changes, write_report};
+pub use form::Form;
 pub use run::{Assumed, Options, watch};

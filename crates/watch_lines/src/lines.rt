@@ -1,4 +1,5 @@
 use crate::hearing::hear_line;
+use crate::kept::Kept;
 use crate::run::Options;
 use bus_watch::Buses;
 use candump_line::read_line;
@@ -14,10 +15,11 @@ pub(crate) fn read_lines<R: Read + Drop, W: Write + Drop, E: Write>(
     writer: &mut BufWriter<W>,
     errors: &mut E,
     buses: &mut Buses,
+    kept: &mut Kept,
     options: &Options<'_>,
 ) -> Ended {
     let mut notices = Notices::new();
-    let end = hear_lines(alloc, reader, writer, errors, buses, options, &mut notices);
+    let end = hear_lines(alloc, reader, writer, errors, buses, kept, options, &mut notices);
     notices.ended(errors, end)
 }
 
@@ -28,6 +30,7 @@ fn hear_lines<R: Read + Drop, W: Write + Drop, E: Write>(
     writer: &mut BufWriter<W>,
     errors: &mut E,
     buses: &mut Buses,
+    kept: &mut Kept,
     options: &Options<'_>,
     notices: &mut Notices,
 ) -> Result<bool, LogFault> {
@@ -41,8 +44,8 @@ fn hear_lines<R: Read + Drop, W: Write + Drop, E: Write>(
         let said = read_line(text);
         let is_bad = notices.take(errors, number, text, &said)?;
         match clock.counts(errors, number, text, &said) {
-            Ok(true) => hear_line(alloc, writer, buses, options, number, &said)?,
-            Ok(false) => hear_line(alloc, writer, buses, options, number, &said.untimed())?,
+            Ok(true) => hear_line(alloc, writer, buses, kept, options, number, &said)?,
+            Ok(false) => hear_line(alloc, writer, buses, kept, options, number, &said.untimed())?,
             Err(error) => return Err(LogFault::of_write(error)),
         }
         if is_bad && options.strict {

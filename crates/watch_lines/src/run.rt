@@ -4,11 +4,15 @@ ghost use Rattle.can_frame.specs.declared.address.TheConstants.{GREATEST_ADDRESS
 use crate::form::{Form, write_report};
 use crate::hearing::assume_owners;
 use crate::lines::read_lines;
+use crate::kept::Kept;
 use bus_watch::{BusShown, Buses, Settings};
+use clock_words::Clock;
+use code_texts::Texts;
 use log_lines::{Ended, LogFault, ROOM};
 use name_field::Name;
 use std::alloc::Global;
 use std::io::{BufReader, BufWriter, Read, Write};
+use unit_words::UnitTexts;
 
 /// A NAME that is taken to hold an address before the first line.
 #[derive(Clone, Copy, Debug)]
@@ -20,7 +24,7 @@ pub struct Assumed {
 }
 
 /// How a log or a live bus is watched.
-#[derive(Clone, Copy, Debug)]
+#[derive(Clone, Copy)]
 pub struct Options<'a> {
     /// What of the bus is shown, and how its lines are read.
     pub settings: Settings,
@@ -30,6 +34,14 @@ pub struct Options<'a> {
     pub assumed: &'a [Assumed],
     /// How changes and report are written.
     pub form: Form,
+    /// What is read: a file's name, or words for it.
+    pub title: &'a str,
+    /// A shop's texts for units, and for codes.
+    pub units: &'a UnitTexts,
+    pub texts: &'a Texts,
+    /// How times are told to people; where that is not said, in text as the log has them, and on a page by UTC where they count from the
+    /// start of 1970, else since the first.
+    pub clock: Option<Clock>,
     /// Whether the first bad line ends the run.
     pub strict: bool,
 }
@@ -73,9 +85,14 @@ fn watch_from<R: Read + Drop, W: Write + Drop, E: Write>(
     errors: &mut E,
     options: &Options<'_>,
 ) -> Ended {
-    match Buses::new(alloc, options.settings, options.bus) {
-        Ok(mut buses) => watch_with(alloc, reader, writer, errors, &mut buses, options),
-        Err(_) => Ended::failed(LogFault::Memory),
+    match (
+        Buses::new(alloc, options.settings, options.bus),
+        Kept::new(alloc, options.form),
+    ) {
+        (Ok(mut buses), Ok(mut kept)) => {
+            watch_with(alloc, reader, writer, errors, &mut buses, &mut kept, options)
+        }
+        _ => Ended::failed(LogFault::Memory),
     }
 }
 
@@ -86,10 +103,11 @@ fn watch_with<R: Read + Drop, W: Write + Drop, E: Write>(
     writer: &mut BufWriter<W>,
     errors: &mut E,
     buses: &mut Buses,
+    kept: &mut Kept,
     options: &Options<'_>,
 ) -> Ended {
-    match assume_owners(alloc, writer, buses, 0, options) {
-        Ok(()) => read_and_report(alloc, reader, writer, errors, buses, options),
+    match assume_owners(alloc, writer, buses, kept, 0, options) {
+        Ok(()) => read_and_report(alloc, reader, writer, errors, buses, kept, options),
         Err(fault) => Ended::failed(fault),
     }
 }
@@ -101,10 +119,11 @@ fn read_and_report<R: Read + Drop, W: Write + Drop, E: Write>(
     writer: &mut BufWriter<W>,
     errors: &mut E,
     buses: &mut Buses,
+    kept: &mut Kept,
     options: &Options<'_>,
 ) -> Ended {
-    let ended = read_lines(alloc, reader, writer, errors, buses, options);
-    reported(alloc, writer, buses, options, ended)
+    let ended = read_lines(alloc, reader, writer, errors, buses, kept, options);
+    reported(alloc, writer, buses, kept, options, ended)
 }
 
 /// Writes the report, but where writing has failed.
@@ -112,13 +131,14 @@ fn reported<W: Write>(
     alloc: Global,
     writer: &mut W,
     buses: &Buses,
+    kept: &mut Kept,
     options: &Options<'_>,
     ended: Ended,
 ) -> Ended {
     if ended.fault == Some(LogFault::Write) {
         return ended;
     }
-    let fault = match written_out(alloc, writer, buses, options) {
+    let fault = match written_out(alloc, writer, buses, kept, options) {
         Ok(()) => ended.fault,
         Err(fault) => Some(fault),
     };
@@ -130,9 +150,10 @@ fn written_out<W: Write>(
     alloc: Global,
     writer: &mut W,
     buses: &Buses,
+    kept: &mut Kept,
     options: &Options<'_>,
 ) -> Result<(), LogFault> {
-    write_report(writer, alloc, buses, options)?;
+    write_report(writer, alloc, buses, kept, options)?;
     match writer.flush() {
         Ok(()) => Ok(()),
         Err(_) => Err(LogFault::Write),

@@ -221,7 +221,7 @@ fn write_codes<W: Write>(page: &mut Page<W>, brief: &Brief) -> Result<(), PageFa
     let mut listed = 0u16;
     for code in &brief.codes {
         if let Some(code) = code {
-            write_numbers(page, *code)?;
+            write_numbers(page, code.spn, code.fmi)?;
             page.markup(" ")?;
             listed = listed.saturating_add(1);
         }

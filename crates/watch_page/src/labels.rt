@@ -16,7 +16,7 @@ pub(crate) fn write_label<W: Write>(
     unit: &Unit,
 ) -> Result<(), PageFault> {
     match unit.sender {
-        Sender::Named(name) => write_named(page, view, name),
+        Sender::Named(name) => write_named(page, view, Name::from_number(name)),
         Sender::Unclaimed { address, .. } => {
             page.markup("Address ")?;
             page.number(u64::from(address))?;
@@ -51,7 +51,7 @@ pub(crate) fn write_identity<W: Write>(
 ) -> Result<(), PageFault> {
     match unit.sender {
         Sender::Named(name) => {
-            let text = name.to_string(view.alloc)?;
+            let text = Name::from_number(name).to_string(view.alloc)?;
             page.text(text.as_str())?;
         }
         Sender::Unclaimed { gaps, .. } => write_no_claim(page, gaps)?,
@@ -81,7 +81,10 @@ pub(crate) fn write_bus<W: Write>(
         return Ok(());
     };
     page.markup(" on ")?;
-    page.short_text(bus.name.unwrap_or("a bus without a name"), MOST)?;
+    match &bus.bus {
+        Some(name) => page.short_text(name.as_str(), MOST)?,
+        None => page.markup("a bus without a name")?,
+    }
     Ok(())
 }
 
@@ -94,7 +97,7 @@ pub(crate) fn write_fields<W: Write>(
     let Sender::Named(name) = unit.sender else {
         return Ok(());
     };
-    let text = FieldWords(name).to_string(view.alloc)?;
+    let text = FieldWords(Name::from_number(name)).to_string(view.alloc)?;
     page.text(text.as_str())?;
     Ok(())
 }

@@ -21,4 +21,4 @@ mod view;
 
 pub use fault::PageFault;
 pub use page::write_page;
-pub use view::{BusView, View};
+pub use view::View;

@@ -2,7 +2,7 @@ use crate::fault::PageFault;
 use crate::view::View;
 use dm_messages::Kind;
 use page_text::Page;
-use picture::{Brief, Severity};
+use picture::{Brief, BriefCode, Severity};
 use std::io::Write;
 use trouble_code::{Dtc, LampName, Lamps};
 
@@ -98,10 +98,14 @@ fn write_lamp<W: Write>(
 }
 
 /// Writes a code as `SPN/FMI`.
-pub(crate) fn write_numbers<W: Write>(page: &mut Page<W>, code: Dtc) -> Result<(), PageFault> {
-    page.number(u64::from(code.spn()))?;
+pub(crate) fn write_numbers<W: Write>(
+    page: &mut Page<W>,
+    spn: u32,
+    fmi: u8,
+) -> Result<(), PageFault> {
+    page.number(u64::from(spn))?;
     page.markup("/")?;
-    page.number(u64::from(code.fmi()))?;
+    page.number(u64::from(fmi))?;
     Ok(())
 }
 
@@ -110,9 +114,10 @@ pub(crate) fn write_text<W: Write>(
     page: &mut Page<W>,
     view: &View<'_>,
     before: &'static str,
-    code: Dtc,
+    spn: u32,
+    fmi: u8,
 ) -> Result<bool, PageFault> {
-    let Some(text) = view.texts.text_of(view.alloc, code.spn(), code.fmi())? else {
+    let Some(text) = view.texts.text_of(view.alloc, spn, fmi)? else {
         return Ok(false);
     };
     page.markup(before)?;
@@ -138,7 +143,7 @@ pub(crate) fn write_brief<W: Write>(
     view: &View<'_>,
     brief: &Brief,
 ) -> Result<(), PageFault> {
-    write_lamps(page, brief.lamps)?;
+    write_lamps(page, brief.lamps())?;
     page.markup("; ")?;
     if brief.count == 0 {
         page.markup("no code")?;
@@ -146,7 +151,7 @@ pub(crate) fn write_brief<W: Write>(
     let mut listed = 0u16;
     for code in &brief.codes {
         if let Some(code) = code {
-            write_listed(page, view, listed == 0, *code)?;
+            write_listed(page, view, listed == 0, code)?;
             listed = listed.saturating_add(1);
         }
     }
@@ -161,13 +166,13 @@ fn write_listed<W: Write>(
     page: &mut Page<W>,
     view: &View<'_>,
     is_first: bool,
-    code: Dtc,
+    code: &BriefCode,
 ) -> Result<(), PageFault> {
     if !is_first {
         page.markup(", ")?;
     }
-    write_numbers(page, code)?;
-    write_text(page, view, " ", code)?;
+    write_numbers(page, code.spn, code.fmi)?;
+    write_text(page, view, " ", code.spn, code.fmi)?;
     Ok(())
 }
 

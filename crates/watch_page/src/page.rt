@@ -77,9 +77,9 @@ fn write_extent<W: Write>(page: &mut Page<W>, view: &View<'_>) -> Result<(), Pag
 
 fn write_buses<W: Write>(page: &mut Page<W>, view: &View<'_>) -> Result<(), PageFault> {
     for (place, bus) in view.buses.iter().enumerate() {
-        if let Some(name) = bus.name {
+        if let Some(name) = &bus.bus {
             page.markup(if place == 0 { ", bus " } else { ", " })?;
-            page.short_text(name, MOST)?;
+            page.short_text(name.as_str(), MOST)?;
         }
     }
     Ok(())

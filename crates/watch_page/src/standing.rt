@@ -3,6 +3,7 @@ use crate::message_words::{LAMPS, is_on};
 use crate::view::{View, places_of, sender_at, who_of};
 use bus_watch::{Run, Watch};
 use dm_messages::Kind;
+use name_field::Name;
 use picture::{Holding, Sender, Severity, Unit};
 
 /// How many units of each order are listed.
@@ -66,13 +67,13 @@ impl Standing {
         let Some(bus) = view.buses.get(number) else {
             return Ok(());
         };
-        for place in 0..places_of(bus.watch) {
-            if let Some(sender) = sender_at(bus.watch, place) {
+        for place in 0..places_of(&bus.watch) {
+            if let Some(sender) = sender_at(&bus.watch, place) {
                 let unit = Unit {
                     bus: number.min(usize::from(u16::MAX)) as u16,
                     sender,
                 };
-                self.add(view, bus.watch, &unit)?;
+                self.add(view, &bus.watch, &unit)?;
             }
         }
         Ok(())
@@ -128,7 +129,7 @@ pub(crate) fn presence_of(view: &View<'_>, watch: &Watch, unit: &Unit) -> Presen
     let Sender::Named(name) = unit.sender else {
         return Presence::On;
     };
-    if let Some(row) = watch.row(name) {
+    if let Some(row) = watch.row(Name::from_number(name)) {
         if row.address.is_some() {
             return Presence::On;
         }

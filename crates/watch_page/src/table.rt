@@ -10,6 +10,7 @@ use crate::view::{View, who_of};
 use bus_watch::{Run, Watch, Who};
 use clock_words::Fraction;
 use dm_messages::Kind;
+use name_field::Name;
 use page_text::Page;
 use picture::{Holding, Sender, Unit};
 use std::io::Write;
@@ -124,7 +125,7 @@ fn write_address<W: Write>(
 
 fn address_of(watch: &Watch, unit: &Unit) -> Option<u8> {
     match unit.sender {
-        Sender::Named(name) => match watch.row(name) {
+        Sender::Named(name) => match watch.row(Name::from_number(name)) {
             Some(row) => row.address,
             None => None,
         },
@@ -204,7 +205,7 @@ fn write_code<W: Write>(
     page.markup(" FMI ")?;
     page.number(u64::from(code.fmi()))?;
     page.markup("</b> <span class=\"text\">")?;
-    if !write_text(page, view, "", code)? {
+    if !write_text(page, view, "", code.spn(), code.fmi())? {
         page.markup("<span class=\"quiet\">no text</span>")?;
     }
     page.markup("</span> <span class=\"quiet\">")?;
@@ -249,8 +250,8 @@ fn write_listed<W: Write>(
         if place > 0 {
             page.markup(", ")?;
         }
-        write_numbers(page, *code)?;
-        write_text(page, view, " ", *code)?;
+        write_numbers(page, code.spn(), code.fmi())?;
+        write_text(page, view, " ", code.spn(), code.fmi())?;
     }
     if codes.len() > CODES {
         page.markup(" and more")?;

@@ -1,17 +1,10 @@
-use bus_watch::{Watch, Who};
+use bus_watch::{BusWatch, Watch, Who};
 use clock_words::Clock;
 use code_texts::Texts;
+use name_field::Name;
 use picture::{Picture, Sender, Unit};
 use std::alloc::Global;
 use unit_words::UnitTexts;
-
-/// A bus that was watched.
-#[derive(Clone, Copy)]
-pub struct BusView<'a> {
-    /// What it is called, where lines tell.
-    pub name: Option<&'a str>,
-    pub watch: &'a Watch,
-}
 
 /// What a page is written of.
 #[derive(Clone, Copy)]
@@ -21,7 +14,7 @@ pub struct View<'a> {
     pub title: &'a str,
     pub picture: &'a Picture,
     /// The buses, in the order of the numbers that units have.
-    pub buses: &'a [BusView<'a>],
+    pub buses: &'a [BusWatch],
     pub units: &'a UnitTexts,
     pub texts: &'a Texts,
     /// How times are told.
@@ -32,7 +25,7 @@ impl<'a> View<'a> {
     /// The watch of a unit's bus, and whom it has there.
     pub(crate) fn watched(&self, unit: &Unit) -> Option<(&'a Watch, Who)> {
         let bus = self.buses.get(usize::from(unit.bus))?;
-        Some((bus.watch, who_of(&unit.sender)))
+        Some((&bus.watch, who_of(&unit.sender)))
     }
 
     /// How many frames were missed on all buses.
@@ -43,21 +36,12 @@ impl<'a> View<'a> {
         }
         missed
     }
-
-    /// How many units there are on all buses.
-    pub(crate) fn unit_places(&self) -> usize {
-        let mut places = 0usize;
-        for bus in self.buses {
-            places = places.saturating_add(places_of(bus.watch));
-        }
-        places
-    }
 }
 
 /// Whom a watch has there.
 pub(crate) fn who_of(sender: &Sender) -> Who {
     match *sender {
-        Sender::Named(name) => Who::Named(name),
+        Sender::Named(name) => Who::Named(Name::from_number(name)),
         Sender::Unclaimed { address, gaps } => Who::Unclaimed { address, gaps },
     }
 }
@@ -73,7 +57,7 @@ pub(crate) fn sender_at(watch: &Watch, place: usize) -> Option<Sender> {
     let names = watch.names();
     if place < names {
         return match watch.name_at(place) {
-            Some(name) => Some(Sender::Named(name)),
+            Some(name) => Some(Sender::Named(name.number())),
             None => None,
         };
     }

@@ -38,20 +38,20 @@ drawn_joined told [] behind one other both j h =
 drawn_joined told (span ∷ before) behind one other both j h = (h.0, h.1, h.2, h.3, drawn_joined h.1 before behind one other both j h.4)
 
 -- one that is told is drawn as it is
-drawn_alone : (span : Span) → span.told < 2 ^ 64 → IsDrawnAs (span ∷ []) span
-drawn_alone span l = record {
+drawn_alone : (span : Span) → IsDrawnAs (span ∷ []) span
+drawn_alone span = record {
   alone = λ is. refl;
   begins = (span, [], refl, refl);
   ends = ([], span, refl, refl);
-  counted = omega (arith, l);
+  counted = omega arith;
   worst = omega arith
 }
 
 -- one more is told
-pub drawn_more : (told drawn : List Span) (span : Span) → span.told < 2 ^ 64 → AreDrawnAs told drawn → AreDrawnAs (told ++ span ∷ []) (drawn ++ span ∷ [])
-drawn_more told [] span l h = (span ∷ [], [], ap (λ ts. ts ++ span ∷ []) h, drawn_alone span l, refl)
-drawn_more told (one ∷ drawn) span l h =
-    (h.0, h.1 ++ span ∷ [], ap (λ ts. ts ++ span ∷ []) h.2 ∙ append_assoc h.0 h.1 (span ∷ []), h.3, drawn_more h.1 drawn span l h.4)
+pub drawn_more : (told drawn : List Span) (span : Span) → AreDrawnAs told drawn → AreDrawnAs (told ++ span ∷ []) (drawn ++ span ∷ [])
+drawn_more told [] span h = (span ∷ [], [], ap (λ ts. ts ++ span ∷ []) h, drawn_alone span, refl)
+drawn_more told (one ∷ drawn) span h =
+    (h.0, h.1 ++ span ∷ [], ap (λ ts. ts ++ span ∷ []) h.2 ∙ append_assoc h.0 h.1 (span ∷ []), h.3, drawn_more h.1 drawn span h.4)
 
 -- no more are drawn than were told
 no_more : (told drawn : List Span) → AreDrawnAs told drawn → length drawn ≤ length told
@@ -61,17 +61,17 @@ no_more told (one ∷ drawn) h =
     omega (arith, no_more h.1 drawn h.4, some h.0 here.1 here.0 here.2, ap length h.2, length-append h.0 h.1)
 
 -- one more is told, and there is room for it
-pub kept_more : (told : List Span) (old new : TrackValue) (span : Span) → span.told < 2 ^ 64 → new.most ≡ old.most → new.spans ≡ old.spans ++ span ∷ [] → Keeps told old
+pub kept_more : (told : List Span) (old new : TrackValue) (span : Span) → new.most ≡ old.most → new.spans ≡ old.spans ++ span ∷ [] → Keeps told old
     → Keeps (told ++ span ∷ []) new
-kept_more told old new span l m e h = record {
+kept_more told old new span m e h = record {
   exact = λ within. e ∙ ap (λ ts. ts ++ span ∷ []) (h.exact (omega (arith, within, m, length-append told (span ∷ []))));
-  drawn = rw e (drawn_more told old.spans span l h.drawn)
+  drawn = rw e (drawn_more told old.spans span h.drawn)
 }
 
 -- one more is told, and neighbours were joined for it
-pub kept_thinned : (told between : List Span) (old new : TrackValue) (span : Span) → span.told < 2 ^ 64 → new.most ≡ old.most → old.most ≤ length old.spans
+pub kept_thinned : (told between : List Span) (old new : TrackValue) (span : Span) → new.most ≡ old.most → old.most ≤ length old.spans
     → AreDrawnAs told between → new.spans ≡ between ++ span ∷ [] → Keeps told old → Keeps (told ++ span ∷ []) new
-kept_thinned told between old new span l m full d e h = record {
+kept_thinned told between old new span m full d e h = record {
   exact = λ within. absurd (omega (arith, within, m, full, length-append told (span ∷ []), no_more told old.spans h.drawn));
-  drawn = rw e (drawn_more told between span l d)
+  drawn = rw e (drawn_more told between span d)
 }

@@ -34,13 +34,13 @@ abbrev pub told_in : List Span → ℕ
 told_in [] = 0
 told_in (s ∷ ss) = s.told + told_in ss
 
--- one that is told is drawn as it is; several are drawn as one that begins with the first, ends with the last, and says how many they were and
--- how bad the worst is
+-- one that is told is drawn as it is; several are drawn as one that begins with the first, ends with the last, and says how many they were, up to
+-- the greatest 64-bit number, and how bad the worst is
 pub record IsDrawnAs (told : List Span) (drawn : Span) : Type 0 where
   pub alone : length told ≡ 1 → told ≡ drawn ∷ []
   pub begins : (first : Span) × (rest : List Span) × (told ≡ first ∷ rest) × (drawn.from ≡ first.from)
   pub ends : (rest : List Span) × (last : Span) × (told ≡ rest ++ last ∷ []) × (drawn.to ≡ last.to)
-  pub counted : drawn.told ≡ min (told_in told) (2 ^ 64 - 1)
+  pub counted : min drawn.told (2 ^ 64 - 1) ≡ min (told_in told) (2 ^ 64 - 1)
   pub worst : rank_of drawn ≡ worst_rank told
 
 -- spans are drawn as others: each of these for some neighbours, all in their order

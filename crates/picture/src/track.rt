@@ -62,26 +62,22 @@ impl Track {
     }
 
     /// Takes a span that there is room for.
-    #[tactic(auto, using(crate::proofs::Joining::kept_more))]
     fn add_whole(&mut self, span: &Span) -> Result<(), AllocError>
         requires { length self.old.spans < self.old.most }
         ensures same_bound { self.new.most ≡ self.old.most }
         ensures kept { OnOk result ((told : List ASpan) → Keeps told self.old → Keeps (told ++ span.now ∷ []) self.new) }
         ensures err { OnErr result ((told : List ASpan) → Keeps told self.old → AreDrawnAs told self.new.spans) }
     {
-        let _told = span.told;
         put(&mut self.spans, span)
     }
 
     /// Makes room, and takes a span.
-    #[tactic(auto, using(crate::proofs::Joining::kept_thinned))]
     fn add_thinned(&mut self, span: &Span) -> Result<(), AllocError>
         requires { self.old.most ≤ length self.old.spans }
         ensures same_bound { self.new.most ≡ self.old.most }
         ensures kept { OnOk result ((told : List ASpan) → Keeps told self.old → Keeps (told ++ span.now ∷ []) self.new) }
         ensures err { OnErr result ((told : List ASpan) → Keeps told self.old → AreDrawnAs told self.new.spans) }
     {
-        let _told = span.told;
         self.thin();
         put(&mut self.spans, span)
     }

@@ -471,13 +471,13 @@ class Watch:
         return row | self.bus_object() | ({} if isinstance(who, Unclaimed) else unit_keys(who))
 
     @staticmethod
-    def report_object(watches, counts):
+    def report_object(watches, counts, options):
         buses = [watch.bus_object() | {"missed": watch.heard.missed, "unread": watch.heard.unread} for watch in watches]
         return dumped({"event": "report", "rows": [watch.row_object(who) for watch in watches for who in watch.rows()],
                        "missed": sum(bus["missed"] for bus in buses), "unread": sum(bus["unread"] for bus in buses),
                        "lines": {key: counts[key] for key in COUNTS}, "not_attributed": counts["not_attributed"],
                        "not_sent": sum(watch.heard.not_sent for watch in watches)}
-                      | ({"buses": buses} if any(watch.name for watch in watches) else {})) + "\n"
+                      | ({"buses": buses} if options.each else {})) + "\n"
 
     @staticmethod
     def report_rows(watches, options):
@@ -580,5 +580,5 @@ def watched(lines, options):
     watches, counts = buses.watches(), buses.all_counts()
     text = "".join(buses.told[0]) + Watch.report_text(watches, counts)
     status = 3 if counts["bad"] or unread else 0
-    report = {"text": text, "json": "".join(buses.told[1]) + Watch.report_object(watches, counts), "csv": Watch.report_rows(watches, options)}
+    report = {"text": text, "json": "".join(buses.told[1]) + Watch.report_object(watches, counts, options), "csv": Watch.report_rows(watches, options)}
     return report, "".join(errors), status

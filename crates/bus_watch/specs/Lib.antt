@@ -5,3 +5,4 @@ pub mod Tellings
 pub mod WatchValue
 pub mod Told
 pub mod AsOverheard
+pub mod Hearing

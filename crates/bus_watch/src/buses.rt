@@ -1,10 +1,14 @@
+ghost use Rattle.std.specs.Prelude.{◌≡◌, IfOk, OnErr, true, false};
+ghost use Rattle.bus_watch.specs.Hearing as hearing;
+
 use crate::counts::Counts;
 use crate::watch::{Settings, Watch};
 use candump_line::Line;
 use std::alloc::{AllocError, Global};
+use std::marker::Model;
 
 /// How many buses are watched beside each other at most. The lines of further ones are counted as those of other buses.
-const MOST_BUSES: usize = 16;
+pub const MOST_BUSES: usize = 16;
 
 /// Which buses are watched.
 #[derive(Clone, Copy, Debug, PartialEq, Eq)]
@@ -50,6 +54,15 @@ pub struct Buses {
     counts: Counts,
 }
 
+/// Seen as whether each bus is watched, and the watches.
+impl Model for Buses {
+    ghost use Rattle.bus_watch.specs.Hearing.{BusesValue};
+
+    ghost Value = { BusesValue };
+
+    ghost view = { λ b. record { each = b.each; watches = b.watches.items } };
+}
+
 impl Buses {
     /// The buses that are shown, of which nothing was read.
     ///
@@ -80,14 +93,25 @@ impl Buses {
         alloc: Global,
         followed: Option<&str>,
         bus: Option<String>,
-    ) -> Result<(), AllocError> {
+    ) -> Result<(), AllocError>
+        ensures err { OnErr result (self.new ≡ self.old) }
+    {
         let watch = Watch::new(alloc, self.settings, followed)?;
         self.watches.push(BusWatch { bus, watch })?;
         Ok(())
     }
 
+    /// Whether each bus is watched, so that what is told of one has to say which.
+    pub fn are_each(&self) -> bool
+        ensures { result ≡ self.now.each }
+    {
+        self.each
+    }
+
     /// The watches, in the order in which their buses were first named.
-    pub fn watches(&self) -> &[BusWatch] {
+    pub fn watches(&self) -> &[BusWatch]
+        ensures { result.now ≡ self.now.watches }
+    {
         self.watches.as_slice()
     }
 
@@ -109,7 +133,11 @@ impl Buses {
     ///
     /// # Errors
     /// Memory was refused. The watches are as they were.
-    pub fn hearers(&mut self, alloc: Global, line: &Line<'_>) -> Result<Hearers, AllocError> {
+    pub fn hearers(&mut self, alloc: Global, line: &Line<'_>) -> Result<Hearers, AllocError>
+        ensures one { self.old.each ≡ false → IfOk result (λ h. h ≡ Hearers.One 0) }
+        ensures each { self.old.each ≡ true → IfOk result (λ h. h ≡ hearing.hearers_by self.old.watches line.now) }
+        ensures err { OnErr result (self.new ≡ self.old) }
+    {
         if !self.each {
             return Ok(Hearers::One(0));
         }
@@ -119,7 +147,10 @@ impl Buses {
     }
 
     /// Which watches a line is for, where each bus is watched.
-    fn hearers_of(&mut self, alloc: Global, line: &Line<'_>) -> Result<Hearers, AllocError> {
+    fn hearers_of(&mut self, alloc: Global, line: &Line<'_>) -> Result<Hearers, AllocError>
+        ensures who { IfOk result (λ h. h ≡ hearing.hearers_by self.old.watches line.now) }
+        ensures err { OnErr result (self.new ≡ self.old) }
+    {
         match line {
             Line::Frame { bus: Some(bus), .. }
             | Line::Overflow { bus: Some(bus), .. }
@@ -131,8 +162,11 @@ impl Buses {
     }
 
     /// The watch of a bus, which begins where it has none.
-    fn hearer_of(&mut self, alloc: Global, bus: &str) -> Result<Hearers, AllocError> {
-        if let Some(place) = self.place_of(bus) {
+    fn hearer_of(&mut self, alloc: Global, bus: &str) -> Result<Hearers, AllocError>
+        ensures who { IfOk result (λ h. h ≡ hearing.hearer_of bus.entry.now self.old.watches) }
+        ensures err { OnErr result (self.new ≡ self.old) }
+    {
+        if let Some(place) = place_of(self.watches.as_slice(), bus) {
             return Ok(Hearers::One(place));
         }
         let place = self.watches.len();
@@ -145,22 +179,29 @@ impl Buses {
     }
 
     /// The watch of a bus of which frames were dropped; none where nothing was read of it.
-    fn hearer_of_drops(&self, bus: &str) -> Hearers {
-        match self.place_of(bus) {
+    fn hearer_of_drops(&self, bus: &str) -> Hearers
+        ensures { result ≡ hearing.hearer_of_drops bus.now self.entry.now.watches }
+    {
+        match place_of(self.watches.as_slice(), bus) {
             Some(place) => Hearers::One(place),
             None => Hearers::Nobody,
         }
     }
+}
 
-    /// The place of the watch of a bus.
-    fn place_of(&self, bus: &str) -> Option<usize> {
-        for (place, one) in self.watches.iter().enumerate() {
-            if let Some(name) = &one.bus
-                && name.as_str() == bus
-            {
-                return Some(place);
-            }
-        }
-        None
+/// The place of the watch of a bus.
+fn place_of(watches: &[BusWatch], bus: &str) -> Option<usize>
+    ensures { result ≡ hearing.place_of bus.now watches.now }
+{
+    watches.iter().position(|one| is_of(one, bus))
+}
+
+/// Whether a watch is of the bus of this name.
+fn is_of(one: &BusWatch, bus: &str) -> bool
+    ensures { result ≡ hearing.is_of bus.now one.now }
+{
+    match &one.bus {
+        Some(name) => name.as_str() == bus,
+        None => false,
     }
 }

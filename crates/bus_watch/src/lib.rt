@@ -21,7 +21,7 @@ mod unit_runs;
 mod unowned;
 mod watch;
 
-pub use buses::{BusShown, BusWatch, Buses, Hearers};
+pub use buses::{BusShown, BusWatch, Buses, Hearers, MOST_BUSES};
 pub use change::{Change, Changes};
 pub use counts::Counts;
 pub use laws::shown_lists_are_what_was_overheard;

@@ -48,7 +48,7 @@ pub(crate) fn command<'a>(alloc: Global) -> Result<Command<'a>, AllocError>
         CommandOption {
             name: "bus",
             value: "BUS",
-            help: "The bus to watch, or all of them; the first in the input where none is given",
+            help: "The bus to watch; all: each of them; the first in the input where none is given",
             given: Given::Once,
         },
         CommandOption {

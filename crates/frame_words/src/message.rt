@@ -1,7 +1,11 @@
+ghost use Rattle.std.specs.Prelude.{◌≡◌, IfErr, IfOk, Some};
+ghost use Rattle.dm_messages.specs.Refusals.{refusal};
+ghost use Rattle.dm_messages.specs.View.{decoding};
+
 use crate::audience::Audience;
 use crate::group::{AddressWords, ByteWords, ControlWords, GroupWords, UnreadWords, group_name};
 use can_frame::{Frame, Pgn};
-use dm_messages::{Kind, Shown, read};
+use dm_messages::{Kind, ReadError, Shown, read};
 use dm_words::{CodeWords, LampBytes, LampWords};
 use name_field::{Name, NameFields};
 use parameter_group::ParameterGroup;
@@ -12,6 +16,9 @@ use std::io::Write;
 use transport::Control;
 
 /// Writes what a frame says: the name of its group, and what it tells.
+///
+/// # Errors
+/// What the writer answered first. `OutOfMemory`: memory was refused for the codes of a diagnostic message.
 pub fn write_message<W: Write>(
     writer: &mut W,
     alloc: Global,
@@ -35,6 +42,9 @@ pub fn write_message<W: Write>(
 }
 
 /// Writes what the payload of a group says: that of a diagnostic message in words, of any other its name and its bytes.
+///
+/// # Errors
+/// As of `write_message`.
 pub fn write_payload<W: Write>(
     writer: &mut W,
     alloc: Global,
@@ -119,12 +129,26 @@ fn write_diagnostic<W: Write>(
     audience: Audience,
 ) -> io::Result<()> {
     let word = kind_word(kind);
-    match read(alloc, bytes) {
+    match read_payload(alloc, bytes)? {
         Ok(shown) => write_shown(writer, word, &shown, audience),
         Err(error) => {
             let reason = UnreadWords(error);
             write!(writer, "{word}: cannot be read: {reason}")
         }
+    }
+}
+
+/// What the payload of a diagnostic message shows, or why it cannot be read.
+///
+/// # Errors
+/// Memory was refused. That says nothing of the payload, so it is no reason why that cannot be read.
+fn read_payload(alloc: Global, bytes: &[u8]) -> io::Result<Result<Shown, ReadError>>
+    ensures shown { IfOk result (λ told. IfOk told (λ shown. decoding bytes.now ≡ Some shown)) }
+    ensures unread { IfOk result (λ told. IfErr told (λ error. refusal bytes.now ≡ Some error)) }
+{
+    match read(alloc, bytes) {
+        Err(ReadError::OutOfMemory) => Err(io::Error::from(io::ErrorKind::OutOfMemory)),
+        told => Ok(told),
     }
 }
 

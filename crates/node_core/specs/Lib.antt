@@ -10,3 +10,4 @@ pub mod Beginning
 pub mod Refusals
 pub mod Pieces
 pub mod HalfCommands
+pub mod GivingUp

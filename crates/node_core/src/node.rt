@@ -20,6 +20,7 @@ use unit_trait::Unit;
 mod asked;
 mod claims;
 mod commands;
+mod giving_up;
 mod sessions;
 mod settling;
 

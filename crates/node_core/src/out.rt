@@ -87,9 +87,10 @@ impl Outs {
         }
     }
 
-    /// Takes the first piece, which has at least one frame.
+    /// Takes the piece, which has at least one frame; none is left.
     pub fn take_piece(&mut self) -> Option<Piece>
         ensures pieces { MatchOption result (self.old ≡ []) (λ p. self.old ≡ outs_of p ++ self.new) }
+        ensures whole { IfSome result (λ p. (self.old ≡ outs_of p) × (self.new ≡ [])) }
         ensures some { IfSome result (λ p. 0 < length (outs_of p)) }
         ensures none { IfNone result (self.new ≡ []) }
     {

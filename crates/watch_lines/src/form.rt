@@ -3,7 +3,7 @@ use crate::rows::report_rows;
 use crate::run::Options;
 use crate::text;
 use crate::kept::Kept;
-use bus_watch::{BusShown, BusWatch, Buses, Change, Changes};
+use bus_watch::{BusWatch, Buses, Change, Changes};
 use candump_line::Time;
 use clock_words::Clock;
 use log_lines::LogFault;
@@ -85,7 +85,7 @@ pub(crate) fn write_report<W: Write>(
             write_object(writer, object)
         }
         Form::Csv => {
-            let rows = report_rows(alloc, buses, options.bus == BusShown::Each)?;
+            let rows = report_rows(alloc, buses)?;
             match writer.write_all(rows.as_slice()) {
                 Ok(()) => Ok(()),
                 Err(_) => Err(LogFault::Write),

@@ -247,7 +247,9 @@ pub(crate) fn report_object(
     put_rows(&mut json, alloc, buses, options)?;
     put_heard(&mut json, buses.watches())?;
     put_counts(&mut json, buses.counts())?;
-    put_buses(&mut json, buses.watches())?;
+    if buses.are_each() {
+        put_buses(&mut json, buses.watches())?;
+    }
     json.end_object()?;
     Ok(json.into_inner())
 }
@@ -293,11 +295,8 @@ fn put_heard(json: &mut Writer, watches: &[BusWatch]) -> Result<(), AllocError> 
     put_number(json, "unread", unread)
 }
 
-/// The same of each bus, where each is watched.
+/// The same of each bus.
 fn put_buses(json: &mut Writer, watches: &[BusWatch]) -> Result<(), AllocError> {
-    if !watches.iter().any(|one| one.bus.is_some()) {
-        return Ok(());
-    }
     begin_list(json, "buses")?;
     for one in watches {
         json.begin_object()?;

@@ -29,13 +29,9 @@ type Rows = Writer<Vec<u8>>;
 
 /// The report: a row for each code of each run of equal entries, one without a code for a run without codes, and one
 /// without a kind for a unit without entries. Where each bus is watched, the bus is the last value.
-pub(crate) fn report_rows(
-    alloc: Global,
-    buses: &Buses,
-    names_bus: bool,
-) -> Result<Vec<u8>, AllocError> {
+pub(crate) fn report_rows(alloc: Global, buses: &Buses) -> Result<Vec<u8>, AllocError> {
     let mut rows = Writer::from_writer(Vec::new(alloc));
-    let bus_header = if names_bus { Some("bus") } else { None };
+    let bus_header = if buses.are_each() { Some("bus") } else { None };
     put_row(&mut rows, &HEADER, bus_header)?;
     for one in buses.watches() {
         put_bus(&mut rows, alloc, one)?;

@@ -128,7 +128,7 @@ impl Node {
     }
 
     /// Whether a session about this group is open with this address.
-    fn is_open_with(&self, source: u8, pgn: Pgn) -> bool
+    pub(super) fn is_open_with(&self, source: u8, pgn: Pgn) -> bool
         ensures { result ≡ is_open_with self.now.session source pgn }
     {
         match &self.session {

@@ -1,0 +1,5 @@
+pub mod Lanes
+pub mod Sources
+pub mod Timing
+pub mod Lent
+pub mod Queues

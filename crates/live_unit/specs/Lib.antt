@@ -1,0 +1,4 @@
+pub mod Refusals
+pub mod Queue
+pub mod Times
+pub mod Steps

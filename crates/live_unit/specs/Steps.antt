@@ -1,0 +1,106 @@
+-- What one call changes of a unit that takes part in a bus.
+use Rattle.std.specs.Prelude.{ℕ, ◌≡◌, ◌⊎◌, ◌≤◌, ◌<◌, ◌&&◌, Bool, true, false, not, is_some, if◌then◌else◌, Option, Some, None, slice_get}
+use Rattle.can_frame.specs.FrameValue.{FrameValue}
+use Rattle.can_frame.specs.declared.address.TheConstants.{GLOBAL_ADDRESS}
+use Rattle.transport.specs.declared.control.Control.{Control}
+use Rattle.transport.specs.declared.control.Control.TheVariants.{Rts, Cts}
+use Rattle.parameter_group.specs.Group.{Group, Request, ConnectionManagement, group_of}
+use Rattle.address_claim.specs.Frames.{claim_source}
+use Rattle.fault_memory.specs.Memory.{MemoryValue}
+use Rattle.dm_messages.specs.View.{payload_of, pgn_of_kind}
+use Rattle.dm_messages.specs.declared.kind.Kind.{Kind}
+use Rattle.dm_messages.specs.declared.kind.Kind.TheVariants.{Dm1}
+use Rattle.node_core.specs.NodeValue.{NodeValue, is_open}
+use Rattle.node_core.specs.Deed.{EndsSession, after_deed, parts_begun}
+use Rattle.node_core.specs.GivingUp.{given_up}
+use Rattle.node_core.specs.Reaction.{Reacts}
+use Rattle.node_core.specs.declared.heard.Answer.{Answer}
+use Rattle.node_core.specs.declared.heard.Heard.{Heard}
+use Rattle.node_core.specs.declared.out.Out.{Out}
+use Rattle.live_unit.specs.declared.clock.Clock.{Clock}
+use Rattle.live_unit.specs.declared.clock.Settings.{Settings}
+use Rattle.live_unit.specs.declared.clock.TheConstants.{DM1_PERIOD}
+use Rattle.live_unit.specs.declared.queue.Lane.{Lane}
+use Rattle.live_unit.specs.declared.queue.TheConstants.{MOST_PUT}
+use Rattle.live_unit.specs.declared.unit.Act.{Act}
+use Rattle.live_unit.specs.declared.unit.Act.TheVariants as act
+use Rattle.live_unit.specs.Queue.{HasRoom, QueueValue, Takes, lane_of, putting, queued}
+use Rattle.live_unit.specs.Times.{clock_written, has_to_tell, is_dm1_due, is_left_alone, lane_due, later}
+
+-- a unit: what it keeps of the bus, its fault memory, and what waits to be written
+pub record Standing : Type 0 where
+  pub node : NodeValue
+  pub memory : MemoryValue
+  pub queue : QueueValue
+
+abbrev pub standing : NodeValue → MemoryValue → QueueValue → Standing
+standing node memory queue = record { node = node; memory = memory; queue = queue }
+
+-- a frame was heard: the answer, the node and the memory are what is owed; what is withdrawn and put for it is withdrawn and put
+pub record Hears (f : FrameValue) (answer : Answer) (u u' : Standing) : Type 0 where
+  pub heard : Heard
+  pub answer_is : heard.answer ≡ answer
+  pub reacts : Reacts f u.node u.memory heard u'.node u'.memory
+  pub queue : u'.queue ≡ queued heard (claim_source u'.node.claimer.held) u.queue
+
+-- it held an address, and holds none
+abbrev pub has_lost : Option ℕ → Option ℕ → Bool
+has_lost before after = is_some before && not (is_some after)
+
+-- a request, a request to send and a clear to send may put something beside what waits; whatever else puts something withdraws all
+abbrev pub control_needs_room : Control → Bool
+control_needs_room (Rts size packets most pgn) = true
+control_needs_room (Cts granted next pgn) = true
+control_needs_room _ = false
+
+abbrev pub needs_room : Group → Bool
+needs_room (Request pgn destination source) = true
+needs_room (ConnectionManagement source destination control) = control_needs_room control
+needs_room _ = false
+
+-- a frame is not heard for want of room
+abbrev pub LacksRoomFor : FrameValue → QueueValue → Type 0
+LacksRoomFor f q = (MOST_PUT ≤ q.put) ⊎ ((needs_room (group_of f) ≡ true) × (¬ HasRoom q))
+
+-- a unit that can put something
+abbrev pub CanPut : QueueValue → Type 0
+CanPut q = (q.put < MOST_PUT) × HasRoom q
+
+-- a message of the memory to all began, from the address held
+pub record BeginsToAll (kind : Kind) (u u' : Standing) : Type 0 where
+  pub source : ℕ
+  pub held : u.node.claimer.held ≡ Some source
+  pub free : is_open u.node.session kind ≡ false
+  pub node : u'.node ≡ u.node
+  pub memory : u'.memory ≡ u.memory
+  pub queue : u'.queue ≡ putting true (parts_begun (payload_of kind u.memory) (pgn_of_kind kind) source GLOBAL_ADDRESS) u.queue
+
+-- its session was given up
+pub record GivesUp (u u' : Standing) : Type 0 where
+  pub node : u'.node ≡ after_deed u.node EndsSession
+  pub memory : u'.memory ≡ u.memory
+  pub queue : u'.queue ≡ queued (given_up u.node) (claim_source u.node.claimer.held) u.queue
+
+-- a DM1 of its own puts off the next
+abbrev pub clock_told : ℕ → MemoryValue → Clock → Clock
+clock_told now m c = record c { dm1_from = later now DM1_PERIOD; told = has_to_tell m }
+
+-- what a unit did of its own accord: nothing where nothing is due; it gave up its session, which was left alone; or it began a DM1,
+-- which was due
+abbrev pub Acts : Settings → ℕ → Bool → Act → Standing → Clock → Standing → Clock → Type 0
+Acts s now willing act.Nothing u c u' c' =
+    (CanPut u.queue → (is_left_alone c now u.node u.queue ≡ false) × (is_dm1_due s c now willing u.node u.memory u.queue ≡ false))
+    × (u' ≡ u) × (c' ≡ c)
+Acts s now willing act.GaveUp u c u' c' = (is_left_alone c now u.node u.queue ≡ true) × GivesUp u u' × (c' ≡ c)
+Acts s now willing act.Began u c u' c' =
+    (is_dm1_due s c now willing u.node u.memory u.queue ≡ true) × BeginsToAll Dm1 u u' × (c' ≡ clock_told now u.memory c)
+
+-- a frame goes: the first of the lane that is due
+pub record Writes (s : Settings) (now : ℕ) (f : FrameValue) (q : QueueValue) (c : Clock) (q' : QueueValue) (c' : Clock) : Type 0 where
+  pub lane : Lane
+  pub due : lane_due c now q ≡ Some lane
+  pub out : Out
+  pub first : slice_get (lane_of lane q).outs 0 ≡ Some out
+  pub frame : f ≡ out.frame
+  pub taken : Takes lane q q'
+  pub clock : c' ≡ clock_written s lane now c

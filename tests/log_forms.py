@@ -246,6 +246,8 @@ def words_of_watch(chance):
         words += ["--silence", str(chance.choice([0, 0, 1, 100, 749, 751, 3_600_000]))]
     if chance.random() < 0.3:
         words += ["--unclaimed", chance.choice(["hide", "hide", "show"])]
+    if chance.random() < 0.1:
+        words += ["--keep", str(chance.choice([1, 1, 2, 5, 20]))]
     return words + ["--strict"] * (chance.random() < 0.12)
 
 

@@ -178,6 +178,7 @@ a row without entries
 a time that jumped back
 a time that is as before
 an event before any time
+more is heard than is kept at once
 a count that is not available
 """
 

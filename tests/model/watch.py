@@ -17,6 +17,7 @@ from .words import ANSWERS, NOT_AVAILABLE, address_words, dumped, group_words, l
 PROGRAM_LISTENS = True  # whether a listener stands behind `watch`, or still a station
 
 T1 = 750  # milliseconds: how late a packet may come (J1939-21, 5.10.3)
+MOST_PAIRS = 4096  # between which messages may be half joined
 CONTEST = 250_000  # microseconds: as long as a unit waits for a contender before it sends (J1939-81, 4.4)
 WORD_OF = {kind: word for word, kind in KINDS.items()}
 FOREIGN = {SHORT: "short", REMOTE: "remote", FD: "fd", ERROR: "error"}
@@ -36,6 +37,7 @@ class Options:
         self.bus, self.address, self.name, self.assumed = None, None if listens else 248, 1, []
         self.each, self.unit, self.first, self.last = False, None, None, None
         self.skips_bad, self.silence, self.strict = False, T1, False
+        self.most, self.keep = 65_536, 1_000_000  # of how many NAMEs is known at once, and how many runs are kept
 
     @staticmethod
     def of(words, listens=False):
@@ -65,6 +67,10 @@ class Options:
                 given.skips_bad = value == "skip"
             elif word == "--silence":
                 given.silence = int(value)
+            elif word == "--most":
+                given.most = int(value)
+            elif word == "--keep":
+                given.keep = int(value)
             elif word == "--unclaimed":
                 given.lists_unclaimed = listens and value == "show"
             else:
@@ -173,10 +179,36 @@ class Watch:
         self.runs = {}  # of each NAME and kind
         self.taken_over = {}  # of each address the time at which a claim last took it from another NAME
         self.told_unowned = set()
+        self.kept, self.pairs, self.missed_before, self.unread_before = 0, set(), 0, 0
         self.text, self.objects = told or ([], [])
         for address, name in options.assumed:
             reach("an owner is assumed")
             self.tell(0, self.heard.take(claim(name, address)))
+
+    # ---- how much is kept
+
+    def is_full(self):
+        """There are as many NAMEs with rows, units with lists, runs, or pairs between which messages were announced as may be. A run of several codes
+        counts as many."""
+        units = max(len(self.heard.names()), len({who for who, _ in self.runs}))
+        return units >= self.options.most or self.kept >= self.options.keep or len(self.pairs) >= MOST_PAIRS
+
+    def start_over(self):
+        """All that was heard is let go, but for who holds which address; and what is contested."""
+        reach("more is heard than is kept at once")
+        owners = [(name, self.heard.address_of(name)) for name in self.heard.names()]
+        self.missed_before, self.unread_before = self.missed(), self.unread()
+        self.heard, self.packets, self.now = self.options.heard(), Packets(self.options.silence), None
+        self.runs, self.told_unowned, self.kept, self.pairs = {}, set(), 0, set()
+        for name, address in owners:
+            if address is not None:
+                self.heard.take(claim(name, address))
+
+    def missed(self):
+        return self.missed_before + self.heard.missed
+
+    def unread(self):
+        return self.unread_before + self.heard.unread
 
     # ---- what a line is to the bus
 
@@ -241,6 +273,8 @@ class Watch:
             self.counts["withheld"] += 1
             return
         self.tell(number, self.heard.take(frame))
+        if control_of(frame) in (BAM, RTS):
+            self.pairs.add((frame.source, frame.dest))
         if is_followed and control_of(frame) == (BAM if frame.dest == GLOBAL else RTS):
             self.packets.announce(self.heard.message_of(frame.source, frame.dest), time)
 
@@ -335,6 +369,7 @@ class Watch:
     def tell_unread(self, number, count, who, kind, source, to, why, how):
         """A listener says whose it is."""
         self.counts["not_attributed"] += isinstance(who, Unclaimed) and how == "single frame"
+        count += self.unread_before
         if not self.options.listens:
             self.write(number, "unread", f"unread {count}", count=count)
             return
@@ -351,7 +386,7 @@ class Watch:
         if self.taken_over[source] is None:
             reach("an entry of an address that was taken over by a line without a time")
             return False
-        contested = self.now - self.taken_over[source] < CONTEST
+        contested = self.now is not None and self.now - self.taken_over[source] < CONTEST
         reach("a contested entry" if contested else "an entry of an address that was taken over 250 ms ago or more")
         return contested
 
@@ -379,6 +414,7 @@ class Watch:
             runs[-1].last = self.now
             return
         runs.append(Run(shown, to, contested, self.now))
+        self.kept += max(1, len(shown[1]))
         word, listens = WORD_OF[kind], self.options.listens
         unit = self.who_words(who) + (":" if isinstance(who, Unclaimed) else "")
         self.write(number, word, f"{word} {unit} {runs[-1].words(listens)}", **self.who_object(who), **runs[-1].object(listens),
@@ -453,7 +489,7 @@ class Watch:
 
     def rows_text(self):
         rows = [f"{self.place()}{self.text_row(who)}\n" for who in self.rows()]
-        return "".join(rows) + f"{self.place()}missed {self.heard.missed} unread {self.heard.unread}\n"
+        return "".join(rows) + f"{self.place()}missed {self.missed()} unread {self.unread()}\n"
 
     @staticmethod
     def report_text(watches, counts):
@@ -471,19 +507,22 @@ class Watch:
         return row | self.bus_object() | ({} if isinstance(who, Unclaimed) else unit_keys(who))
 
     @staticmethod
-    def report_object(watches, counts, options):
-        buses = [watch.bus_object() | {"missed": watch.heard.missed, "unread": watch.heard.unread} for watch in watches]
-        return dumped({"event": "report", "rows": [watch.row_object(who) for watch in watches for who in watch.rows()],
+    def report_object(watches, counts, options, head={"event": "report"}):
+        buses = [watch.bus_object() | {"missed": watch.missed(), "unread": watch.unread()} for watch in watches]
+        return dumped(head | {"rows": [watch.row_object(who) for watch in watches for who in watch.rows()],
                        "missed": sum(bus["missed"] for bus in buses), "unread": sum(bus["unread"] for bus in buses),
                        "lines": {key: counts[key] for key in COUNTS}, "not_attributed": counts["not_attributed"],
                        "not_sent": sum(watch.heard.not_sent for watch in watches)}
                       | ({"buses": buses} if options.each else {})) + "\n"
 
     @staticmethod
+    def header(options):
+        return HEADER + (",to" if options.listens else "") + (",bus" if options.each else "") + "\n"
+
+    @staticmethod
     def report_rows(watches, options):
         """A row for each code of each run; without a code one for the run, and without entries one for the NAME."""
-        header = HEADER + (",to" if options.listens else "") + (",bus" if options.each else "") + "\n"
-        return header + "".join(",".join([*row, *([watch.csv_bus()] if options.each else [])]) + "\n"
+        return "".join(",".join([*row, *([watch.csv_bus()] if options.each else [])]) + "\n"
                                 for watch in watches for who in watch.rows() for row in watch.rows_of(who))
 
     def csv_bus(self):
@@ -520,7 +559,7 @@ class Buses:
     MOST = 16
 
     def __init__(self, options):
-        self.options, self.told = options, ([], [])
+        self.options, self.told, self.rows = options, ([], []), []
         self.one = None if options.each else Watch(options, told=self.told)
         self.of = {}
         self.counts = dict.fromkeys(COUNTS, 0)
@@ -557,6 +596,21 @@ class Buses:
         self.counts[{"frame": "frame", "overflow": "error"}.get(line.kind) or FOREIGN[line.what]] += 1
         self.of[line.bus].hear(number, line)
 
+    def make_room(self, number):
+        """Before a line is heard: where a bus has as much as may be kept, all that was heard so far is reported, and each is begun anew. Tells what
+        is told of it the first time."""
+        if not any(watch.is_full() for watch in self.watches()):
+            return ""
+        watches, counts = self.watches(), self.all_counts()
+        self.told[0].append(f"over at line {number}, so far:\n" + Watch.report_text(watches, counts))
+        self.told[1].append(Watch.report_object(watches, counts, self.options, {"line": number, "event": "over"}))
+        self.rows.append(Watch.report_rows(watches, self.options))
+        for watch in watches:
+            watch.start_over()
+        return "" if len(self.rows) > 1 else (
+            f"line {number}: more than is kept at once, {self.options.most} NAMEs (--most) and {self.options.keep} runs (--keep): what was heard so far "
+            "is reported, and it is begun anew with the units that hold addresses\n")
+
     def all_counts(self):
         if self.one is not None:
             return self.one.counts
@@ -568,7 +622,7 @@ def watched(lines, options):
     buses, errors, bad, clock, unread = Buses(options), [], BadLines(), Clock(), ""
     for number, line in enumerate(lines, 1):
         heard, told = clock.heard(number, line)
-        errors += [bad.told(number, line), told]
+        errors += [bad.told(number, line), buses.make_room(number), told]
         buses.hear(number, heard)
         if line.kind == "bad" and options.strict:
             reach("a bad line ends a strict run")
@@ -579,6 +633,6 @@ def watched(lines, options):
     errors += [bad.rest(), unread]
     watches, counts = buses.watches(), buses.all_counts()
     text = "".join(buses.told[0]) + Watch.report_text(watches, counts)
-    status = 3 if counts["bad"] or unread else 0
-    report = {"text": text, "json": "".join(buses.told[1]) + Watch.report_object(watches, counts, options), "csv": Watch.report_rows(watches, options)}
+    status = 3 if counts["bad"] or unread or buses.rows else 0
+    report = {"text": text, "json": "".join(buses.told[1]) + Watch.report_object(watches, counts, options), "csv": Watch.header(options) + "".join(buses.rows) + Watch.report_rows(watches, options)}
     return report, "".join(errors), status

@@ -1,5 +1,6 @@
 pub mod Transfers
 pub mod Followed
+pub mod Over
 pub mod Runs
 pub mod Tellings
 pub mod WatchValue

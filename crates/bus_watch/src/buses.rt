@@ -87,7 +87,9 @@ impl Buses {
         Ok(buses)
     }
 
-    /// Begins to watch one more bus, the first that a line names where none is given; where each is watched, it has a name.
+    /// Begins to watch one more bus, the first that a line names where none is given; where each is watched, it has a name. (A watch has some
+    /// kilobytes, which stand on the stack of this call alone.)
+    #[inline(never)]
     fn open(
         &mut self,
         alloc: Global,

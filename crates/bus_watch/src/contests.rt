@@ -26,6 +26,13 @@ impl Contests {
         self.table = none();
     }
 
+    /// Goes on with the contests of another table.
+    pub(crate) fn go_on_with(&mut self, other: &Contests) {
+        for address in 0..256usize {
+            self.table[address] = other.table[address];
+        }
+    }
+
     /// Whether what comes from the address at this time is contested.
     pub(crate) fn is_contested(&self, address: u8, time: Option<Time>) -> bool {
         match (self.table[usize::from(address)], time) {

@@ -121,6 +121,13 @@ impl Lists {
         self.contests.forget();
     }
 
+    /// Goes on with the contests that other lists know.
+    pub(crate) fn keep_contests(&mut self, other: &Lists)
+        ensures { self.new ≡ self.old }
+    {
+        self.contests.go_on_with(&other.contests);
+    }
+
     /// What is shown.
     pub(crate) fn selection(&self) -> Selection
         ensures { result ≡ self.now.selection }

@@ -8,6 +8,7 @@ ghost use Rattle.station_table.specs.StandsFor.{row_heard_as};
 use crate::counts::Counts;
 use crate::lists::Lists;
 use crate::packets::Packets;
+use crate::pairs::Pairs;
 use crate::run::Run;
 use crate::selection::Selection;
 use crate::unowned::Unowned;
@@ -17,10 +18,14 @@ use listener::{Listener, Who};
 use name_field::Name;
 use station_table::Row;
 use std::alloc::{AllocError, Global};
+use self::over::Before;
 use std::marker::Model;
 
 mod changes;
+mod over;
 mod readings;
+
+pub use over::Limits;
 
 /// How a bus is watched.
 #[derive(Clone, Copy, Debug)]
@@ -43,6 +48,10 @@ pub struct Watch {
     packets: Packets,
     lists: Lists,
     counts: Counts,
+    /// How many runs were begun; one of several codes counts as many.
+    kept: u64,
+    pairs: Pairs,
+    before: Before,
 }
 
 /// Seen as its listener, the lists that it fills, what it knows of the bus that it follows, and what it told once.
@@ -82,6 +91,7 @@ impl Watch {
         };
         let listener = Listener::new(alloc)?;
         let packets = Packets::new(alloc)?;
+        let pairs = Pairs::new(alloc)?;
         Ok(Watch {
             settings,
             listener,
@@ -90,6 +100,9 @@ impl Watch {
             packets,
             lists: Lists::new(alloc, settings.selection),
             counts: Counts::default(),
+            kept: 0,
+            pairs,
+            before: Before::default(),
         })
     }
 

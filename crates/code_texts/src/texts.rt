@@ -199,16 +199,25 @@ impl fmt::Display for TextWords<'_> {
 }
 
 impl Texts {
+    /// The text of a code: its own, or that of its SPN, or of its FMI; and that of its FMI, where both have one.
+    pub fn parts_of(&self, spn: u32, fmi: u8) -> Option<(&str, Option<&str>)> {
+        if let Some(text) = self.codes.get(key(spn, u32::from(fmi))) {
+            return Some((text, None));
+        }
+        match (self.spns.get(u64::from(spn)), self.fmis.get(u64::from(fmi))) {
+            (Some(text), more) => Some((text, more)),
+            (None, Some(text)) => Some((text, None)),
+            (None, None) => None,
+        }
+    }
+
     /// Writes the text of a code in parentheses, where it has one.
     fn write_text<W: fmt::Write>(&self, f: &mut fmt::Formatter<W>, code: Dtc) -> fmt::Result {
         let (spn, fmi) = (code.spn(), code.fmi());
-        if let Some(text) = self.codes.get(key(spn, u32::from(fmi))) {
-            return write!(f, " ({spn}/{fmi}: {text})");
-        }
-        match (self.spns.get(u64::from(spn)), self.fmis.get(u64::from(fmi))) {
-            (Some(text), Some(more)) => write!(f, " ({spn}/{fmi}: {text}, {more})"),
-            (Some(text), None) | (None, Some(text)) => write!(f, " ({spn}/{fmi}: {text})"),
-            (None, None) => Ok(()),
+        match self.parts_of(spn, fmi) {
+            Some((text, Some(more))) => write!(f, " ({spn}/{fmi}: {text}, {more})"),
+            Some((text, None)) => write!(f, " ({spn}/{fmi}: {text})"),
+            None => Ok(()),
         }
     }
 }

@@ -35,8 +35,11 @@ Limits: on a real bus the last claim is not always the holder (an entry within 2
 marked contested); frames lost without notice can mix two messages (a packet after --silence is withheld); where no claim of an address
 was seen, its entries stand under the address alone (have the units claim: cansend can0 18EAFFFE#00EE00; or --assume).
 
+Nothing of a bus lets memory grow without end: where as much is kept as --most and --keep allow, which no honest day comes near, all that was
+heard so far is reported, and it is begun anew with the units that hold addresses. A run of several codes counts as many.
+
 Status: 0 done; 1 a read or write failed, or memory ran out; 2 the command line; 3 done, but lines were bad,
-or none was a frame (what it looks like is told, and what converts it)."
+or none was a frame (what it looks like is told, and what converts it), or more was heard than is kept at once."
 }
 
 /// The subcommand `watch`.
@@ -85,6 +88,18 @@ pub(crate) fn command<'a>(alloc: Global) -> Result<Command<'a>, AllocError>
             name: "unclaimed",
             value: "show|hide",
             help: "Whether entries of addresses that nobody claimed are shown [show]",
+            given: Given::Once,
+        },
+        CommandOption {
+            name: "most",
+            value: "NAMES",
+            help: "Of how many NAMEs and unclaimed addresses is known at once, 256 to 1000000 [65536]",
+            given: Given::Once,
+        },
+        CommandOption {
+            name: "keep",
+            value: "RUNS",
+            help: "How many runs of equal entries are kept at once, 1 to 100000000 [1000000]",
             given: Given::Once,
         },
         CommandOption {
@@ -160,6 +175,8 @@ pub(crate) fn words<'a>(found: &ArgMatches<'a>) -> WatchWords<'a> {
         bad: found.get_str("bad"),
         silence: found.get_str("silence"),
         unclaimed: found.get_str("unclaimed"),
+        most: found.get_str("most"),
+        keep: found.get_str("keep"),
         unit: found.get_str("unit"),
         from: found.get_str("from"),
         to: found.get_str("to"),

@@ -53,6 +53,10 @@ pub struct WatchWords<'a> {
     pub silence: Option<&'a str>,
     /// Whether messages of addresses that nobody has claimed are shown: `show` or `hide`.
     pub unclaimed: Option<&'a str>,
+    /// Of how many NAMEs is known at once.
+    pub most: Option<&'a str>,
+    /// How many runs of equal entries are kept at once.
+    pub keep: Option<&'a str>,
     /// The unit of which alone it is told: a NAME, or an address.
     pub unit: Option<&'a str>,
     /// The first time of which it is told.

@@ -1,9 +1,7 @@
 //! Which word of a command line is none that its option takes. What an option takes is read by the call that its words are read by.
 
 use crate::decoding::form_of as decode_form_of;
-use crate::watch_words::{
-    address_of, bus_of, clock_of, form_of, name_of, shows_unclaimed, silence_of, skips_bad, time_of, unit_of,
-};
+use crate::watch_words::{address_of, bus_of, clock_of, form_of, keep_of, most_of, name_of, shows_unclaimed, silence_of, skips_bad, time_of, unit_of};
 use command_words::{DecodeWords, Slip, WatchWords};
 use program_io::{Failure, Fault};
 use std::alloc::Global;
@@ -116,15 +114,29 @@ fn slip_of_lines<'a>(words: &WatchWords<'a>) -> Option<Slip<'a>> {
         ))
 }
 
-/// The slip in what is said of the unit and of the times of which it is told, and of how times are told.
+/// The slip in what is said of the unit and of the times of which it is told, of how much is kept, and of how times are told.
 fn slip_of_filters<'a>(words: &WatchWords<'a>) -> Option<Slip<'a>> {
     let is_unit = unit_of(words.unit).is_ok();
     let is_from = time_of(words.from).is_ok();
     let is_to = time_of(words.to).is_ok();
+    let is_most = most_of(words.most).is_ok();
+    let is_keep = keep_of(words.keep).is_ok();
     let is_clock = clock_of(words.clock).is_ok();
     slip("unit <NAME|N>", words.unit, is_unit, A_UNIT)
         .or(slip("from <TIME>", words.from, is_from, A_TIME))
         .or(slip("to <TIME>", words.to, is_to, A_TIME))
+        .or(slip(
+            "most <NAMES>",
+            words.most,
+            is_most,
+            "a number from 256 to 1000000",
+        ))
+        .or(slip(
+            "keep <RUNS>",
+            words.keep,
+            is_keep,
+            "a number from 1 to 100000000",
+        ))
         .or(slip(
             "clock <utc|log|relative>",
             words.clock,

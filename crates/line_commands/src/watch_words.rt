@@ -3,7 +3,7 @@
 ghost use Rattle.std.specs.Prelude.{◌≤◌, IfOk};
 ghost use Rattle.can_frame.specs.declared.address.TheConstants.{GREATEST_ADDRESS};
 
-use bus_watch::{BusShown, Selection, Settings, UnitShown};
+use bus_watch::{BusShown, Limits, Selection, Settings, UnitShown};
 use can_frame::GREATEST_ADDRESS;
 use candump_line::Time;
 use crate::shop::ShopTexts;
@@ -20,6 +20,12 @@ const SILENCE: u64 = 750;
 /// The longest silence that can be asked for in milliseconds: an hour.
 const LONGEST_SILENCE: u64 = 3_600_000;
 
+/// Of how many NAMEs is known at once where that is not said: of far more than a bus has in a day.
+const MOST: u64 = 65_536;
+
+/// How many runs are kept at once where that is not said: as many as ten units have that tell another thing each second, a day long.
+const KEEP: u64 = 1_000_000;
+
 /// How the bus is watched, with these units that hold an address before the first line.
 pub(crate) fn options_of<'a>(
     words: &'a WatchWords<'_>,
@@ -30,6 +36,7 @@ pub(crate) fn options_of<'a>(
         settings: settings_of(words)?,
         bus: bus_of(words.bus)?,
         assumed,
+        limits: limits_of(words)?,
         form: form_of(words.format)?,
         title: path_of(words.file).unwrap_or("standard input"),
         units: &shop.units,
@@ -55,6 +62,38 @@ fn settings_of(words: &WatchWords<'_>) -> Result<Settings, Fault> {
         skips_bad: skips_bad(words.bad)?,
         silence: silence_of(words.silence)?,
     })
+}
+
+/// How much is kept at once.
+fn limits_of(words: &WatchWords<'_>) -> Result<Limits, Fault> {
+    Ok(Limits {
+        most: most_of(words.most)? as usize,
+        keep: keep_of(words.keep)?,
+    })
+}
+
+/// Of how many NAMEs is known at once: more than can hold an address.
+pub(crate) fn most_of(word: Option<&str>) -> Result<u64, Fault> {
+    match word {
+        Some(word) => number_of(word, 256, 1_000_000),
+        None => Ok(MOST),
+    }
+}
+
+/// How many runs are kept at once.
+pub(crate) fn keep_of(word: Option<&str>) -> Result<u64, Fault> {
+    match word {
+        Some(word) => number_of(word, 1, 100_000_000),
+        None => Ok(KEEP),
+    }
+}
+
+/// A number from the first to the last.
+fn number_of(word: &str, first: u64, last: u64) -> Result<u64, Fault> {
+    match word.parse::<u64>() {
+        Ok(number) if number >= first && number <= last => Ok(number),
+        Ok(_) | Err(_) => Err(Fault::CommandLine),
+    }
 }
 
 /// The address whose sessions are shown; none: everybody's.

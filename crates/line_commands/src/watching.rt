@@ -1,4 +1,4 @@
-use crate::ending::outcome;
+use crate::ending::outcome_of;
 use crate::shop::{ShopFiles, ShopTexts};
 use crate::watch_words::{assumed_of, options_of};
 use command_words::WatchWords;
@@ -14,7 +14,8 @@ use watch_lines::Assumed;
 /// - `CommandLine`: the words are none of it; nothing is read.
 /// - `Texts`: a file of the shop holds no texts, and it is told at which line; nothing is read.
 /// - `Read`, `Write`, `Memory`: what happened; what was found until then is reported.
-/// - `BadLines`: all is reported, but some lines were bad; each is told on `errors`, where that takes it.
+/// - `BadLines`: all is reported, but some lines were bad, each of which is told on `errors`, where that takes it; or more was heard than is kept
+///   at once, and it was begun anew.
 pub fn watch<R: Read + Drop, W: Write + Drop, E: Write + Drop>(
     alloc: Global,
     words: WatchWords<'_>,
@@ -47,5 +48,6 @@ fn watch_with<R: Read + Drop, W: Write + Drop, E: Write + Drop>(
     let Ok(mut errors) = LineWriter::new(alloc, Messages::new(errors)) else {
         return Err(Fault::Memory);
     };
-    outcome(watch_lines::watch(alloc, reader, writer, &mut errors, &options))
+    let watched = watch_lines::watch(alloc, reader, writer, &mut errors, &options);
+    outcome_of(watched)
 }

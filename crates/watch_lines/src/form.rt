@@ -1,15 +1,16 @@
-use crate::objects::{change_object, report_object};
-use crate::rows::report_rows;
+use crate::kept::Kept;
+use crate::objects::change_object;
+use crate::report_object;
+use crate::rows;
 use crate::run::Options;
 use crate::text;
-use crate::kept::Kept;
-use bus_watch::{BusWatch, Buses, Change, Changes};
+use bus_watch::{BusShown, BusWatch, Buses, Change, Changes};
 use candump_line::Time;
 use clock_words::Clock;
 use log_lines::LogFault;
 use std::alloc::Global;
 use std::io::Write;
-use watch_page::{PageFault, View, write_page};
+use watch_page::{PageFault, View};
 
 /// How changes and the report are written.
 #[derive(Clone, Copy, Debug, PartialEq, Eq)]
@@ -22,6 +23,15 @@ pub enum Form {
     Csv,
     /// No changes; the report is a page of HTML.
     Html,
+}
+
+/// What a report is of.
+#[derive(Clone, Copy, Debug, PartialEq, Eq)]
+pub(crate) enum Part {
+    /// What was heard before the line of this number, at which it is begun anew; whether it is the first such part.
+    Before { line: u64, is_first: bool },
+    /// What was heard to the end; whether that is all.
+    Last { is_all: bool },
 }
 
 /// Writes what is told of the line of this number: of a NAME that lost its address before the change that took it.
@@ -68,35 +78,28 @@ fn write_change<W: Write>(
 }
 
 /// Writes the report: a line for each NAME, the counts of what was heard, and those of the lines.
+///
+/// It is written as it goes, and no memory is asked for.
 pub(crate) fn write_report<W: Write>(
     writer: &mut W,
-    alloc: Global,
     buses: &Buses,
-    kept: &mut Kept,
     options: &Options<'_>,
+    part: Part,
 ) -> Result<(), LogFault> {
-    match options.form {
-        Form::Text => match text::write_report(writer, buses, options) {
-            Ok(()) => Ok(()),
-            Err(_) => Err(LogFault::Write),
-        },
-        Form::Json => {
-            let object = report_object(alloc, buses, options)?;
-            write_object(writer, object)
-        }
-        Form::Csv => {
-            let rows = report_rows(alloc, buses)?;
-            match writer.write_all(rows.as_slice()) {
-                Ok(()) => Ok(()),
-                Err(_) => Err(LogFault::Write),
-            }
-        }
-        Form::Html => write_html(writer, alloc, buses, kept, options),
+    let written = match options.form {
+        Form::Text => text::write_report(writer, buses, options, part),
+        Form::Json => report_object::write_object(writer, buses, options, part),
+        Form::Csv => rows::write_rows(writer, buses, options.bus == BusShown::Each, part),
+        Form::Html => Ok(()),
+    };
+    match written {
+        Ok(()) => Ok(()),
+        Err(_) => Err(LogFault::Write),
     }
 }
 
 /// Writes the report as a page.
-fn write_html<W: Write>(
+pub(crate) fn write_page<W: Write>(
     writer: &mut W,
     alloc: Global,
     buses: &Buses,
@@ -115,8 +118,9 @@ fn write_html<W: Write>(
         units: options.units,
         texts: options.texts,
         clock: options.clock.unwrap_or(clock_for(picture.start())),
+        anew_at: kept.anew_at(),
     };
-    match write_page(writer, &view) {
+    match watch_page::write_page(writer, &view) {
         Ok(()) => Ok(()),
         Err(PageFault::Write) => Err(LogFault::Write),
         Err(PageFault::Memory) => Err(LogFault::Memory),

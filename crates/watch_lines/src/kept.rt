@@ -13,6 +13,7 @@ use std::alloc::{AllocError, Global};
 pub(crate) struct Kept {
     start: Option<Time>,
     picture: Option<Picture>,
+    anew_at: Option<u64>,
 }
 
 impl Kept {
@@ -28,6 +29,7 @@ impl Kept {
         Ok(Kept {
             start: None,
             picture,
+            anew_at: None,
         })
     }
 
@@ -80,6 +82,26 @@ impl Kept {
             None => None,
         };
         tell_change(picture, &one.watch, bus, change, lost_by)?;
+        Ok(())
+    }
+
+    /// The line before which the watches were last begun anew, where they were.
+    pub(crate) fn anew_at(&self) -> Option<u64> {
+        self.anew_at
+    }
+
+    /// Before the line of this number the watches are begun anew: how messages ended that they know of is kept.
+    ///
+    /// # Errors
+    /// Memory was refused.
+    pub(crate) fn begin_anew(&mut self, buses: &Buses, number: u64) -> Result<(), LogFault> {
+        self.anew_at = Some(number);
+        let Some(picture) = &mut self.picture else {
+            return Ok(());
+        };
+        for place in 0..picture.lanes().len() {
+            end_messages(picture, buses, place)?;
+        }
         Ok(())
     }
 

@@ -7,10 +7,12 @@ mod hearing;
 mod kept;
 mod lines;
 mod objects;
+mod over;
+mod report_object;
 mod rows;
 mod run;
 mod text;
 mod units;
 
 pub use form::Form;
-pub use run::{Assumed, Options, watch};
+pub use run::{Assumed, Options, Watched, watch};

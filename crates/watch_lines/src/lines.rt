@@ -1,6 +1,7 @@
 use crate::hearing::hear_line;
 use crate::kept::Kept;
-use crate::run::Options;
+use crate::over::Over;
+use crate::run::{Options, Watched};
 use bus_watch::Buses;
 use candump_line::read_line;
 use log_lines::{Clock, Ended, LogFault, Notices, next_line};
@@ -17,10 +18,16 @@ pub(crate) fn read_lines<R: Read + Drop, W: Write + Drop, E: Write>(
     buses: &mut Buses,
     kept: &mut Kept,
     options: &Options<'_>,
-) -> Ended {
+) -> Watched {
     let mut notices = Notices::new();
-    let end = hear_lines(alloc, reader, writer, errors, buses, kept, options, &mut notices);
-    notices.ended(errors, end)
+    let mut over = Over::new();
+    let end = hear_lines(
+        alloc, reader, writer, errors, buses, kept, options, &mut notices, &mut over,
+    );
+    Watched {
+        ended: notices.ended(errors, end),
+        is_anew: over.is_anew(),
+    }
 }
 
 /// Hears line by line. Tells whether the input came to its end.
@@ -33,6 +40,7 @@ fn hear_lines<R: Read + Drop, W: Write + Drop, E: Write>(
     kept: &mut Kept,
     options: &Options<'_>,
     notices: &mut Notices,
+    over: &mut Over,
 ) -> Result<bool, LogFault> {
     let mut line = Vec::new(alloc);
     let mut clock = Clock::new();
@@ -43,6 +51,7 @@ fn hear_lines<R: Read + Drop, W: Write + Drop, E: Write>(
         let text = line.as_slice();
         let said = read_line(text);
         let is_bad = notices.take(errors, number, text, &said)?;
+        over.make_room(alloc, writer, errors, buses, kept, options, number)?;
         match clock.counts(errors, number, text, &said) {
             Ok(true) => hear_line(alloc, writer, buses, kept, options, number, &said)?,
             Ok(false) => hear_line(alloc, writer, buses, kept, options, number, &said.untimed())?,

@@ -1,6 +1,6 @@
 use crate::run::Options;
-use crate::units::{KINDS, address_of, is_assumed_unit, kind_word, row_at, row_places};
-use bus_watch::{BusWatch, Buses, Change, Counts, Run, Watch, Who};
+use crate::units::{address_of, kind_word};
+use bus_watch::{BusWatch, Change, Run, Watch, Who};
 use can_frame::{GLOBAL_ADDRESS, Pgn};
 use candump_line::Time;
 use code_texts::Texts;
@@ -154,7 +154,7 @@ fn put_unread(
     to: u8,
     why: ReadError,
 ) -> Result<(), AllocError> {
-    put_counted(json, "unread", "count", watch.unread())?;
+    put_counted(json, "unread", "count", watch.unread_in_all())?;
     put_who(json, alloc, watch, who)?;
     put_text(json, "kind", kind_word(kind))?;
     put_destination(json, to)?;
@@ -232,161 +232,6 @@ fn begin_list(json: &mut Writer, key: &str) -> Result<(), AllocError> {
 fn put_flag(json: &mut Writer, key: &str, holds: bool) -> Result<(), AllocError> {
     json.key(key)?;
     json.boolean(holds)
-}
-
-/// The report: a row for each unit with its runs of entries, the counts of what was heard, and those of the lines.
-pub(crate) fn report_object(
-    alloc: Global,
-    buses: &Buses,
-    options: &Options<'_>,
-) -> Result<Vec<u8>, AllocError> {
-    let mut json = Writer::new(Vec::new(alloc));
-    json.begin_object()?;
-    json.key("event")?;
-    json.string("report")?;
-    put_rows(&mut json, alloc, buses, options)?;
-    put_heard(&mut json, buses.watches())?;
-    put_counts(&mut json, buses.counts())?;
-    if buses.are_each() {
-        put_buses(&mut json, buses.watches())?;
-    }
-    json.end_object()?;
-    Ok(json.into_inner())
-}
-
-/// A row for each unit.
-fn put_rows(
-    json: &mut Writer,
-    alloc: Global,
-    buses: &Buses,
-    options: &Options<'_>,
-) -> Result<(), AllocError> {
-    begin_list(json, "rows")?;
-    for one in buses.watches() {
-        put_bus_rows(json, alloc, one, options)?;
-    }
-    json.end_array()
-}
-
-/// A row for each unit of a bus.
-fn put_bus_rows(
-    json: &mut Writer,
-    alloc: Global,
-    one: &BusWatch,
-    options: &Options<'_>,
-) -> Result<(), AllocError> {
-    for place in 0..row_places(&one.watch) {
-        if let Some(who) = &row_at(&one.watch, place) {
-            put_row(json, alloc, one, options, who)?;
-        }
-    }
-    Ok(())
-}
-
-/// How many frames were missed, and how many messages could not be read, on all buses together.
-fn put_heard(json: &mut Writer, watches: &[BusWatch]) -> Result<(), AllocError> {
-    let mut missed = 0u64;
-    let mut unread = 0u64;
-    for one in watches {
-        missed = missed.saturating_add(one.watch.missed());
-        unread = unread.saturating_add(one.watch.unread());
-    }
-    put_number(json, "missed", missed)?;
-    put_number(json, "unread", unread)
-}
-
-/// The same of each bus.
-fn put_buses(json: &mut Writer, watches: &[BusWatch]) -> Result<(), AllocError> {
-    begin_list(json, "buses")?;
-    for one in watches {
-        json.begin_object()?;
-        put_bus(json, one)?;
-        put_number(json, "missed", one.watch.missed())?;
-        put_number(json, "unread", one.watch.unread())?;
-        json.end_object()?;
-    }
-    json.end_array()
-}
-
-fn put_row(
-    json: &mut Writer,
-    alloc: Global,
-    one: &BusWatch,
-    options: &Options<'_>,
-    who: &Who,
-) -> Result<(), AllocError> {
-    let watch = &one.watch;
-    json.begin_object()?;
-    put_who(json, alloc, watch, who)?;
-    if is_assumed_unit(options.assumed, who) {
-        put_flag(json, "assumed", true)?;
-    }
-    for kind in KINDS {
-        put_runs(json, alloc, options.texts, kind_word(kind), watch.runs(*who, kind))?;
-    }
-    put_bus(json, one)?;
-    if let Who::Named(name) = *who {
-        put_fields(json, options.units, name)?;
-    }
-    json.end_object()
-}
-
-/// The runs of a kind, each with its number of entries and the times of the first and the last.
-fn put_runs(
-    json: &mut Writer,
-    alloc: Global,
-    texts: &Texts,
-    word: &str,
-    runs: &[Run],
-) -> Result<(), AllocError> {
-    begin_list(json, word)?;
-    for run in runs {
-        put_run(json, alloc, texts, run)?;
-    }
-    json.end_array()
-}
-
-fn put_run(
-    json: &mut Writer,
-    alloc: Global,
-    texts: &Texts,
-    run: &Run,
-) -> Result<(), AllocError> {
-    json.begin_object()?;
-    put_number(json, "times", run.times)?;
-    put_time(json, alloc, "first", &run.first)?;
-    put_time(json, alloc, "last", &run.last)?;
-    put_shown(json, alloc, texts, run)?;
-    json.end_object()
-}
-
-fn put_counts(json: &mut Writer, counts: Counts) -> Result<(), AllocError> {
-    json.key("lines")?;
-    json.begin_object()?;
-    for (key, count) in counts_of_lines(counts) {
-        put_number(json, key, count)?;
-    }
-    json.end_object()?;
-    put_number(json, "not_attributed", counts.not_attributed)?;
-    // A listener sends nothing; the key stays for who reads it.
-    put_number(json, "not_sent", 0)
-}
-
-/// How many lines there were of each sort, each with its key.
-fn counts_of_lines(counts: Counts) -> [(&'static str, u64); 11] {
-    [
-        ("all", counts.lines),
-        ("frame", counts.frames),
-        ("bad", counts.bad),
-        ("short", counts.short),
-        ("remote", counts.remote),
-        ("fd", counts.fd),
-        ("error", counts.error),
-        ("other_bus", counts.other_bus),
-        ("drop", counts.drops),
-        ("note", counts.notes),
-        ("withheld", counts.withheld),
-    ]
 }
 
 fn put_name(json: &mut Writer, alloc: Global, name: Name) -> Result<(), AllocError> {

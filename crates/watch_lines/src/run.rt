@@ -1,11 +1,11 @@
 ghost use Rattle.std.specs.Prelude.{◌≤◌};
 ghost use Rattle.can_frame.specs.declared.address.TheConstants.{GREATEST_ADDRESS};
 
-use crate::form::{Form, write_report};
+use crate::form::{Form, Part, write_page, write_report};
 use crate::hearing::assume_owners;
 use crate::lines::read_lines;
 use crate::kept::Kept;
-use bus_watch::{BusShown, Buses, Settings};
+use bus_watch::{BusShown, Buses, Limits, Settings};
 use clock_words::Clock;
 use code_texts::Texts;
 use log_lines::{Ended, LogFault, ROOM};
@@ -32,6 +32,8 @@ pub struct Options<'a> {
     pub bus: BusShown<'a>,
     /// Who holds an address before the first line, on each bus.
     pub assumed: &'a [Assumed],
+    /// How much is kept at once.
+    pub limits: Limits,
     /// How changes and report are written.
     pub form: Form,
     /// What is read: a file's name, or words for it.
@@ -44,6 +46,24 @@ pub struct Options<'a> {
     pub clock: Option<Clock>,
     /// Whether the first bad line ends the run.
     pub strict: bool,
+}
+
+/// How a run ended that watched lines.
+#[derive(Clone, Copy, Debug)]
+pub struct Watched {
+    pub ended: Ended,
+    /// Whether it was begun anew, since as much was kept as may be.
+    pub is_anew: bool,
+}
+
+impl Watched {
+    /// It ended by this fault before any line.
+    fn failed(fault: LogFault) -> Watched {
+        Watched {
+            ended: Ended::failed(fault),
+            is_anew: false,
+        }
+    }
 }
 
 /// Whether a NAME was taken to hold an address before the first line.
@@ -67,12 +87,12 @@ pub fn watch<R: Read + Drop, W: Write + Drop, E: Write>(
     writer: W,
     errors: &mut E,
     options: &Options<'_>,
-) -> Ended {
+) -> Watched {
     let (Ok(mut reader), Ok(mut writer)) = (
         BufReader::with_capacity(alloc, ROOM, reader),
         BufWriter::with_capacity(alloc, ROOM, writer),
     ) else {
-        return Ended::failed(LogFault::Memory);
+        return Watched::failed(LogFault::Memory);
     };
     watch_from(alloc, &mut reader, &mut writer, errors, options)
 }
@@ -84,7 +104,7 @@ fn watch_from<R: Read + Drop, W: Write + Drop, E: Write>(
     writer: &mut BufWriter<W>,
     errors: &mut E,
     options: &Options<'_>,
-) -> Ended {
+) -> Watched {
     match (
         Buses::new(alloc, options.settings, options.bus),
         Kept::new(alloc, options.form),
@@ -92,7 +112,7 @@ fn watch_from<R: Read + Drop, W: Write + Drop, E: Write>(
         (Ok(mut buses), Ok(mut kept)) => {
             watch_with(alloc, reader, writer, errors, &mut buses, &mut kept, options)
         }
-        _ => Ended::failed(LogFault::Memory),
+        _ => Watched::failed(LogFault::Memory),
     }
 }
 
@@ -105,10 +125,10 @@ fn watch_with<R: Read + Drop, W: Write + Drop, E: Write>(
     buses: &mut Buses,
     kept: &mut Kept,
     options: &Options<'_>,
-) -> Ended {
+) -> Watched {
     match assume_owners(alloc, writer, buses, kept, 0, options) {
         Ok(()) => read_and_report(alloc, reader, writer, errors, buses, kept, options),
-        Err(fault) => Ended::failed(fault),
+        Err(fault) => Watched::failed(fault),
     }
 }
 
@@ -121,9 +141,12 @@ fn read_and_report<R: Read + Drop, W: Write + Drop, E: Write>(
     buses: &mut Buses,
     kept: &mut Kept,
     options: &Options<'_>,
-) -> Ended {
-    let ended = read_lines(alloc, reader, writer, errors, buses, kept, options);
-    reported(alloc, writer, buses, kept, options, ended)
+) -> Watched {
+    let watched = read_lines(alloc, reader, writer, errors, buses, kept, options);
+    Watched {
+        ended: reported(alloc, writer, buses, kept, options, watched),
+        is_anew: watched.is_anew,
+    }
 }
 
 /// Writes the report, but where writing has failed.
@@ -133,12 +156,13 @@ fn reported<W: Write>(
     buses: &Buses,
     kept: &mut Kept,
     options: &Options<'_>,
-    ended: Ended,
+    watched: Watched,
 ) -> Ended {
+    let Watched { ended, is_anew } = watched;
     if ended.fault == Some(LogFault::Write) {
         return ended;
     }
-    let fault = match written_out(alloc, writer, buses, kept, options) {
+    let fault = match written_out(alloc, writer, buses, kept, options, !is_anew) {
         Ok(()) => ended.fault,
         Err(fault) => Some(fault),
     };
@@ -152,8 +176,12 @@ fn written_out<W: Write>(
     buses: &Buses,
     kept: &mut Kept,
     options: &Options<'_>,
+    is_all: bool,
 ) -> Result<(), LogFault> {
-    write_report(writer, alloc, buses, kept, options)?;
+    match options.form {
+        Form::Html => write_page(writer, alloc, buses, kept, options)?,
+        _ => write_report(writer, buses, options, Part::Last { is_all })?,
+    }
     match writer.flush() {
         Ok(()) => Ok(()),
         Err(_) => Err(LogFault::Write),

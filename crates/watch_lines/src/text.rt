@@ -1,3 +1,4 @@
+use crate::form::Part;
 use crate::run::Options;
 use crate::units::{
     KINDS, NameWords, PlainWho, WhoWords, address_of, address_words, is_assumed_unit, kind_word,
@@ -120,7 +121,7 @@ fn write_unread<W: Write>(
     to: u8,
     why: ReadError,
 ) -> io::Result<()> {
-    let unread = watch.unread();
+    let unread = watch.unread_in_all();
     let word = kind_word(kind);
     let unit = WhoWords(*who, options.units);
     let why = UnreadWords(why);
@@ -185,7 +186,11 @@ pub fn write_report<W: Write>(
     writer: &mut W,
     buses: &Buses,
     options: &Options<'_>,
+    part: Part,
 ) -> io::Result<()> {
+    if let Part::Before { line, .. } = part {
+        writeln!(writer, "over at line {line}, so far:")?;
+    }
     for one in buses.watches() {
         write_bus(writer, one, options)?;
     }
@@ -201,8 +206,8 @@ fn write_bus<W: Write>(writer: &mut W, one: &BusWatch, options: &Options<'_>) ->
         }
     }
     write_bus_name(writer, one)?;
-    let missed = watch.missed();
-    let unread = watch.unread();
+    let missed = watch.missed_in_all();
+    let unread = watch.unread_in_all();
     writeln!(writer, "missed {missed} unread {unread}")
 }
 

@@ -90,7 +90,7 @@ fn write_note<W: Write>(page: &mut Page<W>, view: &View<'_>) -> Result<(), PageF
 Lamps and codes are those that were heard last, and not what holds at this moment. Messages that could not be read: ")?;
     let mut unread = 0u64;
     for bus in view.buses {
-        unread = unread.saturating_add(bus.watch.unread());
+        unread = unread.saturating_add(bus.watch.unread_in_all());
     }
     page.number(unread)?;
     page.markup(".</p>\n</main></body></html>\n")?;

@@ -139,7 +139,7 @@ pub(crate) fn presence_of(view: &View<'_>, watch: &Watch, unit: &Unit) -> Presen
             Holding::Unknown => Presence::Unknown,
             _ => Presence::Gone,
         },
-        None if watch.missed() > 0 => Presence::Unknown,
+        None if watch.missed_in_all() > 0 => Presence::Unknown,
         None => Presence::Gone,
     }
 }

@@ -29,6 +29,12 @@ pub(crate) fn write_table<W: Write>(
     view: &View<'_>,
     standing: &Standing,
 ) -> Result<(), PageFault> {
+    page.markup(TITLE)?;
+    if let Some(line) = view.anew_at {
+        page.markup("<p class=\"doubt\">More was told than is kept at once (--most, --keep): this table is of what came from line ")?;
+        page.number(line)?;
+        page.markup(" on.</p>\n")?;
+    }
     page.markup(HEAD)?;
     let mut written = 0u64;
     for order in 0..ALL_ORDERS {
@@ -49,8 +55,10 @@ pub(crate) fn write_table<W: Write>(
     Ok(())
 }
 
+const TITLE: &str = "<h2>Units, as they stood at the end</h2>\n";
+
 /// The head of the table. Its roles stay where a narrow page shows a row as a block.
-const HEAD: &str = "<h2>Units, as they stood at the end</h2>\n<table role=\"table\"><thead role=\"rowgroup\"><tr role=\"row\">\
+const HEAD: &str = "<table role=\"table\"><thead role=\"rowgroup\"><tr role=\"row\">\
 <th role=\"columnheader\">Unit</th><th role=\"columnheader\" class=\"num\">Address</th><th role=\"columnheader\">Lamps</th>\
 <th role=\"columnheader\">Faults</th><th role=\"columnheader\" class=\"num\">DM1</th><th role=\"columnheader\" class=\"num\">DM2</th>\
 <th role=\"columnheader\" class=\"num\">DM6</th></tr></thead><tbody role=\"rowgroup\">\n";

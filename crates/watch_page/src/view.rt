@@ -19,6 +19,8 @@ pub struct View<'a> {
     pub texts: &'a Texts,
     /// How times are told.
     pub clock: Clock,
+    /// The line before which the watches were last begun anew, since as much was kept as may be: they know of what came from there on.
+    pub anew_at: Option<u64>,
 }
 
 impl<'a> View<'a> {
@@ -32,7 +34,7 @@ impl<'a> View<'a> {
     pub(crate) fn missed(&self) -> u64 {
         let mut missed = 0u64;
         for bus in self.buses {
-            missed = missed.saturating_add(bus.watch.missed());
+            missed = missed.saturating_add(bus.watch.missed_in_all());
         }
         missed
     }

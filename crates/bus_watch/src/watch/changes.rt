@@ -78,6 +78,7 @@ impl Watch {
         let is_news = is_told && self.is_news(heard);
         self.unowned.follow(heard, is_told);
         self.note(heard, single);
+        self.count_run(heard);
         Changes::of(heard, self.lists.selection(), is_news)
     }
 
@@ -128,6 +129,21 @@ impl Watch {
                 self.count_entry(who);
             }
             _ => {}
+        }
+    }
+
+    /// Counts the run that the newest entry began, if it began one, and each further one of its codes.
+    fn count_run(&mut self, heard: &Overheard)
+        ensures { self.new ≡ self.old }
+    {
+        if let Overheard::Listed { who, kind, .. } = *heard
+            && self.lists.has_begun()
+        {
+            let codes = match self.lists.runs(who, kind).last() {
+                Some(run) => run.shown.codes.as_slice().len() as u64,
+                None => 0,
+            };
+            self.kept = self.kept.saturating_add(codes.max(1));
         }
     }
 

@@ -56,6 +56,22 @@ impl Watch {
         self.take(alloc, Reading::Frame(claim), None)
     }
 
+    /// Assumes it, and tells nothing of it.
+    pub(super) fn take_over(
+        &mut self,
+        alloc: Global,
+        name: Name,
+        address: u8,
+    ) -> Result<(), AllocError>
+        requires { address ≤ GREATEST_ADDRESS }
+        ensures { OnOk result ((b : Beginning) (ts : List Told) → StandsForAll b ts self.old → StandsForAll b (told.Assumed name address ∷ ts) self.new) }
+    {
+        match self.assume(alloc, name, address) {
+            Ok(_) => Ok(()),
+            Err(error) => Err(error),
+        }
+    }
+
     /// Has the listener take the reading that a line is, and tells what it changed.
     fn hear_line(&mut self, alloc: Global, line: &Line<'_>) -> Result<Changes, AllocError>
         ensures hears { OnOk result (HearsLine self.old self.new line.now) }
@@ -168,8 +184,23 @@ impl Watch {
     fn follow_group(&mut self, time: Option<Time>, group: &ParameterGroup<'_>)
         ensures { self.new ≡ record self.old { followed = followed.followed_with self.old.followed.silence time (group_said group.now) self.old.followed } }
     {
+        self.note_pair(group);
         if let Some(most) = self.settings.silence {
             self.follow_packets(time, most, group);
+        }
+    }
+
+    /// Takes note of between whom a message is announced.
+    fn note_pair(&mut self, group: &ParameterGroup<'_>)
+        ensures { self.new ≡ self.old }
+    {
+        if let ParameterGroup::ConnectionManagement {
+            source,
+            dest,
+            control: Control::Rts { .. } | Control::Bam { .. },
+        } = *group
+        {
+            self.pairs.add(source, dest);
         }
     }
 

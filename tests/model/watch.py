@@ -102,6 +102,11 @@ def unit_keys(name):
     return {"function": fields["function"], "instance": fields["function_instance"], "manufacturer": fields["manufacturer"], "identity": fields["identity"]}
 
 
+def unit_values(who):
+    """The same in a row of CSV, and the shop's texts for the unit and for the code, of which there are none."""
+    return [""] * 6 if isinstance(who, Unclaimed) else [*map(str, unit_keys(who).values()), "", ""]
+
+
 def field_words(name):
     """The same in words."""
     keys = unit_keys(name)
@@ -517,12 +522,12 @@ class Watch:
 
     @staticmethod
     def header(options):
-        return HEADER + (",to" if options.listens else "") + (",bus" if options.each else "") + "\n"
+        return HEADER + (",to" if options.listens else "") + (",bus" if options.each else "") + ",function,instance,manufacturer,identity,unit_text,code_text\n"
 
     @staticmethod
     def report_rows(watches, options):
         """A row for each code of each run; without a code one for the run, and without entries one for the NAME."""
-        return "".join(",".join([*row, *([watch.csv_bus()] if options.each else [])]) + "\n"
+        return "".join(",".join([*row, *([watch.csv_bus()] if options.each else []), *unit_values(who)]) + "\n"
                                 for watch in watches for who in watch.rows() for row in watch.rows_of(who))
 
     def csv_bus(self):

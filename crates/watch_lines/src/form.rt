@@ -4,7 +4,7 @@ use crate::report_object;
 use crate::rows;
 use crate::run::Options;
 use crate::text;
-use bus_watch::{BusShown, BusWatch, Buses, Change, Changes};
+use bus_watch::{BusWatch, Buses, Change, Changes};
 use candump_line::Time;
 use clock_words::Clock;
 use log_lines::LogFault;
@@ -89,7 +89,7 @@ pub(crate) fn write_report<W: Write>(
     let written = match options.form {
         Form::Text => text::write_report(writer, buses, options, part),
         Form::Json => report_object::write_object(writer, buses, options, part),
-        Form::Csv => rows::write_rows(writer, buses, options.bus == BusShown::Each, part),
+        Form::Csv => rows::write_rows(writer, buses, options, part),
         Form::Html => Ok(()),
     };
     match written {

@@ -1,8 +1,8 @@
 use crate::joining::Joining;
 use crate::objects::{joined_object, line_object};
-use code_texts::Texts;
 use can_frame::{Frame, Pgn};
 use candump_line::{Line, Time, read_line};
+use code_texts::Texts;
 use dm_messages::{Shown, read};
 use frame_words::{write_joined_words, write_line_words};
 use log_lines::{Ended, LogFault, Notices, ROOM, next_line};
@@ -207,8 +207,7 @@ fn write_unit_of<W: Write>(
     frame: &Frame,
 ) -> Result<(), LogFault> {
     let (ParameterGroup::AddressClaimed { name, .. } | ParameterGroup::CannotClaim { name }) =
-        ParameterGroup::read(frame)
-    else {
+        ParameterGroup::read(frame) else {
         return Ok(());
     };
     let Some(text) = units.text_of(name) else {

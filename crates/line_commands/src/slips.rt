@@ -1,7 +1,10 @@
 //! Which word of a command line is none that its option takes. What an option takes is read by the call that its words are read by.
 
 use crate::decoding::form_of as decode_form_of;
-use crate::watch_words::{address_of, bus_of, clock_of, form_of, keep_of, most_of, name_of, shows_unclaimed, silence_of, skips_bad, time_of, unit_of};
+use crate::watch_words::{
+    address_of, bus_of, clock_of, form_of, keep_of, most_of, name_of, shows_unclaimed, silence_of,
+    skips_bad, time_of, unit_of,
+};
 use command_words::{DecodeWords, Slip, WatchWords};
 use program_io::{Failure, Fault};
 use std::alloc::Global;

@@ -3,10 +3,10 @@
 ghost use Rattle.std.specs.Prelude.{◌≤◌, IfOk};
 ghost use Rattle.can_frame.specs.declared.address.TheConstants.{GREATEST_ADDRESS};
 
+use crate::shop::ShopTexts;
 use bus_watch::{BusShown, Limits, Selection, Settings, UnitShown};
 use can_frame::GREATEST_ADDRESS;
 use candump_line::Time;
-use crate::shop::ShopTexts;
 use clock_words::Clock;
 use command_words::{WatchWords, is_bus, path_of};
 use name_field::Name;

@@ -27,7 +27,15 @@ pub fn watch<R: Read + Drop, W: Write + Drop, E: Write + Drop>(
 ) -> Result<(), Failure> {
     let assumed = assumed_of(alloc, assumed)?;
     let shop = ShopTexts::read(alloc, files)?;
-    watch_with(alloc, &words, assumed.as_slice(), &shop, reader, writer, errors)?;
+    watch_with(
+        alloc,
+        &words,
+        assumed.as_slice(),
+        &shop,
+        reader,
+        writer,
+        errors,
+    )?;
     Ok(())
 }
 

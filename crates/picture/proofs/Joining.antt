@@ -27,7 +27,7 @@ drawn_as_both xs ys one other both d e j =
       begins = (b.0, b.1 ++ ys, ap (λ l. l ++ ys) b.2, j.0 ∙ b.3);
       ends = (xs ++ z.0, z.1, ap (λ l. xs ++ l) z.2 ∙ sym (append_assoc xs z.0 (z.1 ∷ [])), j.1 ∙ z.3);
       counted = omega (arith, j.2, d.counted, e.counted, told_in-append xs ys);
-      worst = omega (arith, j.3, d.worst, e.worst, worst_rank-append xs ys)
+      worst = omega (arith, j.3, d.worst, e.worst, worst_rank-append xs ys);
     }
 
 -- two neighbours are drawn as one
@@ -44,7 +44,7 @@ drawn_alone span = record {
   begins = (span, [], refl, refl);
   ends = ([], span, refl, refl);
   counted = omega arith;
-  worst = omega arith
+  worst = omega arith;
 }
 
 -- one more is told
@@ -65,7 +65,7 @@ pub kept_more : (told : List Span) (old new : TrackValue) (span : Span) → new.
     → Keeps (told ++ span ∷ []) new
 kept_more told old new span m e h = record {
   exact = λ within. e ∙ ap (λ ts. ts ++ span ∷ []) (h.exact (omega (arith, within, m, length-append told (span ∷ []))));
-  drawn = rw e (drawn_more told old.spans span h.drawn)
+  drawn = rw e (drawn_more told old.spans span h.drawn);
 }
 
 -- one more is told, and neighbours were joined for it
@@ -73,5 +73,5 @@ pub kept_thinned : (told between : List Span) (old new : TrackValue) (span : Spa
     → AreDrawnAs told between → new.spans ≡ between ++ span ∷ [] → Keeps told old → Keeps (told ++ span ∷ []) new
 kept_thinned told between old new span m full d e h = record {
   exact = λ within. absurd (omega (arith, within, m, full, length-append told (span ∷ []), no_more told old.spans h.drawn));
-  drawn = rw e (drawn_more told between span d)
+  drawn = rw e (drawn_more told between span d);
 }

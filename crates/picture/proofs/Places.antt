@@ -31,8 +31,8 @@ joined_there first spans last place one next both b l is next_is j h told t =
     let now = rw (ahead spans last place one next b l is next_is) at (h told t) in
     let done = drawn_joined told (take last spans) (drop (place + 1) spans) one next both j now in
     let same : there (set spans last both) last (place + 1) ≡ take last spans ++ both ∷ drop (place + 1) spans =
-        rw (take_more_set spans last both (omega (arith, b, l)), drop-set-lt (place + 1) spans last both (omega (arith, b)))
-        (append_assoc (take last spans) (both ∷ []) (drop (place + 1) spans)) in
+    rw (take_more_set spans last both (omega (arith, b, l)), drop-set-lt (place + 1) spans last both (omega (arith, b)))
+    (append_assoc (take last spans) (both ∷ []) (drop (place + 1) spans)) in
     rw same done
 
 -- a neighbour stands for itself
@@ -42,8 +42,8 @@ passed_there first spans last place next b l next_is h told t =
     let end : drop place spans ≡ next ∷ drop (place + 1) spans = drop_more spans place next l ∙ ap (λ s. s ∷ drop (place + 1) spans) (sym next_is) in
     let now = rw end at (h told t) in
     let same : there (set spans (last + 1) next) (last + 1) (place + 1) ≡ take (last + 1) spans ++ next ∷ drop (place + 1) spans =
-        rw (take_more_set spans (last + 1) next (omega (arith, b, l)), drop-set-lt (place + 1) spans (last + 1) next (omega (arith, b)))
-        (append_assoc (take (last + 1) spans) (next ∷ []) (drop (place + 1) spans)) in
+    rw (take_more_set spans (last + 1) next (omega (arith, b, l)), drop-set-lt (place + 1) spans (last + 1) next (omega (arith, b)))
+    (append_assoc (take (last + 1) spans) (next ∷ []) (drop (place + 1) spans)) in
     rw same now
 
 -- all were looked at

@@ -12,7 +12,7 @@ nothing_happened h f l n = record {
   parts = rw (f, l) refl;
   counted = rw n refl;
   early = λ _. l;
-  full = λ some. absurd (omega (arith, some))
+  full = λ some. absurd (omega (arith, some));
 }
 
 no_front : (xs ys : List Happened) → xs ++ ys ≡ [] → xs ≡ []
@@ -34,7 +34,7 @@ among_the_first told old new change room f l n h =
       parts = ap (λ ts. ts ++ change ∷ []) (h.parts ∙ ap (λ ts. old.first ++ ts) none ∙ append-nil old.first) ∙ sym f ∙ sym (append-nil new.first) ∙ ap (λ ts. new.first ++ ts) (sym no_last);
       counted = omega (arith, n, h.counted, no_between);
       early = λ _. no_last;
-      full = λ some. absurd (omega (arith, some))
+      full = λ some. absurd (omega (arith, some));
     }
 
 -- what a push makes of a list of at most n: it has room, or its first element goes
@@ -78,7 +78,7 @@ room_at_the_end told old new change lost late bound pushed no_one f l n h =
           ∙ ap (λ ts. old.first ++ ts) (append_assoc h.between old.last (change ∷ [])) ∙ rw (f, whole) refl;
       counted = n ∙ h.counted;
       early = λ few. absurd (omega (arith, few, late, ap length f));
-      full = λ some. absurd (omega (arith, some, no_between))
+      full = λ some. absurd (omega (arith, some, no_between));
     }
   where
     none_between : (k : ℕ) → length h.between ≡ k → length old.last < LAST → length h.between ≡ 0
@@ -103,5 +103,5 @@ oldest_left_out told old new change lost late bound pushed one f l n h =
           ∙ ap (λ ts. old.first ++ ts) (append_assoc h.between old.last (change ∷ []) ∙ ap (λ ts. h.between ++ ts) split ∙ sym (append_assoc h.between (gone.0 ∷ []) new.last)) ∙ rw f refl;
       counted = omega (arith, n, h.counted, length-append h.between (gone.0 ∷ []));
       early = λ few. absurd (omega (arith, few, late, ap length f));
-      full = λ some. omega (arith, all, length-append old.last (change ∷ []), ap length split)
+      full = λ some. omega (arith, all, length-append old.last (change ∷ []), ap length split);
     }

@@ -20,17 +20,36 @@ pub enum Told {
         lost_by: Option<Unit>,
     },
     /// The unit holds no address.
-    NoAddress { unit: Unit },
+    NoAddress {
+        unit: Unit,
+    },
     /// The unit tells something else than before.
-    Message { unit: Unit, kind: Kind, brief: Brief },
+    Message {
+        unit: Unit,
+        kind: Kind,
+        brief: Brief,
+    },
     /// So many frames of this bus were missed.
-    Missed { bus: u16, count: u64 },
+    Missed {
+        bus: u16,
+        count: u64,
+    },
     /// A diagnostic message came from an address that nobody has claimed, and such are not shown.
-    Unowned { bus: u16, source: u8 },
+    Unowned {
+        bus: u16,
+        source: u8,
+    },
     /// The unit acknowledged a request of a parameter group.
-    Acknowledged { unit: Unit, control: u8, pgn: u32 },
+    Acknowledged {
+        unit: Unit,
+        control: u8,
+        pgn: u32,
+    },
     /// A message of the unit could not be read.
-    Unread { unit: Unit, kind: Kind },
+    Unread {
+        unit: Unit,
+        kind: Kind,
+    },
 }
 
 /// A change, and where and when it was told.
@@ -44,6 +63,7 @@ pub struct Happened {
 
 /// How many of the first changes are kept, and how many of the last.
 pub const FIRST: usize = 500;
+
 pub const LAST: usize = 500;
 
 /// The first and the last changes, seen as these, and how many between them are left out.

@@ -10,7 +10,9 @@ use std::alloc::{AllocError, Global};
 
 /// How many spans of addresses a lane keeps, how many of DM1 messages, and how many of DM2 and of DM6 messages.
 pub const ADDRESS_SPANS: usize = 128;
+
 pub const DM1_SPANS: usize = 1024;
+
 pub const OTHER_SPANS: usize = 64;
 
 /// How equal messages in a row ended.

@@ -17,8 +17,8 @@ mod track;
 mod unit;
 
 pub use brief::{Brief, BriefCode, LISTED};
-pub use history::{Happened, History, Told};
 pub use handover::Handover;
+pub use history::{Happened, History, Told};
 pub use lane::{Holding, Lane, RunEnd};
 pub use picture::{Axis, Picture};
 pub use severity::Severity;

@@ -13,7 +13,9 @@ use std::alloc::{AllocError, Global};
 
 /// How many units have a lane, how many gaps are kept, and how many addresses that changed hands.
 pub const LANES: usize = 64;
+
 pub const GAPS: usize = 1024;
+
 pub const HANDOVERS: usize = 256;
 
 /// What moments are.

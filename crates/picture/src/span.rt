@@ -10,9 +10,16 @@ pub enum Shows {
     /// It holds this address.
     Address(u8),
     /// It tells this, so many times.
-    Message { brief: Brief, severity: Severity, times: u64 },
+    Message {
+        brief: Brief,
+        severity: Severity,
+        times: u64,
+    },
     /// So many frames of this bus were missed.
-    Missed { bus: u16, count: u64 },
+    Missed {
+        bus: u16,
+        count: u64,
+    },
     /// Different things one after the other, of which the worst is this bad.
     Changing(Severity),
 }

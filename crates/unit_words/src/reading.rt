@@ -106,11 +106,7 @@ fn values_of<'a>(row: &'a Row, columns: &Columns) -> Result<Values<'a>, Wrong<'a
 }
 
 /// The word of a row in this column; an empty one where there is no such column.
-fn word_of<'a>(
-    row: &'a Row,
-    columns: &Columns,
-    column: Column,
-) -> Result<&'a str, Wrong<'a>> {
+fn word_of<'a>(row: &'a Row, columns: &Columns, column: Column) -> Result<&'a str, Wrong<'a>> {
     word_at(row, columns.place_of(column).unwrap_or(usize::MAX), column)
 }
 

@@ -1,9 +1,7 @@
 use crate::kept::Kept;
 use crate::objects::change_object;
-use crate::report_object;
-use crate::rows;
 use crate::run::Options;
-use crate::text;
+use crate::{report_object, rows, text};
 use bus_watch::{BusWatch, Buses, Change, Changes};
 use candump_line::Time;
 use clock_words::Clock;

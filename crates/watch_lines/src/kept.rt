@@ -187,7 +187,10 @@ fn tell_change(
         ),
         Change::Unowned { source } => picture.tell(&Told::Unowned { bus, source }, None),
         Change::Ack {
-            name, control, pgn, ..
+            name,
+            control,
+            pgn,
+            ..
         } => picture.tell(
             &Told::Acknowledged {
                 unit: Unit::named(bus, name),

@@ -22,7 +22,15 @@ pub(crate) fn read_lines<R: Read + Drop, W: Write + Drop, E: Write>(
     let mut notices = Notices::new();
     let mut over = Over::new();
     let end = hear_lines(
-        alloc, reader, writer, errors, buses, kept, options, &mut notices, &mut over,
+        alloc,
+        reader,
+        writer,
+        errors,
+        buses,
+        kept,
+        options,
+        &mut notices,
+        &mut over,
     );
     Watched {
         ended: notices.ended(errors, end),

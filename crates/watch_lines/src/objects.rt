@@ -60,11 +60,7 @@ fn put_event(
 }
 
 /// What the NAME says of a unit that claims or loses an address, and the shop's text for it.
-fn put_unit_words(
-    json: &mut Writer,
-    units: &UnitTexts,
-    change: Change,
-) -> Result<(), AllocError> {
+fn put_unit_words(json: &mut Writer, units: &UnitTexts, change: Change) -> Result<(), AllocError> {
     match change {
         Change::At { name, .. } | Change::NoAddress { name } => put_fields(json, units, name),
         _ => Ok(()),
@@ -176,12 +172,7 @@ fn put_who(json: &mut Writer, alloc: Global, watch: &Watch, who: &Who) -> Result
 }
 
 /// The lamps, the codes, whether the entry is contested, and where it went, if not to all.
-fn put_shown(
-    json: &mut Writer,
-    alloc: Global,
-    texts: &Texts,
-    run: &Run,
-) -> Result<(), AllocError> {
+fn put_shown(json: &mut Writer, alloc: Global, texts: &Texts, run: &Run) -> Result<(), AllocError> {
     put_lamps(json, alloc, run.shown.lamps)?;
     put_codes(json, alloc, texts, run.shown.codes.as_slice())?;
     put_flag(json, "contested", run.contested)?;

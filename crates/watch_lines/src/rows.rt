@@ -231,7 +231,10 @@ fn write_code_text<W: Write>(
 
 /// A text, in quotes where it has a comma, a quote or an end of a line.
 fn write_text<W: Write>(writer: &mut W, text: &str) -> io::Result<()> {
-    if !text.bytes().any(|byte| matches!(byte, b',' | b'"' | b'\r' | b'\n')) {
+    if !text
+        .bytes()
+        .any(|byte| matches!(byte, b',' | b'"' | b'\r' | b'\n'))
+    {
         return write!(writer, "{text}");
     }
     write!(writer, "\"")?;

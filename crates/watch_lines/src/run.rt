@@ -3,8 +3,8 @@ ghost use Rattle.can_frame.specs.declared.address.TheConstants.{GREATEST_ADDRESS
 
 use crate::form::{Form, Part, write_page, write_report};
 use crate::hearing::assume_owners;
-use crate::lines::read_lines;
 use crate::kept::Kept;
+use crate::lines::read_lines;
 use bus_watch::{BusShown, Buses, Limits, Settings};
 use clock_words::Clock;
 use code_texts::Texts;
@@ -110,7 +110,9 @@ fn watch_from<R: Read + Drop, W: Write + Drop, E: Write>(
         Kept::new(alloc, options.form),
     ) {
         (Ok(mut buses), Ok(mut kept)) => {
-            watch_with(alloc, reader, writer, errors, &mut buses, &mut kept, options)
+            watch_with(
+                alloc, reader, writer, errors, &mut buses, &mut kept, options,
+            )
         }
         _ => Watched::failed(LogFault::Memory),
     }

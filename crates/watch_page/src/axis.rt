@@ -16,6 +16,7 @@ const SMALL: u64 = 100_000_000_000_000;
 
 /// A second and a day in microseconds.
 const SECOND: u64 = 1_000_000;
+
 const DAY: u64 = 86_400 * SECOND;
 
 /// How far marks of time may be apart.
@@ -192,7 +193,9 @@ pub(crate) fn write_axis<W: Write>(
     scale: Scale,
 ) -> Result<(), PageFault> {
     let marks = Marks::of(view, scale);
-    page.markup("<svg xmlns=\"http://www.w3.org/2000/svg\" class=\"axis\" width=\"100%\" height=\"20\" aria-hidden=\"true\">")?;
+    page.markup(
+        "<svg xmlns=\"http://www.w3.org/2000/svg\" class=\"axis\" width=\"100%\" height=\"20\" aria-hidden=\"true\">",
+    )?;
     for number in 0..MOST {
         if let Some(moment) = marks.at(number) {
             write_mark(page, view, scale.place(moment), number, moment, marks)?;

@@ -1,8 +1,6 @@
 use crate::axis::{FULL, Scale, write_part};
 use crate::fault::PageFault;
-use crate::message_words::{
-    class_of, kind_word, severity_word, write_brief, write_numbers,
-};
+use crate::message_words::{class_of, kind_word, severity_word, write_brief, write_numbers};
 use crate::moment::write_range;
 use crate::view::View;
 use dm_messages::Kind;
@@ -28,14 +26,17 @@ pub(crate) const ADDRESSES: Row = Row {
     bar: " y=\"2\" height=\"16\" role=\"img\"><title>",
     words: "<text x=\"4\" y=\"12\">",
 };
+
 pub(crate) const DM1: Row = Row {
     bar: " y=\"21\" height=\"22\" role=\"img\"><title>",
     words: "<text x=\"4\" y=\"15\">",
 };
+
 pub(crate) const DM2: Row = Row {
     bar: " y=\"46\" height=\"14\" role=\"img\"><title>",
     words: "<text x=\"4\" y=\"11\">",
 };
+
 pub(crate) const DM6: Row = Row {
     bar: " y=\"62\" height=\"14\" role=\"img\"><title>",
     words: "<text x=\"4\" y=\"11\">",
@@ -67,10 +68,7 @@ pub(crate) fn begin_bar<W: Write>(
 }
 
 /// Ends the title of a bar, and gives it a class.
-pub(crate) fn fill_bar<W: Write>(
-    page: &mut Page<W>,
-    class: &'static str,
-) -> Result<(), PageFault> {
+pub(crate) fn fill_bar<W: Write>(page: &mut Page<W>, class: &'static str) -> Result<(), PageFault> {
     page.markup("</title><rect width=\"100%\" height=\"100%\" class=\"")?;
     page.markup(class)?;
     page.markup("\"/>")?;
@@ -86,7 +84,15 @@ pub(crate) fn write_address_bar<W: Write>(
 ) -> Result<(), PageFault> {
     match &span.shows {
         Shows::Address(address) => write_held(page, view, scale, span, *address),
-        _ => write_changing(page, view, scale, span, ADDRESSES, "addresses", Severity::Fine),
+        _ => write_changing(
+            page,
+            view,
+            scale,
+            span,
+            ADDRESSES,
+            "addresses",
+            Severity::Fine,
+        ),
     }
 }
 

@@ -28,8 +28,9 @@ pub(crate) fn write_handovers<W: Write>(
         write_handover(page, view, handover)?;
     }
     page.markup("</ol>\n")?;
-    let more = (handovers.len().saturating_sub(HANDOVERS) as u64)
-        .saturating_add(view.picture.handovers_left_out());
+    let more = (handovers.len().saturating_sub(HANDOVERS) as u64).saturating_add(
+        view.picture.handovers_left_out(),
+    );
     if more > 0 {
         page.markup("<p>and ")?;
         page.number(more)?;
@@ -55,11 +56,7 @@ fn write_handover<W: Write>(
     Ok(())
 }
 
-fn write_unit<W: Write>(
-    page: &mut Page<W>,
-    view: &View<'_>,
-    unit: &Unit,
-) -> Result<(), PageFault> {
+fn write_unit<W: Write>(page: &mut Page<W>, view: &View<'_>, unit: &Unit) -> Result<(), PageFault> {
     page.markup("<span class=\"text\">")?;
     write_label(page, view, unit)?;
     page.markup("</span> <span class=\"name\">")?;
@@ -91,7 +88,8 @@ pub(crate) fn write_changes<W: Write>(
     Ok(())
 }
 
-const HEAD: &str = ")</summary><table role=\"table\"><thead role=\"rowgroup\"><tr role=\"row\"><th role=\"columnheader\" class=\"num\">Time</th>\
+const HEAD: &str =
+    ")</summary><table role=\"table\"><thead role=\"rowgroup\"><tr role=\"row\"><th role=\"columnheader\" class=\"num\">Time</th>\
 <th role=\"columnheader\" class=\"num\">Line</th><th role=\"columnheader\">Unit</th><th role=\"columnheader\">What</th></tr></thead><tbody role=\"rowgroup\">\n";
 
 fn write_left_out<W: Write>(page: &mut Page<W>, left_out: u64) -> Result<(), PageFault> {
@@ -154,14 +152,12 @@ fn write_whose<W: Write>(
     }
 }
 
-fn write_what<W: Write>(
-    page: &mut Page<W>,
-    view: &View<'_>,
-    told: &Told,
-) -> Result<(), PageFault> {
+fn write_what<W: Write>(page: &mut Page<W>, view: &View<'_>, told: &Told) -> Result<(), PageFault> {
     match told {
         Told::At {
-            address, lost_by, ..
+            address,
+            lost_by,
+            ..
         } => write_held(page, view, *address, lost_by),
         Told::NoAddress { .. } => Ok(page.markup("holds no address")?),
         Told::Message { kind, brief, .. } => {
@@ -171,7 +167,9 @@ fn write_what<W: Write>(
         }
         Told::Missed { count, .. } => {
             page.number(*count)?;
-            Ok(page.markup(" frames missed: who holds which address is not known until units claim again")?)
+            Ok(page.markup(
+                " frames missed: who holds which address is not known until units claim again",
+            )?)
         }
         Told::Unowned { source, .. } => {
             page.markup("a diagnostic message from address ")?;

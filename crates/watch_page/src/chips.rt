@@ -35,7 +35,11 @@ fn write_faulty<W: Write>(page: &mut Page<W>, standing: &Standing) -> Result<(),
     page.number(standing.faulty)?;
     page.markup(" of ")?;
     page.number(standing.on)?;
-    page.markup(if standing.on == 1 { " unit on the bus reports" } else { " units on the bus report" })?;
+    page.markup(if standing.on == 1 {
+        " unit on the bus reports"
+    } else {
+        " units on the bus report"
+    })?;
     page.markup(" faults</li>\n")?;
     Ok(())
 }
@@ -57,7 +61,11 @@ fn write_lamp<W: Write>(
     page.markup(word)?;
     page.markup(" lamp on: ")?;
     page.number(count)?;
-    page.markup(if count == 1 { " unit</li>\n" } else { " units</li>\n" })?;
+    page.markup(if count == 1 {
+        " unit</li>\n"
+    } else {
+        " units</li>\n"
+    })?;
     Ok(())
 }
 
@@ -107,6 +115,10 @@ fn write_missed<W: Write>(page: &mut Page<W>, view: &View<'_>) -> Result<(), Pag
     }
     page.markup("<li class=\"gap\">")?;
     page.number(missed)?;
-    page.markup(if missed == 1 { " frame missed</li>\n" } else { " frames missed</li>\n" })?;
+    page.markup(if missed == 1 {
+        " frame missed</li>\n"
+    } else {
+        " frames missed</li>\n"
+    })?;
     Ok(())
 }

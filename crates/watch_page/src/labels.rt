@@ -25,11 +25,7 @@ pub(crate) fn write_label<W: Write>(
     }
 }
 
-fn write_named<W: Write>(
-    page: &mut Page<W>,
-    view: &View<'_>,
-    name: Name,
-) -> Result<(), PageFault> {
+fn write_named<W: Write>(page: &mut Page<W>, view: &View<'_>, name: Name) -> Result<(), PageFault> {
     if let Some(text) = view.units.text_of(name) {
         page.short_text(text, MOST)?;
         return Ok(());

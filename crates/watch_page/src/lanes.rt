@@ -14,6 +14,7 @@ use std::io::Write;
 
 /// How large the page may be when a further bar is begun, in bytes, and how many bars all lanes have at most.
 const ROOM: u64 = 3_800_000;
+
 const BARS: usize = 8_000;
 
 /// Writes when it was: a lane for each unit, those that told the worst first.
@@ -36,12 +37,14 @@ pub(crate) fn write_lanes<W: Write>(page: &mut Page<W>, view: &View<'_>) -> Resu
 }
 
 /// The heading, and the patterns by which bars are hatched.
-const HEAD: &str = "<h2>When</h2>\n<svg xmlns=\"http://www.w3.org/2000/svg\" class=\"defs\" width=\"0\" height=\"0\" aria-hidden=\"true\"><defs>\
+const HEAD: &str =
+    "<h2>When</h2>\n<svg xmlns=\"http://www.w3.org/2000/svg\" class=\"defs\" width=\"0\" height=\"0\" aria-hidden=\"true\"><defs>\
 <pattern id=\"gap\" width=\"8\" height=\"8\" patternUnits=\"userSpaceOnUse\" patternTransform=\"rotate(45)\"><rect width=\"8\" height=\"8\" class=\"ground\"/><rect width=\"3\" height=\"8\" class=\"hatch\"/></pattern>\
 <pattern id=\"doubt\" width=\"6\" height=\"6\" patternUnits=\"userSpaceOnUse\" patternTransform=\"rotate(45)\"><rect width=\"2\" height=\"6\" class=\"shade\"/></pattern></defs></svg>\n";
 
 /// What the colours say.
-const KEY: &str = "<ul class=\"key\"><li><span class=\"k held\"></span>holds the address</li><li><span class=\"k fine\"></span>DM1 without fault</li>\
+const KEY: &str =
+    "<ul class=\"key\"><li><span class=\"k held\"></span>holds the address</li><li><span class=\"k fine\"></span>DM1 without fault</li>\
 <li><span class=\"k codes\"></span>faults, no lamp</li><li><span class=\"k protect\"></span>protect lamp</li><li><span class=\"k mil\"></span>malfunction lamp</li>\
 <li><span class=\"k amber\"></span>amber warning lamp</li><li><span class=\"k red\"></span>red stop lamp</li><li><span class=\"k changing\"></span>several changes</li>\
 <li><span class=\"k gapped\"></span>frames missed: who sends is not known until units claim again</li><li><span class=\"k doubted\"></span>in doubt</li></ul>\n";
@@ -66,7 +69,9 @@ fn write_lane<W: Write>(
     write_label(page, view, lane.unit())?;
     page.markup("</span> <span class=\"name\">")?;
     write_identity(page, view, lane.unit())?;
-    page.markup("</span></h3>\n<svg xmlns=\"http://www.w3.org/2000/svg\" class=\"lane\" width=\"100%\" height=\"")?;
+    page.markup(
+        "</span></h3>\n<svg xmlns=\"http://www.w3.org/2000/svg\" class=\"lane\" width=\"100%\" height=\"",
+    )?;
     page.markup(height_of(lane))?;
     page.markup("\" role=\"group\">")?;
     write_lines(page, view, scale)?;
@@ -172,11 +177,21 @@ fn write_gap<W: Write>(
     gap: &Span,
     to: u64,
 ) -> Result<(), PageFault> {
-    begin_bar(page, scale, gap.from, to, " y=\"0\" height=\"100%\" role=\"img\"><title>")?;
+    begin_bar(
+        page,
+        scale,
+        gap.from,
+        to,
+        " y=\"0\" height=\"100%\" role=\"img\"><title>",
+    )?;
     match &gap.shows {
         Shows::Missed { count, .. } => {
             page.number(*count)?;
-            page.markup(if *count == 1 { " frame missed" } else { " frames missed" })?;
+            page.markup(if *count == 1 {
+                " frame missed"
+            } else {
+                " frames missed"
+            })?;
         }
         _ => page.markup("frames missed several times")?,
     }
@@ -194,7 +209,9 @@ fn write_undrawn<W: Write>(page: &mut Page<W>, view: &View<'_>) -> Result<(), Pa
         page.markup(" changes of further units.</p>\n")?;
     }
     if page.size() >= ROOM {
-        page.markup("<p class=\"quiet\">Not all bars are drawn, so that the page stays small.</p>\n")?;
+        page.markup(
+            "<p class=\"quiet\">Not all bars are drawn, so that the page stays small.</p>\n",
+        )?;
     }
     Ok(())
 }

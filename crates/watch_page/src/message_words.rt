@@ -11,6 +11,7 @@ const MOST: usize = 120;
 
 /// The state of a lamp that is on, and the occurrence count that is not available (SAE J1939-73).
 const ON: u8 = 1;
+
 const NO_COUNT: u8 = 127;
 
 /// Each lamp, from the worst on, with its word, its word on a page's plate, and the class of its colour.

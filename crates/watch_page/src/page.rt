@@ -40,9 +40,11 @@ where
 }
 
 fn write_head<W: Write>(page: &mut Page<W>, view: &View<'_>) -> Result<(), PageFault> {
-    page.markup("<!DOCTYPE html>\n<html lang=\"en\" xmlns=\"http://www.w3.org/1999/xhtml\"><head><meta charset=\"utf-8\"/>\n\
+    page.markup(
+        "<!DOCTYPE html>\n<html lang=\"en\" xmlns=\"http://www.w3.org/1999/xhtml\"><head><meta charset=\"utf-8\"/>\n\
 <meta http-equiv=\"Content-Security-Policy\" content=\"default-src 'none'; style-src 'unsafe-inline'\"/>\n\
-<meta name=\"viewport\" content=\"width=device-width, initial-scale=1\"/>\n<title>What the bus told: ")?;
+<meta name=\"viewport\" content=\"width=device-width, initial-scale=1\"/>\n<title>What the bus told: ",
+    )?;
     page.short_text(view.title, MOST)?;
     page.markup(BEFORE_STYLE)?;
     page.markup(STYLE)?;
@@ -86,8 +88,10 @@ fn write_buses<W: Write>(page: &mut Page<W>, view: &View<'_>) -> Result<(), Page
 }
 
 fn write_note<W: Write>(page: &mut Page<W>, view: &View<'_>) -> Result<(), PageFault> {
-    page.markup("<p class=\"note\">Read from the bus alone: a message stands under the NAME that last claimed its address in what was read. \
-Lamps and codes are those that were heard last, and not what holds at this moment. Messages that could not be read: ")?;
+    page.markup(
+        "<p class=\"note\">Read from the bus alone: a message stands under the NAME that last claimed its address in what was read. \
+Lamps and codes are those that were heard last, and not what holds at this moment. Messages that could not be read: ",
+    )?;
     let mut unread = 0u64;
     for bus in view.buses {
         unread = unread.saturating_add(bus.watch.unread_in_all());

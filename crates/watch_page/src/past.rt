@@ -4,6 +4,7 @@ use trouble_code::Dtc;
 
 /// How many codes are kept, and in how many of the latest messages they are looked for.
 const CODES: usize = 8;
+
 const RUNS: usize = 200;
 
 /// The codes that earlier messages had, and the newest has not: some of the latest.

@@ -18,6 +18,7 @@ use trouble_code::{Dtc, Lamps};
 
 /// How large the page may be when a further unit is begun, in bytes, and how many units are listed at most.
 const ROOM: u64 = 2_000_000;
+
 const MOST: u64 = 1_000;
 
 /// How many codes of a message are listed.
@@ -31,7 +32,9 @@ pub(crate) fn write_table<W: Write>(
 ) -> Result<(), PageFault> {
     page.markup(TITLE)?;
     if let Some(line) = view.anew_at {
-        page.markup("<p class=\"doubt\">More was told than is kept at once (--most, --keep): this table is of what came from line ")?;
+        page.markup(
+            "<p class=\"doubt\">More was told than is kept at once (--most, --keep): this table is of what came from line ",
+        )?;
         page.number(line)?;
         page.markup(" on.</p>\n")?;
     }
@@ -86,7 +89,11 @@ fn write_unit<W: Write>(
     write_past(page, view, watch, who)?;
     write_standing(page, view, listed, newest)?;
     page.markup("</td>")?;
-    for (kind, cell) in [(Kind::Dm1, DM1_CELL), (Kind::Dm2, DM2_CELL), (Kind::Dm6, DM6_CELL)] {
+    for (kind, cell) in [
+        (Kind::Dm1, DM1_CELL),
+        (Kind::Dm2, DM2_CELL),
+        (Kind::Dm6, DM6_CELL),
+    ] {
         page.markup(cell)?;
         page.number(watch.entries(who, kind))?;
         page.markup("</td>")?;
@@ -96,15 +103,13 @@ fn write_unit<W: Write>(
 }
 
 const DM1_CELL: &str = "<td role=\"cell\" class=\"num\" data-l=\"DM1\">";
+
 const DM2_CELL: &str = "<td role=\"cell\" class=\"num\" data-l=\"DM2\">";
+
 const DM6_CELL: &str = "<td role=\"cell\" class=\"num\" data-l=\"DM6\">";
 
 /// What a unit is called, and what its NAME says.
-fn write_who<W: Write>(
-    page: &mut Page<W>,
-    view: &View<'_>,
-    unit: &Unit,
-) -> Result<(), PageFault> {
+fn write_who<W: Write>(page: &mut Page<W>, view: &View<'_>, unit: &Unit) -> Result<(), PageFault> {
     page.markup("<td role=\"cell\"><b class=\"text\">")?;
     write_label(page, view, unit)?;
     page.markup("</b><div class=\"name\">")?;
@@ -182,7 +187,9 @@ fn write_newest<W: Write>(
     }
     write_codes(page, view, codes)?;
     if run.contested {
-        page.markup("<div class=\"doubt\">in doubt: sent less than 250 ms after another unit lost this address, so it may be of that one</div>")?;
+        page.markup(
+            "<div class=\"doubt\">in doubt: sent less than 250 ms after another unit lost this address, so it may be of that one</div>",
+        )?;
     }
     Ok(())
 }
@@ -203,11 +210,7 @@ fn write_codes<W: Write>(
     Ok(())
 }
 
-fn write_code<W: Write>(
-    page: &mut Page<W>,
-    view: &View<'_>,
-    code: Dtc,
-) -> Result<(), PageFault> {
+fn write_code<W: Write>(page: &mut Page<W>, view: &View<'_>, code: Dtc) -> Result<(), PageFault> {
     page.markup("<div><b>SPN ")?;
     page.number(u64::from(code.spn()))?;
     page.markup(" FMI ")?;
@@ -234,7 +237,13 @@ fn write_others<W: Write>(
         (Kind::Dm6, ", pending: "),
     ] {
         if let Some(run) = watch.runs(who, kind).last() {
-            write_listed(page, view, kind_word(kind), words, run.shown.codes.as_slice())?;
+            write_listed(
+                page,
+                view,
+                kind_word(kind),
+                words,
+                run.shown.codes.as_slice(),
+            )?;
         }
     }
     Ok(())

@@ -4,7 +4,7 @@ use crate::brief::Brief;
 use crate::severity::Severity;
 use crate::span::{Shows, Span};
 use crate::track::Track;
-use crate::unit::Unit;
+use crate::unit::{Sender, Unit};
 use dm_messages::Kind;
 use std::alloc::{AllocError, Global};
 
@@ -30,6 +30,7 @@ pub struct Lane {
     unit: Unit,
     addresses: Track,
     holding: Holding,
+    is_past: bool,
     dm1: Messages,
     dm2: Messages,
     dm6: Messages,
@@ -115,6 +116,7 @@ impl Lane {
             unit: *unit,
             addresses: Track::new(alloc, ADDRESS_SPANS),
             holding: Holding::Never,
+            is_past: false,
             dm1: Messages::new(alloc, DM1_SPANS),
             dm2: Messages::new(alloc, OTHER_SPANS),
             dm6: Messages::new(alloc, OTHER_SPANS),
@@ -129,6 +131,30 @@ impl Lane {
     /// Whether it is of this unit.
     pub(crate) fn is_of(&self, unit: &Unit) -> bool {
         self.unit == *unit
+    }
+
+    /// Whether it is of an address that nobody has claimed, and frames were missed since, or somebody claimed it: who sends from there now is
+    /// another lane's.
+    pub fn is_past(&self) -> bool {
+        self.is_past
+    }
+
+    /// Frames were missed on this bus: who sent without a claim may be another one now.
+    pub(crate) fn pass_gap(&mut self, bus: u16) {
+        if let Sender::Unclaimed { .. } = self.unit.sender {
+            if self.unit.bus == bus {
+                self.is_past = true;
+            }
+        }
+    }
+
+    /// Somebody claimed this address of this bus.
+    pub(crate) fn pass_claim(&mut self, bus: u16, claimed: u8) {
+        if let Sender::Unclaimed { address, .. } = self.unit.sender {
+            if self.unit.bus == bus && address == claimed {
+                self.is_past = true;
+            }
+        }
     }
 
     /// Whether its unit is on this bus.

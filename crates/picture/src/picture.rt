@@ -215,6 +215,7 @@ impl Picture {
         lost_by: &Option<Unit>,
         moment: u64,
     ) -> Result<(), AllocError> {
+        self.pass_claim(unit.bus, address);
         if let Some(from) = lost_by {
             self.lose(from, moment)?;
             let handover = Handover {
@@ -231,6 +232,15 @@ impl Picture {
                 None => Ok(()),
             },
             None => Ok(()),
+        }
+    }
+
+    /// Who sent from this address without a claim does not any more.
+    fn pass_claim(&mut self, bus: u16, address: u8) {
+        for place in 0..self.lanes.len() {
+            if let Some(lane) = self.lanes.get_mut(place) {
+                lane.pass_claim(bus, address);
+            }
         }
     }
 
@@ -275,6 +285,7 @@ impl Picture {
         self.gaps.add(&gap)?;
         for place in 0..self.lanes.len() {
             if let Some(lane) = self.lanes.get_mut(place) {
+                lane.pass_gap(bus);
                 if lane.is_on(bus) {
                     lane.forget(moment)?;
                 }

@@ -19,6 +19,8 @@ pub(crate) enum Presence {
     On,
     /// It has lost its address, or could not claim one.
     Gone,
+    /// It sent from an address that nobody had claimed, and frames were missed since, or somebody claimed it.
+    Past,
     /// Frames were missed since it was heard: which address it holds is not known.
     Unknown,
 }
@@ -127,7 +129,10 @@ impl Standing {
 /// Whether a unit is on the bus.
 pub(crate) fn presence_of(view: &View<'_>, watch: &Watch, unit: &Unit) -> Presence {
     let Sender::Named(name) = unit.sender else {
-        return Presence::On;
+        return match view.picture.lane_of(unit) {
+            Some(lane) if lane.is_past() => Presence::Past,
+            _ => Presence::On,
+        };
     };
     if let Some(row) = watch.row(Name::from_number(name)) {
         if row.address.is_some() {
@@ -155,7 +160,7 @@ pub(crate) fn severity_of(newest: Option<&Run>) -> Severity {
 /// In which order a unit stands: the worst on the bus first, those that are gone last.
 pub(crate) fn order_of(presence: Presence, severity: Severity) -> usize {
     match presence {
-        Presence::Gone => ORDERS - 1,
+        Presence::Gone | Presence::Past => ORDERS - 1,
         _ => 5usize.saturating_sub(usize::from(severity.rank())),
     }
 }

@@ -30,5 +30,5 @@ rect.doubt+text{paint-order:stroke;stroke:var(--ground);stroke-width:3px}\n\
 ul.key{list-style:none;margin:8px 0;padding:0;font-size:.8em;color:var(--quiet)}ul.key li{display:inline-block;margin-right:14px}.k{display:inline-block;width:22px;height:12px;border:1px solid var(--line);margin-right:5px;vertical-align:-1px}\
 .gapped{background:repeating-linear-gradient(45deg,var(--gap) 0 3px,var(--hatch) 3px 6px)}.doubted{background:repeating-linear-gradient(45deg,transparent 0 3px,var(--shade) 3px 5px)}\n\
 @media (max-width:640px){text.odd{display:none}main{padding:10px}table,thead,tbody,tr,td{display:block}thead{position:absolute;left:-9999px}tr{border-bottom:2px solid var(--line);padding:6px 0}\
-td{border:0;padding:2px 0}td.num{text-align:left}td[data-l]::before{content:attr(data-l) ': ';color:var(--quiet);font-size:.85em}}\n\
+td{border:0;padding:2px 0}td:empty{display:none}td.num{text-align:left}td.num[data-l^=DM]{display:inline-block;margin-right:14px}td[data-l]::before{content:attr(data-l) ': ';color:var(--quiet);font-size:.85em}}\n\
 @page{size:A4;margin:12mm}@media print{:root{color-scheme:light}body{font-size:11pt}*{print-color-adjust:exact;-webkit-print-color-adjust:exact}details{display:none}tr,h3{break-inside:avoid}h2,h3{break-after:avoid}}\n";

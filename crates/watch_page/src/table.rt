@@ -76,7 +76,7 @@ fn write_unit<W: Write>(
         return Ok(());
     };
     page.markup(match listed.presence {
-        Presence::Gone => "<tr role=\"row\" class=\"gone\">",
+        Presence::Gone | Presence::Past => "<tr role=\"row\" class=\"gone\">",
         _ => "<tr role=\"row\">",
     })?;
     write_who(page, view, unit)?;
@@ -305,6 +305,9 @@ fn write_standing<W: Write>(
     match listed.presence {
         Presence::On => return Ok(()),
         Presence::Gone => page.markup("<div class=\"past\">gone: it holds no address any more")?,
+        Presence::Past => page.markup(
+            "<div class=\"past\">earlier: frames were missed since, or somebody claimed this address",
+        )?,
         Presence::Unknown => page.markup(
             "<div class=\"past\">frames were missed since it was heard, and it has not claimed an address again",
         )?,

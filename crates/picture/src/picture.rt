@@ -2,8 +2,8 @@ ghost use Rattle.std.specs.Prelude.{◌≡◌, ◌++◌, ◌∷◌, [], OnOk, On
 
 use crate::brief::Brief;
 use crate::handover::Handover;
-use crate::history::{Happened, History, Told};
-use crate::lane::{Lane, RunEnd};
+use crate::history::{FIRST, Happened, History, LAST, Told};
+use crate::lane::{ADDRESS_SPANS, DM1_SPANS, Lane, OTHER_SPANS, RunEnd};
 use crate::span::{Shows, Span};
 use crate::track::Track;
 use crate::unit::Unit;
@@ -17,6 +17,18 @@ pub const LANES: usize = 64;
 pub const GAPS: usize = 1024;
 
 pub const HANDOVERS: usize = 256;
+
+/// The most bytes that are kept of a log, whatever it is.
+pub const MOST_BYTES: usize = 8_000_000;
+
+// (a vector has room for a power of two, as most of these numbers are)
+const _: () = prove!(
+    LANES * (size_of::<Lane>() + (ADDRESS_SPANS + DM1_SPANS + 2 * OTHER_SPANS) * size_of::<Span>())
+        + GAPS * size_of::<Span>()
+        + HANDOVERS * size_of::<Handover>()
+        + (2 * FIRST + LAST) * size_of::<Happened>()
+        < MOST_BYTES
+);
 
 /// What moments are.
 #[derive(Clone, Copy, Debug, PartialEq, Eq)]

@@ -1,5 +1,5 @@
 -- Spans are joined with their neighbours, and one more is told.
-use Rattle.std.proofs.Common.{◌≡◌, ℕ, ◌+◌, ◌-◌, ◌^◌, ◌<◌, ◌≤◌, min, max, List, [], ◌∷◌, ◌++◌, length, refl, sym, ap, ◌∙◌, arith, append_assoc, length-append}
+use Rattle.std.proofs.Common.{◌≡◌, ℕ, ◌+◌, ◌-◌, ◌^◌, ◌<◌, ◌≤◌, min, max, List, [], ◌∷◌, ◌++◌, length, Result, Ok, Err, OnOk, refl, sym, ap, ◌∙◌, arith, append_assoc, length-append}
 use Rattle.std.proofs.lemmas.List.{append-nil}
 use Rattle.picture.specs.Spans.{rank_of, worst_rank, told_in, IsDrawnAs, AreDrawnAs, IsJoined}
 use Rattle.picture.specs.Tracks.{TrackValue, Keeps}
@@ -75,3 +75,16 @@ kept_thinned told between old new span m full d e h = record {
   exact = λ within. absurd (omega (arith, within, m, full, length-append told (span ∷ []), no_more told old.spans h.drawn));
   drawn = rw e (drawn_more told between span d);
 }
+
+-- one more was told, where it was put
+pub more_if_ok : {T E : Type 0} (r : Result T E) (old new : TrackValue) (items : List Span) (span : Span) → new.most ≡ old.most → items ≡ old.spans → OnOk r (new.spans ≡ items ++ span ∷ [])
+    → OnOk r ((told : List Span) → Keeps told old → Keeps (told ++ span ∷ []) new)
+more_if_ok (Ok v) old new items span m i e = λ told h. kept_more told old new span m (e ∙ ap (λ l. l ++ span ∷ []) i) h
+more_if_ok (Err x) old new items span m i e = tt
+
+-- the same where neighbours were joined for it
+pub thinned_if_ok : {T E : Type 0} (r : Result T E) (old between new : TrackValue) (items : List Span) (span : Span) → new.most ≡ old.most → old.most ≤ length old.spans
+    → ((told : List Span) → AreDrawnAs told old.spans → AreDrawnAs told between.spans) → items ≡ between.spans → OnOk r (new.spans ≡ items ++ span ∷ [])
+    → OnOk r ((told : List Span) → Keeps told old → Keeps (told ++ span ∷ []) new)
+thinned_if_ok (Ok v) old between new items span m full d i e = λ told h. kept_thinned told between.spans old new span m full (d told h.drawn) (e ∙ ap (λ l. l ++ span ∷ []) i) h
+thinned_if_ok (Err x) old between new items span m full d i e = tt

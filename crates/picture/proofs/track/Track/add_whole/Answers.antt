@@ -1,8 +1,6 @@
-use Rattle.std.proofs.Common.{ap, ◌∙◌, ◌++◌, ◌∷◌, []}
-use Rattle.std.proofs.lemmas.Result.{on_ok_weaker}
-use Rattle.picture.proofs.Joining.{kept_more}
+use Rattle.std.proofs.Common.{ap}
+use Rattle.picture.proofs.Joining.{more_if_ok}
 use Rattle.picture.proofs.track.Track.add_whole.Goals as goal
 
 pub returns-clause-kept : goal.returns-clause-kept
-returns-clause-kept c =
-    on_ok_weaker _ (λ e told h. kept_more told c.args.self.now _ _ (ap (λ t. t.most) c.self.view_is) (e ∙ ap (λ t. t.spans ++ c.args.span.now ∷ []) c.self.view_is) h) c.put.ensures.ok
+returns-clause-kept c = more_if_ok _ _ _ _ _ (ap (λ t. t.most) c.self.view_is) (ap (λ t. t.spans) c.self.view_is) c.put.ensures.ok

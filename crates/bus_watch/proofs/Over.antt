@@ -1,6 +1,6 @@
 -- A watch that is told of one owner after another.
 use Rattle.std.proofs.Common.{ℕ, List, [], ◌∷◌}
-use Rattle.bus_watch.specs.Over.{AreOwners, HasOwnersAlone, HoldsAddress, beginning_of}
+use Rattle.bus_watch.specs.Over.{HasOwnersAlone, HoldsAddress, beginning_of}
 use Rattle.bus_watch.specs.Told.{Assumed, Beginning, StandsForAll, Told}
 use Rattle.bus_watch.specs.WatchValue.{WatchValue}
 

@@ -1,5 +1,5 @@
 -- An entry that is kept, or passed over, in the lists of what is shown.
-use Rattle.std.proofs.Common.{◌≡◌, ℕ, Bool, true, false, ◌&&◌, List, ◌∷◌, [], ◌++◌, Option, Some, None, if◌then◌else◌, refl, sym, ap, ◌∙◌, arith}
+use Rattle.std.proofs.Common.{◌≡◌, Bool, true, false, ◌&&◌, List, ◌∷◌, [], ◌++◌, Some, None, if◌then◌else◌, refl, sym, ap, ◌∙◌, arith}
 use Rattle.bus_model.specs.Overheard.{same_who}
 use Rattle.bus_model.specs.declared.who.Who.{Who}
 use Rattle.dm_messages.specs.View.{same_kind}

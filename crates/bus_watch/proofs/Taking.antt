@@ -16,7 +16,7 @@ use Rattle.listener.specs.declared.entry.SentEntry.{SentEntry}
 use Rattle.listener.proofs.Entering.{listed_by_group}
 use Rattle.listener.proofs.Stands.{stands_by_group}
 use Rattle.listener.proofs.Told.{heard_by_group}
-use Rattle.bus_watch.specs.Runs.{HasRuns, ListsValue, Moment, entries_in, entry_shown, if_shown, lists_shown, newest_time, passed, readings_of, run_begun_by, units_in, with_moment, with_unit_of}
+use Rattle.bus_watch.specs.Runs.{HasRuns, ListsValue, Moment, entries_in, if_shown, lists_shown, newest_time, passed, readings_of, run_begun_by, units_in, with_moment, with_unit_of}
 use Rattle.bus_watch.specs.Tellings.{is_news, is_told, news_by, nothing_told, told_after, told_heard, told_of}
 use Rattle.bus_watch.specs.WatchValue.{StandsInRuns, Takes, Tells, WatchValue}
 use Rattle.bus_watch.specs.declared.change.Changes.{Changes}

@@ -1,7 +1,6 @@
 -- Which of the watches a line is for, where each bus is watched: the one of its bus; each, where frames were missed on an unknown one.
-use Rattle.std.specs.Borrow.{Bor}
 use Rattle.std.specs.Option.{option_map_or}
-use Rattle.std.specs.Prelude.{ℕ, ◌+◌, Bool, false, List, Option, Some, None, if◌then◌else◌, length, nat_lt, string_bytes}
+use Rattle.std.specs.Prelude.{ℕ, Bool, false, List, Option, Some, None, if◌then◌else◌, length, nat_lt, string_bytes}
 use Rattle.std.specs.List.{position}
 use Rattle.std.specs.Str.{bytes_eq}
 use Rattle.candump_line.specs.declared.line.Line.{Line}

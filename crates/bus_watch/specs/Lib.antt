@@ -6,4 +6,6 @@ pub mod Tellings
 pub mod WatchValue
 pub mod Told
 pub mod AsOverheard
+pub mod Contested
+pub mod Counted
 pub mod Hearing

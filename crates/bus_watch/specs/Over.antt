@@ -1,5 +1,5 @@
 -- A watch that starts over: it is told of the owners of addresses alone.
-use Rattle.std.specs.Prelude.{◌≡◌, ℕ, List, [], ◌∷◌, Option, Some, IsSomeAnd}
+use Rattle.std.specs.Prelude.{◌≡◌, ℕ, List, [], ◌∷◌, Some, IsSomeAnd}
 use Rattle.station_table.specs.KeptValue.{kept_under}
 use Rattle.station_table.specs.StandsFor.{row_of}
 use Rattle.bus_watch.specs.Told.{Assumed, Beginning, Read, StandsForAll, Told}

@@ -7,7 +7,7 @@ use Rattle.bus_model.specs.declared.change.Displaced.{Displaced}
 use Rattle.bus_model.specs.declared.who.Who.{Who}
 use Rattle.bus_model.specs.declared.who.Who.TheVariants.{Named, Unclaimed}
 use Rattle.dm_messages.specs.declared.kind.Kind.{Kind}
-use Rattle.bus_watch.specs.Runs.{ListsValue, Moment, is_of_name, is_of_unit, is_shown_at, is_shown_of, readings_of, run_begun_by}
+use Rattle.bus_watch.specs.Runs.{ListsValue, Moment, is_of_unit, is_shown_at, is_shown_of, readings_of, run_begun_by}
 use Rattle.bus_watch.specs.declared.change.Change.{Change}
 use Rattle.bus_watch.specs.declared.change.Change.TheVariants.{At, NoAddress, Entry, Missed, Unowned, Ack, Unread}
 use Rattle.bus_watch.specs.declared.change.Changes.{Changes}

@@ -1,3 +1,6 @@
+ghost use Rattle.std.specs.Prelude.{◌≡◌};
+ghost use Rattle.bus_watch.specs.Counted.{with_foreign};
+
 use candump_line::{Foreign, Line};
 
 /// How many lines there were of each sort.
@@ -31,15 +34,17 @@ pub struct Counts {
 
 impl Counts {
     /// Counts a frame that is none of SAE J1939.
-    pub(crate) fn add_foreign(&mut self, what: Foreign) {
-        let count = match what {
-            Foreign::Short => &mut self.short,
-            Foreign::Remote => &mut self.remote,
-            Foreign::Fd => &mut self.fd,
-            Foreign::Error => &mut self.error,
-        };
-        *count = count.saturating_add(1);
+    pub(crate) fn add_foreign(&mut self, what: Foreign)
+        ensures { self.new ≡ with_foreign what self.old }
+    {
+        match what {
+            Foreign::Short => self.short = self.short.saturating_add(1),
+            Foreign::Remote => self.remote = self.remote.saturating_add(1),
+            Foreign::Fd => self.fd = self.fd.saturating_add(1),
+            Foreign::Error => self.error = self.error.saturating_add(1),
+        }
     }
+
     /// Counts a line where each bus is watched: one that none of them hears is of another bus, or of none.
     pub(crate) fn add_line(&mut self, line: &Line<'_>, is_unheard: bool) {
         self.lines = self.lines.saturating_add(1);

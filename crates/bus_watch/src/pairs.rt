@@ -31,7 +31,9 @@ impl Pairs {
     /// A message is announced between these addresses.
     pub(crate) fn add(&mut self, source: u8, dest: u8) {
         let bit = 1u64 << (dest % 64);
-        if let Some(word) = self.announced.get_mut(usize::from(source) * 4 + usize::from(dest / 64))
+        if let Some(word) = self
+            .announced
+            .get_mut(usize::from(source) * 4 + usize::from(dest / 64))
             && *word & bit == 0
         {
             *word |= bit;

@@ -5,6 +5,7 @@ ghost use Rattle.bus_watch.specs.Runs.{lists_shown, newest_time, units_shown, un
 ghost use Rattle.bus_watch.specs.Told.{Beginning, StandsForAll, Told, all_said, readings_said};
 ghost use Rattle.station_table.specs.StandsFor.{row_heard_as};
 
+use self::over::Before;
 use crate::counts::Counts;
 use crate::lists::Lists;
 use crate::packets::Packets;
@@ -18,7 +19,6 @@ use listener::{Listener, Who};
 use name_field::Name;
 use station_table::Row;
 use std::alloc::{AllocError, Global};
-use self::over::Before;
 use std::marker::Model;
 
 mod changes;

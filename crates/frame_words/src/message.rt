@@ -1,6 +1,8 @@
-ghost use Rattle.std.specs.Prelude.{◌≡◌, IfErr, IfOk, Some};
+ghost use Rattle.std.specs.Prelude.{◌≡◌, IfErr, IfOk, OnOk, Some};
+ghost use Rattle.std.specs.Io.KnownBytes.{Appends};
 ghost use Rattle.dm_messages.specs.Refusals.{refusal};
 ghost use Rattle.dm_messages.specs.View.{decoding};
+ghost use Rattle.frame_words.specs.Words.{function_text, kind_text};
 
 use crate::audience::Audience;
 use crate::group::{AddressWords, ByteWords, ControlWords, GroupWords, UnreadWords, group_name};
@@ -85,7 +87,9 @@ fn write_name<W: Write>(writer: &mut W, word: &str, name: Name) -> io::Result<()
     write_system(writer, &fields)
 }
 
-fn write_function<W: Write>(writer: &mut W, fields: &NameFields) -> io::Result<()> {
+fn write_function<W: Write>(writer: &mut W, fields: &NameFields) -> io::Result<()>
+    ensures { OnOk result (Appends (W.contents writer.old) (W.contents writer.new) (function_text fields.now)) }
+{
     let function = fields.function;
     let instance = fields.function_instance;
     let ecu = fields.ecu_instance;
@@ -169,7 +173,9 @@ fn write_shown<W: Write>(
     }
 }
 
-fn kind_word(kind: Kind) -> &'static str {
+fn kind_word(kind: Kind) -> &'static str
+    ensures { result.now ≡ kind_text kind }
+{
     match kind {
         Kind::Dm1 => "DM1",
         Kind::Dm2 => "DM2",

@@ -221,15 +221,17 @@ fn write_buses<W: Write>(writer: &mut W, watches: &[BusWatch]) -> io::Result<()>
     write!(writer, ",\"buses\":[")?;
     let mut follows = false;
     for one in watches {
+        write_comma(writer, follows)?;
+        write!(writer, "{{")?;
         if let Some(bus) = &one.bus {
-            write_comma(writer, follows)?;
-            follows = true;
-            write!(writer, "{{\"bus\":")?;
+            write!(writer, "\"bus\":")?;
             write_text(writer, bus.as_str())?;
-            let missed = one.watch.missed_in_all();
-            let unread = one.watch.unread_in_all();
-            write!(writer, ",\"missed\":{missed},\"unread\":{unread}}}")?;
+            write!(writer, ",")?;
         }
+        let missed = one.watch.missed_in_all();
+        let unread = one.watch.unread_in_all();
+        write!(writer, "\"missed\":{missed},\"unread\":{unread}}}")?;
+        follows = true;
     }
     write!(writer, "]")
 }

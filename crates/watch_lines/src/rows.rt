@@ -3,7 +3,7 @@
 use crate::form::Part;
 use crate::run::Options;
 use crate::units::{KINDS, WhoValue, address_of, has_entries, kind_word, row_at, row_places};
-use bus_watch::{BusShown, BusWatch, Buses, Run, Who};
+use bus_watch::{BusWatch, Buses, Run, Who};
 use can_frame::GLOBAL_ADDRESS;
 use candump_line::Time;
 use dm_messages::Kind;
@@ -27,9 +27,8 @@ pub(crate) fn write_rows<W: Write>(
     options: &Options<'_>,
     part: Part,
 ) -> io::Result<()> {
-    let names_bus = options.bus == BusShown::Each;
     if is_first(part) {
-        write_header(writer, names_bus)?;
+        write_header(writer, buses.are_each())?;
     }
     for one in buses.watches() {
         write_bus_rows(writer, one, options)?;

@@ -74,8 +74,8 @@ impl Watch {
     {
         let mut fresh = self.anew(alloc)?;
         for place in 0..self.listener.names() {
-            if let Some((name, address)) = self.owner_at(place) {
-                fresh.take_over(alloc, name, address)?;
+            if let Some(owner) = self.owner_at(place) {
+                fresh.take_over(alloc, owner.0, owner.1)?;
             }
         }
         Ok(fresh)

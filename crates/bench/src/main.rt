@@ -5,15 +5,18 @@
 mod errors;
 
 use command_line::{LineFault, read_line};
-use command_words::{DecodeWords, Job, LogWords, WatchWords, path_of};
+use command_words::{DecodeWords, Job, LiveWords, LogWords, WatchWords, path_of};
 use errors::Errors;
+use live_command::Joining;
 use program_io::{Failure, Fault};
+use std::alloc::Global;
 use std::io::Read;
 use std::process::ExitCode;
 use std::rt::Runtime;
 use std::sync::Wait;
 use std::thread::Threads;
 use std::{fs, io};
+use vehicle::{VehicleFault, read_vehicle};
 
 fn main(rt: HostRuntime) -> ExitCode {
     match run(&rt) {
@@ -37,7 +40,9 @@ fn tell<R: Eprint>(rt: &R, failure: &Failure) {
 }
 
 /// Does what the words of the command line ask for.
-fn run<R: Runtime + AllocGlobal + Threads + Wait + Sync>(rt: &R) -> Result<(), Failure> {
+fn run<R: Runtime + AllocGlobal + Threads + Wait + Sync + Send + 'static>(
+    rt: &R,
+) -> Result<(), Failure> {
     let words = match read_words(rt) {
         Ok(words) => words,
         Err(error) if error.kind() == io::ErrorKind::OutOfMemory => {
@@ -69,7 +74,7 @@ fn read_words<R: Runtime + AllocGlobal>(rt: &R) -> io::Result<Vec<String>> {
 }
 
 /// Hands a job to its subcommand. Each of them is a call of its own, so that none takes the stack of all.
-fn do_job<R: Runtime + AllocGlobal + Threads + Wait + Sync>(
+fn do_job<R: Runtime + AllocGlobal + Threads + Wait + Sync + Send + 'static>(
     rt: &R,
     job: Job<'_>,
 ) -> Result<(), Failure> {
@@ -84,7 +89,50 @@ fn do_job<R: Runtime + AllocGlobal + Threads + Wait + Sync>(
         Job::Log(words) => log(rt, words),
         Job::Decode(words) => decode(rt, words),
         Job::Check => check(rt),
+        Job::Live(words) => live(rt, words),
     }
+}
+
+/// Puts the units of a vehicle file on the bus that standard input tells of.
+fn live<R: Runtime + AllocGlobal + Threads + Wait + Sync + Send + 'static>(
+    rt: &R,
+    words: LiveWords<'_>,
+) -> Result<(), Failure> {
+    live_command::look_at_live_words(rt.alloc(), &words)?;
+    let file = match words.file {
+        Some(path) => read_file(rt, path)?,
+        None => return Err(Failure::from(Fault::CommandLine)),
+    };
+    let units = units_of(rt.alloc(), file.as_slice())?;
+    live_command::live(
+        rt,
+        rt.alloc(),
+        &words,
+        units.as_slice(),
+        &mut io::writer(rt),
+        &mut Errors::new(rt),
+    )
+}
+
+/// The units of a vehicle file.
+fn units_of(alloc: Global, file: &[u8]) -> Result<Vec<Joining>, Failure> {
+    let Ok(text) = std::str::from_utf8(file) else {
+        return Err(Failure::from(Fault::NotUtf8));
+    };
+    let vehicle = match read_vehicle(alloc, text) {
+        Ok(vehicle) => vehicle,
+        Err(VehicleFault::Refused(words)) => return Err(Failure::told(Fault::Vehicle, Ok(words))),
+        Err(VehicleFault::Memory) => return Err(Failure::from(Fault::Memory)),
+    };
+    let mut units = Vec::new(alloc);
+    for line in vehicle.units.iter() {
+        units.push(Joining {
+            name: line.name,
+            address: line.address,
+            kind: line.kind,
+        })?;
+    }
+    Ok(units)
 }
 
 #[inline(never)]

@@ -4,7 +4,9 @@ pub mod Standing
 pub mod Traffics
 mod Passing
 mod LastFrames
-mod Sweeping
+pub mod HearLemmas
+pub mod ReadLemmas
+mod RoundLemmas
 mod Pieces
 pub mod Headline
 mod Lists

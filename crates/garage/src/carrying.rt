@@ -1,4 +1,4 @@
-ghost use Rattle.std.specs.Prelude.{◌≡◌, ◌⊎◌, ◌↔◌, Err, Ok, IfOk, IfErr, IsErrOf};
+ghost use Rattle.std.specs.Prelude.{◌≡◌, ◌⊎◌, ◌↔◌, Err, Ok, IfOk, IfErr, IsErrOf, OnErr};
 ghost use Rattle.bus_ledger.specs.Carrying.{CanCarry, IsIdle, IsWaiting};
 ghost use Rattle.journal.specs.Journal.{state_of};
 ghost use Rattle.journal.specs.Promises.{KeepsLists};
@@ -20,6 +20,7 @@ impl Garage {
         ensures idle { (result ≡ Ok Carried.Idle) ↔ IsIdle (state_of self.old).traffic }
         ensures waiting { (result ≡ Ok Carried.Waiting) ↔ IsWaiting (state_of self.old).traffic }
         ensures full { IsErrOf result GarageError.BookFull ↔ (CanCarry (state_of self.old).traffic × IsFull self.old) }
+        ensures could { OnErr result (CanCarry (state_of self.old).traffic) }
         ensures err { IfErr result (λ e. (self.new ≡ self.old) × ((e ≡ GarageError.BookFull) ⊎ (e ≡ GarageError.OutOfMemory))) }
         ensures lists { KeepsLists self.old self.new }
     {

@@ -14,7 +14,8 @@ ghost use Rattle.garage.specs.contracts.garage.Garage.{the_row};
 
 use crate::error::GarageError;
 use crate::garage::Garage;
-use crate::steps::{Begin, HeardOne};
+use crate::hearing::HeardOne;
+use crate::steps::Begin;
 use can_frame::GREATEST_ADDRESS;
 use fault_memory::{FaultChange, FaultError, FaultMemory};
 use name_field::Name;
@@ -263,7 +264,7 @@ impl<'a> Plug<'a> {
         ensures unasked { OnErr result (self.new.unit ≡ self.old.unit) }
         ensures lists { KeepsLists self.old.garage.now self.new.garage.now }
     {
-        let (heard, _) = self.garage.hear(alloc, self.seat, &mut *self.unit)?;
+        let heard = self.garage.hear(alloc, self.seat, &mut *self.unit)?;
         self.events = self.garage.events_of(self.seat);
         Ok(heard)
     }

@@ -6,6 +6,7 @@ ghost use Rattle.journal.specs.Notes.{IsStored};
 ghost use Rattle.garage.specs.Calls.{IsWant};
 
 use crate::error::GarageError;
+use crate::hearing::Recorded;
 use bus_ledger::Bus;
 use journal::Journal;
 use unit_trait::Unit;
@@ -87,7 +88,7 @@ pub(crate) fn ready_to_note(
 }
 
 /// Makes ready for an event of the unit on the seat, as `ready_to_note` does, and makes room for the most frames that a unit puts.
-/// `told` is whether the memory is known to be the one that the seat's latest event tells: then it is not looked at.
+/// Where the memory is known to be recorded it is not looked at.
 ///
 /// Refused first where the limit does not allow the events, then where there is no memory; then journal and traffic are as they
 /// were.
@@ -98,12 +99,12 @@ pub(crate) fn make_ready(
     limit: u32,
     seat: u32,
     unit: &dyn Unit,
-    told: bool,
+    recorded: Recorded,
 ) -> Result<u32, GarageError>
     requires few { limit ≤ 2 ^ 24 }
     requires live { IsLive bus.old.traffic seat }
-    requires told { IsTrue told → memory_told seat (reverse journal.old.items) ≡ Some (memory_of unit.now) }
-    requires lawful { IsTrue told → IsLawfulMemory (memory_of unit.now) }
+    requires recorded { recorded ≡ Recorded.Current → memory_told seat (reverse journal.old.items) ≡ Some (memory_of unit.now) }
+    requires lawful { recorded ≡ Recorded.Current → IsLawfulMemory (memory_of unit.now) }
     ensures items { journal.new.items ≡ journal.old.items }
     ensures grows { journal.old.room ≤ journal.new.room }
     ensures traffic { bus.new.traffic ≡ bus.old.traffic }
@@ -115,11 +116,12 @@ pub(crate) fn make_ready(
     ensures full { IsErrOf result GarageError.BookFull ↔ (limit < length journal.old.items + count) }
     ensures only { IfErr result IsWant }
 {
-    let memory = if told {
-        make_room(journal, count, limit)?;
-        journal.told(seat)
-    } else {
-        ready_to_note(journal, count, limit, seat, unit)?
+    let memory = match recorded {
+        Recorded::Current => {
+            make_room(journal, count, limit)?;
+            journal.told(seat)
+        }
+        Recorded::Unknown => ready_to_note(journal, count, limit, seat, unit)?,
     };
     bus.reserve(seat, MOST_OUTS)?;
     Ok(memory)

@@ -6,7 +6,7 @@ use Rattle.node_core.specs.declared.heard.Withdraw.TheVariants as withdraw
 use Rattle.node_core.specs.declared.out.Out.{Out}
 use Rattle.live_unit.specs.declared.queue.Lane.{Lane}
 use Rattle.live_unit.specs.declared.queue.Lane.TheVariants.{Claims, Singles, Session, Messages}
-use Rattle.live_unit.specs.Queue.{QueueValue, goes_to_all, lane_for, put_into, putting, queued, withdrawing}
+use Rattle.live_unit.specs.Queue.{QueueValue, goes_to_all, lane_for, put_into, putting, after_heard, after_withdrawing}
 
 source_put_into : (lane : Lane) (outs : List Out) (q : QueueValue) → (put_into lane outs q).source ≡ q.source
 source_put_into Claims outs q = refl
@@ -18,13 +18,13 @@ source_putting : (to_all : Bool) (outs : List Out) (q : QueueValue) → (putting
 source_putting to_all [] q = refl
 source_putting to_all (o ∷ outs) q = source_put_into (lane_for to_all o) (o ∷ outs) q
 
-source_withdrawing : (w : Withdraw) (source : ℕ) (q : QueueValue) → (w ≡ withdraw.All) ⊎ (source ≡ q.source) → (withdrawing w source q).source ≡ source
+source_withdrawing : (w : Withdraw) (source : ℕ) (q : QueueValue) → (w ≡ withdraw.All) ⊎ (source ≡ q.source) → (after_withdrawing w source q).source ≡ source
 source_withdrawing withdraw.Keep source q (inl all) = absurd cc
 source_withdrawing withdraw.Keep source q (inr same) = sym same
 source_withdrawing withdraw.Session source q (inl all) = absurd cc
 source_withdrawing withdraw.Session source q (inr same) = sym same
 source_withdrawing withdraw.All source q e = refl
 
-pub source_queued : (heard : Heard) (source : ℕ) (q : QueueValue) → (heard.withdraw ≡ withdraw.All) ⊎ (source ≡ q.source) → (queued heard source q).source ≡ source
+pub source_queued : (heard : Heard) (source : ℕ) (q : QueueValue) → (heard.withdraw ≡ withdraw.All) ⊎ (source ≡ q.source) → (after_heard heard source q).source ≡ source
 source_queued heard source q e =
-    source_putting (goes_to_all heard.begun) heard.put (withdrawing heard.withdraw source q) ∙ source_withdrawing heard.withdraw source q e
+    source_putting (goes_to_all heard.begun) heard.put (after_withdrawing heard.withdraw source q) ∙ source_withdrawing heard.withdraw source q e

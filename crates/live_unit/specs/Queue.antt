@@ -132,24 +132,24 @@ goes_to_all (Some begun) = begun.dest == GLOBAL_ADDRESS
 goes_to_all None = false
 
 -- what is withdrawn: nothing; the frames of the session; or all, and what is put then has another source
-abbrev pub withdrawing : Withdraw → ℕ → QueueValue → QueueValue
-withdrawing withdraw.Keep source q = q
-withdrawing withdraw.Session source q = record q { session = empty_lane; withdrawn = q.withdrawn + length q.session.outs }
-withdrawing withdraw.All source q = record (empty_queue source) { put = q.put; written = q.written; withdrawn = q.withdrawn + frames_waiting q }
+abbrev pub after_withdrawing : Withdraw → ℕ → QueueValue → QueueValue
+after_withdrawing withdraw.Keep source q = q
+after_withdrawing withdraw.Session source q = record q { session = empty_lane; withdrawn = q.withdrawn + length q.session.outs }
+after_withdrawing withdraw.All source q = record (empty_queue source) { put = q.put; written = q.written; withdrawn = q.withdrawn + frames_waiting q }
 
 -- what a node withdraws is withdrawn, then what it puts is put
-abbrev pub queued : Heard → ℕ → QueueValue → QueueValue
-queued heard source q = putting (goes_to_all heard.begun) heard.put (withdrawing heard.withdraw source q)
+abbrev pub after_heard : Heard → ℕ → QueueValue → QueueValue
+after_heard heard source q = putting (goes_to_all heard.begun) heard.put (after_withdrawing heard.withdraw source q)
 
 -- a piece more may wait in each lane
-pub record HasRoom (q : QueueValue) : Type 0 where
+pub record HasFreeLanes (q : QueueValue) : Type 0 where
   pub claims : q.claims.pieces < ROOM
   pub singles : q.singles.pieces < ROOM
   pub session : q.session.pieces < ROOM
   pub messages : q.messages.pieces < ROOM
 
 -- the first frame of a lane was taken, and counts as written
-pub record Takes (lane : Lane) (q q' : QueueValue) : Type 0 where
+pub record TakesFirst (lane : Lane) (q q' : QueueValue) : Type 0 where
   pub left : LaneValue
   pub rest : left.outs ≡ drop 1 (lane_of lane q).outs
   pub fewer : left.pieces ≤ (lane_of lane q).pieces

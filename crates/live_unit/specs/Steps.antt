@@ -24,7 +24,7 @@ use Rattle.live_unit.specs.declared.queue.Lane.{Lane}
 use Rattle.live_unit.specs.declared.queue.TheConstants.{MOST_PUT}
 use Rattle.live_unit.specs.declared.unit.Act.{Act}
 use Rattle.live_unit.specs.declared.unit.Act.TheVariants as act
-use Rattle.live_unit.specs.Queue.{HasRoom, QueueValue, Takes, lane_of, putting, queued}
+use Rattle.live_unit.specs.Queue.{HasFreeLanes, QueueValue, TakesFirst, lane_of, putting, after_heard}
 use Rattle.live_unit.specs.Times.{clock_written, has_to_tell, is_dm1_due, is_left_alone, lane_due, later}
 
 -- a unit: what it keeps of the bus, its fault memory, and what waits to be written
@@ -37,11 +37,11 @@ abbrev pub standing : NodeValue → MemoryValue → QueueValue → Standing
 standing node memory queue = record { node = node; memory = memory; queue = queue }
 
 -- a frame was heard: the answer, the node and the memory are what is owed; what is withdrawn and put for it is withdrawn and put
-pub record Hears (f : FrameValue) (answer : Answer) (u u' : Standing) : Type 0 where
+pub record HasHeardFrame (f : FrameValue) (answer : Answer) (u u' : Standing) : Type 0 where
   pub heard : Heard
   pub answer_is : heard.answer ≡ answer
   pub reacts : Reacts f u.node u.memory heard u'.node u'.memory
-  pub queue : u'.queue ≡ queued heard (claim_source u'.node.claimer.held) u.queue
+  pub queue : u'.queue ≡ after_heard heard (claim_source u'.node.claimer.held) u.queue
 
 -- it held an address, and holds none
 abbrev pub has_lost : Option ℕ → Option ℕ → Bool
@@ -60,11 +60,11 @@ needs_room _ = false
 
 -- a frame is not heard for want of room
 abbrev pub LacksRoomFor : FrameValue → QueueValue → Type 0
-LacksRoomFor f q = (MOST_PUT ≤ q.put) ⊎ ((needs_room (group_of f) ≡ true) × (¬ HasRoom q))
+LacksRoomFor f q = (MOST_PUT ≤ q.put) ⊎ ((needs_room (group_of f) ≡ true) × (¬ HasFreeLanes q))
 
 -- a unit that can put something
 abbrev pub CanPut : QueueValue → Type 0
-CanPut q = (q.put < MOST_PUT) × HasRoom q
+CanPut q = (q.put < MOST_PUT) × HasFreeLanes q
 
 -- a message of the memory to all began, from the address held
 pub record BeginsToAll (kind : Kind) (u u' : Standing) : Type 0 where
@@ -79,7 +79,7 @@ pub record BeginsToAll (kind : Kind) (u u' : Standing) : Type 0 where
 pub record GivesUp (u u' : Standing) : Type 0 where
   pub node : u'.node ≡ after_deed u.node EndsSession
   pub memory : u'.memory ≡ u.memory
-  pub queue : u'.queue ≡ queued (given_up u.node) (claim_source u.node.claimer.held) u.queue
+  pub queue : u'.queue ≡ after_heard (given_up u.node) (claim_source u.node.claimer.held) u.queue
 
 -- a DM1 of its own puts off the next
 abbrev pub clock_told : ℕ → MemoryValue → Clock → Clock
@@ -102,5 +102,5 @@ pub record Writes (s : Settings) (now : ℕ) (f : FrameValue) (q : QueueValue) (
   pub out : Out
   pub first : slice_get (lane_of lane q).outs 0 ≡ Some out
   pub frame : f ≡ out.frame
-  pub taken : Takes lane q q'
+  pub taken : TakesFirst lane q q'
   pub clock : c' ≡ clock_written s lane now c

@@ -3,7 +3,7 @@ ghost use Rattle.std.specs.List.{All};
 ghost use Rattle.can_frame.specs.Fields.{source_of};
 ghost use Rattle.node_core.specs.Pieces.{outs_of};
 ghost use Rattle.node_core.specs.declared.heard.Withdraw.TheVariants as withdraw;
-ghost use Rattle.live_unit.specs.Queue.{HasRoom, HoldsSome, IsSentFrom, Takes, empty_queue, frames_waiting, lane_by, is_claim_frame, lane_of, put_into, putting, queued, waits, withdrawing};
+ghost use Rattle.live_unit.specs.Queue.{HasFreeLanes, HoldsSome, IsSentFrom, TakesFirst, empty_queue, frames_waiting, lane_by, is_claim_frame, lane_of, put_into, putting, after_heard, waits, after_withdrawing};
 ghost use Rattle.live_unit.specs.Queue as spec;
 
 use crate::waiting::{Waiting, count};
@@ -105,7 +105,7 @@ impl Queue {
 
     /// Whether a piece more may wait in each lane.
     pub(crate) fn has_room(&self) -> bool
-        ensures { IsTrue result ↔ HasRoom self.now }
+        ensures { IsTrue result ↔ HasFreeLanes self.now }
     {
         !self.claims.is_full()
             && !self.singles.is_full()
@@ -142,7 +142,7 @@ impl Queue {
     pub(crate) fn take(&mut self, lane: Lane) -> Out
         requires { 0 < length (lane_of lane self.old).outs }
         ensures first { slice_get (lane_of lane self.old).outs 0 ≡ Some result }
-        ensures takes { Takes lane self.old self.new }
+        ensures takes { TakesFirst lane self.old self.new }
         ensures from { IsSentFrom self.old.source result }
     {
         match lane {
@@ -158,7 +158,7 @@ impl Queue {
     fn take_claim(&mut self) -> Out
         requires { 0 < length self.old.claims.outs }
         ensures first { slice_get self.old.claims.outs 0 ≡ Some result }
-        ensures takes { Takes Lane.Claims self.old self.new }
+        ensures takes { TakesFirst Lane.Claims self.old self.new }
         ensures from { IsSentFrom self.old.source result }
     {
         let taken = self.claims.take();
@@ -171,7 +171,7 @@ impl Queue {
     fn take_single(&mut self) -> Out
         requires { 0 < length self.old.singles.outs }
         ensures first { slice_get self.old.singles.outs 0 ≡ Some result }
-        ensures takes { Takes Lane.Singles self.old self.new }
+        ensures takes { TakesFirst Lane.Singles self.old self.new }
         ensures from { IsSentFrom self.old.source result }
     {
         let taken = self.singles.take();
@@ -184,7 +184,7 @@ impl Queue {
     fn take_of_session(&mut self) -> Out
         requires { 0 < length self.old.session.outs }
         ensures first { slice_get self.old.session.outs 0 ≡ Some result }
-        ensures takes { Takes Lane.Session self.old self.new }
+        ensures takes { TakesFirst Lane.Session self.old self.new }
         ensures from { IsSentFrom self.old.source result }
     {
         let taken = self.session.take();
@@ -197,7 +197,7 @@ impl Queue {
     fn take_of_messages(&mut self) -> Out
         requires { 0 < length self.old.messages.outs }
         ensures first { slice_get self.old.messages.outs 0 ≡ Some result }
-        ensures takes { Takes Lane.Messages self.old self.new }
+        ensures takes { TakesFirst Lane.Messages self.old self.new }
         ensures from { IsSentFrom self.old.source result }
     {
         let taken = self.messages.take();
@@ -208,10 +208,10 @@ impl Queue {
     /// Withdraws and puts what a node withdraws and puts; what waits then is from `source`.
     pub(crate) fn take_in(&mut self, heard: Heard, source: u8)
         requires source { (heard.withdraw ≡ withdraw.All) ⊎ (source ≡ self.old.source) }
-        requires room { (heard.withdraw ≡ withdraw.All) ⊎ (HasRoom self.old ⊎ (heard.put ≡ [])) }
+        requires room { (heard.withdraw ≡ withdraw.All) ⊎ (HasFreeLanes self.old ⊎ (heard.put ≡ [])) }
         requires few { self.old.put + length heard.put < 2 ^ 64 }
         requires from { All (IsSentFrom source) heard.put }
-        ensures { self.new ≡ queued heard source self.old }
+        ensures { self.new ≡ after_heard heard source self.old }
     {
         let Heard {
             withdraw,
@@ -226,7 +226,7 @@ impl Queue {
 
     /// Withdraws what waits of a session, or all, or nothing; where it is all, what will wait is from `source`.
     pub(crate) fn withdraw(&mut self, which: Withdraw, source: u8)
-        ensures { self.new ≡ withdrawing which source self.old }
+        ensures { self.new ≡ after_withdrawing which source self.old }
     {
         match which {
             Withdraw::Keep => {}
@@ -245,7 +245,7 @@ impl Queue {
     /// Puts frames at the end of their lane; `to_all` is whether a message that begins with them goes to all.
     #[tactic(auto, using(crate::proofs::Lanes::putting_piece))]
     pub(crate) fn put(&mut self, mut put: Outs, to_all: bool)
-        requires room { HasRoom self.old ⊎ (put ≡ []) }
+        requires room { HasFreeLanes self.old ⊎ (put ≡ []) }
         requires few { self.old.put + length put < 2 ^ 64 }
         requires from { All (IsSentFrom self.old.source) put }
         ensures { self.new ≡ putting to_all put self.old }
@@ -258,7 +258,7 @@ impl Queue {
     /// Puts a piece at the end of its lane.
     fn put_piece(&mut self, piece: Piece, to_all: bool)
         requires some { HoldsSome piece }
-        requires room { HasRoom self.old }
+        requires room { HasFreeLanes self.old }
         requires few { self.old.put + length (outs_of piece) < 2 ^ 64 }
         requires from { All (IsSentFrom self.old.source) (outs_of piece) }
         ensures { self.new ≡ put_into (spec.lane_for_piece to_all piece) (outs_of piece) self.old }

@@ -9,8 +9,8 @@ ghost use Rattle.node_core.specs.GivingUp.{is_held_open};
 ghost use Rattle.node_core.specs.NodeValue.{is_open, new_node};
 ghost use Rattle.node_core.specs.Reaction.{question};
 ghost use Rattle.parameter_group.specs.Group.{group_of};
-ghost use Rattle.live_unit.specs.Queue.{HasRoom, frames_waiting};
-ghost use Rattle.live_unit.specs.Steps.{Acts, BeginsToAll, CanPut, GivesUp, Hears, LacksRoomFor, Writes, has_lost, standing};
+ghost use Rattle.live_unit.specs.Queue.{HasFreeLanes, frames_waiting};
+ghost use Rattle.live_unit.specs.Steps.{Acts, BeginsToAll, CanPut, GivesUp, HasHeardFrame, LacksRoomFor, Writes, has_lost, standing};
 ghost use Rattle.live_unit.specs.Steps as steps;
 ghost use Rattle.live_unit.specs.Times.{clock_after_hearing, is_dm1_due, is_free_for_dm1, is_left_alone, lane_due};
 ghost use Rattle.live_unit.specs.Times as times;
@@ -115,7 +115,7 @@ impl LiveUnit {
     /// Refused: `Full`, where as much waits as there is room for and the frame is a request, a request to send or a clear to send;
     /// `OutOfMemory`. Then nothing changed, and the unit was not asked.
     pub fn hear(&mut self, alloc: Global, frame: &Frame, now: u64) -> Result<Answer, LiveError>
-        ensures heard { IfOk result (λ a. Hears frame.now a (standing self.old.node (memory_of self.old.unit) self.old.queue) (standing self.new.node (memory_of self.new.unit) self.new.queue)) }
+        ensures heard { IfOk result (λ a. HasHeardFrame frame.now a (standing self.old.node (memory_of self.old.unit) self.old.queue) (standing self.new.node (memory_of self.new.unit) self.new.queue)) }
         ensures clock { OnOk result (self.new.clock ≡ clock_after_hearing (is_held_open self.old.node (group_of frame.now)) (has_lost self.old.node.claimer.held self.new.node.claimer.held) (name_of self.old.unit) now self.old.clock) }
         ensures asked { IfOk result (λ a. (u : _) × (self.new.unit ≡ record self.old.unit { value = u }) × IsAsked (Answers self.old.unit) (question self.old.node frame.now) a self.old.unit.value u) }
         ensures settings { self.new.settings ≡ self.old.settings }
@@ -312,8 +312,8 @@ fn hear_frame(
 ) -> Result<Answer, LiveError>
     requires sourced { queue.old.source ≡ claim_source node.old.claimer.held }
     requires few { queue.old.put < MOST_PUT }
-    requires room { (steps.needs_room (group_of frame.now) ≡ false) ⊎ HasRoom queue.old }
-    ensures heard { IfOk result (λ a. Hears frame.now a (standing node.old (memory_of unit.old) queue.old) (standing node.new (memory_of unit.new) queue.new)) }
+    requires room { (steps.needs_room (group_of frame.now) ≡ false) ⊎ HasFreeLanes queue.old }
+    ensures heard { IfOk result (λ a. HasHeardFrame frame.now a (standing node.old (memory_of unit.old) queue.old) (standing node.new (memory_of unit.new) queue.new)) }
     ensures asked { IfOk result (λ a. (u : _) × (unit.new ≡ record unit.old { value = u }) × IsAsked (Answers unit.old) (question node.old frame.now) a unit.old.value u) }
     ensures sourced { queue.new.source ≡ claim_source node.new.claimer.held }
     ensures name { name_of unit.new ≡ name_of unit.old }

@@ -1,0 +1,13 @@
+use Rattle.std.proofs.Common.{◌≡◌}
+use Rattle.node_core.specs.Asking.{IsAsked}
+use Rattle.garage.specs.Crew.{IsCrew}
+use Rattle.garage.specs.Hearing.{IsLast}
+use Rattle.garage.specs.Rounds.{HearInTurn}
+use Rattle.garage.proofs.garage.Garage.listen.Given as goal
+
+abbrev pub invariant-loop-i : goal.invariant-loop-i
+invariant-loop-i g l =
+    HearInTurn (λ p. record { seat = p.seat; name = (goal.Unit-dyn g (p.unit.vtable, p.unit.value)).name_of p.unit.value; events = p.events; memory = (goal.Unit-dyn g (p.unit.vtable, p.unit.value)).memory_of p.unit.value })
+    (λ p q o a. (u : _) × (q.unit ≡ record p.unit { value = u }) × IsAsked ((goal.Unit-dyn g (p.unit.vtable, p.unit.value)).Answers p.unit.value) o a p.unit.value u) l.i l.fn.self l.fn.units l.self l.units
+    × IsCrew (λ p. record { seat = p.seat; name = (goal.Unit-dyn g (p.unit.vtable, p.unit.value)).name_of p.unit.value; events = p.events; memory = (goal.Unit-dyn g (p.unit.vtable, p.unit.value)).memory_of p.unit.value }) l.self l.units l.recorded
+    × IsLast l.last.frame l.last.sifted l.self

@@ -1,4 +1,4 @@
-/* The proved diagnostic station for SAE J1939, for programs in C11 and C++: version 2.1.
+/* The proved diagnostic station for SAE J1939, for programs in C11 and C++: version 2.2.
  *
  * A program hands over the frames that it reads of one bus, in their order, sends what the station replies, is told what each frame
  * changed, and asks for the lists by NAME. What each call does is proved of the library (crate station_c), as long as the C side does its part:
@@ -9,8 +9,8 @@
  *  - A station is given to one call at a time, from whichever thread: two calls on one station are ordered by a lock, by a thread's start or
  *    join, or by an atomic of the default order. Nothing in the library is tied to a thread. Several stations are independent.
  *  - Each pointer points to what its type says: aligned, large enough, not NULL, and no two of one call overlap. Only `change` may be
- *    NULL, and `bytes`, `frames` and `changes` anything aligned that is not NULL where they have no elements. What is written to need not
- *    have been set.
+ *    NULL, and each array (`bytes`, `frames`, `changes`, `text`, `bus`, `logged`) anything aligned that is not NULL where it has no elements.
+ *    What is written to need not have been set.
  *  - `malloc`, `realloc` and `free` are of one allocator, which aligns a block to each power of two up to 16 that divides its size, as
  *    the C library's does, and nobody else frees what it gave to a station.
  *  - No call comes from a signal handler, or from the forked child of a process with threads.
@@ -28,7 +28,7 @@
 #include <stdint.h>
 
 #define HIDZGULA_VERSION_MAJOR 2
-#define HIDZGULA_VERSION_MINOR 1
+#define HIDZGULA_VERSION_MINOR 2
 
 #ifdef __cplusplus
 extern "C" {
@@ -155,6 +155,50 @@ typedef struct {
     uint8_t count;
 } hidzgula_code_out;
 
+/* When a frame of a log was seen, in microseconds below 10^16 as the line has it, or HIDZGULA_NO_TIME where it has none; and the number of
+ * the line among those that the call read, from 1. */
+typedef struct {
+    uint64_t time;
+    uint64_t line;
+} hidzgula_logged;
+
+#define HIDZGULA_NO_TIME UINT64_MAX
+
+/* What the last line that was read told, beside frames. */
+enum {
+    HIDZGULA_READ = 0,        /* nothing more */
+    HIDZGULA_READ_MISSED = 1, /* that frames of the bus were missed: `missed` */
+    HIDZGULA_READ_BAD = 2     /* it begins as a line of a log, and is none: `why` */
+};
+
+/* Why a line is bad. */
+enum {
+    HIDZGULA_BAD_TOO_LONG = 1,        /* more than 4,096 bytes */
+    HIDZGULA_BAD_NO_TEXT = 2,         /* no UTF-8 */
+    HIDZGULA_BAD_NO_TIME = 3,         /* no time between its parentheses */
+    HIDZGULA_BAD_NO_BUS = 4,          /* no bus behind the time */
+    HIDZGULA_BAD_NO_FRAME = 5,        /* no frame behind the bus */
+    HIDZGULA_BAD_NO_HASH = 6,         /* no # behind the identifier */
+    HIDZGULA_BAD_ID_DIGITS = 7,       /* neither three nor eight digits of identifier */
+    HIDZGULA_BAD_ID_TOO_LARGE = 8,    /* an identifier above 1FFFFFFF */
+    HIDZGULA_BAD_TOO_MANY_BYTES = 9,  /* more than 8 bytes */
+    HIDZGULA_BAD_BYTE_COUNT = 10,     /* other bytes than its brackets tell of */
+    HIDZGULA_BAD_ODD_DIGITS = 11,     /* an odd number of digits */
+    HIDZGULA_BAD_NO_DIGIT = 12,       /* another character than a hexadecimal digit */
+    HIDZGULA_BAD_WORDS_BEHIND = 13    /* words behind the data */
+};
+
+/* How far a log was read: so many bytes, which are whole lines, so many frames of them, and so many lines; and what the last line told. A
+ * field that `what` does not name is 0. */
+typedef struct {
+    size_t bytes;
+    size_t frames;
+    uint64_t lines;
+    uint32_t missed;
+    uint8_t what;
+    uint8_t why;
+} hidzgula_read;
+
 HIDZGULA_LAYOUT(sizeof(size_t) == 8);
 HIDZGULA_LAYOUT(sizeof(bool) == 1);
 HIDZGULA_LAYOUT(sizeof(hidzgula_station) == 16);
@@ -188,6 +232,14 @@ HIDZGULA_LAYOUT(offsetof(hidzgula_entry_out, codes) == 8);
 HIDZGULA_LAYOUT(sizeof(hidzgula_code_out) == 8);
 HIDZGULA_LAYOUT(offsetof(hidzgula_code_out, fmi) == 4);
 HIDZGULA_LAYOUT(offsetof(hidzgula_code_out, count) == 5);
+HIDZGULA_LAYOUT(sizeof(hidzgula_logged) == 16);
+HIDZGULA_LAYOUT(offsetof(hidzgula_logged, line) == 8);
+HIDZGULA_LAYOUT(sizeof(hidzgula_read) == 32);
+HIDZGULA_LAYOUT(offsetof(hidzgula_read, frames) == 8);
+HIDZGULA_LAYOUT(offsetof(hidzgula_read, lines) == 16);
+HIDZGULA_LAYOUT(offsetof(hidzgula_read, missed) == 24);
+HIDZGULA_LAYOUT(offsetof(hidzgula_read, what) == 28);
+HIDZGULA_LAYOUT(offsetof(hidzgula_read, why) == 29);
 #undef HIDZGULA_LAYOUT
 
 /* Opens a station of this NAME, which holds `address`, 0 to 253, and lets a sender send at most `grant` packets at once, 1 to 255.
@@ -238,6 +290,20 @@ static inline uint32_t hidzgula_take_frame(
  * NO_STATION, whatever the frames are, and then nothing is written; ID_TOO_LARGE, TOO_LONG, OUT_OF_MEMORY of the frame at `taken`. */
 uint32_t hidzgula_take_frames(hidzgula_station *station, const hidzgula_frame *frames, size_t count, hidzgula_change *changes, size_t room,
     hidzgula_reply *reply, size_t *taken);
+
+/* Reads the whole lines of a text that candump wrote (or log2long, or cansend reads), or of a part of it, from its beginning, as the program's
+ * `watch` reads them. A line ends with LF. The frames of SAE J1939 of the bus whose name `bus` has, as "can0", stand in `frames`, in their
+ * order, as `hidzgula_take_frames` takes them, and in `logged` when each was seen; those of every bus where `bus_length` is 0, and those of
+ * lines that name no bus in any case. What stands behind them is as it was. Other buses, frames that are none of SAE J1939 and notes are
+ * passed over. It stops
+ *  - where `frames` or `logged` is full;
+ *  - where no whole line is left: what is left of the text stands before what comes next, and behind the last line of a log without LF
+ *    its caller puts one;
+ *  - behind a line that tells that frames were missed, which is for `hidzgula_take_gap` then, and behind one that is bad, which `watch` takes
+ *    for one frame missed.
+ * So the caller hands `frames` to the station, looks at `read`, and goes on at `text + read->bytes`. It takes no memory, and is not refused. */
+void hidzgula_read_log(const char *text, size_t length, const char *bus, size_t bus_length, hidzgula_frame *frames, size_t room,
+    hidzgula_logged *logged, size_t logged_room, hidzgula_read *read);
 
 /* The station is told that `count` frames of the bus were missed: it forgets which NAME owns which address, and all messages that
  * are half read, until units claim again. Its reply is a claim, and a request for the claims of all. `change` says MISSED and how many,

@@ -6,6 +6,7 @@
 from model.frames import (ABORT, ACKNOWLEDGMENT, BAM, GLOBAL, NULL, PACKET, RTS, TITLES, claimed_name, control_of, control_pgn, control_size, number)
 from model.listener import Unclaimed
 from model.memory import read_message
+from model.words import fault_of
 
 
 class Table:
@@ -30,7 +31,7 @@ class Table:
         if claimed_name(frame) is not None:
             return self.cannot_claim(claimed_name(frame)) if source == NULL else self.claim(claimed_name(frame), source)
         if frame.pgn == ACKNOWLEDGMENT and len(frame.data) == 8 and source in self.owners:
-            return self.acknowledge(self.owners[source], (frame.data[0], number(frame.data[5:8])), (frame.data[4], dest))
+            return self.acknowledge(self.owners[source], (frame.data[0], number(frame.data[5:8])), (source, frame.data[4], dest))
         if frame.pgn in TITLES:
             return self.ended(self.who(source), frame.pgn, source, GLOBAL, frame.data, "single frame")
         if (what == BAM) == (dest == GLOBAL) and what in (BAM, RTS):
@@ -54,13 +55,13 @@ class Table:
         if before is not None and before != name:
             if self.addresses.get(before) == source:
                 self.addresses[before] = None
-                told.append(("lost", before))
+                told.append(("lost", before, True))
             told.append(("displaced", source))
         self.addresses[name] = source
         return [*told, ("unit", name, source)]
 
     def cannot_claim(self, name):
-        told = [("lost", name)] if self.addresses.get(name, NULL) is not None else []
+        told = [("lost", name, False)] if self.addresses.get(name, NULL) is not None else []
         self.addresses[name] = None
         return told
 
@@ -94,5 +95,5 @@ class Table:
         shown = read_message(payload)
         if shown is None:
             self.unread += 1
-            return [("unread", self.unread, who, kind, dest, how)]
+            return [("unread", self.unread, who, kind, source, dest, fault_of(payload), how)]
         return [("entry", who, kind, source, dest, shown, how)]

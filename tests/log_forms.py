@@ -13,7 +13,8 @@ OTHER_ERRORS = [("20000088", "0000000000000000"), ("20000004", "0000040000000000
                 ("20000100", "0001000000000000"), ("20000004", ""), ("20000008", "0101010101010101")]
 NOTES = [b"", b"", b"# a comment", b"#", b"  ", b"\xef\xbb\xbf", b"interface = can0 29bits", b"total 12", b"\xff\xfe", b"\x00", b"18FECA00#04F", b"18FECA00#04FFB8040301FFFF X",
          b"18FECA00 04 F", b"18FECA0 04 FF", b"98FECA00 04 FF", b"20000004 00 01", b"can0", b"can0 18FECA00", b"18FECA00 00 01 02 03 04 05 06 07 08", b"x#y", b"DROPCOUNT",
-         b"dropped 7 CAN frames on 'can0' socket"]
+         b"dropped 7 CAN frames on 'can0' socket", b"18FECA00 04FF", b"18FECA00 0 4F", b"123 04 FF", b" \xef\xbb\xbf(1.000000) can0 18FECA00#04FFB8040301FFFF",
+         b"(1.000000) can0 18FECA00 [2] 04 remote request"]
 # White space of ASCII that is no space beside a bus; brackets that hold no count; more than ten digits of seconds; counts that are no decimal digits, or
 # above 32 bits.
 ODD = [b"(1.000000) \tcan0 18FECA00#04FFB8040301FFFF", b"(1.000000) can0\t 18FECA00#04FFB8040301FFFF", b"(1.000000) can\t0 18FECA00#04FFB8040301FFFF",
@@ -71,11 +72,19 @@ class Lines:
             for at, bus in enumerate(self.buses):
                 for frame in bus.all_claim():
                     self.put(at, frame)
+        if self.chance.random() < 0.06:
+            self.crowd()
         while len(self.lines) < count:
             self.step()
         text = self.end.join(self.lines)
         way = self.chance.random()
         return (b"\xef\xbb\xbf" if way < 0.05 else b"") + text + (b"" if way > 0.9 else self.end)
+
+    def crowd(self):
+        """Some twenty buses, more than are joined, each with a broadcast."""
+        buses = [f"bus{at}" for at in range(self.chance.randint(15, 20))]
+        for group, data in (("EC", "200A0002FFCAFE00"), ("EB", "0104FFB804030164"), ("EB", "02000501FFFFFFFF")):
+            self.lines += [f"({self.time()}) {bus} 1C{group}FF05#{data}".encode() for bus in buses]
 
     def step(self):
         chance, way = self.chance, self.chance.random()
@@ -129,7 +138,7 @@ class Lines:
         return self.other_form(bus, identifier, data, error).encode()
 
     def other_form(self, bus, identifier, data, error):
-        chance, way = self.chance, self.chance.randint(0, 9)
+        chance, way = self.chance, self.chance.randint(0, 10)
         pairs = [data[at : at + 2] for at in range(0, len(data), 2)]
         apart = f"{identifier}   [{len(pairs)}]  " + " ".join(pairs) + (" " * 6 + chance.choice(["ERRORFRAME", ""]) if error else chance.choice(["", "", "   '..n..'", "  '"]))
         if way == 0:
@@ -150,6 +159,9 @@ class Lines:
             return f"{identifier}#{data}" + chance.choice(["", "", " R"])
         if way == 8:
             return " ".join([identifier, *pairs])
+        if way == 9:
+            direction = f"{chance.choice(['RX', 'TX'])} {chance.choice('-B')} {chance.choice('-E')}"
+            return chance.choice([f" ({self.time()})  {bus}  {direction}  {apart}", f"  {bus}  {direction}  {apart}", f"({self.time()}) {bus} {direction} {identifier}#{data}"])
         return f"\ufeff({self.time()}) {bus} {identifier.lower()}#{data}"
 
     # ---- what is no frame of J1939
@@ -199,7 +211,7 @@ class Lines:
             head + "18FECA00#04FF X", head + "18FECA00#04FF R R", head + "18FECA00#04FF r", plain + "18FECA00 [2] 04 FF 00", plain + "18FECA00 [2] 04 FF R", plain + "20000004 [2] 00 01 ERRORFRAMES",
             plain + "18FECA00 [3] 04 FF", plain + "18FECA00 [8] 04 FF B8 04 03 01 FF", plain + "18FECA00 [2] 04 FFB8", plain + "18FECA00 [1]", plain + "18FECA00 [2] 04 F", plain + "123 [1] \u20ac",
             plain + "18FECA00 [2] 04 FG", plain + "18FECA0 [2] 04 FF", plain + "98FECA00 [2] 04 FF", plain + "18FECAXX [2] 04 FF", plain + "18FECA00 [2] 04 \u00e4",
-            f"({time})", f"({time})  ", f"({time}) {bus}", f"({time}) 18FECA00#04FF", f"({time} {bus} 18FECA00#04FF", "(", "()", "(x",
+            f"({time})", f"({time})  ", f"({time}) {bus}", f"({time}) {bus} RX", f"({time}) {bus} TX - -", head + "RX - - 18FECA00", head + "RX 18FECA00#04FF", plain + "TX - - 18FECA00 [x] 00", f"({time}) 18FECA00#04FF", f"({time} {bus} 18FECA00#04FF", "(", "()", "(x",
         ]).encode()
         way = chance.random()
         if way < 0.1:
@@ -218,8 +230,13 @@ def words_of_watch(chance):
         words += ["--address", str(chance.choice([249, 249, 249, 249, 250, 0, 3, 128, 253]))]
     if chance.random() < 0.2:
         words += ["--name", f"{chance.choice([0, 2, 0xFFFFFFFFFFFFFFFF, 0x9000000000000000, 0x7000000000000000]):016x}"]
+    if chance.random() < 0.35:
+        words += ["--bus", chance.choice(["can0", "can1", "can1", "vcan9", "all", "all", "all", "all"])]
     if chance.random() < 0.2:
-        words += ["--bus", chance.choice(["can0", "can1", "can1", "vcan9"])]
+        words += ["--unit", chance.choice(["0", "3", "249", "253", "33", "1000000001419907", "00000000000000A0", "0", "3", "249"])]
+    for word in ("--from", "--to"):
+        if chance.random() < 0.12:
+            words += [word, chance.choice(["0", "1.500000", "2.000", "1792915201", "1792915202.250", "1792915203.123456789", "10", "9999999999"])]
     if chance.random() < 0.25:
         for _ in range(chance.randint(1, 3)):
             words += ["--assume", f"{chance.choice([0, 3, 249, 253])}={chance.choice([0xA0, 0x1000000001419907]):016X}"]
@@ -229,6 +246,8 @@ def words_of_watch(chance):
         words += ["--silence", str(chance.choice([0, 0, 1, 100, 749, 751, 3_600_000]))]
     if chance.random() < 0.3:
         words += ["--unclaimed", chance.choice(["hide", "hide", "show"])]
+    if chance.random() < 0.1:
+        words += ["--keep", str(chance.choice([1, 1, 2, 5, 20]))]
     return words + ["--strict"] * (chance.random() < 0.12)
 
 
@@ -239,4 +258,7 @@ TEXTS = """spn,fmi,text
 ,3,voltage high
 ,31,condition exists
 524287,31,"the ""last"" one"
+100, 3,told first
+ 100 ,3,told last
+65535,,of the SPN before 65536
 """

@@ -7,12 +7,15 @@ hands it a log of candump, and `hidzgula.can.Listener` what python-can reads. do
 from .candump import Missed, read_log, take_log
 from .records import (
     Acknowledgment,
+    BadLine,
     Change,
     Code,
     Counts,
     Frame,
     Kind,
     Lamps,
+    LogCounts,
+    Logged,
     Message,
     Reply,
     Taken,
@@ -23,7 +26,7 @@ from .records import (
 from .refusals import OutOfMemory, Refused
 from .station import KEEP_ALL, Station
 
-__version__ = "2.1.0"
+__version__ = "2.2.0"
 
 DM1, DM2, DM6 = Kind.DM1, Kind.DM2, Kind.DM6
 
@@ -42,6 +45,7 @@ PGN_DM11 = 65235
 
 __all__ = [
     "Acknowledgment",
+    "BadLine",
     "Change",
     "Code",
     "Counts",
@@ -52,6 +56,8 @@ __all__ = [
     "KEEP_ALL",
     "Kind",
     "Lamps",
+    "LogCounts",
+    "Logged",
     "Message",
     "Missed",
     "OutOfMemory",

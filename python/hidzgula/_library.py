@@ -71,6 +71,25 @@ class CodeRecord(Structure):
     _fields_ = [("spn", c_uint32), ("fmi", c_uint8), ("count", c_uint8)]
 
 
+class LoggedRecord(Structure):
+    """When a frame of a log was seen, and in which line it stands."""
+
+    _fields_ = [("time", c_uint64), ("line", c_uint64)]
+
+
+class ReadRecord(Structure):
+    """How far lines of a log were read, and what the last one told beside frames."""
+
+    _fields_ = [
+        ("bytes", c_size_t),
+        ("frames", c_size_t),
+        ("lines", c_uint64),
+        ("missed", c_uint32),
+        ("what", c_uint8),
+        ("why", c_uint8),
+    ]
+
+
 # The struct, its name in the header, and its size there.
 RECORDS = (
     (StationRecord, "hidzgula_station", 16),
@@ -80,6 +99,8 @@ RECORDS = (
     (RowRecord, "hidzgula_row_out", 16),
     (EntryRecord, "hidzgula_entry_out", 16),
     (CodeRecord, "hidzgula_code_out", 8),
+    (LoggedRecord, "hidzgula_logged", 16),
+    (ReadRecord, "hidzgula_read", 32),
 )
 
 for record, called, size in RECORDS:
@@ -90,7 +111,7 @@ _STATION = POINTER(StationRecord)
 _REPLY = POINTER(ReplyRecord)
 _CHANGE = POINTER(ChangeRecord)
 
-# Each call but `hidzgula_close`, which answers nothing, answers a number: 0, or why it was refused.
+# Each call but those of `ANSWERS_NOTHING` answers a number: 0, or why it was refused.
 CALLS = {
     "hidzgula_open": (_STATION, c_uint64, c_uint8, c_uint8, c_uint32),
     "hidzgula_open_listening": (_STATION, c_uint64, c_uint8, c_uint32),
@@ -109,7 +130,10 @@ CALLS = {
     "hidzgula_entry": (_STATION, c_uint64, c_uint8, c_uint64, POINTER(EntryRecord)),
     "hidzgula_code": (_STATION, c_uint64, c_uint8, c_uint64, c_size_t, POINTER(CodeRecord)),
     "hidzgula_counts": (_STATION, POINTER(c_uint64), POINTER(c_uint64)),
+    "hidzgula_read_log": (c_void_p, c_size_t, c_char_p, c_size_t, c_void_p, c_size_t, c_void_p, c_size_t, POINTER(ReadRecord)),
 }
+
+ANSWERS_NOTHING = {"hidzgula_close", "hidzgula_read_log"}
 
 # The library in the wheel, or the one that the environment names.
 PATH = os.environ.get("HIDZGULA_LIBRARY") or str(pathlib.Path(__file__).with_name("libhidzgula_station.so"))
@@ -121,7 +145,7 @@ def _loaded(path: str) -> ctypes.CDLL:
     for called, takes in CALLS.items():
         call = getattr(library, called)
         call.argtypes = takes
-        call.restype = None if called == "hidzgula_close" else c_uint32
+        call.restype = None if called in ANSWERS_NOTHING else c_uint32
     return library
 
 

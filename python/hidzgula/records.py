@@ -192,3 +192,36 @@ class Counts(NamedTuple):
     """Frames that it was told of as missed."""
     unread: int
     """Messages that ended and could not be read."""
+
+
+class Logged(NamedTuple):
+    """Where in a log something stood."""
+
+    line: int
+    """The number of the line, from 1."""
+    time: Optional[int]
+    """Its time in microseconds, below 10^16, as it is written there: of a log of candump -L since 1970. None where it has none."""
+
+
+class BadLine(NamedTuple):
+    """A line that begins as one of a log of candump, and is none."""
+
+    line: int
+    """The number of the line, from 1."""
+    why: str
+    """Why it is none, in the words of `watch`."""
+
+    def __str__(self) -> str:
+        return f"line {self.line}: {self.why}"
+
+
+class LogCounts(NamedTuple):
+    """What a log was read as."""
+
+    lines: int
+    frames: int
+    """Frames that the station took."""
+    missed: int
+    """Frames that it was told of as missed, one for each bad line among them, unless bad lines were passed over."""
+    bad: int
+    """Lines that begin as one of a log, and are none."""

@@ -41,7 +41,8 @@ KEEP_ALL = 2**32 - 1
 
 # How many frames the library is handed at once: a change takes 32 bytes.
 _AT_ONCE = 4096
-_FRAME = struct.Struct("<IB8s3x")
+# A frame in the library's layout.
+FRAME = struct.Struct("<IB8s3x")
 _CHANGE = struct.Struct("<QQIIBBBBBBBx")
 _WHAT_AT = ChangeRecord.what.offset
 _LISTED = What.LISTED.value
@@ -78,13 +79,13 @@ class Station:
         self._reply = ReplyRecord()
         self._change = ChangeRecord()
         self._listening = bool(listening)
-        name = _number("name", name, 2**64 - 1)
-        address = _number("address", address, 255, most_is_refused=True)
-        kept = _number("keep", KEEP_ALL if keep is None else keep, KEEP_ALL)
+        name = number_of("name", name, 2**64 - 1)
+        address = number_of("address", address, 255, most_is_refused=True)
+        kept = number_of("keep", KEEP_ALL if keep is None else keep, KEEP_ALL)
         if listening:
-            _done(library.hidzgula_open_listening(self._station, name, address, kept))
+            done(library.hidzgula_open_listening(self._station, name, address, kept))
         else:
-            _done(library.hidzgula_open(self._station, name, address, _number("grant", grant, 255), kept))
+            done(library.hidzgula_open(self._station, name, address, number_of("grant", grant, 255), kept))
         self._keep = kept
 
     def close(self) -> None:
@@ -120,10 +121,10 @@ class Station:
         Raises Refused ID_TOO_LARGE, TOO_LONG, NO_STATION, and MemoryError: then the frame may be handed over again, or be counted as
         missed.
         """
-        id = _number("id", id, 2**32 - 1, most_is_refused=True)
-        data = _octets(data)
+        id = number_of("id", id, 2**32 - 1, most_is_refused=True)
+        data = octets_of(data)
         with self._lock:
-            _done(library.hidzgula_take_frame_telling(self._station, id, data, len(data), self._reply, self._change))
+            done(library.hidzgula_take_frame_telling(self._station, id, data, len(data), self._reply, self._change))
             return Taken(_reply_of(self._reply), _change_of(self._change))
 
     def take_frames(self, frames: Sequence[Tuple[int, Octets]], start: int = 0) -> TakenFrames:
@@ -137,16 +138,24 @@ class Station:
         pair of a number and bytes, a TypeError or ValueError is raised before any is taken.
         """
         packed = _packed(frames, start)
-        held = (FrameRecord * (len(packed) // _FRAME.size)).from_buffer(packed)
-        first, count = ctypes.addressof(held), len(held)
-        records = (ChangeRecord * min(_AT_ONCE, max(count, 1)))()
+        held = (FrameRecord * (len(packed) // FRAME.size)).from_buffer(packed)
+        return self.take_records(held, len(held), start)
+
+    def take_records(self, frames: Any, count: int, start: int = 0) -> TakenFrames:
+        """Takes frames that stand in the library's layout already, from the first on, as `take_frames` does; the first has the place
+        `start`. For the modules of this package.
+
+        Raises what `take_frames` raises.
+        """
+        first = ctypes.addressof(frames)
         changes: List[Tuple[int, Change]] = []
+        records = (ChangeRecord * min(_AT_ONCE, max(count, 1)))()
         taken = 0
         with self._lock:
             while True:
                 one = ctypes.c_size_t(0)
                 status = library.hidzgula_take_frames(
-                    self._station, first + taken * _FRAME.size, count - taken, records, len(records), self._reply, one
+                    self._station, first + taken * FRAME.size, count - taken, records, len(records), self._reply, one
                 )
                 _add_changes(changes, records, one.value, start + taken)
                 taken += one.value
@@ -163,9 +172,9 @@ class Station:
 
         Raises Refused NO_STATION, and MemoryError.
         """
-        count = _number("count", count, 2**32 - 1)
+        count = number_of("count", count, 2**32 - 1)
         with self._lock:
-            _done(library.hidzgula_take_gap_telling(self._station, count, self._reply, self._change))
+            done(library.hidzgula_take_gap_telling(self._station, count, self._reply, self._change))
             return Taken(_reply_of(self._reply), _change_of(self._change))
 
     # ---- what it sends
@@ -177,8 +186,8 @@ class Station:
         """
         record = FrameRecord()
         with self._lock:
-            _done(library.hidzgula_claim(self._station, record))
-        return _frame_of(record)
+            done(library.hidzgula_claim(self._station, record))
+        return frame_of(record)
 
     def ask(self, name: int, pgn: int) -> Reply:
         """Asks the unit of a NAME for a parameter group, below 2^24: the request to send. A group to clear codes clears them at units that
@@ -186,7 +195,7 @@ class Station:
 
         Raises Refused PGN_TOO_LARGE, NO_STATION, NOT_HELD, NO_ADDRESS, and MemoryError.
         """
-        name, pgn = _number("name", name, 2**64 - 1), _number("pgn", pgn, 2**32 - 1, most_is_refused=True)
+        name, pgn = number_of("name", name, 2**64 - 1), number_of("pgn", pgn, 2**32 - 1, most_is_refused=True)
         return self._ordered(library.hidzgula_ask, name, pgn)
 
     def ask_all(self, pgn: int) -> Reply:
@@ -194,7 +203,7 @@ class Station:
 
         Raises Refused PGN_TOO_LARGE, NO_STATION, NOT_HELD, and MemoryError.
         """
-        return self._ordered(library.hidzgula_ask_all, _number("pgn", pgn, 2**32 - 1, most_is_refused=True))
+        return self._ordered(library.hidzgula_ask_all, number_of("pgn", pgn, 2**32 - 1, most_is_refused=True))
 
     def command(self, name: int, address: int) -> Reply:
         """Commands the unit of a NAME to hold an address, 0 to 253: the three frames of a broadcast, of which the standard wants the last
@@ -202,12 +211,12 @@ class Station:
 
         Raises Refused NO_STATION, NOT_AN_ADDRESS, NOT_HELD, and MemoryError.
         """
-        name, address = _number("name", name, 2**64 - 1), _number("address", address, 255, most_is_refused=True)
+        name, address = number_of("name", name, 2**64 - 1), number_of("address", address, 255, most_is_refused=True)
         return self._ordered(library.hidzgula_command, name, address)
 
     def _ordered(self, call: Any, *words: int) -> Reply:
         with self._lock:
-            _done(call(self._station, *words, self._reply))
+            done(call(self._station, *words, self._reply))
             return _reply_of(self._reply)
 
     # ---- what it knows
@@ -220,7 +229,7 @@ class Station:
         """
         has, address = ctypes.c_uint8(), ctypes.c_uint8()
         with self._lock:
-            _done(library.hidzgula_held(self._station, has, address))
+            done(library.hidzgula_held(self._station, has, address))
         return address.value if has.value else None
 
     def units(self) -> List[Unit]:
@@ -231,9 +240,9 @@ class Station:
         count, row = ctypes.c_size_t(), RowRecord()
         units = []
         with self._lock:
-            _done(library.hidzgula_rows(self._station, count))
+            done(library.hidzgula_rows(self._station, count))
             for place in range(count.value):
-                _done(library.hidzgula_row(self._station, place, row))
+                done(library.hidzgula_row(self._station, place, row))
                 units.append(_unit_of(row))
         return units
 
@@ -261,7 +270,7 @@ class Station:
         Raises Refused NO_KIND, NO_STATION, NOT_KEPT where it came and is kept no longer, NO_PLACE where it never came.
         """
         name, kind = _list_of(name, kind)
-        place = _number("place", place, 2**64 - 1, most_is_refused=True)
+        place = number_of("place", place, 2**64 - 1, most_is_refused=True)
         with self._lock:
             return self._message(name, kind, place)
 
@@ -282,31 +291,31 @@ class Station:
         """
         missed, unread = ctypes.c_uint64(), ctypes.c_uint64()
         with self._lock:
-            _done(library.hidzgula_counts(self._station, missed, unread))
+            done(library.hidzgula_counts(self._station, missed, unread))
         return Counts(missed.value, unread.value)
 
     def _count(self, name: int, kind: int) -> int:
         count = ctypes.c_uint64()
-        _done(library.hidzgula_entries(self._station, name, kind, count))
+        done(library.hidzgula_entries(self._station, name, kind, count))
         return count.value
 
     def _message(self, name: int, kind: int, place: int) -> Message:
         entry, code = EntryRecord(), CodeRecord()
-        _done(library.hidzgula_entry(self._station, name, kind, place, entry))
+        done(library.hidzgula_entry(self._station, name, kind, place, entry))
         codes = []
         for at in range(entry.codes):
-            _done(library.hidzgula_code(self._station, name, kind, place, at, code))
+            done(library.hidzgula_code(self._station, name, kind, place, at, code))
             codes.append(Code(code.spn, code.fmi, code.count))
         return Message(place, Lamps(entry.lamps, entry.flashes), tuple(codes))
 
 
-def _done(status: int) -> None:
+def done(status: int) -> None:
     """Raises where a call was not done."""
     if status:
         refuse(status)
 
 
-def _number(what: str, value: int, most: int, most_is_refused: bool = False) -> int:
+def number_of(what: str, value: int, most: int, most_is_refused: bool = False) -> int:
     """A number that the library's type holds. ctypes would cut a larger one, so that is a ValueError; or, where the library refuses the
     type's greatest number for being too large, that one in its place, so that both are refused alike."""
     value = value.__index__()
@@ -319,17 +328,17 @@ def _number(what: str, value: int, most: int, most_is_refused: bool = False) -> 
 
 def _list_of(name: int, kind: int) -> Tuple[int, int]:
     """The NAME and the kind of a list."""
-    return _number("name", name, 2**64 - 1), _number("kind", kind, 255, most_is_refused=True)
+    return number_of("name", name, 2**64 - 1), number_of("kind", kind, 255, most_is_refused=True)
 
 
-def _octets(data: Octets) -> bytes:
+def octets_of(data: Octets) -> bytes:
     """The bytes of a frame."""
     return data if type(data) is bytes else bytes(memoryview(data))
 
 
 def _packed(frames: Sequence[Tuple[int, Octets]], start: int) -> bytearray:
     """The frames from a place on, in the library's layout."""
-    start = _number("start", start, len(frames))
+    start = number_of("start", start, len(frames))
     packed = bytearray()
     for at in range(start, len(frames), _AT_ONCE):
         part = frames[at : at + _AT_ONCE]
@@ -350,8 +359,8 @@ def _packed_part(part: Sequence[Tuple[int, Octets]]) -> bytes:
 
 def _packed_frame(id: int, data: Octets) -> bytes:
     """One frame whose numbers may be beyond the library's types: an identifier or a length that is too large stays so."""
-    data = _octets(data)
-    return _FRAME.pack(_number("id", id, 2**32 - 1, most_is_refused=True), min(len(data), 255), data)
+    data = octets_of(data)
+    return FRAME.pack(number_of("id", id, 2**32 - 1, most_is_refused=True), min(len(data), 255), data)
 
 
 def _add_changes(changes: List[Tuple[int, Change]], records: Any, count: int, first: int) -> None:
@@ -393,10 +402,10 @@ def _reply_of(record: ReplyRecord) -> Reply:
     """What a record of the library replies; `SILENT` itself where that is nothing."""
     if not record.count and not record.withdraw:
         return SILENT
-    return Reply(bool(record.withdraw), tuple(_frame_of(frame) for frame in record.frames[: record.count]))
+    return Reply(bool(record.withdraw), tuple(frame_of(frame) for frame in record.frames[: record.count]))
 
 
-def _frame_of(record: FrameRecord) -> Frame:
+def frame_of(record: FrameRecord) -> Frame:
     return Frame(record.id, bytes(record.bytes[: record.length]))
 
 

@@ -28,6 +28,18 @@ static void fill(void)
 
 static void nothing_written(const char *what) { is(what, (unsigned long)memcmp(&out, &before, sizeof out), 0); }
 
+/* what stands behind the bytes of each frame of a reply, and behind its frames: 0, whatever stood there before */
+static unsigned long behind(const hidzgula_reply *reply)
+{
+    unsigned long any = 0;
+    for (int i = 0; i < 3; i++) {
+        const hidzgula_frame *frame = &reply->frames[i];
+        if (i >= reply->count) any |= frame->id | frame->length;
+        for (int j = i < reply->count ? frame->length : 0; j < 8; j++) any |= frame->bytes[j];
+    }
+    return any;
+}
+
 /* all calls on a station that is empty */
 static void on_empty(const char *when)
 {
@@ -95,6 +107,9 @@ static void fields(void)
     static const uint8_t request[3] = { 0x00, 0xEE, 0x00 };
     is("a claim", hidzgula_take_frame(&station, 0x18EEFF07, bytes, 8, &out.reply, &out.change), HIDZGULA_DONE);
     is("is not answered", out.reply.count, 0);
+    is("and nothing stands there", behind(&out.reply), 0);
+    is("row 0", hidzgula_row(&station, 0, &out.row), HIDZGULA_DONE);
+    is("without acknowledgment", out.row.has_ack | out.row.ack_control | out.row.ack_pgn, 0);
     is("no bytes", hidzgula_take_frame(&station, 0x18FECA07, bytes, 0, &out.reply, &out.change), HIDZGULA_DONE);
     /* no pointer for no bytes: nothing is proved of it, and nothing is read */
     is("no bytes at NULL", hidzgula_take_frame(&station, 0x18FEF107, NULL, 0, &out.reply, &out.change), HIDZGULA_DONE);
@@ -143,6 +158,7 @@ static void orders(void)
     is("by one frame", out.reply.count * 256u + out.reply.withdraw, 256);
     is("to its address", out.reply.frames[0].id, 0x18EA07F8);
     is("of three bytes", out.reply.frames[0].length, 3);
+    is("and nothing behind", behind(&out.reply), 0);
     is("asks for DM6", hidzgula_ask(&station, 0xA0, HIDZGULA_PGN_DM6, &out.reply), HIDZGULA_DONE);
     is("of DM6", out.reply.frames[0].bytes[0] * 65536u + out.reply.frames[0].bytes[1] * 256u + out.reply.frames[0].bytes[2], 0xCFFE00);
     is("asks all", hidzgula_ask_all(&station, HIDZGULA_PGN_DM1, &out.reply), HIDZGULA_DONE);
@@ -155,6 +171,7 @@ static void orders(void)
     is("misses frames", hidzgula_take_gap(&station, 5, &out.reply, &out.change), HIDZGULA_DONE);
     is("and claims again", out.reply.count * 256u + out.reply.withdraw, 2 * 256 + 1);
     is("and asks for claims", out.reply.frames[1].id, 0x18EAFFF8);
+    is("in two frames alone", behind(&out.reply), 0);
     is("counts", hidzgula_counts(&station, &out.missed, &out.unread), HIDZGULA_DONE);
     is("missed", out.missed, 5);
     is("knows no address", hidzgula_ask(&station, 0xA0, HIDZGULA_PGN_DM1, &out.reply), HIDZGULA_NO_ADDRESS);

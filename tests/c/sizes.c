@@ -71,6 +71,18 @@ static void *take_rows(void *unused)
     return unused;
 }
 
+/* a line of each kind */
+static void *read_lines(void *unused)
+{
+    static const char text[] = "(1.000000) can0 18FECA00#04FF6E000001FFFF\n can0  18FECA00   [2]  04 FF\n(2026-11-27 10:00:00.000000) can0 18FECA00#R\n# note\n"
+                               "DROPCOUNT: dropped 7 CAN frames on 'can0' socket (total drops 7)\n(x) can0\n(1.000000) can0 18FECA00#0G\n";
+    hidzgula_frame read_frame[4];
+    hidzgula_logged logged[4];
+    hidzgula_read read;
+    for (size_t at = 0; at < sizeof text - 1; at += read.bytes) hidzgula_read_log(text + at, sizeof text - 1 - at, "can0", 4, read_frame, 4, logged, 4, &read);
+    return unused;
+}
+
 static void *order(void *unused)
 {
     hidzgula_reply reply;
@@ -130,7 +142,7 @@ int main(int argc, char **argv)
         const char *name;
         void *(*work)(void *);
     } works[] = { { "open", open_one }, { "take_frame", take_all }, { "queries", ask_for_lists }, { "orders", order }, { "take_gap", miss },
-        { "take_frames", take_rows }, { "close", close_it } };
+        { "take_frames", take_rows }, { "read_log", read_lines }, { "close", close_it } };
     if (argc > 1) keep = (uint32_t)strtoul(argv[1], NULL, 10);
     read_frames();
     size_t base = stack_of(nothing);

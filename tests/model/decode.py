@@ -1,13 +1,16 @@
-"""`decode`: each line of a log in words, or as a JSON object. No line is read with another in mind."""
+"""`decode`: each line of a log in words, or as a JSON object. No line is read with another in mind, but where packets are joined: then each message that is
+whole has a line behind that of its last packet."""
 
 import csv
 import io
 
-from .frames import GLOBAL, TITLES, claimed_name
+from .frames import ABORT, BAM, END_OF_MESSAGE, GLOBAL, PACKET, RTS, TITLES, claimed_name, control_of, control_pgn, control_size, packets_of
 from .log_cases import reach
 from .memory import read_message
 from .notices import BadLines, without_frames
-from .words import DATA_GROUPS, address_words, code_object, dumped, message_words, name_fields, name_text, time_text
+from .words import DATA_GROUPS, address_words, code_object, dumped, message_words, name_fields, name_text, payload_words, time_text
+
+MOST_BUSES = 16  # of which packets are joined
 
 
 class Texts:
@@ -16,7 +19,7 @@ class Texts:
     def __init__(self, text=""):
         self.texts = {}
         for spn, fmi, words in list(csv.reader(io.StringIO(text)))[1:]:
-            self.texts[int(spn) if spn else None, int(fmi) if fmi else None] = words
+            self.texts[int(spn) if spn.strip() else None, int(fmi) if fmi.strip() else None] = words  # of two for the same the later stays
 
     def of(self, code):
         """That of both goes before those of one; with a comma between them where each has one."""
@@ -42,16 +45,28 @@ def shown_by(frame):
     return read_message(frame.data) if frame.pgn in TITLES else None
 
 
+def place_words(line):
+    """The time and the bus, each where the line has it."""
+    return (f"({time_text(line.time)}) " if line.time is not None else "") + (f"{line.bus} " if line.bus is not None else "")
+
+
+def place_object(line):
+    return ({} if line.time is None else {"time": time_text(line.time)}) | ({} if line.bus is None else {"bus": line.bus})
+
+
+def texts_behind(shown, texts):
+    """The text of each code that has one, in parentheses."""
+    told = [(code, texts.of(code)) for code in shown[1]] if shown else []
+    return "".join(f" ({code.spn}/{code.fmi}: {text})" for code, text in told if text is not None)
+
+
 def in_words(line, texts):
     if line.kind != "frame":
         return words_of(line)
     frame = line.what
-    place = (f"({time_text(line.time)}) " if line.time is not None else "") + (f"{line.bus} " if line.bus is not None else "")
     dest = GLOBAL if frame.dest is None else frame.dest
-    shown = shown_by(frame)
-    told = [(code, texts.of(code)) for code in shown[1]] if shown else []
-    behind = "".join(f" ({code.spn}/{code.fmi}: {text})" for code, text in told if text is not None)
-    return f"{place}p{frame.number >> 26} {address_words(frame.source, True)}>{address_words(dest, True)} {frame.pgn} {message_words(frame, True)}{behind}"
+    return (f"{place_words(line)}p{frame.number >> 26} {address_words(frame.source, True)}>{address_words(dest, True)} {frame.pgn} {message_words(frame, True)}"
+            + texts_behind(shown_by(frame), texts))
 
 
 def in_json(number, line, texts):
@@ -59,10 +74,7 @@ def in_json(number, line, texts):
     if line.kind != "frame":
         return told | {"says": words_of(line)}
     frame, name, shown = line.what, claimed_name(line.what), shown_by(line.what)
-    if line.time is not None:
-        told["time"] = time_text(line.time)
-    if line.bus is not None:
-        told["bus"] = line.bus
+    told |= place_object(line)
     told |= {"priority": frame.number >> 26, "source": frame.source, "destination": GLOBAL if frame.dest is None else frame.dest, "pgn": frame.pgn,
              "data": frame.data.hex().upper(), "says": message_words(frame, False)}
     if frame.pgn in DATA_GROUPS:
@@ -74,12 +86,77 @@ def in_json(number, line, texts):
     return told
 
 
-def decoded(lines, texts=""):
+class Joining:
+    """What came of each bus since the last line that may stand for a lost frame; a message is found by going back from its last packet (J1939-21, 5.10)."""
+
+    def __init__(self):
+        self.buses = {}
+
+    def take(self, line):
+        """The message that a line makes whole, (source, destination, group, payload); None where it makes none whole."""
+        if line.kind in ("bad", "dropped", "overflow"):
+            self.buses = {}
+        if line.kind != "frame" or control_of(line.what) is None and line.what.pgn != PACKET:
+            return None
+        if line.bus not in self.buses and len(self.buses) == MOST_BUSES:
+            reach("decode: a bus too many")
+            return None
+        frames = self.buses.setdefault(line.bus, [])
+        frames.append(line.what)
+        return self.whole(frames) if line.what.pgn == PACKET else None
+
+    @staticmethod
+    def whole(frames):
+        source, dest, packets = frames[-1].source, frames[-1].dest, []
+        for frame in reversed(frames):
+            what, ends = control_of(frame), (frame.source, frame.dest)
+            if frame.pgn == PACKET:
+                packets += [frame.data] if ends == (source, dest) else []
+            elif what == ABORT and ends in ((source, dest), (dest, source)) or what == END_OF_MESSAGE and ends == (dest, source):
+                reach("decode: packets of a message that was ended")
+                return None
+            elif ends == (source, dest) and what == (BAM if dest == GLOBAL else RTS):
+                count = packets_of(control_size(frame))
+                if [len(data) for data in packets] != [8] * len(packets) or [data[0] for data in reversed(packets)] != [*range(1, len(packets) + 1)] or len(packets) > count:
+                    reach("decode: packets out of order")
+                    return None
+                if len(packets) < count:
+                    return None
+                reach("decode: a broadcast is joined" if dest == GLOBAL else "decode: a session is joined")
+                return source, dest, control_pgn(frame), b"".join(data[1:] for data in reversed(packets))[: control_size(frame)]
+        reach("decode: packets of nothing")
+        return None
+
+
+def joined_words(line, joined, texts):
+    source, dest, pgn, payload = joined
+    shown = read_message(payload) if pgn in TITLES else None
+    return f"{place_words(line)}joined {address_words(source, True)}>{address_words(dest, True)} {pgn} {payload_words(pgn, payload, True)}" + texts_behind(shown, texts)
+
+
+def joined_object(number, line, joined, texts):
+    source, dest, pgn, payload = joined
+    shown = read_message(payload) if pgn in TITLES else None
+    told = {"line": number, "joined": True} | place_object(line)
+    told |= {"source": source, "destination": dest, "pgn": pgn, "data": payload.hex().upper(), "says": payload_words(pgn, payload, False)}
+    if shown:
+        told |= {"lamps": shown[0].hex().upper(), "codes": [code_object(code, texts.of(code)) for code in shown[1]]}
+    if pgn in DATA_GROUPS:
+        reach("decode: a joined message has a group's name")
+        told["group"] = DATA_GROUPS[pgn]
+    return told
+
+
+def decoded(lines, texts="", join=False):
     """What is written of lines in text and in JSON, what is told of bad ones, and the status."""
-    texts, text, objects, bad, errors = Texts(texts), [], [], BadLines(), []
+    texts, text, objects, bad, errors, joining = Texts(texts), [], [], BadLines(), [], Joining()
     for number, line in enumerate(lines, 1):
         errors.append(bad.told(number, line))
         text.append(in_words(line, texts) + "\n")
         objects.append(dumped(in_json(number, line, texts)) + "\n")
+        joined = joining.take(line) if join else None
+        if joined:
+            text.append(joined_words(line, joined, texts) + "\n")
+            objects.append(dumped(joined_object(number, line, joined, texts)) + "\n")
     errors = "".join([*errors, bad.rest(), without_frames(lines)])
     return {"text": "".join(text), "json": "".join(objects)}, errors, 3 if errors else 0

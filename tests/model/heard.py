@@ -9,6 +9,7 @@ from .frames import (ABORT, ACKNOWLEDGMENT, BAM, CLAIM, CONTROL, GLOBAL, LAST_AD
                      control_size, in_order, joined, number, requested)
 from .log_cases import reach
 from .memory import read_message
+from .words import fault_of
 
 
 class Claim:
@@ -151,7 +152,7 @@ class Heard:
         if source == NULL:
             reach("a cannot-claim of a NAME " + ("with an address" if has is not None else "without an address" if known else "that was not known"))
             self.of_name[name] = claim
-            return [("lost", name)] if has is not None or not known else []
+            return [("lost", name, False)] if has is not None or not known else []
         owner = self.owner(source)
         had = owner is not None and owner != name and self.address_of(owner) == source
         self.end_messages(name, source, owner)
@@ -161,7 +162,7 @@ class Heard:
             return []
         reach("a claim of an address without owner" if owner is None else "a claim by the last owner again, which went elsewhere since"
               if owner == name else "a claim that takes an address from who " + ("has it" if had else "had it"))
-        told = [("lost", owner)] if had else []
+        told = [("lost", owner, True)] if had else []
         if owner not in (None, name):
             told.append(("displaced", source))
         return [*told, ("unit", name, source)]
@@ -186,7 +187,7 @@ class Heard:
             return []
         again, self.acknowledged[owner] = self.acknowledged.get(owner) == told, told
         reach("an acknowledgment that " + ("was" if again else "is") + " told")
-        return [] if again else [("ack", owner, *told, frame.data[4], frame.dest)]
+        return [] if again else [("ack", owner, *told, frame.source, frame.data[4], frame.dest)]
 
     def whose(self, source, place=None):
         """Under which NAME a message is listed that began at a place; None where it is not."""
@@ -202,7 +203,7 @@ class Heard:
         if shown is None:
             reach(f"a {how} cannot be read")
             self.unread += 1
-            return [("unread", self.unread, who, kind, dest, how)]
+            return [("unread", self.unread, who, kind, source, dest, fault_of(payload), how)]
         reach(f"a {how} is listed")
         return [("entry", who, kind, source, dest, shown, how)]
 

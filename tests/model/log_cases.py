@@ -32,6 +32,7 @@ a frame in plain candump's with a time form
 a frame in plain candump's without a time form
 a frame in cansend's form
 a frame in a script's form
+a direction before the identifier
 """
 
 WORDS = """
@@ -44,6 +45,7 @@ says: DM2
 says: DM6
 says: cannot be read, bad length
 says: cannot be read, old conversion
+says: cannot be read, a code of zeros
 says: RTS
 says: CTS
 says: the end
@@ -58,6 +60,13 @@ a code has the texts of its SPN and of its FMI
 a code has the text of its SPN
 a code has the text of its FMI
 a code has no text
+decode: a broadcast is joined
+decode: a session is joined
+decode: packets of nothing
+decode: packets out of order
+decode: packets of a message that was ended
+decode: a joined message has a group's name
+decode: a bus too many
 """
 
 HEARD = """
@@ -144,6 +153,10 @@ an entry is equal to the one before it, but went elsewhere
 a row of an address that nobody claimed
 a row of an address that nobody claimed since a gap
 an address that nobody claimed is told of, and has no row
+a change at a time of which it is not told
+a change of another unit than the one of which it is told
+missed frames of each bus
+one more of several buses
 """
 NEVER_LISTENING = """
 a single frame from an address without owner
@@ -165,6 +178,7 @@ a row without entries
 a time that jumped back
 a time that is as before
 an event before any time
+more is heard than is kept at once
 a count that is not available
 """
 

@@ -1,7 +1,8 @@
 """What one line of a log is: a frame of J1939 with its time and its bus, another frame, frames that were dropped, a note, or bad.
 
 The forms: what `candump -L` and `candump -l` write, `(TIME) BUS ID#BYTES`, with R or T behind where a direction is told; plain
-candump, with a time in front or without, and log2long, `BUS ID [COUNT] BYTE BYTE ..` with remarks behind; what cansend takes,
+candump, with a time in front or without, and log2long, `BUS ID [COUNT] BYTE BYTE ..` with remarks behind, and before the identifier the direction and two
+flags, `RX - -`, where it was asked for; what cansend takes,
 `ID#BYTES`, with points between bytes or not; and a frame as a script shows it, `ID BYTE BYTE ..`. An identifier has three digits
 (11 bits) or eight (29 bits). Words stand apart by white space of ASCII.
 
@@ -119,6 +120,7 @@ def timed(text):
     words = WORD.findall(rest)
     if not words:
         raise Bad("no bus behind the time")
+    words = words[:1] + behind_direction(words[1:])
     if len(words) == 1:
         raise Bad("no frame behind the bus")
     if "#" in words[1]:
@@ -136,11 +138,20 @@ def untimed(text):
             return said(joined_frame(words), None, None, "cansend's")
         except Bad:
             return note("what would be cansend's")
-    if len(words) > 2 and words[2][0] == "[":
-        return said(apart_frame(words[1], words[2], words[3:]), None, words[0], "plain candump's without a time")
+    told = words[:1] + behind_direction(words[1:])
+    if len(told) > 2 and told[2][0] == "[":
+        return said(apart_frame(told[1], told[2], told[3:]), None, told[0], "plain candump's without a time")
     if re.fullmatch("[01][0-9A-Fa-f]{7}", words[0]) and len(words) <= 9 and all(re.fullmatch("[0-9A-Fa-f]{2}", word) for word in words[1:]):
         return said(Frame(int(words[0], 16), bytes.fromhex("".join(words[1:]))), None, None, "a script's")
     return note("other text")
+
+
+def behind_direction(words):
+    """The words behind a bus from the identifier on: `candump -x` has the direction before it, and two flags."""
+    if words[:1] not in (["RX"], ["TX"]):
+        return words
+    reach("a direction before the identifier")
+    return words[3:]
 
 
 def said(frame, time, bus, form):

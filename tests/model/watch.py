@@ -1,6 +1,6 @@
 """`watch`: what the lines of a log tell, line by line and in a report at the end, as text, JSON and CSV.
 
-One bus is watched: the one that is given, or else the first that a line names. Of its lines a frame is read, but for a packet that comes too
+One bus is watched: the one that is given, or else the first that a line names; or with `all` each of them, by a watch of its own. Of its lines a frame is read, but for a packet that comes too
 late; frames that were dropped, an overflow, and a bad line are missed frames. What a reading changes (`heard`) is told where it is news.
 Equal entries that come one after the other under a NAME are a run.
 """
@@ -11,12 +11,13 @@ from .listener import Listener, Unclaimed
 from .log_cases import reach
 from .log_line import ERROR, FD, REMOTE, SHORT
 from .notices import BadLines, Clock, without_frames
-from .words import NOT_AVAILABLE, code_words, dumped, lamp_words, name_text, shown_object, time_text
+from .words import ANSWERS, NOT_AVAILABLE, address_words, dumped, group_words, lamp_words, name_text, shown_object, shown_words, time_text
 
 # What the program has. To be switched on with it: all tests of lines of a log then try the program as one that listens.
 PROGRAM_LISTENS = True  # whether a listener stands behind `watch`, or still a station
 
 T1 = 750  # milliseconds: how late a packet may come (J1939-21, 5.10.3)
+MOST_PAIRS = 4096  # between which messages may be half joined
 CONTEST = 250_000  # microseconds: as long as a unit waits for a contender before it sends (J1939-81, 4.4)
 WORD_OF = {kind: word for word, kind in KINDS.items()}
 FOREIGN = {SHORT: "short", REMOTE: "remote", FD: "fd", ERROR: "error"}
@@ -34,7 +35,9 @@ class Options:
         self.listens = listens
         self.lists_unclaimed = listens
         self.bus, self.address, self.name, self.assumed = None, None if listens else 248, 1, []
+        self.each, self.unit, self.first, self.last = False, None, None, None
         self.skips_bad, self.silence, self.strict = False, T1, False
+        self.most, self.keep = 65_536, 1_000_000  # of how many NAMEs is known at once, and how many runs are kept
 
     @staticmethod
     def of(words, listens=False):
@@ -46,7 +49,13 @@ class Options:
                 continue
             value = next(words)
             if word == "--bus":
-                given.bus = value
+                given.each, given.bus = value == "all", None if value == "all" else value
+            elif word == "--unit":
+                given.unit = ("name", int(value, 16)) if len(value) == 16 else ("address", int(value))
+            elif word == "--from":
+                given.first = time_asked(value)
+            elif word == "--to":
+                given.last = time_asked(value)
             elif word == "--address":
                 given.address = int(value)
             elif word == "--name":
@@ -58,6 +67,10 @@ class Options:
                 given.skips_bad = value == "skip"
             elif word == "--silence":
                 given.silence = int(value)
+            elif word == "--most":
+                given.most = int(value)
+            elif word == "--keep":
+                given.keep = int(value)
             elif word == "--unclaimed":
                 given.lists_unclaimed = listens and value == "show"
             else:
@@ -71,6 +84,23 @@ class Options:
         """A station lists what went to all or to it."""
         return not self.listens or self.address is None or to in (GLOBAL, self.address)
 
+    def is_of_unit(self, who, source):
+        """Whether what a unit sends from an address is of the unit of which alone it is told."""
+        if self.unit is None:
+            return True
+        what, value = self.unit
+        return value == (who if what == "name" and not isinstance(who, Unclaimed) else None if what == "name" else source)
+
+    def is_in_time(self, now):
+        """Whether it is told of a time; before any time it is."""
+        return now is None or (self.first is None or self.first <= now) and (self.last is None or now <= self.last)
+
+
+def time_asked(word):
+    """In microseconds, with a fraction of three, six or nine digits, or in whole seconds."""
+    seconds, _, fraction = word.partition(".")
+    return int(seconds) * 1_000_000 + int((fraction or "0").ljust(6, "0")[:6])
+
 
 class Run:
     """Equal entries that came one after the other: what they show, where they went, how many, when the first and the last were complete."""
@@ -80,8 +110,8 @@ class Run:
 
     def words(self, listens):
         """A listener says to whom it went, where that is not to all."""
-        to = f" to {self.to}" if listens and self.to != GLOBAL else ""
-        return f"{lamp_words(self.shown[0])}; {code_words(self.shown[1])}" + (" contested" if self.contested else "") + to
+        to = f" to {address_words(self.to, True)}" if listens and self.to != GLOBAL else ""
+        return shown_words(self.shown, True) + (" contested" if self.contested else "") + to
 
     def object(self, listens):
         to = {"to": self.to} if listens and self.to != GLOBAL else {}
@@ -128,18 +158,45 @@ class Packets:
 class Watch:
     """What was read, and what is written of it, in text and in JSON."""
 
-    def __init__(self, options):
-        self.options, self.bus, self.heard = options, options.bus, options.heard()
+    def __init__(self, options, name=None, told=None):
+        """The name is that of one bus of several; `told` is where its text and its objects go then."""
+        self.options, self.bus, self.name, self.heard = options, name or options.bus, name, options.heard()
         self.packets = Packets(options.silence)
         self.counts = dict.fromkeys([*COUNTS, "not_attributed"], 0)
         self.now = None  # the time of the newest line of the bus that has one
         self.runs = {}  # of each NAME and kind
         self.taken_over = {}  # of each address the time at which a claim last took it from another NAME
         self.told_unowned = set()
-        self.text, self.objects, self.errors = [], [], []
+        self.kept, self.pairs, self.missed_before, self.unread_before = 0, set(), 0, 0
+        self.text, self.objects = told or ([], [])
         for address, name in options.assumed:
             reach("an owner is assumed")
             self.tell(0, self.heard.take(claim(name, address)))
+
+    # ---- how much is kept
+
+    def is_full(self):
+        """There are as many NAMEs with rows, units with lists, runs, or pairs between which messages were announced as may be. A run of several codes
+        counts as many."""
+        units = max(len(self.heard.names()), len({who for who, _ in self.runs}))
+        return units >= self.options.most or self.kept >= self.options.keep or len(self.pairs) >= MOST_PAIRS
+
+    def start_over(self):
+        """All that was heard is let go, but for who holds which address; and what is contested."""
+        reach("more is heard than is kept at once")
+        owners = [(name, self.heard.address_of(name)) for name in self.heard.names()]
+        self.missed_before, self.unread_before = self.missed(), self.unread()
+        self.heard, self.packets, self.now = self.options.heard(), Packets(self.options.silence), None
+        self.runs, self.told_unowned, self.kept, self.pairs = {}, set(), 0, set()
+        for name, address in owners:
+            if address is not None:
+                self.heard.take(claim(name, address))
+
+    def missed(self):
+        return self.missed_before + self.heard.missed
+
+    def unread(self):
+        return self.unread_before + self.heard.unread
 
     # ---- what a line is to the bus
 
@@ -204,12 +261,15 @@ class Watch:
             self.counts["withheld"] += 1
             return
         self.tell(number, self.heard.take(frame))
+        if control_of(frame) in (BAM, RTS):
+            self.pairs.add((frame.source, frame.dest))
         if is_followed and control_of(frame) == (BAM if frame.dest == GLOBAL else RTS):
             self.packets.announce(self.heard.message_of(frame.source, frame.dest), time)
 
     # ---- what is told
 
     def tell(self, number, changes):
+        self.loser = None
         for what, *of in changes:
             {"displaced": self.displaced, "unit": self.tell_unit, "lost": self.tell_lost, "entry": self.tell_entry, "missed": self.tell_missed,
              "unowned": self.tell_unowned, "ack": self.tell_ack, "unread": self.tell_unread}[what](number, *of)
@@ -218,8 +278,25 @@ class Watch:
         if self.now is None:
             reach("an event before any time")
         time = None if self.now is None else time_text(self.now)
-        self.text.append(f"{time or '-'} {words}\n")
-        self.objects.append(dumped({"line": number, "time": time, "event": event, **told}) + "\n")
+        self.text.append(f"{time or '-'} {self.place()}{words}\n")
+        self.objects.append(dumped({"line": number, "time": time, "event": event, **told, **self.bus_object()}) + "\n")
+
+    def place(self):
+        """A line says its bus where each is watched."""
+        return f"{self.name} " if self.name else ""
+
+    def bus_object(self):
+        return {"bus": self.name} if self.name else {}
+
+    def is_told(self, *whose):
+        """Whether it is told of a change at this time of one of these units, each with the address."""
+        if not self.options.is_in_time(self.now):
+            reach("a change at a time of which it is not told")
+            return False
+        if not any(self.options.is_of_unit(*of) for of in whose):
+            reach("a change of another unit than the one of which it is told")
+            return False
+        return True
 
     def displaced(self, _, source):
         """Told of by the entries that come soon after."""
@@ -227,45 +304,66 @@ class Watch:
 
     def tell_unit(self, number, name, source):
         self.told_unowned.discard(source)
-        self.write(number, "unit", f"unit {name_text(name)} at {source}", name=name_text(name), address=source)
+        losers = [] if self.loser is None else [(self.loser, source)]
+        if not self.is_told((name, source), *losers):
+            return
+        if losers:
+            self.write_lost(number, self.loser)
+        self.write(number, "unit", f"unit {name_text(name)} at {address_words(source, True)}", name=name_text(name), address=source)
 
-    def tell_lost(self, number, name):
+    def tell_lost(self, number, name, by_claim):
+        """Who loses its address to a claim is told of with it; who cannot claim one is, where it is told of an address, told of too."""
+        if by_claim:
+            self.loser = name
+        elif self.is_told((name, self.options.unit[1] if self.options.unit else None)):
+            self.write_lost(number, name)
+
+    def write_lost(self, number, name):
         self.write(number, "unit", f"unit {name_text(name)} has no address", name=name_text(name), address=None)
 
     def tell_missed(self, number, count):
         """With the owners all is forgotten that was told of addresses."""
         self.taken_over.clear()
         self.told_unowned.clear()
+        if not self.options.is_in_time(self.now):
+            return
         self.write(number, "missed", f"missed {count}: no owner is known until units claim again ({UNITS_CLAIM})", count=count)
 
     def tell_unowned(self, number, source, counts=True):
         """Once of an address, until somebody claims it or frames are missed; not where what it sends is shown."""
         self.counts["not_attributed"] += counts
-        if self.options.lists_unclaimed:
+        if self.options.lists_unclaimed or not self.is_told((Unclaimed(source, 0), source)):
             return
         reach(("not told again" if source in self.told_unowned else "told") + " of an address without owner")
         if source not in self.told_unowned:
             if self.options.listens:
                 reach("an address that nobody claimed is told of, and has no row")
             self.told_unowned.add(source)
-            self.write(number, "unowned", f"unowned DM from {source}, which nobody has claimed in what was read: not shown", address=source)
+            self.write(number, "unowned", f"unowned DM from {address_words(source, True)}, which nobody has claimed in what was read: not shown", address=source)
 
-    def tell_ack(self, number, name, control, pgn, requester, to):
+    def tell_ack(self, number, name, control, pgn, source, requester, to):
         """A listener hears those to others too, and shows all, or those to the one address whose messages are shown."""
         if self.options.listens and self.options.address not in (None, requester, to):
             reach("an acknowledgment to another address than the one that is shown")
             return
-        self.write(number, "ack", f"ack {name_text(name)} control {control} of {pgn}", name=name_text(name), control=control, pgn=pgn)
+        if not self.is_told((name, source)):
+            return
+        answer = ANSWERS.get(control, f"control {control}")
+        self.write(number, "ack", f"ack {name_text(name)}: {answer}, to {address_words(requester, True)}, of {group_words(pgn, True)}", name=name_text(name),
+                   control=control, pgn=pgn, answer=answer, requester=requester)
 
-    def tell_unread(self, number, count, who, kind, to, how):
+    def tell_unread(self, number, count, who, kind, source, to, why, how):
         """A listener says whose it is."""
         self.counts["not_attributed"] += isinstance(who, Unclaimed) and how == "single frame"
+        count += self.unread_before
         if not self.options.listens:
             self.write(number, "unread", f"unread {count}", count=count)
             return
-        word, sent = WORD_OF[kind], f" to {to}" if to != GLOBAL else ""
-        self.write(number, "unread", f"unread {count}: {word} of {self.who_words(who)}{sent}", count=count, **self.who_object(who), kind=word,
-                   **({"to": to} if sent else {}))
+        if not self.is_told((who, source)):
+            return
+        word, sent = WORD_OF[kind], f" to {address_words(to, True)}" if to != GLOBAL else ""
+        self.write(number, "unread", f"unread {count}: {word} of {self.who_words(who)}{sent}: {why}", count=count, **self.who_object(who), kind=word,
+                   **({"to": to} if sent else {}), why=why)
 
     def is_contested(self, source):
         """Whether a claim took the address from another NAME less than 250 ms before."""
@@ -274,7 +372,7 @@ class Watch:
         if self.taken_over[source] is None:
             reach("an entry of an address that was taken over by a line without a time")
             return False
-        contested = self.now - self.taken_over[source] < CONTEST
+        contested = self.now is not None and self.now - self.taken_over[source] < CONTEST
         reach("a contested entry" if contested else "an entry of an address that was taken over 250 ms ago or more")
         return contested
 
@@ -286,6 +384,8 @@ class Watch:
         self.counts["not_attributed"] += isinstance(who, Unclaimed) and how == "single frame"
         if not self.options.shows(to):
             reach("an entry to another address than the one that is shown")
+            return
+        if not self.is_told((who, source)):
             return
         runs, contested = self.runs.setdefault((who, kind), []), self.is_contested(source)
         if not runs or not is_same(runs[-1].shown, shown):
@@ -300,6 +400,7 @@ class Watch:
             runs[-1].last = self.now
             return
         runs.append(Run(shown, to, contested, self.now))
+        self.kept += max(1, len(shown[1]))
         word, listens = WORD_OF[kind], self.options.listens
         unit = self.who_words(who) + (":" if isinstance(who, Unclaimed) else "")
         self.write(number, word, f"{word} {unit} {runs[-1].words(listens)}", **self.who_object(who), **runs[-1].object(listens),
@@ -314,7 +415,11 @@ class Watch:
         """An address that nobody claimed is another unit behind each gap, and is told apart."""
         if not isinstance(who, Unclaimed):
             return name_text(who)
-        return f"address {who.address}, no claim seen" + (f" since gap {who.gaps}" if who.gaps else "")
+        return self.unclaimed_words(who, address_words(who.address, True))
+
+    @staticmethod
+    def unclaimed_words(who, address):
+        return f"address {address}, no claim seen" + (f" since gap {who.gaps}" if who.gaps else "")
 
     def who_object(self, who):
         if isinstance(who, Unclaimed):
@@ -326,7 +431,16 @@ class Watch:
         unclaimed = dict.fromkeys(who for who, _ in self.runs if isinstance(who, Unclaimed))
         for who in unclaimed:
             reach("a row of an address that nobody claimed" + (" since a gap" if who.gaps else ""))
-        return [*self.heard.names(), *unclaimed]
+        return [who for who in [*self.heard.names(), *unclaimed] if self.has_row(who)]
+
+    def has_row(self, who):
+        """The unit of which alone it is told has one, and each that has or had the address of which it is."""
+        if self.options.unit is None:
+            return True
+        what, value = self.options.unit
+        if what == "name":
+            return who == value and not isinstance(who, Unclaimed)
+        return self.address_of(who) == value or any(self.runs_of(who, kind) for kind in KINDS.values())
 
     def entries(self, name, kind):
         return sum(run.times for run in self.runs_of(name, kind))
@@ -353,16 +467,19 @@ class Watch:
         if self.is_assumed(who):
             reach("a row of a NAME that was assumed")
         entries = " ".join(f"{self.entries(who, kind):6}" for kind in KINDS.values())
-        last = f"{newest[0].shown[0].hex().upper()} {len(newest[0].shown[1]):4}" if newest else "----    -"
+        last = f"{len(newest[0].shown[1]):4} {lamp_words(newest[0].shown[0])} ({newest[0].shown[0].hex().upper()})" if newest else "   - -"
         if isinstance(who, Unclaimed):
             return f"{self.who_words(who)} {entries} {last}"
-        return f"{name_text(who)} {'none' if address is None else f'{address:4}'} {entries} {last}" + (" assumed" if self.is_assumed(who) else "")
+        held = "none" if address is None else address_words(address, True)
+        return f"{name_text(who)} {held:>7} {entries} {last}" + (" assumed" if self.is_assumed(who) else "")
 
-    def report_text(self):
-        rows = [self.text_row(who) + "\n" for who in self.rows()]
-        counts = self.counts
-        return "".join(rows) + (
-            f"missed {self.heard.missed} unread {self.heard.unread}\n"
+    def rows_text(self):
+        rows = [f"{self.place()}{self.text_row(who)}\n" for who in self.rows()]
+        return "".join(rows) + f"{self.place()}missed {self.missed()} unread {self.unread()}\n"
+
+    @staticmethod
+    def report_text(watches, counts):
+        return "".join(watch.rows_text() for watch in watches) + (
             f"lines {counts['all']} frames {counts['frame']} bad {counts['bad']}; "
             f"not J1939: 11-bit {counts['short']}, remote {counts['remote']}, CAN FD {counts['fd']}, error {counts['error']}; "
             f"other bus {counts['other_bus']}; not attributed {counts['not_attributed']}"
@@ -373,20 +490,34 @@ class Watch:
         for word, kind in KINDS.items():
             row[word] = [{"times": run.times, "first": self.time(run.first), "last": self.time(run.last), **run.object(listens)}
                          for run in self.runs_of(who, kind)]
-        return row
+        return row | self.bus_object()
 
-    def report_object(self):
-        return dumped({"event": "report", "rows": [self.row_object(who) for who in self.rows()], "missed": self.heard.missed,
-                       "unread": self.heard.unread, "lines": {key: self.counts[key] for key in COUNTS}, "not_attributed": self.counts["not_attributed"],
-                       "not_sent": self.heard.not_sent}) + "\n"
+    @staticmethod
+    def report_object(watches, counts, options, head={"event": "report"}):
+        buses = [watch.bus_object() | {"missed": watch.missed(), "unread": watch.unread()} for watch in watches]
+        return dumped(head | {"rows": [watch.row_object(who) for watch in watches for who in watch.rows()],
+                       "missed": sum(bus["missed"] for bus in buses), "unread": sum(bus["unread"] for bus in buses),
+                       "lines": {key: counts[key] for key in COUNTS}, "not_attributed": counts["not_attributed"],
+                       "not_sent": sum(watch.heard.not_sent for watch in watches)}
+                      | ({"buses": buses} if options.each else {})) + "\n"
 
-    def report_rows(self):
+    @staticmethod
+    def header(options):
+        return HEADER + (",to" if options.listens else "") + (",bus" if options.each else "") + "\n"
+
+    @staticmethod
+    def report_rows(watches, options):
         """A row for each code of each run; without a code one for the run, and without entries one for the NAME."""
-        return HEADER + (",to" if self.options.listens else "") + "\n" + "".join(",".join(row) + "\n" for who in self.rows() for row in self.rows_of(who))
+        return "".join(",".join([*row, *([watch.csv_bus()] if options.each else [])]) + "\n"
+                                for watch in watches for who in watch.rows() for row in watch.rows_of(who))
+
+    def csv_bus(self):
+        """In quotes where it has one."""
+        return '"' + self.name.replace('"', '""') + '"' if any(mark in self.name for mark in ',"') else self.name
 
     def rows_of(self, who):
         address, found = self.address_of(who), False
-        before = [f'"{self.who_words(who)}"' if isinstance(who, Unclaimed) else name_text(who), "" if address is None else str(address)]
+        before = [f'"{self.unclaimed_words(who, who.address)}"' if isinstance(who, Unclaimed) else name_text(who), "" if address is None else str(address)]
         for word, kind in KINDS.items():
             for run in self.runs_of(who, kind):
                 found = True
@@ -407,20 +538,87 @@ class Watch:
         return [str(code.spn), str(code.fmi), "" if code.count == NOT_AVAILABLE else str(code.count)]
 
 
+class Buses:
+    """A watch of one bus, or of each that a line names, up to 16. Each hears the lines that name its bus, from the first on, and those that tell
+    of missed frames of no bus that is named."""
+
+    MOST = 16
+
+    def __init__(self, options):
+        self.options, self.told, self.rows = options, ([], []), []
+        self.one = None if options.each else Watch(options, told=self.told)
+        self.of = {}
+        self.counts = dict.fromkeys(COUNTS, 0)
+
+    def watches(self):
+        return list(self.of.values()) if self.one is None else [self.one]
+
+    def hear(self, number, line):
+        if self.one is not None:
+            self.one.hear(number, line)
+            return
+        self.counts["all"] += 1
+        if line.kind == "bad" or line.kind == "dropped" and line.bus is None:
+            reach("missed frames of each bus")
+            self.counts["bad" if line.kind == "bad" else "drop"] += 1
+            for watch in self.of.values():
+                watch.hear(number, line)
+        elif line.kind == "dropped":
+            self.counts["drop"] += 1
+            if line.bus in self.of:
+                self.of[line.bus].hear(number, line)
+        elif line.kind == "note" or line.bus is None:
+            self.counts["note"] += 1
+        else:
+            self.hear_of(number, line)
+
+    def hear_of(self, number, line):
+        if line.bus not in self.of and len(self.of) < self.MOST:
+            reach("one more of several buses")
+            self.of[line.bus] = Watch(self.options, line.bus, self.told)
+        if line.bus not in self.of:
+            self.counts["other_bus"] += 1
+            return
+        self.counts[{"frame": "frame", "overflow": "error"}.get(line.kind) or FOREIGN[line.what]] += 1
+        self.of[line.bus].hear(number, line)
+
+    def make_room(self, number):
+        """Before a line is heard: where a bus has as much as may be kept, all that was heard so far is reported, and each is begun anew. Tells what
+        is told of it the first time."""
+        if not any(watch.is_full() for watch in self.watches()):
+            return ""
+        watches, counts = self.watches(), self.all_counts()
+        self.told[0].append(f"over at line {number}, so far:\n" + Watch.report_text(watches, counts))
+        self.told[1].append(Watch.report_object(watches, counts, self.options, {"line": number, "event": "over"}))
+        self.rows.append(Watch.report_rows(watches, self.options))
+        for watch in watches:
+            watch.start_over()
+        return "" if len(self.rows) > 1 else (
+            f"line {number}: more than is kept at once, {self.options.most} NAMEs (--most) and {self.options.keep} runs (--keep): what was heard so far "
+            "is reported, and it is begun anew with the units that hold addresses\n")
+
+    def all_counts(self):
+        if self.one is not None:
+            return self.one.counts
+        return self.counts | {key: sum(watch.counts[key] for watch in self.of.values()) for key in ("withheld", "not_attributed")}
+
+
 def watched(lines, options):
     """What is written of lines in text, JSON and CSV, what is told of bad ones, and the status."""
-    watch, bad, clock, unread = Watch(options), BadLines(), Clock(), ""
+    buses, errors, bad, clock, unread = Buses(options), [], BadLines(), Clock(), ""
     for number, line in enumerate(lines, 1):
         heard, told = clock.heard(number, line)
-        watch.errors += [bad.told(number, line), told]
-        watch.hear(number, heard)
+        errors += [bad.told(number, line), buses.make_room(number), told]
+        buses.hear(number, heard)
         if line.kind == "bad" and options.strict:
             reach("a bad line ends a strict run")
             break
     else:
-        watch.errors.append(clock.rest())
+        errors.append(clock.rest())
         unread = without_frames(lines)
-    watch.errors += [bad.rest(), unread]
-    text = "".join(watch.text) + watch.report_text()
-    status = 3 if watch.counts["bad"] or unread else 0
-    return {"text": text, "json": "".join(watch.objects) + watch.report_object(), "csv": watch.report_rows()}, "".join(watch.errors), status
+    errors += [bad.rest(), unread]
+    watches, counts = buses.watches(), buses.all_counts()
+    text = "".join(buses.told[0]) + Watch.report_text(watches, counts)
+    status = 3 if counts["bad"] or unread or buses.rows else 0
+    report = {"text": text, "json": "".join(buses.told[1]) + Watch.report_object(watches, counts, options), "csv": Watch.header(options) + "".join(buses.rows) + Watch.report_rows(watches, options)}
+    return report, "".join(errors), status

@@ -135,6 +135,19 @@ def packet_words(data):
     return f"TP.DT: packet {data[0]}:{byte_words(data[1:])}"
 
 
+def payload_words(pgn, data, people):
+    """The payload of a group, which came in one frame or in several: of a DM1, DM2 or DM6 lamps and codes, of any other its bytes."""
+    if pgn not in TITLES:
+        reach("says: data of a group with" + ("" if pgn in GROUPS else "out") + " a name")
+        return f"{group_name(pgn, people) or '-'}: data{byte_words(data)}"
+    shown = read_message(data)
+    if shown:
+        reach("says: " + TITLES[pgn])
+        return f"{TITLES[pgn]}: {shown_words(shown, people)}"
+    reach("says: cannot be read, " + fault_of(data))
+    return f"{TITLES[pgn]}: cannot be read: {fault_of(data)}"
+
+
 def message_words(frame, people):
     """The name of a frame's group, and what it tells; of any other frame its data. For people or for programs."""
     pgn, data = frame.pgn, frame.data
@@ -149,18 +162,12 @@ def message_words(frame, people):
         reach("says: acknowledgment")
         return f"ack: {ANSWERS.get(data[0], f'control {data[0]}')}, to {address_words(data[4], people)}, of {group_words(number(data[5:8]), people)}"
     if pgn in TITLES:
-        shown = read_message(data)
-        if shown:
-            reach("says: " + TITLES[pgn])
-            return f"{TITLES[pgn]}: {shown_words(shown, people)}"
-        reach("says: cannot be read, " + fault_of(data))  # (never four zeros among several groups, which one frame has no room for)
-        return f"{TITLES[pgn]}: cannot be read: {fault_of(data)}"
+        return payload_words(pgn, data, people)
     if control_of(frame) is not None:
         return control_words(frame, people)
     if pgn == PACKET:
         return packet_words(data)
-    reach("says: data of a group with" + ("" if pgn in GROUPS else "out") + " a name")
-    return f"{group_name(pgn, people) or '-'}: data{byte_words(data)}"
+    return payload_words(pgn, data, people)
 
 
 def time_text(micros):

@@ -119,9 +119,8 @@ def queries_for(commands, answers, more):
     names = sorted({it[place] for it in words for place in places.get(it[0], []) if place < len(it)})
     stations = 2 if any(command.startswith("garage2 ") and answer == "ok" for command, answer in zip(commands, answers)) else 1
     seats = stations + sum(answer.startswith("seat ") for answer in answers)
-    carried = sum(int(answer.split()[1]) for answer in answers if answer.startswith("carried "))
     injected = [command for command, answer in zip(commands, answers) if command.startswith("inject ") and answer == "ok"]
-    carried += len(injected)
+    carried = on_wire(commands, answers)
     queries = [f"counts {seat}" for seat in range(seats + 1)] + ["injected"] * bool(injected)
     for station in range(stations):
         asked = ["stats"]
@@ -129,3 +128,14 @@ def queries_for(commands, answers, more):
             asked += [f"shown {name} {kind}" for kind in ("dm1", "dm2", "dm6")] + [f"row {name}"]
         queries += [at(station, query) for query in asked + more]
     return queries + [f"frame {index}" for index in sorted({0, 1, carried // 2, carried - 1, carried})]
+
+
+def on_wire(commands, answers):
+    """How many frames there are on the wire at the end."""
+    injected = sum(command.startswith("inject ") and answer == "ok" for command, answer in zip(commands, answers))
+    return injected + sum(int(answer.split()[1]) for answer in answers if answer.startswith("carried "))
+
+
+def wire_of(commands, answers):
+    """What asks for each frame of the wire, and for one behind the last."""
+    return [f"frame {index}" for index in range(on_wire(commands, answers) + 1)]

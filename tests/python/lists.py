@@ -6,7 +6,7 @@ import re
 import typing
 
 import hidzgula
-from hidzgula import DM1, DM2, DM6, Change, Code, Frame, Kind, Lamps, Message, Missed, Reply, Station, What, _library
+from hidzgula import DM1, DM2, DM6, Change, Code, Frame, Kind, Lamps, Message, Missed, Reply, Station, What, _library, candump
 from tries import LOGS, TOP, all_told, lists_of, lists_wanted, lines_of, raised, same, sums
 
 HEADER = (TOP / "c/hidzgula_station.h").read_text()
@@ -16,7 +16,7 @@ def read_logs():
     for log in LOGS:
         with Station(1, 248, listening=True) as station:
             told = []
-            hidzgula.take_log(station, lines_of(log), on_change=told.append)
+            hidzgula.take_log(station, lines_of(log), on_change=lambda change, at: told.append(change))
             same(f"the lists of {log}", lists_of(station), lists_wanted(log))
             same(f"the lists of {log}, of another bus", [*hidzgula.read_log(lines_of(log), bus="can9")], [])
             at_end = all_told(station)
@@ -128,6 +128,9 @@ def layouts():
     same("the changes", {what.name: what.value for what in What}, {what.name: numbers[what.name] for what in What})
     same("the groups", {name: getattr(hidzgula, name) for name in numbers if name.startswith("PGN_") and name != "PGN_TOO_LARGE"},
          {name: number for name, number in numbers.items() if name.startswith("PGN_") and name != "PGN_TOO_LARGE"})
+    reasons = {int(number): name for name, number in re.findall(r"HIDZGULA_BAD_(\w+) = (\d+)", HEADER)}
+    del reasons[24]  # BAD_SETTING
+    same("the reasons", [*reasons], [*range(1, len(candump.REASONS))])
     major, minor = (re.search(rf"HIDZGULA_VERSION_{part} (\d+)", HEADER)[1] for part in ("MAJOR", "MINOR"))
     same("the version", hidzgula.__version__.rsplit(".", 1)[0], f"{major}.{minor}")
 
@@ -138,11 +141,12 @@ def told():
         it = getattr(hidzgula, called)
         if isinstance(it, type) or callable(it):
             same(f"{called} has a text", bool(it.__doc__) and not it.__doc__.startswith(f"{called}("), True)
-    for called, it in vars(Station).items():
-        it = it.fget if isinstance(it, property) else it
-        if callable(it) and not called.startswith("_"):
-            same(f"Station.{called} has a text", bool(it.__doc__), True)
-            same(f"Station.{called} has types", "return" in typing.get_type_hints(it), True)
+    for of in (Station,):
+        for called, it in vars(of).items():
+            it = it.fget if isinstance(it, property) else it
+            if callable(it) and not called.startswith("_"):
+                same(f"{of.__name__}.{called} has a text", bool(it.__doc__), True)
+                same(f"{of.__name__}.{called} has types", "return" in typing.get_type_hints(it), True)
 
 
 read_logs()

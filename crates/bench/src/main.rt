@@ -56,6 +56,7 @@ fn run<R: Runtime + AllocGlobal + Threads + Wait + Sync>(rt: &R) -> Result<(), F
     }
 }
 
+#[inline(never)]
 fn print_page<R: Print>(rt: &R, page: &str) -> Result<(), Failure> {
     match print!(rt; "{page}") {
         Ok(()) => Ok(()),
@@ -63,12 +64,15 @@ fn print_page<R: Print>(rt: &R, page: &str) -> Result<(), Failure> {
     }
 }
 
+#[inline(never)]
 fn read_words<R: Runtime + AllocGlobal>(rt: &R) -> io::Result<Vec<String>> {
     let words = std::env::args(rt)?.collect(rt.alloc())?;
     Ok(words)
 }
 
-/// Hands a job to its subcommand. Each of them is a call of its own, so that none takes the stack of all.
+/// Hands a job to its subcommand. Each of them is a call of its own, so that none takes the stack of all. (A reader of standard input has
+/// some kilobytes of room in itself, and is lent.)
+#[inline(never)]
 fn do_job<R: Runtime + AllocGlobal + Threads + Wait + Sync>(
     rt: &R,
     job: Job<'_>,
@@ -112,6 +116,7 @@ fn threads<R: Runtime + AllocGlobal + Threads + Wait + Sync>(
 }
 
 /// Watches a file, where one is named, or standard input.
+#[inline(never)]
 fn watch<R: Runtime + AllocGlobal>(
     rt: &R,
     words: WatchWords<'_>,
@@ -120,7 +125,7 @@ fn watch<R: Runtime + AllocGlobal>(
     line_commands::look_at_watch_words(rt.alloc(), &words, assumed)?;
     match path_of(words.file) {
         Some(path) => watch_from(rt, words, assumed, open(rt, path)?),
-        None => watch_from(rt, words, assumed, rt.reader()),
+        None => watch_from(rt, words, assumed, &mut rt.reader()),
     }
 }
 
@@ -160,6 +165,7 @@ fn check<R: Runtime + AllocGlobal>(rt: &R) -> Result<(), Failure> {
 }
 
 /// Reads the file of texts, where there is one, and answers the lines of a file, where one is named, or of standard input.
+#[inline(never)]
 fn decode<R: Runtime + AllocGlobal>(rt: &R, words: DecodeWords<'_>) -> Result<(), Failure> {
     line_commands::look_at_decode_words(rt.alloc(), &words)?;
     let file = match words.texts {
@@ -172,7 +178,7 @@ fn decode<R: Runtime + AllocGlobal>(rt: &R, words: DecodeWords<'_>) -> Result<()
     };
     match path_of(words.file) {
         Some(path) => decode_from(rt, words, texts, open(rt, path)?),
-        None => decode_from(rt, words, texts, rt.reader()),
+        None => decode_from(rt, words, texts, &mut rt.reader()),
     }
 }
 
@@ -193,6 +199,7 @@ fn decode_from<R: Runtime + AllocGlobal, I: Read + Drop>(
     )
 }
 
+#[inline(never)]
 fn open<R: Runtime + AllocGlobal>(rt: &R, path: &str) -> Result<R::File, Failure> {
     match fs::open(rt, path) {
         Ok(file) => Ok(file),
@@ -200,6 +207,7 @@ fn open<R: Runtime + AllocGlobal>(rt: &R, path: &str) -> Result<R::File, Failure
     }
 }
 
+#[inline(never)]
 fn read_file<R: Runtime + AllocGlobal>(rt: &R, path: &str) -> Result<Vec<u8>, Failure> {
     match fs::read(rt, path) {
         Ok(file) => Ok(file),

@@ -48,15 +48,15 @@ one_owner r m n a rs h g = let e = sym (owner_known r m a rs h) ∙ owner_known 
 -- ---- rows
 
 -- a row that has the address is the same after a claim of it
-claims_again : (a : ℕ) (o : Option RowHeard) → address_in_row o ≡ Some a → Some (record { address = Some a; ack = ack_in_row o }) ≡ o
+pub claims_again : (a : ℕ) (o : Option RowHeard) → address_in_row o ≡ Some a → Some (record { address = Some a; ack = ack_in_row o }) ≡ o
 claims_again a None h = cc
 claims_again a (Some row) h = ap (λ (o : Option ℕ). Some (record row { address = o })) (sym h)
 
-keeps_address : (a : ℕ) (o : Option RowHeard) → is_held (address_in_row o) a ≡ false → without_address a o ≡ o
+pub keeps_address : (a : ℕ) (o : Option RowHeard) → is_held (address_in_row o) a ≡ false → without_address a o ≡ o
 keeps_address a None h = refl
 keeps_address a (Some row) h = rw h refl
 
-loses_address : (a : ℕ) (o : Option RowHeard) → is_held (address_in_row o) a ≡ true → without_address a o ≡ addressless o
+pub loses_address : (a : ℕ) (o : Option RowHeard) → is_held (address_in_row o) a ≡ true → without_address a o ≡ addressless o
 loses_address a None h = refl
 loses_address a (Some row) h = rw h refl
 

@@ -31,3 +31,5 @@ pub mod Changes
 pub mod Between
 pub mod SentWhole
 pub mod Beside
+pub mod Follows
+pub mod TakingPart

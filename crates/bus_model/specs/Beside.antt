@@ -1,5 +1,5 @@
 -- One who takes no part, beside a station that takes part: what both read of a bus on which the rules are kept.
-use Rattle.std.specs.Prelude.{◌≡◌, ◌≢◌, List, [], ◌∷◌, length, Some, None}
+use Rattle.std.specs.Prelude.{◌≡◌, ◌≢◌, ℕ, List, [], ◌∷◌, length, Some, None}
 use Rattle.can_frame.specs.declared.reading.Reading.{Reading}
 use Rattle.can_frame.specs.declared.reading.Reading.TheVariants.{Frame, Gap}
 use Rattle.parameter_group.specs.Group.{Group, AddressClaimed, Diagnostic, ConnectionManagement, DataTransfer}
@@ -7,7 +7,7 @@ use Rattle.transport.specs.declared.control.Control.TheVariants.{Rts, Bam, Abort
 use Rattle.bus_model.specs.Expected.{Reception, Own, Received, Missed, readings}
 use Rattle.bus_model.specs.Heard.{Joining, StationSettings, kind_of, session_heard}
 use Rattle.bus_model.specs.Machine.{MaySend}
-use Rattle.bus_model.specs.Traffic.{says}
+use Rattle.bus_model.specs.Traffic.{Item, says}
 
 -- the readings of one beside the station, who misses what it misses: the station's own frames too
 abbrev pub readings_beside : List Reception → List Reading
@@ -40,3 +40,22 @@ TakesPart r [] = Unit {0}
 TakesPart r (Own e ∷ older) = (MaySend r.name (Some r.address) (says e) × AbortsNone r (says e) (readings older)) × TakesPart r older
 TakesPart r (Received e ∷ older) = IsOrderly r (says e) (readings older) × TakesPart r older
 TakesPart r (Missed es ∷ older) = TakesPart r older
+
+-- ---- in a run
+
+-- a claim of the address is made under this NAME
+abbrev pub ClaimsOwn : ℕ → ℕ → Group → Type 0
+ClaimsOwn n a (AddressClaimed s m) = s ≡ a → m ≡ n
+ClaimsOwn n a _ = Unit {0}
+
+-- of these frames none claims the address but under this NAME
+abbrev pub IsClaimedAlone : ℕ → ℕ → List Item → Type 0
+IsClaimedAlone n a [] = Unit {0}
+IsClaimedAlone n a (e ∷ older) = ClaimsOwn n a (says e) × IsClaimedAlone n a older
+
+-- the station goes on with no session that it aborts
+abbrev pub GoesOnWithNone : StationSettings → List Reception → Type 0
+GoesOnWithNone r [] = Unit {0}
+GoesOnWithNone r (Own e ∷ older) = AbortsNone r (says e) (readings older) × GoesOnWithNone r older
+GoesOnWithNone r (Received e ∷ older) = GoesOnWithNone r older
+GoesOnWithNone r (Missed es ∷ older) = GoesOnWithNone r older

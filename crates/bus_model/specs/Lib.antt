@@ -17,3 +17,4 @@ pub mod Overheard
 pub mod OverheardBack
 pub mod OverheardChanged
 pub mod Beside
+pub mod OverheardFollows

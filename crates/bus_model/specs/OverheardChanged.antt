@@ -4,7 +4,10 @@ use Rattle.address_claim.specs.Claiming.{is_held}
 use Rattle.can_frame.specs.declared.address.TheConstants.{GLOBAL_ADDRESS}
 use Rattle.can_frame.specs.declared.reading.Reading.{Reading}
 use Rattle.can_frame.specs.declared.reading.Reading.TheVariants.{Frame, Gap, Empty}
+use Rattle.dm_messages.specs.Refusals.{refusal}
 use Rattle.dm_messages.specs.View.{decoding}
+use Rattle.dm_messages.specs.declared.error.ReadError.{ReadError}
+use Rattle.dm_messages.specs.declared.error.ReadError.TheVariants.{BadLength}
 use Rattle.dm_messages.specs.declared.kind.Kind.{Kind}
 use Rattle.parameter_group.specs.Group.{Group, AddressClaimed, CannotClaim, Acknowledgment, Diagnostic, ConnectionManagement, DataTransfer, group_of}
 use Rattle.transport.specs.declared.control.Control.TheVariants.{Bam}
@@ -30,14 +33,22 @@ has_still None a older = false
 has_still (Some m) a older = is_held (address_overheard m older) a
 
 -- an acknowledgment from an address with an owner
-abbrev pub ack_overheard : Option ℕ → ℕ → ℕ → ℕ → ℕ → List Reading → Overheard
-ack_overheard None control requester pgn d older = Nothing
-ack_overheard (Some n) control requester pgn d older = Acknowledged n control pgn requester d (is_again control pgn (ack_in_row (row_overheard n older)))
+abbrev pub ack_overheard : Option ℕ → ℕ → ℕ → ℕ → ℕ → ℕ → List Reading → Overheard
+ack_overheard None control requester pgn d s older = Nothing
+ack_overheard (Some n) control requester pgn d s older = Acknowledged n control pgn s requester d (is_again control pgn (ack_in_row (row_overheard n older)))
+
+-- why a payload is refused (one that can be read is not: the word says nothing of it)
+abbrev pub or_bad_length : Option ReadError → ReadError
+or_bad_length None = BadLength
+or_bad_length (Some why) = why
+
+abbrev pub why_unread : List ℕ → ReadError
+why_unread bytes = or_bad_length (refusal bytes)
 
 -- a message from the address that ended, if one did, is listed, or cannot be read
 abbrev pub sent_change : ℕ → Option MessageSent → Overheard
 sent_change a None = Nothing
-sent_change a (Some m) = if is_some (decoding m.bytes) then Listed m.who m.kind a m.to else Unreadable m.who m.kind a m.to
+sent_change a (Some m) = if is_some (decoding m.bytes) then Listed m.who m.kind a m.to else Unreadable m.who m.kind a m.to (why_unread m.bytes)
 
 -- a broadcast is announced
 abbrev pub announcement_change : Option Kind → ℕ → Option ℕ → Overheard
@@ -49,7 +60,7 @@ abbrev pub group_overheard : Group → List Reading → Overheard
 group_overheard (AddressClaimed s n) older =
     claim_overheard n s (is_held (address_overheard n older) s) (displaced_by n (owner_heard s older) (has_still (owner_heard s older) s older))
 group_overheard (CannotClaim n) older = gave_up n (row_overheard n older)
-group_overheard (Acknowledgment control requester pgn d s) older = ack_overheard (owner_heard s older) control requester pgn d older
+group_overheard (Acknowledgment control requester pgn d s) older = ack_overheard (owner_heard s older) control requester pgn d s older
 group_overheard (Diagnostic k s bytes) older = sent_change s (sent_by (Diagnostic k s bytes) older)
 group_overheard (ConnectionManagement s d (Bam size packets pgn)) older =
     if d == GLOBAL_ADDRESS then announcement_change (kind_of pgn) s (owner_heard s older) else Nothing

@@ -19,8 +19,11 @@ ghost use Rattle.bus_model.specs.Example.{one_station, two_at_one_address, two_s
 ghost use Rattle.bus_model.specs.Machine.{World, Seat, Station, IsAt, Event, AreFit, IsFit, Step, Run, start};
 ghost use Rattle.bus_model.specs.Marks.{IsMarkedBy};
 ghost use Rattle.bus_model.specs.Whose.{IsFromItsSeat};
-ghost use Rattle.bus_model.specs.Beside.{TakesPart, readings_beside};
-ghost use Rattle.bus_model.specs.Overheard.{MessageSent, entries_overheard, message_sent, shown_to};
+ghost use Rattle.bus_model.specs.Beside.{GoesOnWithNone, IsClaimedAlone, TakesPart, readings_beside};
+ghost use Rattle.bus_model.specs.Overheard.{MessageSent, entries_overheard, gaps_heard, message_sent, row_overheard, shown_to, unread_overheard};
+ghost use Rattle.bus_model.specs.OverheardChanged.{change_overheard};
+ghost use Rattle.bus_model.specs.OverheardFollows.{AreSentWith, gaps_with, missed_with, names_with, row_with, unread_with};
+ghost use Rattle.bus_model.specs.declared.who.Who.{Who as AnyWho};
 ghost use Rattle.bus_model.specs.declared.who.Who.TheVariants.{Named};
 ghost use Rattle.bus_model.specs.OverheardBack.{IsSentWhole};
 ghost use Rattle.bus_model.specs.Changed.{AreListed, change_heard, is_listed, missed_changed, names_changed, row_changed, unread_changed};
@@ -147,6 +150,18 @@ pub fn a_change_says_all()
     ensures unread { (settings : StationSettings) (reading : Reading) (older : List Reading) → unread_count settings (reading ∷ older) ≡ unread_changed (change_heard settings reading older) (unread_count settings older) }
 {}
 
+/// What a reading changes is all that it does to what a listener shows, over any list of readings: the rows, the NAMEs, the lists and the
+/// counts follow from those before it and this one change, and the one entry more of a list went where the change says.
+pub fn what_was_overheard_says_all()
+    ensures row { (reading : Reading) (older : List Reading) (n : ℕ) → row_overheard n (reading ∷ older) ≡ row_with (change_overheard reading older) n (row_overheard n older) }
+    ensures names { (reading : Reading) (older : List Reading) → names_heard (reading ∷ older) ≡ names_with (change_overheard reading older) (names_heard older) }
+    ensures lists { (reading : Reading) (older : List Reading) (who : AnyWho) (k : Kind)
+        → AreSentWith (change_overheard reading older) who k (entries_overheard who k older) (entries_overheard who k (reading ∷ older)) }
+    ensures missed { (reading : Reading) (older : List Reading) → missed_count (reading ∷ older) ≡ missed_with (change_overheard reading older) (missed_count older) }
+    ensures gaps { (reading : Reading) (older : List Reading) → gaps_heard (reading ∷ older) ≡ gaps_with (change_overheard reading older) (gaps_heard older) }
+    ensures unread { (reading : Reading) (older : List Reading) → unread_overheard (reading ∷ older) ≡ unread_with (change_overheard reading older) (unread_overheard older) }
+{}
+
 /// A listener beside a station: where a station takes part as the rules say, what it lists under each NAME and kind is what a listener that
 /// misses what it misses lists there as sent to all or to it. The rules are those of `TakesPart`: the station sends what a station may
 /// send, and aborts no session that it goes on with; nobody else claims its address or sends messages from there; who asks it to send
@@ -154,6 +169,17 @@ pub fn a_change_says_all()
 pub fn a_listener_lists_what_a_station_lists()
     ensures { (settings : StationSettings) → IsFit settings → (path : List Reception) → TakesPart settings path → (n : ℕ) (k : Kind)
         → entries_heard settings n k (readings path) ≡ shown_to settings.address (entries_overheard (Named n) k (readings_beside path)) }
+{}
+
+/// In a run with one station, whose address nobody else claims, the station takes part as the rules say, where it goes on with no session
+/// that it aborts; so there it lists under each NAME and kind what a listener beside it lists as sent to all or to it. That units send from
+/// their own addresses, ask it for no session of another group, and abort none to it, follows from what units may do.
+pub fn the_only_station_takes_part()
+    ensures takes_part { (settings : StationSettings) → IsFit settings → (events : List Event) (w : World) → Run (start (settings ∷ [])) events w → (y : ℕ) (s : Station) → IsAt w y s
+        → IsClaimedAlone settings.name settings.address w.wire → GoesOnWithNone settings s.path → TakesPart settings s.path }
+    ensures lists { (settings : StationSettings) → IsFit settings → (events : List Event) (w : World) → Run (start (settings ∷ [])) events w → (y : ℕ) (s : Station) → IsAt w y s
+        → IsClaimedAlone settings.name settings.address w.wire → GoesOnWithNone settings s.path → (n : ℕ) (k : Kind)
+        → entries_heard settings n k (readings s.path) ≡ shown_to settings.address (entries_overheard (Named n) k (readings_beside s.path)) }
 {}
 
 /// The machine is not empty: one run shows an entry by a single frame, one by a broadcast of two packets and one by a

@@ -1,7 +1,7 @@
 use crate::change::Displaced;
 use crate::who::Who;
 use can_frame::Pgn;
-use dm_messages::Kind;
+use dm_messages::{Kind, ReadError};
 use name_field::Name;
 
 /// What one reading changes of what a listener shows: one who hears all messages on a bus, and takes no part.
@@ -25,6 +25,8 @@ pub enum Overheard {
         name: Name,
         control: u8,
         pgn: Pgn,
+        /// The address that it came from.
+        source: u8,
         /// The address that it names as the one that asked.
         requester: u8,
         /// The address that the acknowledgment went to, 255 for all.
@@ -47,6 +49,8 @@ pub enum Overheard {
         source: u8,
         /// The address that it went to, 255 for all.
         to: u8,
+        /// What is wrong with it, which is never `OutOfMemory`.
+        why: ReadError,
     },
     /// A diagnostic message to all was announced in packets from this address, which nobody has claimed in what was read.
     Unowned {

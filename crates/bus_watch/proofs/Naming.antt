@@ -17,9 +17,9 @@ use Rattle.bus_watch.proofs.Steps.{told_of_assumed}
 abbrev pub knowing : WatchValue → Followed → WatchValue
 knowing w f = record w { followed = f }
 
-pub takes_knowing : (old mid new : WatchValue) (x : Reading) (f : Followed) → Takes old mid x old.followed → new ≡ knowing mid f → Takes old new x f
-takes_knowing old mid new x f t e = subst (λ (w : WatchValue). Takes old w x f) (sym e) (record {
-  stands = λ a h s. (let now = t.stands a h s in record { listener = now.listener; shows = now.shows; lists = now.lists; units = now.units; told = now.told });
+pub takes_knowing : (old mid new : WatchValue) (x : Reading) (at : Option ℕ) (f : Followed) → Takes old mid x at old.followed → new ≡ knowing mid f → Takes old new x at f
+takes_knowing old mid new x at f t e = subst (λ (w : WatchValue). Takes old w x at f) (sym e) (record {
+  stands = λ a h s. (let now = t.stands a h s in record { listener = now.listener; shows = now.shows; time = now.time; lists = now.lists; units = now.units; told = now.told });
   followed = refl;
 })
 
@@ -27,25 +27,25 @@ pub tells_knowing : (old mid new : WatchValue) (x : Reading) (f : Followed) (c :
 tells_knowing old mid new x f c t e = subst (λ (w : WatchValue). Tells old w x c) (sym e) (λ a h s. t a h s)
 
 -- the bus is named where it was not
-pub named_takes : (old mid new : WatchValue) (x : Reading) (o : Option (List ℕ)) (bus : Option (Bor (List ℕ))) → Takes old mid x old.followed → renamed o old.followed.bus ≡ bus_after old.followed.bus bus
-    → new ≡ knowing mid (with_bus_name o mid.followed) → Takes old new x (with_bus bus old.followed)
-named_takes old mid new x o bus t name e =
+pub named_takes : (old mid new : WatchValue) (x : Reading) (at : Option ℕ) (o : Option (List ℕ)) (bus : Option (Bor (List ℕ))) → Takes old mid x at old.followed → renamed o old.followed.bus ≡ bus_after old.followed.bus bus
+    → new ≡ knowing mid (with_bus_name o mid.followed) → Takes old new x at (with_bus bus old.followed)
+named_takes old mid new x at o bus t name e =
     let f : with_bus_name o mid.followed ≡ with_bus bus old.followed =
     ap (with_bus_name o) t.followed ∙ ap (λ (b : Option (List ℕ)). record old.followed { bus = b }) name in
-    takes_knowing old mid new x (with_bus bus old.followed) t (e ∙ ap (knowing mid) f)
+    takes_knowing old mid new x at (with_bus bus old.followed) t (e ∙ ap (knowing mid) f)
 
 pub named_tells : (old mid new : WatchValue) (x : Reading) (o : Option (List ℕ)) (c : Changes) → Tells old mid x c → new ≡ knowing mid (with_bus_name o mid.followed) → Tells old new x c
 named_tells old mid new x o c t e = tells_knowing old mid new x (with_bus_name o mid.followed) c t e
 
 -- and a frame's time is noted
-pub followed_takes : (old mid named new : WatchValue) (x : Reading) (o : Option (List ℕ)) (time : Option ℕ) (g said : Group) → said ≡ g → Takes old mid x old.followed
+pub followed_takes : (old mid named new : WatchValue) (x : Reading) (o : Option (List ℕ)) (time : Option ℕ) (g said : Group) → said ≡ g → Takes old mid x time old.followed
     → named ≡ knowing mid (with_bus_name o mid.followed) → new ≡ knowing named (followed_with named.followed.silence time said named.followed)
-    → Takes old new x (followed_with old.followed.silence time g (with_bus_name o old.followed))
+    → Takes old new x time (followed_with old.followed.silence time g (with_bus_name o old.followed))
 followed_takes old mid named new x o time g said is t e k =
     let f : named.followed ≡ with_bus_name o old.followed = ap (λ (w : WatchValue). w.followed) e ∙ ap (with_bus_name o) t.followed in
     let n : followed_with named.followed.silence time said named.followed ≡ followed_with old.followed.silence time g (with_bus_name o old.followed) =
     ap (λ (v : Followed). followed_with v.silence time said v) f ∙ ap (λ (v : Group). followed_with old.followed.silence time v (with_bus_name o old.followed)) is in
-    takes_knowing old mid new x (followed_with old.followed.silence time g (with_bus_name o old.followed)) t (k ∙ (ap (λ (w : WatchValue). knowing w (followed_with named.followed.silence time said named.followed)) e ∙ ap (knowing mid) n))
+    takes_knowing old mid new x time (followed_with old.followed.silence time g (with_bus_name o old.followed)) t (k ∙ (ap (λ (w : WatchValue). knowing w (followed_with named.followed.silence time said named.followed)) e ∙ ap (knowing mid) n))
 
 pub followed_tells : (old mid named new : WatchValue) (x : Reading) (o : Option (List ℕ)) (f : Followed) (c : Changes) → Tells old mid x c
     → named ≡ knowing mid (with_bus_name o mid.followed) → new ≡ knowing named f → Tells old new x c

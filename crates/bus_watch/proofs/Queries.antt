@@ -12,40 +12,43 @@ use Rattle.station_table.specs.KeptValue.{kept_under}
 use Rattle.station_table.specs.StandsFor.{row_heard_as, row_of}
 use Rattle.station_table.proofs.Queries.{row_words}
 use Rattle.station_table.proofs.RowLemmas.{named}
-use Rattle.bus_watch.specs.Runs.{entries_in, lists_shown, runs_under, units_in, units_shown, unrolled, who_of}
-use Rattle.bus_watch.specs.Told.{Beginning, StandsForAll, Told, all_said}
+use Rattle.bus_watch.specs.Runs.{entries_in, lists_shown, newest_time, runs_under, units_in, units_shown, unrolled, who_of}
+use Rattle.bus_watch.specs.Told.{Beginning, StandsForAll, Told, all_said, readings_said}
 use Rattle.bus_watch.specs.WatchValue.{WatchValue}
 use Rattle.bus_watch.specs.declared.run.Run.{Run}
 
-pub names_as_heard : (w : WatchValue) (b : Beginning) (ts : List Told) (n : ℕ) → n ≡ length w.listener.rows → StandsForAll b ts w → n ≡ length (names_heard (all_said b ts).readings)
+pub names_as_heard : (w : WatchValue) (b : Beginning) (ts : List Told) (n : ℕ) → n ≡ length w.listener.rows → StandsForAll b ts w → n ≡ length (names_heard (readings_said b ts))
 names_as_heard w b ts n e s = e ∙ (sym (length-map w.listener.rows named) ∙ ap (λ (l : List ℕ). length l) s.heard.listener.names)
 
 pub name_as_heard : (w : WatchValue) (b : Beginning) (ts : List Told) (place : ℕ) (o : Option ℕ)
-    → o ≡ slice_get (map named w.listener.rows) place → StandsForAll b ts w → o ≡ slice_get (names_heard (all_said b ts).readings) place
+    → o ≡ slice_get (map named w.listener.rows) place → StandsForAll b ts w → o ≡ slice_get (names_heard (readings_said b ts)) place
 name_as_heard w b ts place o e s = e ∙ ap (λ (l : List ℕ). slice_get l place) s.heard.listener.names
 
 pub row_as_heard : (w : WatchValue) (b : Beginning) (ts : List Told) (name : ℕ) (o : Option Row)
-    → o ≡ row_of w.listener.owners name (kept_under w.listener.rows name) → StandsForAll b ts w → option_map row_heard_as o ≡ row_overheard name (all_said b ts).readings
+    → o ≡ row_of w.listener.owners name (kept_under w.listener.rows name) → StandsForAll b ts w → option_map row_heard_as o ≡ row_overheard name (readings_said b ts)
 row_as_heard w b ts name o e s =
     ap (option_map row_heard_as) e ∙ (row_words w.listener.owners name (kept_under w.listener.rows name) ∙ s.heard.listener.rows name)
 
-pub units_as_heard : (w : WatchValue) (b : Beginning) (ts : List Told) (n : ℕ) → n ≡ length w.lists.units → StandsForAll b ts w → n ≡ length (units_shown b.selection (all_said b ts).readings)
-units_as_heard w b ts n e s = e ∙ (sym (length-map w.lists.units (λ e. who_of e.0)) ∙ ap (λ (l : List Who). length l) s.heard.units)
+pub units_as_heard : (w : WatchValue) (b : Beginning) (ts : List Told) (n : ℕ) → n ≡ length w.lists.units.order → StandsForAll b ts w → n ≡ length (units_shown b.selection (all_said b ts).moments)
+units_as_heard w b ts n e s = e ∙ (sym (length-map w.lists.units.order who_of) ∙ ap (λ (l : List Who). length l) s.heard.units)
 
 pub unit_as_heard : (w : WatchValue) (b : Beginning) (ts : List Told) (place : ℕ) (o : Option Who)
-    → o ≡ slice_get (units_in w.lists) place → StandsForAll b ts w → o ≡ slice_get (units_shown b.selection (all_said b ts).readings) place
+    → o ≡ slice_get (units_in w.lists) place → StandsForAll b ts w → o ≡ slice_get (units_shown b.selection (all_said b ts).moments) place
 unit_as_heard w b ts place o e s = e ∙ ap (λ (l : List Who). slice_get l place) s.heard.units
 
 pub runs_as_heard : (w : WatchValue) (b : Beginning) (ts : List Told) (who : Who) (kind : Kind) (l : List Run) → l ≡ runs_under w.lists who kind → StandsForAll b ts w
-    → unrolled l ≡ lists_shown b.selection (all_said b ts).readings who kind
+    → unrolled l ≡ lists_shown b.selection (all_said b ts).moments who kind
 runs_as_heard w b ts who kind l e s = ap unrolled e ∙ s.heard.lists who kind
 
 pub entries_as_heard : (w : WatchValue) (b : Beginning) (ts : List Told) (who : Who) (kind : Kind) (n : ℕ) → n ≡ counted (length (entries_in w.lists who kind)) → StandsForAll b ts w
-    → n ≡ counted (length (lists_shown b.selection (all_said b ts).readings who kind))
+    → n ≡ counted (length (lists_shown b.selection (all_said b ts).moments who kind))
 entries_as_heard w b ts who kind n e s = e ∙ ap (λ (l : List EntrySent). counted (length l)) (s.heard.lists who kind)
 
-pub missed_as_heard : (w : WatchValue) (b : Beginning) (ts : List Told) (n : ℕ) → n ≡ w.listener.missed → StandsForAll b ts w → n ≡ missed_count (all_said b ts).readings
+pub missed_as_heard : (w : WatchValue) (b : Beginning) (ts : List Told) (n : ℕ) → n ≡ w.listener.missed → StandsForAll b ts w → n ≡ missed_count (readings_said b ts)
 missed_as_heard w b ts n e s = e ∙ s.heard.listener.missed
 
-pub unread_as_heard : (w : WatchValue) (b : Beginning) (ts : List Told) (n : ℕ) → n ≡ w.listener.unread → StandsForAll b ts w → n ≡ unread_overheard (all_said b ts).readings
+pub unread_as_heard : (w : WatchValue) (b : Beginning) (ts : List Told) (n : ℕ) → n ≡ w.listener.unread → StandsForAll b ts w → n ≡ unread_overheard (readings_said b ts)
 unread_as_heard w b ts n e s = e ∙ s.heard.listener.unread
+
+pub time_as_heard : (w : WatchValue) (b : Beginning) (ts : List Told) (o : Option ℕ) → o ≡ w.lists.time → StandsForAll b ts w → o ≡ newest_time (all_said b ts).moments
+time_as_heard w b ts o e s = e ∙ s.heard.time

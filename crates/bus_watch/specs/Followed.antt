@@ -88,6 +88,12 @@ reading_by f (line.Overflow time bus) = if is_watched f.bus bus then reading.Gap
 reading_by f (line.Bad reason) = if f.skips_bad then reading.Empty else reading.Gap 1
 reading_by f _ = reading.Empty
 
+-- the time of a line of the bus that is followed, where it has one
+abbrev pub time_by : Followed → Line → Option ℕ
+time_by f (line.Frame time bus frame) = if is_watched f.bus bus then time else None
+time_by f (line.Overflow time bus) = if is_watched f.bus bus then time else None
+time_by f _ = None
+
 -- what is known after a line
 abbrev pub followed_after : Followed → Line → Followed
 followed_after f (line.Frame time bus frame) = if is_watched f.bus bus then followed_with f.silence time (group_of frame) (with_bus bus f) else f

@@ -1,6 +1,11 @@
 pub mod Transfers
 pub mod Followed
+pub mod Over
 pub mod Runs
 pub mod Tellings
 pub mod WatchValue
 pub mod Told
+pub mod AsOverheard
+pub mod Contested
+pub mod Counted
+pub mod Hearing

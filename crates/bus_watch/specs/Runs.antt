@@ -1,23 +1,25 @@
 -- Runs of equal entries, and the lists that they stand for.
-use Rattle.std.specs.Prelude.{◌≡◌, ℕ, Bool, true, false, ◌&&◌, ◌||◌, ◌==◌, List, [], ◌∷◌, ◌++◌, Option, Some, None, if◌then◌else◌, length, map, nat_lt, replicate, reverse}
+use Rattle.std.specs.Prelude.{◌≡◌, ℕ, Bool, true, false, ◌&&◌, ◌||◌, ◌==◌, List, [], ◌∷◌, ◌++◌, Option, Some, None, if◌then◌else◌, is_some, length, map, nat_le, nat_lt, replicate}
 use Rattle.std.specs.List.{list_any}
 use Rattle.std.specs.Map.{lookup}
 use Rattle.std.specs.Option.{option_map_or}
-use Rattle.bus_model.specs.Overheard.{EntrySent, entries_overheard, same_who}
+use Rattle.std.specs.Ordering.{eq_by_cmp}
+use Rattle.bus_model.specs.Overheard.{EntrySent, same_who}
 use Rattle.bus_model.specs.declared.who.Who.{Who}
 use Rattle.bus_model.specs.declared.who.Who.TheVariants as who
 use Rattle.can_frame.specs.declared.address.TheConstants.{GLOBAL_ADDRESS}
 use Rattle.can_frame.specs.declared.reading.Reading.{Reading}
-use Rattle.dm_messages.specs.View.{same_kind}
 use Rattle.dm_messages.specs.declared.kind.Kind.{Kind}
 use Rattle.dm_messages.specs.declared.kind.Kind.TheVariants.{Dm1, Dm2, Dm6}
-use Rattle.listener.specs.SentEntries.{entry_sent}
+use Rattle.listener.specs.SentEntries.{entry_sent, with_entry_sent}
 use Rattle.listener.specs.declared.entry.SentEntry.{SentEntry}
-use Rattle.bus_watch.specs.contracts.key.KeyPartialEq.TheImpl as key_eq
+use Rattle.bus_watch.specs.contracts.key.KeyOrd.TheImpl as key_order
 use Rattle.bus_watch.specs.declared.key.Key.{Key}
 use Rattle.bus_watch.specs.declared.key.Key.TheVariants as key
 use Rattle.bus_watch.specs.declared.run.Run.{Run}
 use Rattle.bus_watch.specs.declared.selection.Selection.{Selection}
+use Rattle.bus_watch.specs.declared.selection.UnitShown.{UnitShown}
+use Rattle.bus_watch.specs.declared.selection.UnitShown.TheVariants.{Name, Address}
 
 -- the entries of some runs, one run after another
 abbrev pub unrolled : List Run → List EntrySent
@@ -52,25 +54,39 @@ who_of (key.Named n) = who.Named n
 who_of (key.Unclaimed a gaps) = who.Unclaimed a gaps
 
 abbrev pub same_key : Key → Key → Bool
-same_key = (key_eq.ghosts).eq
+same_key = eq_by_cmp (key_order.ghosts).cmp
+
+-- the units that have runs, in the order of their first entries, and the runs of each, in the order of the keys
+pub record UnitsValue : Type 0 where
+  pub order : List Key
+  pub runs : List (Key × UnitValue)
+
+abbrev pub no_units : UnitsValue
+no_units = record { order = []; runs = [] }
+
+-- those that have runs are those in the order
+abbrev pub HasOrder : UnitsValue → Type 0
+HasOrder units = (q : Key) → list_any (same_key q) units.order ≡ is_some (lookup (same_key q) units.runs)
 
 -- the runs of a unit and kind, none where it has none
-abbrev pub runs_in : List (Key × UnitValue) → Who → Kind → List Run
-runs_in units w k = option_map_or (λ u. runs_of u k) (lookup (same_key (key_of w)) units) []
+abbrev pub runs_in : UnitsValue → Who → Kind → List Run
+runs_in units w k = option_map_or (λ u. runs_of u k) (lookup (same_key (key_of w)) units.runs) []
 
 -- the units that have some
-abbrev pub units_of : List (Key × UnitValue) → List Who
-units_of units = map (λ e. who_of e.0) units
+abbrev pub units_of : UnitsValue → List Who
+units_of units = map who_of units.order
 
--- the runs of each unit, in the order of the units' first entries; whether the newest entry began one; and what is shown
+-- the runs of each unit, in the order of the units' first entries; whether the newest entry began one; what is shown; and the time of the
+-- newest line that has one
 pub record ListsValue : Type 0 where
-  pub units : List (Key × UnitValue)
+  pub units : UnitsValue
   pub began : Bool
   pub selection : Selection
+  pub time : Option ℕ
 
 -- no runs of any unit
 abbrev pub none_listed : Selection → ListsValue
-none_listed selection = record { units = []; began = false; selection = selection }
+none_listed selection = record { units = no_units; began = false; selection = selection; time = None }
 
 -- the runs of a unit and kind
 abbrev pub runs_under : ListsValue → Who → Kind → List Run
@@ -84,6 +100,8 @@ entries_in lists w k = unrolled (runs_under lists w k)
 abbrev pub units_in : ListsValue → List Who
 units_in lists = units_of lists.units
 
+-- ---- what is shown
+
 -- a message to all is shown, and one to this address, where there is one; else all are
 abbrev pub is_shown_to : Option ℕ → ℕ → Bool
 is_shown_to None to = true
@@ -94,37 +112,85 @@ abbrev pub is_shown_of : Bool → Who → Bool
 is_shown_of unclaimed (who.Named n) = true
 is_shown_of unclaimed (who.Unclaimed a gaps) = unclaimed
 
--- so a message of this unit to this address is
-abbrev pub is_shown : Selection → Who → ℕ → Bool
-is_shown s w to = is_shown_of s.unclaimed w && is_shown_to s.address to
+abbrev pub is_of_name : ℕ → Who → Bool
+is_of_name n (who.Named m) = n == m
+is_of_name n (who.Unclaimed a gaps) = false
 
--- the entries of a unit that are shown
-abbrev pub entries_shown : Selection → Who → List EntrySent → List EntrySent
-entries_shown s w [] = []
-entries_shown s w (e ∷ entries) = if is_shown s w e.to then e ∷ entries_shown s w entries else entries_shown s w entries
+-- what a unit sends from an address is shown where it is of the NAME that is asked for, or comes from that address; else all is
+abbrev pub is_of_unit : Option UnitShown → Who → ℕ → Bool
+is_of_unit None w source = true
+is_of_unit (Some (Name n)) w source = is_of_name n w
+is_of_unit (Some (Address a)) w source = source == a
 
--- those of a unit and kind that were overheard, oldest first
-abbrev pub lists_shown : Selection → List Reading → Who → Kind → List EntrySent
-lists_shown s h w k = reverse (entries_shown s w (entries_overheard w k h))
+-- a time is shown from the first to the last that is asked for; and what has none
+abbrev pub is_since : Option ℕ → ℕ → Bool
+is_since None time = true
+is_since (Some first) time = nat_le first time
 
--- lists with an entry at the end of its own, where it is shown
-abbrev pub with_shown : Selection → SentEntry → (Who → Kind → List EntrySent) → Who → Kind → List EntrySent
-with_shown s e lists w k =
-    if (same_who e.who w && same_kind e.kind k) && is_shown s w e.to then lists w k ++ record { to = e.to; shown = e.shown } ∷ [] else lists w k
+abbrev pub is_until : Option ℕ → ℕ → Bool
+is_until None time = true
+is_until (Some last) time = nat_le time last
+
+abbrev pub is_shown_at : Option ℕ → Option ℕ → Option ℕ → Bool
+is_shown_at first last None = true
+is_shown_at first last (Some time) = is_since first time && is_until last time
+
+-- so an entry that came at this time is
+abbrev pub is_shown : Selection → Option ℕ → SentEntry → Bool
+is_shown s time e = ((is_shown_of s.unclaimed e.who && is_shown_to s.address e.to) && is_of_unit s.unit e.who e.source) && is_shown_at s.from s.to time
+
+-- an entry, if there is one and it is shown
+abbrev pub if_shown : Selection → Option ℕ → Option SentEntry → Option SentEntry
+if_shown s time None = None
+if_shown s time (Some e) = if is_shown s time e then Some e else None
+
+-- ---- over what was read
+
+-- a reading, and its time: that of the newest line of the bus that has one
+pub record Moment : Type 0 where
+  pub reading : Reading
+  pub time : Option ℕ
+
+abbrev pub readings_in : List Moment → List Reading
+readings_in [] = []
+readings_in (m ∷ older) = m.reading ∷ readings_in older
+
+-- the time of the newest of them
+abbrev pub newest_time : List Moment → Option ℕ
+newest_time [] = None
+newest_time (m ∷ older) = m.time
+
+-- a line's own time, or else the one before
+abbrev pub time_after : Option ℕ → Option ℕ → Option ℕ
+time_after None before = before
+time_after (Some time) before = Some time
+
+-- one more reading, from a line with this time or with none
+abbrev pub with_moment : Reading → Option ℕ → List Moment → List Moment
+with_moment reading time older = record { reading = reading; time = time_after time (newest_time older) } ∷ older
+
+-- the entry that a reading lists with those before it, where it is shown
+abbrev pub entry_selected : Selection → Moment → List Moment → Option SentEntry
+entry_selected s m older = if_shown s m.time (entry_sent m.reading (readings_in older))
+
+-- each list, oldest first: of each reading the entry that it lists, where that is shown
+abbrev pub lists_shown : Selection → List Moment → Who → Kind → List EntrySent
+lists_shown s [] w k = []
+lists_shown s (m ∷ older) w k = with_entry_sent (entry_selected s m older) (lists_shown s older) w k
 
 -- the units with one more behind them, where it is none of them yet
 abbrev pub with_unit : Who → List Who → List Who
 with_unit w units = if list_any (same_who w) units then units else units ++ w ∷ []
 
--- and with that of an entry, if there is one and it is shown
-abbrev pub with_unit_of : Selection → Option SentEntry → List Who → List Who
-with_unit_of s None units = units
-with_unit_of s (Some e) units = if is_shown s e.who e.to then with_unit e.who units else units
+-- and with that of an entry, if there is one
+abbrev pub with_unit_of : Option SentEntry → List Who → List Who
+with_unit_of None units = units
+with_unit_of (Some e) units = with_unit e.who units
 
 -- the units of which an entry is shown, in the order of their first ones
-abbrev pub units_shown : Selection → List Reading → List Who
+abbrev pub units_shown : Selection → List Moment → List Who
 units_shown s [] = []
-units_shown s (x ∷ older) = with_unit_of s (entry_sent x older) (units_shown s older)
+units_shown s (m ∷ older) = with_unit_of (entry_selected s m older) (units_shown s older)
 
 -- whether a run of a unit's list has begun
 abbrev pub run_begun_by : ListsValue → ListsValue → Who → Kind → Bool
@@ -132,7 +198,8 @@ run_begun_by before after w k = has_begun (runs_under before w k) (runs_under af
 
 -- an entry was put: its list has one more, where it is shown, and it is known whether a run of that list has begun
 pub record HasRuns (before : ListsValue) (e : SentEntry) (after : ListsValue) : Type 0 where
-  pub entries : (w : Who) (k : Kind) → entries_in after w k ≡ with_shown before.selection e (entries_in before) w k
-  pub units : units_in after ≡ with_unit_of before.selection (Some e) (units_in before)
+  pub entries : (w : Who) (k : Kind) → entries_in after w k ≡ with_entry_sent (if_shown before.selection before.time (Some e)) (entries_in before) w k
+  pub units : units_in after ≡ with_unit_of (if_shown before.selection before.time (Some e)) (units_in before)
   pub selection : after.selection ≡ before.selection
+  pub time : after.time ≡ before.time
   pub began : after.began ≡ run_begun_by before after e.who e.kind

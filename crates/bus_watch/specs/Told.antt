@@ -1,5 +1,5 @@
 -- What all the lines say that a watch was told, newest first.
-use Rattle.std.specs.Prelude.{◌≡◌, ℕ, Bool, List, [], ◌∷◌, Option, Some}
+use Rattle.std.specs.Prelude.{◌≡◌, ℕ, Bool, List, [], ◌∷◌, Option, Some, None}
 use Rattle.address_claim.specs.Frames.{claim_frame_value}
 use Rattle.bus_model.specs.OverheardChanged.{change_overheard}
 use Rattle.bus_model.specs.declared.overheard.Overheard.{Overheard}
@@ -7,7 +7,8 @@ use Rattle.can_frame.specs.declared.reading.Reading.{Reading}
 use Rattle.can_frame.specs.declared.reading.Reading.TheVariants.{Frame}
 use Rattle.candump_line.specs.declared.line.Line.{Line}
 use Rattle.reassembly.specs.Pairs.{no_pairs}
-use Rattle.bus_watch.specs.Followed.{Followed, reading_by, followed_after}
+use Rattle.bus_watch.specs.Followed.{Followed, followed_after, reading_by, time_by}
+use Rattle.bus_watch.specs.Runs.{Moment, readings_in, with_moment}
 use Rattle.bus_watch.specs.Tellings.{is_news, told_of}
 use Rattle.bus_watch.specs.declared.change.Changes.{Changes}
 use Rattle.bus_watch.specs.declared.selection.Selection.{Selection}
@@ -25,34 +26,41 @@ pub record Beginning : Type 0 where
   pub silence : Option ℕ
   pub bus : Option (List ℕ)
 
--- the readings of what was told, newest first, and what is known of the bus by it
+-- the readings of what was told with their times, newest first, and what is known of the bus by it
 pub record Said : Type 0 where
-  pub readings : List Reading
+  pub moments : List Moment
   pub followed : Followed
 
 abbrev pub nothing_said : Beginning → Said
 nothing_said b = record {
-  readings = [];
+  moments = [];
   followed = record { skips_bad = b.skips_bad; silence = b.silence; bus = b.bus; packets = no_pairs };
 }
 
 -- a line is its reading; what is assumed is read as a claim
 abbrev pub said_with : Told → Said → Said
-said_with (Read l) before = record { readings = reading_by before.followed l ∷ before.readings; followed = followed_after before.followed l }
-said_with (Assumed name address) before = record before { readings = Frame (claim_frame_value name (Some address)) ∷ before.readings }
+said_with (Read l) before = record {
+  moments = with_moment (reading_by before.followed l) (time_by before.followed l) before.moments;
+  followed = followed_after before.followed l;
+}
+said_with (Assumed name address) before = record before { moments = with_moment (Frame (claim_frame_value name (Some address))) None before.moments }
 
 abbrev pub all_said : Beginning → List Told → Said
 all_said b [] = nothing_said b
 all_said b (t ∷ older) = said_with t (all_said b older)
 
+-- the readings alone
+abbrev pub readings_said : Beginning → List Told → List Reading
+readings_said b ts = readings_in (all_said b ts).moments
+
 -- what the next one changes, with those before it
 abbrev pub change_said : Beginning → Told → List Told → Overheard
-change_said b (Read l) older = change_overheard (reading_by (all_said b older).followed l) (all_said b older).readings
-change_said b (Assumed name address) older = change_overheard (Frame (claim_frame_value name (Some address))) (all_said b older).readings
+change_said b (Read l) older = change_overheard (reading_by (all_said b older).followed l) (readings_said b older)
+change_said b (Assumed name address) older = change_overheard (Frame (claim_frame_value name (Some address))) (readings_said b older)
 
 -- a watch that began so, and was told this
 pub record StandsForAll (b : Beginning) (told : List Told) (w : WatchValue) : Type 0 where
-  pub heard : StandsInRuns b.selection w (all_said b told).readings
+  pub heard : StandsInRuns b.selection w (all_said b told).moments
   pub followed : w.followed ≡ (all_said b told).followed
 
 -- what is told of one more line, or of what is assumed: of what it changed, where that is news

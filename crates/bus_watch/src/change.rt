@@ -3,7 +3,7 @@ ghost use Rattle.bus_watch.specs.Tellings as tellings;
 
 use crate::selection::Selection;
 use can_frame::Pgn;
-use dm_messages::Kind;
+use dm_messages::{Kind, ReadError};
 use listener::{Displaced, Overheard, Who};
 use name_field::Name;
 
@@ -11,20 +11,44 @@ use name_field::Name;
 #[derive(Clone, Copy, Debug, PartialEq, Eq)]
 pub enum Change {
     /// The NAME holds this address, 0 to 253.
-    At { name: Name, address: u8 },
+    At {
+        name: Name,
+        address: u8,
+    },
     /// The NAME holds no address.
-    NoAddress { name: Name },
+    NoAddress {
+        name: Name,
+    },
     /// An entry came of the unit that is not equal to the one before it, or went elsewhere: the newest run of this kind.
-    Entry { who: Who, kind: Kind },
+    Entry {
+        who: Who,
+        kind: Kind,
+    },
     /// So many frames were missed: no owner is known until units claim again.
-    Missed { count: u32 },
+    Missed {
+        count: u32,
+    },
     /// A diagnostic message came from an address that nobody has claimed in what was read, and such are not shown. Told once until
     /// someone claims it or frames are missed.
-    Unowned { source: u8 },
+    Unowned {
+        source: u8,
+    },
     /// The NAME acknowledged a request: 0 positive, 1 negative, 2 access denied, 3 cannot respond now.
-    Ack { name: Name, control: u8, pgn: Pgn },
-    /// A message of the unit, of this kind, could not be read. It went to this address, 255 for all.
-    Unread { who: Who, kind: Kind, to: u8 },
+    /// To this address.
+    Ack {
+        name: Name,
+        control: u8,
+        pgn: Pgn,
+        requester: u8,
+    },
+    /// A message of the unit, of this kind, could not be read, for this reason, which is never `OutOfMemory`. It went to this address, 255
+    /// for all.
+    Unread {
+        who: Who,
+        kind: Kind,
+        to: u8,
+        why: ReadError,
+    },
 }
 
 /// What is told of a line: nothing, one thing, or two where a claim took its address from another NAME.
@@ -37,11 +61,13 @@ pub struct Changes {
 }
 
 impl Changes {
-    /// What is told of what the listener heard, where entries are shown of addresses that nobody has claimed, or not. An entry, an
-    /// acknowledgment and a message from such an address are told where they are news.
+    /// What is told of what the listener heard, where that is news, and entries are shown of addresses that nobody has claimed, or not.
     pub(crate) fn of(heard: &Overheard, selection: Selection, is_news: bool) -> Changes
         ensures { result ≡ tellings.told_of selection.unclaimed is_news heard.now }
     {
+        if !is_news {
+            return nothing();
+        }
         match *heard {
             Overheard::Nothing => nothing(),
             Overheard::Claimed {
@@ -57,16 +83,28 @@ impl Changes {
                 name,
                 control,
                 pgn,
+                requester,
                 ..
-            } => where_news(is_news, Change::Ack { name, control, pgn }),
+            } => one(Change::Ack {
+                name,
+                control,
+                pgn,
+                requester,
+            }),
             Overheard::Listed {
                 who,
                 kind,
                 source,
                 ..
-            } => where_news(is_news, entry_of(selection, who, kind, source)),
-            Overheard::Unreadable { who, kind, to, .. } => one(Change::Unread { who, kind, to }),
-            Overheard::Unowned { source, .. } => where_news(is_news, Change::Unowned { source }),
+            } => one(entry_of(selection, who, kind, source)),
+            Overheard::Unreadable {
+                who,
+                kind,
+                to,
+                why,
+                ..
+            } => one(Change::Unread { who, kind, to, why }),
+            Overheard::Unowned { source, .. } => one(Change::Unowned { source }),
             Overheard::Missed { count } => one(Change::Missed { count }),
         }
     }
@@ -76,8 +114,7 @@ impl Changes {
 fn entry_of(selection: Selection, who: Who, kind: Kind, source: u8) -> Change
     ensures { result ≡ tellings.entry_of_who selection.unclaimed who kind source }
 {
-    let unit = who;
-    if selection.shows_of(unit) {
+    if selection.shows_of(&who) {
         Change::Entry { who, kind }
     } else {
         Change::Unowned { source }
@@ -101,12 +138,6 @@ fn one(change: Change) -> Changes
         lost: None,
         change: Some(change),
     }
-}
-
-fn where_news(is_news: bool, change: Change) -> Changes
-    ensures { result ≡ tellings.told_if is_news change }
-{
-    if is_news { one(change) } else { nothing() }
 }
 
 /// The NAME that lost its address, if one did.

@@ -1,4 +1,7 @@
-use candump_line::Foreign;
+ghost use Rattle.std.specs.Prelude.{◌≡◌};
+ghost use Rattle.bus_watch.specs.Counted.{with_foreign};
+
+use candump_line::{Foreign, Line};
 
 /// How many lines there were of each sort.
 #[derive(Clone, Copy, Debug, Default, PartialEq, Eq)]
@@ -31,13 +34,44 @@ pub struct Counts {
 
 impl Counts {
     /// Counts a frame that is none of SAE J1939.
-    pub(crate) fn add_foreign(&mut self, what: Foreign) {
-        let count = match what {
-            Foreign::Short => &mut self.short,
-            Foreign::Remote => &mut self.remote,
-            Foreign::Fd => &mut self.fd,
-            Foreign::Error => &mut self.error,
+    pub(crate) fn add_foreign(&mut self, what: Foreign)
+        ensures { self.new ≡ with_foreign what self.old }
+    {
+        match what {
+            Foreign::Short => self.short = self.short.saturating_add(1),
+            Foreign::Remote => self.remote = self.remote.saturating_add(1),
+            Foreign::Fd => self.fd = self.fd.saturating_add(1),
+            Foreign::Error => self.error = self.error.saturating_add(1),
+        }
+    }
+
+    /// Counts a line where each bus is watched: one that none of them hears is of another bus, or of none.
+    pub(crate) fn add_line(&mut self, line: &Line<'_>, is_unheard: bool) {
+        self.lines = self.lines.saturating_add(1);
+        let count = match line {
+            Line::Frame { bus: None, .. }
+            | Line::Overflow { bus: None, .. }
+            | Line::Foreign { bus: None, .. }
+            | Line::Note => &mut self.notes,
+            Line::Bad(_) => &mut self.bad,
+            Line::Dropped { .. } => &mut self.drops,
+            _ if is_unheard => &mut self.other_bus,
+            Line::Frame { .. } => &mut self.frames,
+            Line::Overflow { .. } => &mut self.error,
+            Line::Foreign { what, .. } => return self.add_foreign(*what),
         };
         *count = count.saturating_add(1);
+    }
+
+    /// These with those of a watch: all, or where lines are counted for each bus together, those of its messages alone.
+    pub(crate) fn with_watch(self, watch: Counts, is_one_of_many: bool) -> Counts {
+        if !is_one_of_many {
+            return watch;
+        }
+        Counts {
+            withheld: self.withheld.saturating_add(watch.withheld),
+            not_attributed: self.not_attributed.saturating_add(watch.not_attributed),
+            ..self
+        }
     }
 }

@@ -4,10 +4,11 @@ ghost use Rattle.bus_watch.specs.Runs.{key_of, who_of};
 use listener::Who;
 use name_field::Name;
 
-/// Whose entries are: what `Who` says, as a key of a map.
-#[derive(Clone, Copy, Debug, PartialEq, Eq, Hash)]
+/// Whose entries are: what `Who` says, as a key of a map. NAMEs stand before addresses that nobody has claimed.
+#[derive(Clone, Copy, Debug, PartialEq, Eq, PartialOrd, Ord)]
 pub(crate) enum Key {
-    Named(Name),
+    /// A NAME by its number.
+    Named(u64),
     Unclaimed { address: u8, gaps: u64 },
 }
 
@@ -17,7 +18,7 @@ impl Key {
         ensures { result ≡ key_of who }
     {
         match who {
-            Who::Named(name) => Key::Named(name),
+            Who::Named(name) => Key::Named(name.number()),
             Who::Unclaimed { address, gaps } => Key::Unclaimed { address, gaps },
         }
     }
@@ -27,7 +28,7 @@ impl Key {
         ensures { result ≡ who_of self }
     {
         match self {
-            Key::Named(name) => Who::Named(name),
+            Key::Named(number) => Who::Named(Name::from_number(number)),
             Key::Unclaimed { address, gaps } => Who::Unclaimed { address, gaps },
         }
     }

@@ -5,12 +5,15 @@
 //! each list is what was heard of the readings of the lines so far.
 #![tactic(auto)]
 
+mod buses;
 mod change;
 mod contests;
 mod counts;
 mod key;
+mod laws;
 mod lists;
 mod packets;
+mod pairs;
 mod run;
 mod run_list;
 mod run_table;
@@ -19,9 +22,11 @@ mod unit_runs;
 mod unowned;
 mod watch;
 
+pub use buses::{BusShown, BusWatch, Buses, Hearers, MOST_BUSES};
 pub use change::{Change, Changes};
 pub use counts::Counts;
+pub use laws::shown_lists_are_what_was_overheard;
 pub use listener::Who;
 pub use run::Run;
-pub use selection::Selection;
-pub use watch::{Settings, Watch};
+pub use selection::{Selection, UnitShown};
+pub use watch::{Limits, Settings, Watch};

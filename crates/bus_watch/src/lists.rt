@@ -1,7 +1,8 @@
 ghost use Rattle.std.specs.Prelude.{◌≡◌, true, length, slice_get, OnOk, OnErr};
 ghost use Rattle.bus_model.specs.Heard.{counted};
-ghost use Rattle.bus_watch.specs.Runs.{HasRuns, entries_in, none_listed, runs_under, units_in};
+ghost use Rattle.bus_watch.specs.Runs.{HasRuns, entries_in, none_listed, runs_under, time_after, units_in};
 ghost use Rattle.bus_watch.specs.Runs as runs;
+ghost use Rattle.bus_watch.specs.Tellings.{is_told};
 
 use crate::contests::Contests;
 use crate::run::Run;
@@ -9,13 +10,13 @@ use crate::run_table::RunTable;
 use crate::selection::Selection;
 use candump_line::Time;
 use dm_messages::Kind;
-use listener::{SentEntry, SentLists, Who};
+use listener::{Overheard, SentEntry, SentLists, Who};
 use std::alloc::{AllocError, Global};
 use std::marker::Model;
 
 /// The list of each unit and kind, kept as runs of equal entries.
 ///
-/// It keeps what is shown. It knows beside an entry what its run tells: the time of the line that is read, and which addresses are contested.
+/// It keeps what is shown. It knows beside an entry the time of the line that is read, and which addresses are contested.
 #[derive(Drop)]
 pub(crate) struct Lists {
     units: RunTable,
@@ -25,13 +26,13 @@ pub(crate) struct Lists {
     contests: Contests,
 }
 
-/// Seen as the runs by unit, whether the newest entry began a run, and what is shown.
+/// Seen as the runs by unit, whether the newest entry began a run, what is shown, and the time.
 impl Model for Lists {
     ghost use Rattle.bus_watch.specs.Runs.{ListsValue};
 
     ghost Value = { ListsValue };
 
-    ghost view = { λ l. record { units = l.units; began = l.began; selection = l.selection } };
+    ghost view = { λ l. record { units = l.units; began = l.began; selection = l.selection; time = l.newest } };
 }
 
 impl Lists {
@@ -50,7 +51,7 @@ impl Lists {
 
     /// How many units have entries.
     pub(crate) fn units(&self) -> usize
-        ensures { result ≡ length self.now.units }
+        ensures { result ≡ length self.now.units.order }
     {
         self.units.len()
     }
@@ -84,17 +85,26 @@ impl Lists {
     }
 
     /// The time of the newest line that has one.
-    pub(crate) fn now(&self) -> Option<Time> {
+    pub(crate) fn now(&self) -> Option<Time>
+        ensures { result ≡ self.now.time }
+    {
         self.newest
     }
 
     /// Keeps the time of the line that is read, where it has one.
     pub(crate) fn pass(&mut self, time: Option<Time>)
-        ensures { self.new ≡ self.old }
+        ensures { self.new ≡ record self.old { time = time_after time self.old.time } }
     {
         if time.is_some() {
             self.newest = time;
         }
+    }
+
+    /// Goes back to a time, since the line after it was not read.
+    pub(crate) fn go_back(&mut self, time: Option<Time>)
+        ensures { self.new ≡ record self.old { time = time } }
+    {
+        self.newest = time;
     }
 
     /// A claim of the address displaced another NAME.
@@ -111,6 +121,13 @@ impl Lists {
         self.contests.forget();
     }
 
+    /// Goes on with the contests that other lists know.
+    pub(crate) fn keep_contests(&mut self, other: &Lists)
+        ensures { self.new ≡ self.old }
+    {
+        self.contests.go_on_with(&other.contests);
+    }
+
     /// What is shown.
     pub(crate) fn selection(&self) -> Selection
         ensures { result ≡ self.now.selection }
@@ -118,10 +135,17 @@ impl Lists {
         self.selection
     }
 
+    /// Whether it is told of what was heard now.
+    pub(crate) fn tells(&self, heard: &Overheard) -> bool
+        ensures { result ≡ is_told self.now.selection self.now.time heard.now }
+    {
+        self.selection.tells(heard, self.newest)
+    }
+
     /// Keeps an entry that is shown, and whether it begins a run. Where memory is refused, nothing changes.
     #[tactic(auto, using(crate::proofs::Shown::kept_in_runs))]
     fn keep(&mut self, alloc: Global, entry: SentEntry) -> Result<(), AllocError>
-        requires { runs.is_shown self.old.selection entry.who entry.to ≡ true }
+        requires { runs.is_shown self.old.selection self.old.time entry ≡ true }
         ensures ok { OnOk result (HasRuns self.old entry self.new) }
         ensures err { OnErr result (self.new ≡ self.old) }
     {
@@ -136,7 +160,7 @@ impl Lists {
         ensures ok { OnOk result (HasRuns self.old entry self.new) }
         ensures err { OnErr result (self.new ≡ self.old) }
     {
-        if !self.selection.shows(entry.who, entry.to) {
+        if !self.selection.shows(&entry, self.newest) {
             self.began = false;
             return Ok(());
         }

@@ -1,5 +1,5 @@
 ghost use Rattle.std.specs.Prelude.{◌≡◌, false, slice_index_or};
-ghost use Rattle.bus_watch.specs.Tellings.{none_told, told_after, told_of_source};
+ghost use Rattle.bus_watch.specs.Tellings.{none_told, told_after, told_of_source, told_with};
 
 use listener::{Overheard, Who};
 use std::marker::Model;
@@ -34,15 +34,25 @@ impl Unowned {
         self.told[usize::from(address)]
     }
 
-    /// Follows what the listener heard.
-    pub(crate) fn follow(&mut self, heard: &Overheard)
-        ensures { self.new ≡ told_after heard.now self.old }
+    /// Follows what the listener heard, of which it is told or not.
+    pub(crate) fn follow(&mut self, heard: &Overheard, is_told: bool)
+        ensures { self.new ≡ told_after is_told heard.now self.old }
     {
         match *heard {
             Overheard::Claimed { address, .. } => self.told[usize::from(address)] = false,
+            Overheard::Missed { .. } => self.told = none_told(),
+            _ if is_told => self.follow_told(heard),
+            _ => {}
+        }
+    }
+
+    /// Follows what the listener heard, of which it is told.
+    fn follow_told(&mut self, heard: &Overheard)
+        ensures { self.new ≡ told_with heard.now self.old }
+    {
+        match *heard {
             Overheard::Unowned { source, .. } => self.told[usize::from(source)] = true,
             Overheard::Listed { who, source, .. } => self.follow_entry(who, source),
-            Overheard::Missed { .. } => self.told = none_told(),
             _ => {}
         }
     }

@@ -1,13 +1,15 @@
 ghost use Rattle.std.specs.Prelude.{◌≡◌, [], List, length, slice_get, IfOk, option_map};
 ghost use Rattle.bus_model.specs.Heard.{counted, missed_count, names_heard};
 ghost use Rattle.bus_model.specs.Overheard.{row_overheard, unread_overheard};
-ghost use Rattle.bus_watch.specs.Runs.{lists_shown, units_shown, unrolled};
-ghost use Rattle.bus_watch.specs.Told.{Beginning, StandsForAll, Told, all_said};
+ghost use Rattle.bus_watch.specs.Runs.{lists_shown, newest_time, units_shown, unrolled};
+ghost use Rattle.bus_watch.specs.Told.{Beginning, StandsForAll, Told, all_said, readings_said};
 ghost use Rattle.station_table.specs.StandsFor.{row_heard_as};
 
+use self::over::Before;
 use crate::counts::Counts;
 use crate::lists::Lists;
 use crate::packets::Packets;
+use crate::pairs::Pairs;
 use crate::run::Run;
 use crate::selection::Selection;
 use crate::unowned::Unowned;
@@ -20,7 +22,10 @@ use std::alloc::{AllocError, Global};
 use std::marker::Model;
 
 mod changes;
+mod over;
 mod readings;
+
+pub use over::Limits;
 
 /// How a bus is watched.
 #[derive(Clone, Copy, Debug)]
@@ -43,6 +48,10 @@ pub struct Watch {
     packets: Packets,
     lists: Lists,
     counts: Counts,
+    /// How many runs were begun; one of several codes counts as many.
+    kept: u64,
+    pairs: Pairs,
+    before: Before,
 }
 
 /// Seen as its listener, the lists that it fills, what it knows of the bus that it follows, and what it told once.
@@ -82,6 +91,7 @@ impl Watch {
         };
         let listener = Listener::new(alloc)?;
         let packets = Packets::new(alloc)?;
+        let pairs = Pairs::new(alloc)?;
         Ok(Watch {
             settings,
             listener,
@@ -90,6 +100,9 @@ impl Watch {
             packets,
             lists: Lists::new(alloc, settings.selection),
             counts: Counts::default(),
+            kept: 0,
+            pairs,
+            before: Before::default(),
         })
     }
 
@@ -98,15 +111,25 @@ impl Watch {
         self.counts
     }
 
+    /// What is shown.
+    pub fn selection(&self) -> Selection
+        ensures { result ≡ self.entry.now.lists.selection }
+    {
+        self.lists.selection()
+    }
+
     /// The time of the newest line that has one.
-    pub fn now(&self) -> Option<Time> {
+    #[tactic(auto, using(crate::proofs::Queries::time_as_heard))]
+    pub fn now(&self) -> Option<Time>
+        ensures heard { (b : Beginning) (ts : List Told) → StandsForAll b ts self.entry.now → result ≡ newest_time (all_said b ts).moments }
+    {
         self.lists.now()
     }
 
     /// How many NAMEs have a row.
     #[tactic(auto, using(crate::proofs::Queries::names_as_heard))]
     pub fn names(&self) -> usize
-        ensures heard { (b : Beginning) (ts : List Told) → StandsForAll b ts self.entry.now → result ≡ length (names_heard (all_said b ts).readings) }
+        ensures heard { (b : Beginning) (ts : List Told) → StandsForAll b ts self.entry.now → result ≡ length (names_heard (readings_said b ts)) }
     {
         self.listener.names()
     }
@@ -114,7 +137,7 @@ impl Watch {
     /// The NAME of the row at this place, from 0, in the order of the NAMEs' first claims.
     #[tactic(auto, using(crate::proofs::Queries::name_as_heard))]
     pub fn name_at(&self, place: usize) -> Option<Name>
-        ensures heard { (b : Beginning) (ts : List Told) → StandsForAll b ts self.entry.now → result ≡ slice_get (names_heard (all_said b ts).readings) place }
+        ensures heard { (b : Beginning) (ts : List Told) → StandsForAll b ts self.entry.now → result ≡ slice_get (names_heard (readings_said b ts)) place }
     {
         self.listener.name_at(place)
     }
@@ -122,7 +145,7 @@ impl Watch {
     /// What is known of a NAME; none before its first claim.
     #[tactic(auto, using(crate::proofs::Queries::row_as_heard))]
     pub fn row(&self, name: Name) -> Option<Row>
-        ensures heard { (b : Beginning) (ts : List Told) → StandsForAll b ts self.entry.now → option_map row_heard_as result ≡ row_overheard name (all_said b ts).readings }
+        ensures heard { (b : Beginning) (ts : List Told) → StandsForAll b ts self.entry.now → option_map row_heard_as result ≡ row_overheard name (readings_said b ts) }
     {
         self.listener.row(name)
     }
@@ -130,7 +153,7 @@ impl Watch {
     /// How many units have entries that are shown: NAMEs, and addresses that nobody has claimed.
     #[tactic(auto, using(crate::proofs::Queries::units_as_heard))]
     pub fn units(&self) -> usize
-        ensures heard { (b : Beginning) (ts : List Told) → StandsForAll b ts self.entry.now → result ≡ length (units_shown b.selection (all_said b ts).readings) }
+        ensures heard { (b : Beginning) (ts : List Told) → StandsForAll b ts self.entry.now → result ≡ length (units_shown b.selection (all_said b ts).moments) }
     {
         self.lists.units()
     }
@@ -140,7 +163,7 @@ impl Watch {
     /// An address that nobody has claimed is a unit of its own between two gaps, and no more of it from a claim of it on.
     #[tactic(auto, using(crate::proofs::Queries::unit_as_heard))]
     pub fn unit_at(&self, place: usize) -> Option<Who>
-        ensures heard { (b : Beginning) (ts : List Told) → StandsForAll b ts self.entry.now → result ≡ slice_get (units_shown b.selection (all_said b ts).readings) place }
+        ensures heard { (b : Beginning) (ts : List Told) → StandsForAll b ts self.entry.now → result ≡ slice_get (units_shown b.selection (all_said b ts).moments) place }
     {
         self.lists.unit_at(place)
     }
@@ -150,7 +173,7 @@ impl Watch {
     /// One after the other, their entries are the list that was heard, of what is shown.
     #[tactic(auto, using(crate::proofs::Queries::runs_as_heard))]
     pub fn runs(&self, who: Who, kind: Kind) -> &[Run]
-        ensures heard { (b : Beginning) (ts : List Told) → StandsForAll b ts self.entry.now → unrolled result.now ≡ lists_shown b.selection (all_said b ts).readings who kind }
+        ensures heard { (b : Beginning) (ts : List Told) → StandsForAll b ts self.entry.now → unrolled result.now ≡ lists_shown b.selection (all_said b ts).moments who kind }
     {
         self.lists.runs(who, kind)
     }
@@ -158,7 +181,7 @@ impl Watch {
     /// How many entries a unit has of a kind, up to the greatest 64-bit number.
     #[tactic(auto, using(crate::proofs::Queries::entries_as_heard))]
     pub fn entries(&self, who: Who, kind: Kind) -> u64
-        ensures heard { (b : Beginning) (ts : List Told) → StandsForAll b ts self.entry.now → result ≡ counted (length (lists_shown b.selection (all_said b ts).readings who kind)) }
+        ensures heard { (b : Beginning) (ts : List Told) → StandsForAll b ts self.entry.now → result ≡ counted (length (lists_shown b.selection (all_said b ts).moments who kind)) }
     {
         self.lists.entries(who, kind)
     }
@@ -166,7 +189,7 @@ impl Watch {
     /// How many frames were missed, up to the greatest 64-bit number.
     #[tactic(auto, using(crate::proofs::Queries::missed_as_heard))]
     pub fn missed(&self) -> u64
-        ensures heard { (b : Beginning) (ts : List Told) → StandsForAll b ts self.entry.now → result ≡ missed_count (all_said b ts).readings }
+        ensures heard { (b : Beginning) (ts : List Told) → StandsForAll b ts self.entry.now → result ≡ missed_count (readings_said b ts) }
     {
         self.listener.missed()
     }
@@ -174,7 +197,7 @@ impl Watch {
     /// How many messages could not be read, up to the greatest 64-bit number.
     #[tactic(auto, using(crate::proofs::Queries::unread_as_heard))]
     pub fn unread(&self) -> u64
-        ensures heard { (b : Beginning) (ts : List Told) → StandsForAll b ts self.entry.now → result ≡ unread_overheard (all_said b ts).readings }
+        ensures heard { (b : Beginning) (ts : List Told) → StandsForAll b ts self.entry.now → result ≡ unread_overheard (readings_said b ts) }
     {
         self.listener.unread()
     }

@@ -6,3 +6,4 @@ pub mod TimeForms
 pub mod Times
 pub mod Said
 pub mod Logged
+pub mod LostFrames

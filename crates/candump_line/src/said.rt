@@ -1,3 +1,7 @@
+ghost use Rattle.std.specs.Prelude.{◌≡◌, ℕ, ◌<◌, ◌≤◌, ◌^◌, length, if◌then◌else◌};
+ghost use Rattle.can_frame.specs.FrameValue.{frame};
+ghost use Rattle.candump_line.specs.LostFrames.{tells_of_lost_frames};
+
 use crate::line::Foreign;
 use crate::reason::Reason;
 use crate::word::IdWord;
@@ -18,13 +22,13 @@ pub(crate) enum Said {
     Bad(Reason),
 }
 
-/// The class of errors of the controller, and the bit of the second byte that tells of lost frames.
-const CONTROLLER_ERROR: u32 = 0x0000_0004;
-
-const RECEIVE_OVERFLOW: u8 = 0x01;
-
 /// What an identifier and its data say.
-pub(crate) fn said_by(id: IdWord, bytes: &[u8]) -> Said {
+pub(crate) fn said_by(id: IdWord, bytes: &[u8]) -> Said
+    ensures short { id ≡ IdWord.Short → result ≡ Said.Foreign Foreign.Short }
+    ensures frame { (number : ℕ) → id ≡ IdWord.Long number → number < 2 ^ 29 → length bytes.now ≤ 8 → result ≡ Said.Frame (frame number bytes.now) }
+    ensures error { (class : ℕ) → id ≡ IdWord.Error class
+        → result ≡ (if tells_of_lost_frames class bytes.now then Said.Overflow else Said.Foreign Foreign.Error) }
+{
     match id {
         IdWord::Short => Said::Foreign(Foreign::Short),
         IdWord::Long { number } => match Frame::new(number, bytes) {
@@ -32,15 +36,21 @@ pub(crate) fn said_by(id: IdWord, bytes: &[u8]) -> Said {
             Err(FrameError::IdTooLarge) => Said::Bad(Reason::IdTooLarge),
             Err(FrameError::TooLong) => Said::Bad(Reason::TooManyBytes),
         },
-        IdWord::Error { class } => {
-            let state = match bytes {
-                [_, state, ..] => *state,
-                _ => 0,
-            };
-            if class & CONTROLLER_ERROR != 0 && state & RECEIVE_OVERFLOW != 0 {
-                return Said::Overflow;
-            }
-            Said::Foreign(Foreign::Error)
-        }
+        IdWord::Error { class } => said_by_error(class, bytes),
+    }
+}
+
+/// What an error frame of this class says: bit 2 marks an error of the controller, of which bit 0 of the second byte tells that it lost frames.
+fn said_by_error(class: u32, bytes: &[u8]) -> Said
+    ensures { result ≡ (if tells_of_lost_frames class bytes.now then Said.Overflow else Said.Foreign Foreign.Error) }
+{
+    let state = match bytes {
+        [_, state, ..] => *state,
+        _ => 0,
+    };
+    if class / 4 % 2 == 1 && state % 2 == 1 {
+        Said::Overflow
+    } else {
+        Said::Foreign(Foreign::Error)
     }
 }

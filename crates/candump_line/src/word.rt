@@ -1,4 +1,4 @@
-ghost use Rattle.std.specs.Prelude.{◌≤◌};
+ghost use Rattle.std.specs.Prelude.{◌≡◌, ℕ, ◌<◌, ◌≤◌, ◌^◌, Ok, IfOk, length};
 
 use crate::digits::{read_number, read_pairs};
 use crate::reason::Reason;
@@ -24,7 +24,11 @@ const ERROR_END: u32 = 0x4000_0000;
 /// # Errors
 /// `NoDigit`, `ControlCharacter`: it has other characters than digits. `IdDigits`: it has neither three nor eight.
 /// `IdTooLarge`: more than 29 bits are set, and it is no error's.
-pub(crate) fn read_id(word: &str) -> Result<IdWord, Reason> {
+pub(crate) fn read_id(word: &str) -> Result<IdWord, Reason>
+    ensures short { result ≡ Ok IdWord.Short → length word.now ≡ 3 }
+    ensures long { IfOk result (λ id. (number : ℕ) → id ≡ IdWord.Long number → number < 2 ^ 29) }
+    ensures error { IfOk result (λ id. (class : ℕ) → id ≡ IdWord.Error class → (2 ^ 29 ≤ class) × (class < 2 ^ 30)) }
+{
     if let Some(reason) = bad_digit(word) {
         return Err(reason);
     }

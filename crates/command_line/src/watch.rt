@@ -15,15 +15,22 @@ Input: what candump -L writes, plain candump, log2long, a file of candump -l. Li
 
 A line for each change: a unit that claims or loses an address, a DM1, DM2 or DM6 that differs from the one before it (lamps;
 then SPN/FMI/COUNT; and where it went, if not to all), missed frames, an acknowledgment. At the end, also of an input that breaks off, a line for each NAME: its
-address, how many DM1, DM2 and DM6 stand under it, the lamps and the number of codes of the newest DM1. As csv: a row for each
+address, how many DM1, DM2 and DM6 stand under it, the number of codes and the lamps of the newest DM1. As csv: a row for each
 code of each run of equal entries, with the times of the first and the last, whether they are contested, and where they went.
+An address stands in decimal, from 10 on with its hexadecimal digits behind it: 249(F9).
+
+All is heard, whatever is shown: --address, --unclaimed, --unit, --from and --to leave out what they do not ask for, in the changes and in the
+entries of the report. With --bus all each bus has units of its own, and a line says its bus.
 
 Limits: on a real bus the last claim is not always the holder (an entry within 250 ms of a claim that displaced another NAME is
 marked contested); frames lost without notice can mix two messages (a packet after --silence is withheld); where no claim of an address
 was seen, its entries stand under the address alone (have the units claim: cansend can0 18EAFFFE#00EE00; or --assume).
 
+Nothing of a bus lets memory grow without end: where as much is kept as --most and --keep allow, which no honest day comes near, all that was
+heard so far is reported, and it is begun anew with the units that hold addresses. A run of several codes counts as many.
+
 Status: 0 done; 1 a read or write failed, or memory ran out; 2 the command line; 3 done, but lines were bad,
-or none was a frame (what it looks like is told, and what converts it)."
+or none was a frame (what it looks like is told, and what converts it), or more was heard than is kept at once."
 }
 
 /// The subcommand `watch`.
@@ -35,7 +42,7 @@ pub(crate) fn command<'a>(alloc: Global) -> Result<Command<'a>, AllocError>
         CommandOption {
             name: "bus",
             value: "BUS",
-            help: "The bus to watch; the first in the input where none is given",
+            help: "The bus to watch; all: each of them; the first in the input where none is given",
             given: Given::Once,
         },
         CommandOption {
@@ -75,6 +82,36 @@ pub(crate) fn command<'a>(alloc: Global) -> Result<Command<'a>, AllocError>
             given: Given::Once,
         },
         CommandOption {
+            name: "most",
+            value: "NAMES",
+            help: "Of how many NAMEs and unclaimed addresses is known at once, 256 to 1000000 [65536]",
+            given: Given::Once,
+        },
+        CommandOption {
+            name: "keep",
+            value: "RUNS",
+            help: "How many runs of equal entries are kept at once, 1 to 100000000 [1000000]",
+            given: Given::Once,
+        },
+        CommandOption {
+            name: "unit",
+            value: "NAME|N",
+            help: "Tells of one unit alone: of this NAME, or of whoever sends from address N, 0 to 253",
+            given: Given::Once,
+        },
+        CommandOption {
+            name: "from",
+            value: "TIME",
+            help: "Tells of what came at this time or later, as the log has it, or a date YYYY-MM-DD HH:MM:SS.mmm",
+            given: Given::Once,
+        },
+        CommandOption {
+            name: "to",
+            value: "TIME",
+            help: "Tells of what came at this time or before",
+            given: Given::Once,
+        },
+        CommandOption {
             name: "format",
             value: "text|json|csv",
             help: "How changes and report are written [text]; csv: the report alone",
@@ -111,6 +148,11 @@ pub(crate) fn words<'a>(found: &ArgMatches<'a>) -> WatchWords<'a> {
         bad: found.get_str("bad"),
         silence: found.get_str("silence"),
         unclaimed: found.get_str("unclaimed"),
+        most: found.get_str("most"),
+        keep: found.get_str("keep"),
+        unit: found.get_str("unit"),
+        from: found.get_str("from"),
+        to: found.get_str("to"),
         format: found.get_str("format"),
         strict: found.get_flag("strict"),
         file: found.get_str("file"),

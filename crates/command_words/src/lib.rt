@@ -41,7 +41,7 @@ pub enum Job<'a> {
 /// The words behind `watch`, but for the units that it assumes. A word that was not given is none.
 #[derive(Clone, Copy)]
 pub struct WatchWords<'a> {
-    /// The bus that is watched.
+    /// The bus that is watched; `all`: each.
     pub bus: Option<&'a str>,
     /// The address whose sessions are shown.
     pub address: Option<&'a str>,
@@ -53,6 +53,16 @@ pub struct WatchWords<'a> {
     pub silence: Option<&'a str>,
     /// Whether messages of addresses that nobody has claimed are shown: `show` or `hide`.
     pub unclaimed: Option<&'a str>,
+    /// Of how many NAMEs is known at once.
+    pub most: Option<&'a str>,
+    /// How many runs of equal entries are kept at once.
+    pub keep: Option<&'a str>,
+    /// The unit of which alone it is told: a NAME, or an address.
+    pub unit: Option<&'a str>,
+    /// The first time of which it is told.
+    pub from: Option<&'a str>,
+    /// The last time of which it is told.
+    pub to: Option<&'a str>,
     /// How changes and report are written.
     pub format: Option<&'a str>,
     /// Whether the first bad line ends the run.

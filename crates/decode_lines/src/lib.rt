@@ -4,6 +4,7 @@
 
 mod joining;
 mod objects;
+mod rows;
 mod run;
 mod texts;
 

@@ -148,8 +148,8 @@ fn write_words_of_joined<W: Write>(
     let place = place_of(line);
     let ends = (joined.source, joined.dest);
     let bytes = joined.bytes.as_slice();
-    if write_joined_words(writer, alloc, place, ends, joined.pgn, bytes).is_err() {
-        return Err(LogFault::Write);
+    if let Err(error) = write_joined_words(writer, alloc, place, ends, joined.pgn, bytes) {
+        return Err(LogFault::of_write(error));
     }
     if let Some(shown) = shown_in(alloc, joined.pgn, bytes)? {
         write_texts(alloc, writer, texts, &shown)?;
@@ -185,8 +185,8 @@ fn write_words<W: Write>(
     texts: &Texts,
     line: &Line<'_>,
 ) -> Result<(), LogFault> {
-    if write_line_words(writer, alloc, line).is_err() {
-        return Err(LogFault::Write);
+    if let Err(error) = write_line_words(writer, alloc, line) {
+        return Err(LogFault::of_write(error));
     }
     if let Line::Frame { frame, .. } = line {
         write_texts_of(alloc, writer, texts, frame)?;

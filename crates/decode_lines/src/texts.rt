@@ -1,4 +1,4 @@
-use csv::{ByteRecord, Position, Reader};
+use crate::rows::{Row, Rows};
 use indexmap::IndexMap;
 use std::alloc::{AllocError, AllocFailed, Global};
 use std::fmt;
@@ -21,8 +21,6 @@ enum Wrong<'a> {
     Values(u64),
     /// It has so many values, and the first line so many others.
     Unequal(u64, u64),
-    /// It is no row of values.
-    NoValues,
     /// The value of this name is no text.
     NoText(&'a str),
     /// The value of this name is this word, and no number up to the last.
@@ -38,7 +36,6 @@ impl fmt::Display for Wrong<'_> {
             Wrong::Unequal(count, first) => {
                 write!(f, "{count} values, and the first line has {first}")
             }
-            Wrong::NoValues => write!(f, "no comma-separated values"),
             Wrong::NoText(name) => write!(f, "{name}: no UTF-8"),
             Wrong::NoNumber(name, word, last) => write!(f, "{name}: {word} is not 0 to {last}"),
             Wrong::NoNumbers => write!(f, "spn, fmi: both are empty"),
@@ -46,16 +43,9 @@ impl fmt::Display for Wrong<'_> {
     }
 }
 
-/// The fault of a row that stands there.
-fn refused(alloc: Global, place: Option<Position>, wrong: Wrong<'_>) -> TextsFault {
-    let words = match place {
-        Some(place) => {
-            let line = place.line();
-            format!(in alloc; "line {line}: {wrong}\n")
-        }
-        None => format!(in alloc; "{wrong}\n"),
-    };
-    match words {
+/// The fault of a row that begins on this line.
+fn refused(alloc: Global, line: u64, wrong: Wrong<'_>) -> TextsFault {
+    match format!(in alloc; "line {line}: {wrong}\n") {
         Ok(words) => TextsFault::Refused(words),
         Err(_) => TextsFault::Memory,
     }
@@ -140,32 +130,39 @@ impl Texts {
         }
     }
 
-    /// Adds the texts of all rows.
+    /// Adds the texts of all rows behind the first.
     fn add_all(&mut self, alloc: Global, text: &[u8]) -> Result<(), TextsFault> {
-        let mut rows = Reader::from_reader(alloc, text);
-        let mut row = ByteRecord::new(alloc);
+        let mut rows = Rows::of(text);
+        let mut row = Row::new(alloc);
+        if !rows.read(&mut row)? {
+            return Ok(());
+        }
+        let first = row.len() as u64;
         for _ in 0..u64::MAX {
-            match rows.read_byte_record(&mut row) {
-                Ok(true) => self.add(alloc, &row)?,
-                Ok(false) => break,
-                Err(error) => return Err(fault_of(alloc, error)),
+            if !rows.read(&mut row)? {
+                break;
             }
+            let count = row.len() as u64;
+            if count != first {
+                return Err(refused(alloc, row.line(), Wrong::Unequal(count, first)));
+            }
+            self.add(alloc, &row)?;
         }
         Ok(())
     }
 
     /// Adds the text of a row.
-    fn add(&mut self, alloc: Global, row: &ByteRecord) -> Result<(), TextsFault> {
+    fn add(&mut self, alloc: Global, row: &Row) -> Result<(), TextsFault> {
         let (spn, fmi, text) = match values_of(row) {
             Ok(values) => values,
-            Err(wrong) => return Err(refused(alloc, row.position(), wrong)),
+            Err(wrong) => return Err(refused(alloc, row.line(), wrong)),
         };
         let text = String::from_str(alloc, text)?;
         match (spn, fmi) {
             (Some(spn), Some(fmi)) => self.codes.put(key(spn, fmi), text),
             (Some(spn), None) => self.spns.put(u64::from(spn), text),
             (None, Some(fmi)) => self.fmis.put(u64::from(fmi), text),
-            (None, None) => Err(refused(alloc, row.position(), Wrong::NoNumbers)),
+            (None, None) => Err(refused(alloc, row.line(), Wrong::NoNumbers)),
         }
     }
 
@@ -193,21 +190,8 @@ fn joined(alloc: Global, spn: &str, fmi: &str) -> Result<Option<String>, AllocEr
     Ok(Some(format!(in alloc; "{spn}, {fmi}")?))
 }
 
-/// What an error of the reader of rows is.
-fn fault_of(alloc: Global, error: csv::Error) -> TextsFault {
-    match error.kind() {
-        csv::ErrorKind::OutOfMemory => TextsFault::Memory,
-        csv::ErrorKind::UnequalLengths {
-            pos,
-            expected_len,
-            len,
-        } => refused(alloc, *pos, Wrong::Unequal(*len, *expected_len)),
-        _ => refused(alloc, None, Wrong::NoValues),
-    }
-}
-
 /// The SPN, the FMI and the text of a row.
-fn values_of(row: &ByteRecord) -> Result<(Option<u32>, Option<u32>, &str), Wrong<'_>> {
+fn values_of(row: &Row) -> Result<(Option<u32>, Option<u32>, &str), Wrong<'_>> {
     if row.len() != 3 {
         return Err(Wrong::Values(row.len() as u64));
     }
@@ -217,7 +201,7 @@ fn values_of(row: &ByteRecord) -> Result<(Option<u32>, Option<u32>, &str), Wrong
 }
 
 /// The word of a row at this place.
-fn word_at<'a>(row: &'a ByteRecord, place: usize, name: &'a str) -> Result<&'a str, Wrong<'a>> {
+fn word_at<'a>(row: &'a Row, place: usize, name: &'a str) -> Result<&'a str, Wrong<'a>> {
     match row.get(place) {
         Some(bytes) => match std::str::from_utf8(bytes) {
             Ok(word) => Ok(word),
@@ -229,7 +213,7 @@ fn word_at<'a>(row: &'a ByteRecord, place: usize, name: &'a str) -> Result<&'a s
 
 /// The number of a row at this place, at most `last`; none where it is empty.
 fn number_at<'a>(
-    row: &'a ByteRecord,
+    row: &'a Row,
     place: usize,
     name: &'a str,
     last: u32,

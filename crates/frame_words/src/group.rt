@@ -1,6 +1,7 @@
 use crate::audience::Audience;
 use crate::names::data_group_name;
 use can_frame::{GLOBAL_ADDRESS, Pgn};
+use dm_messages::ReadError;
 use std::fmt;
 
 /// The name of a parameter group, or `-` where it has none here.
@@ -31,7 +32,7 @@ fn protocol_group_name(pgn: Pgn) -> &'static str {
 
 /// The number of a parameter group, and its name in parentheses where it has one.
 #[derive(Clone, Copy)]
-pub(crate) struct GroupWords(pub Pgn, pub Audience);
+pub struct GroupWords(pub Pgn, pub Audience);
 
 impl fmt::Display for GroupWords {
     fn fmt<W: fmt::Write>(&self, f: &mut fmt::Formatter<W>) -> fmt::Result {
@@ -49,7 +50,7 @@ impl fmt::Display for GroupWords {
 ///
 /// For people it stands in decimal, with its two hexadecimal digits in parentheses behind where these differ from it: `249(F9)`.
 #[derive(Clone, Copy)]
-pub(crate) struct AddressWords(pub u8, pub Audience);
+pub struct AddressWords(pub u8, pub Audience);
 
 /// The first address whose hexadecimal digits differ from its decimal ones.
 const FIRST_TOLD_TWICE: u8 = 10;
@@ -68,9 +69,9 @@ impl fmt::Display for AddressWords {
     }
 }
 
-/// What an acknowledgment says by its control byte.
+/// What an acknowledgment says by its control byte (SAE J1939-21).
 #[derive(Clone, Copy)]
-pub(crate) struct ControlWords(pub u8);
+pub struct ControlWords(pub u8);
 
 impl fmt::Display for ControlWords {
     fn fmt<W: fmt::Write>(&self, f: &mut fmt::Formatter<W>) -> fmt::Result {
@@ -81,6 +82,22 @@ impl fmt::Display for ControlWords {
             2 => "access denied",
             3 => "cannot respond now",
             _ => return write!(f, "control {control}"),
+        };
+        write!(f, "{word}")
+    }
+}
+
+/// Why a diagnostic message cannot be read.
+#[derive(Clone, Copy)]
+pub struct UnreadWords(pub ReadError);
+
+impl fmt::Display for UnreadWords {
+    fn fmt<W: fmt::Write>(&self, f: &mut fmt::Formatter<W>) -> fmt::Result {
+        let word = match self.0 {
+            ReadError::BadLength => "bad length",
+            ReadError::OldConversion => "old conversion",
+            ReadError::NoCodeInside => "a code of zeros",
+            ReadError::OutOfMemory => "memory",
         };
         write!(f, "{word}")
     }

@@ -1,3 +1,6 @@
+ghost use Rattle.std.specs.Prelude.{◌≡◌};
+ghost use Rattle.frame_words.specs.Words.{foreign_text};
+
 use crate::audience::Audience;
 use crate::group::AddressWords;
 use crate::message::{write_message, write_payload};
@@ -61,7 +64,9 @@ pub fn write_joined_words<W: Write>(
     write_payload(writer, alloc, pgn, bytes, Audience::People)
 }
 
-fn foreign_word(what: Foreign) -> &'static str {
+fn foreign_word(what: Foreign) -> &'static str
+    ensures { result.now ≡ foreign_text what }
+{
     match what {
         Foreign::Short => "11-bit identifier",
         Foreign::Remote => "remote frame",

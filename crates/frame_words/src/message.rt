@@ -1,5 +1,11 @@
+ghost use Rattle.std.specs.Prelude.{◌≡◌, IfErr, IfOk, OnOk, Some};
+ghost use Rattle.std.specs.Io.KnownBytes.{Appends};
+ghost use Rattle.dm_messages.specs.Refusals.{refusal};
+ghost use Rattle.dm_messages.specs.View.{decoding};
+ghost use Rattle.frame_words.specs.Words.{function_text, kind_text};
+
 use crate::audience::Audience;
-use crate::group::{AddressWords, ByteWords, ControlWords, GroupWords, group_name};
+use crate::group::{AddressWords, ByteWords, ControlWords, GroupWords, UnreadWords, group_name};
 use can_frame::{Frame, Pgn};
 use dm_messages::{Kind, ReadError, Shown, read};
 use dm_words::{CodeWords, LampBytes, LampWords};
@@ -12,6 +18,9 @@ use std::io::Write;
 use transport::Control;
 
 /// Writes what a frame says: the name of its group, and what it tells.
+///
+/// # Errors
+/// What the writer answered first. `OutOfMemory`: memory was refused for the codes of a diagnostic message.
 pub fn write_message<W: Write>(
     writer: &mut W,
     alloc: Global,
@@ -35,6 +44,9 @@ pub fn write_message<W: Write>(
 }
 
 /// Writes what the payload of a group says: that of a diagnostic message in words, of any other its name and its bytes.
+///
+/// # Errors
+/// As of `write_message`.
 pub fn write_payload<W: Write>(
     writer: &mut W,
     alloc: Global,
@@ -75,7 +87,9 @@ fn write_name<W: Write>(writer: &mut W, word: &str, name: Name) -> io::Result<()
     write_system(writer, &fields)
 }
 
-fn write_function<W: Write>(writer: &mut W, fields: &NameFields) -> io::Result<()> {
+fn write_function<W: Write>(writer: &mut W, fields: &NameFields) -> io::Result<()>
+    ensures { OnOk result (Appends (W.contents writer.old) (W.contents writer.new) (function_text fields.now)) }
+{
     let function = fields.function;
     let instance = fields.function_instance;
     let ecu = fields.ecu_instance;
@@ -119,12 +133,26 @@ fn write_diagnostic<W: Write>(
     audience: Audience,
 ) -> io::Result<()> {
     let word = kind_word(kind);
-    match read(alloc, bytes) {
+    match read_payload(alloc, bytes)? {
         Ok(shown) => write_shown(writer, word, &shown, audience),
         Err(error) => {
-            let reason = unread_word(error);
+            let reason = UnreadWords(error);
             write!(writer, "{word}: cannot be read: {reason}")
         }
+    }
+}
+
+/// What the payload of a diagnostic message shows, or why it cannot be read.
+///
+/// # Errors
+/// Memory was refused. That says nothing of the payload, so it is no reason why that cannot be read.
+fn read_payload(alloc: Global, bytes: &[u8]) -> io::Result<Result<Shown, ReadError>>
+    ensures shown { IfOk result (λ told. IfOk told (λ shown. decoding bytes.now ≡ Some shown)) }
+    ensures unread { IfOk result (λ told. IfErr told (λ error. refusal bytes.now ≡ Some error)) }
+{
+    match read(alloc, bytes) {
+        Err(ReadError::OutOfMemory) => Err(io::Error::from(io::ErrorKind::OutOfMemory)),
+        told => Ok(told),
     }
 }
 
@@ -145,21 +173,13 @@ fn write_shown<W: Write>(
     }
 }
 
-fn kind_word(kind: Kind) -> &'static str {
+fn kind_word(kind: Kind) -> &'static str
+    ensures { result.now ≡ kind_text kind }
+{
     match kind {
         Kind::Dm1 => "DM1",
         Kind::Dm2 => "DM2",
         Kind::Dm6 => "DM6",
-    }
-}
-
-/// Why a message cannot be read.
-fn unread_word(error: ReadError) -> &'static str {
-    match error {
-        ReadError::BadLength => "bad length",
-        ReadError::OldConversion => "old conversion",
-        ReadError::NoCodeInside => "a code of zeros",
-        ReadError::OutOfMemory => "memory",
     }
 }
 

@@ -1,5 +1,5 @@
 -- A carry for which the journal has no room.
-use Rattle.std.proofs.Common.{◌≡◌, ◌+◌, ◌<◌, List, length, reverse, Result, Err, IfErr, IsErrOf, sym, ap, ◌∙◌, subst, arith}
+use Rattle.std.proofs.Common.{◌≡◌, ◌+◌, ◌<◌, List, length, reverse, Result, Ok, Err, IfErr, IsErrOf, OnErr, sym, ap, ◌∙◌, subst, arith}
 use Rattle.std.specs.Prelude.{◌↔◌}
 use Rattle.std.proofs.lemmas.List.{length-reverse}
 use Rattle.bus_ledger.specs.Carrying.{CanCarry}
@@ -56,3 +56,10 @@ uncarried_full a v r events y x refusal is stands settings journal refused room 
     let e : refusal ≡ BookFull = cc in
     carries'.1 both.0 ∙ ap Err e) in
     (full, back)
+
+-- whatever is refused could be carried
+pub uncarried_could : {T : Type 0} (a : Inside) (v : GarageValue) (r : Settings) (events : List Event) (x : Result T GarageError) (refusal : GarageError) → garage_value_of a ≡ v → r ≡ settings_of a → events ≡ a.journal.items
+    → ((x ≡ Err refusal) ↔ CanCarry (state_of (record { settings = r; journal = reverse events })).traffic) → IfErr x (λ e. e ≡ refusal) → OnErr x (CanCarry (state_of v).traffic)
+uncarried_could a v r events (Ok x) refusal is settings journal carries only = tt
+uncarried_could a v r events (Err e) refusal is settings journal carries only =
+    subst (λ (g : GarageValue). CanCarry (state_of g).traffic) (view_same a v r events is settings journal) (carries.0 (ap Err only))

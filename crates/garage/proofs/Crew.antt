@@ -1,6 +1,5 @@
 -- Many units in their seats: each step of a round leaves the others there.
-use Rattle.std.proofs.Common.{ℕ, zero, suc, ◌≡◌, ◌≢◌, ◌+◌, ◌-◌, ◌<◌, ◌≤◌, ◌⊎◌, nat_eq, ne_eqb, Bool, true, false, List, [], ◌∷◌, ◌++◌, append_assoc, Some, get_or, replicate, set, slice_get, length, refl, sym, ap, ◌∙◌, subst, arith, inl, inr}
-use Rattle.std.proofs.lemmas.List.{set-get_or}
+use Rattle.std.proofs.Common.{ℕ, zero, suc, ◌≡◌, ◌≢◌, ◌+◌, ◌-◌, ◌<◌, ◌⊎◌, nat_eq, ne_eqb, false, List, [], ◌∷◌, ◌++◌, append_assoc, Some, get_or, replicate, set, slice_get, length, refl, sym, ap, ◌∙◌, subst, arith, inl, inr}
 use Rattle.std.proofs.lemmas.Option.{slice_get_within, slice_get-get_or}
 use Rattle.bus_ledger.proofs.Numbers.{same_or_not}
 use Rattle.bus_ledger.specs.declared.traffic.Carried.{Carried}
@@ -9,7 +8,6 @@ use Rattle.bus_model.proofs.Worlds.{slice_get_set}
 use Rattle.can_frame.specs.declared.reading.Reading.{Reading}
 use Rattle.can_frame.specs.declared.reading.Reading.TheVariants as reading
 use Rattle.fault_memory.specs.Memory.{MemoryValue}
-use Rattle.unit_trait.specs.declared.question.Question.{Question}
 use Rattle.dm_messages.specs.declared.shown.Shown.{Shown}
 use Rattle.journal.specs.Journal.{GarageValue, Adds, listed_at, memory_told, state_of, tally_of}
 use Rattle.journal.specs.Promises.{KeepsLists}
@@ -18,12 +16,13 @@ use Rattle.journal.specs.declared.event.Event.{Event}
 use Rattle.journal.specs.declared.event.Event.TheVariants.{Hear, Carry, Read}
 use Rattle.journal.specs.declared.tally.Tally.{Tally}
 use Rattle.journal.proofs.Lifted.{keeps_adds, keeps_same}
-use Rattle.garage.specs.Answers.{Hears, Reads, counted_hearing}
+use Rattle.garage.specs.Answers.{Reads}
 use Rattle.garage.specs.Carrying.{AddsCarry}
 use Rattle.garage.specs.Crew.{AreOthersUntouched, AreSeated, AreUntouched, Comes, IsCrew, IsOfRound, IsTold, IsUntouched, KeepsUnit, LeadTo, Sits, Sitting}
-use Rattle.garage.specs.declared.steps.HeardOne.{HeardOne}
-use Rattle.garage.specs.declared.steps.HeardOne.TheVariants as heard
-use Rattle.garage.proofs.SeatKept.{keeps_both, keeps_itself, seat_hears, still_seated, still_there, unit_carried, unit_read}
+use Rattle.garage.specs.declared.hearing.Recorded.{Recorded}
+use Rattle.garage.specs.declared.hearing.Recorded.TheVariants.{Current, Unknown}
+use Rattle.node_core.specs.declared.heard.Answer.{Answer as UnitAnswer}
+use Rattle.garage.proofs.SeatKept.{event_hears, keeps_both, keeps_itself, still_seated, still_there, unit_carried, unit_read}
 use Rattle.garage.proofs.Standing.{tally_more}
 use Rattle.garage.proofs.Traffics.{within_or_past}
 
@@ -42,7 +41,7 @@ untouched_by k g g' e adds keeps tally told = record {
   told = ap (λ (v : GarageValue). memory_told k v.journal) adds.adds ∙ told;
 }
 
-memory_of_other : (k j : ℕ) (memory : MemoryValue) (answered : _) (es : List Event) → k ≢ j → memory_told k (Hear j memory answered ∷ es) ≡ memory_told k es
+memory_of_other : (k j : ℕ) (memory : MemoryValue) (answered : UnitAnswer) (es : List Event) → k ≢ j → memory_told k (Hear j memory answered ∷ es) ≡ memory_told k es
 unfolding memory_told
 memory_of_other k j memory answered es n = (let t : nat_eq j k ≡ false = ne_eqb j k (λ e. n (sym e)) in rw t refl)
 
@@ -54,18 +53,19 @@ memory_carried : (k j : ℕ) (es : List Event) → memory_told k (Carry j ∷ es
 unfolding memory_told
 memory_carried k j es = refl
 
-pub heard_untouched : {X : Type 0} (k : ℕ) (g : GarageValue) (j : ℕ) (memory : MemoryValue) (answers : Question → Bool → X → Type 0) (unit : X) (h : HeardOne) (g' : GarageValue) (memory' : MemoryValue) (unit' : X)
-    → Hears g j memory answers unit h g' memory' unit' → k ≢ j → k < length (state_of g).traffic.seats → IsUntouched k g g'
-heard_untouched k g j memory answers unit (heard.Frame f) g' memory' unit' h n there =
+pub heard_untouched : (k : ℕ) (g : GarageValue) (j : ℕ) (memory : MemoryValue) (answered : UnitAnswer) (g' : GarageValue) → Adds g (Hear j memory answered) g' → k ≢ j → k < length (state_of g).traffic.seats → IsUntouched k g g'
+heard_untouched k g j memory answered g' h n there =
     let t : nat_eq j k ≡ false = ne_eqb j k (λ e. n (sym e)) in
-    untouched_by k g g' (Hear j memory h.1.0) h.1.1 (seat_hears k g j memory answers unit (heard.Frame f) g' memory' unit' h there)
-    (tally_more k (Hear j memory h.1.0) g.journal ∙ rw t refl) (memory_of_other k j memory h.1.0 g.journal n)
-heard_untouched k g j memory answers unit heard.Nothing g' memory' unit' h n there = untouched_same k g g' h.1
+    untouched_by k g g' (Hear j memory answered) h (event_hears k g j memory answered g' h there)
+    (tally_more k (Hear j memory answered) g.journal ∙ rw t refl) (memory_of_other k j memory answered g.journal n)
+
+pub took_untouched : (y k : ℕ) (g g' : GarageValue) (r : Reading) → Adds g (Read y r) g' → k < length (state_of g).traffic.seats → IsUntouched k g g'
+took_untouched y k g g' r h there = untouched_by k g g' (Read y r) h (unit_read y k g g' r h there) (tally_more k (Read y r) g.journal) (memory_read y k r g.journal)
 
 pub read_untouched : (y k : ℕ) (g g' : GarageValue) (r : Reading) → Reads y g r g' → k < length (state_of g).traffic.seats → IsUntouched k g g'
 read_untouched y k g g' reading.Empty h there = untouched_same k g g' h.1
-read_untouched y k g g' (reading.Frame f) h there = untouched_by k g g' (Read y (reading.Frame f)) h (unit_read y k g g' (reading.Frame f) h there) (tally_more k (Read y (reading.Frame f)) g.journal) (memory_read y k (reading.Frame f) g.journal)
-read_untouched y k g g' (reading.Gap n) h there = untouched_by k g g' (Read y (reading.Gap n)) h (unit_read y k g g' (reading.Gap n) h there) (tally_more k (Read y (reading.Gap n)) g.journal) (memory_read y k (reading.Gap n) g.journal)
+read_untouched y k g g' (reading.Frame f) h there = took_untouched y k g g' (reading.Frame f) h there
+read_untouched y k g g' (reading.Gap n) h there = took_untouched y k g g' (reading.Gap n) h there
 
 pub carried_untouched : (k : ℕ) (g g' : GarageValue) (c : Carried) → AddsCarry g c g' → k < length (state_of g).traffic.seats → IsUntouched k g g'
 carried_untouched k g g' (carried.Frame j f) h there = untouched_by k g g' (Carry j) h.1 (unit_carried k j g g' h.1 there) (tally_more k (Carry j) g.journal) (memory_carried k j g.journal)
@@ -100,44 +100,23 @@ others_both j a b c h h' = λ k n l.
       told = two.told ∙ one.told;
     })
 
--- one more hearing of the unit on that seat
-pub others_heard : {X : Type 0} (j : ℕ) (a g : GarageValue) (k : ℕ) (memory : MemoryValue) (answers : Question → Bool → X → Type 0) (unit : X) (h : HeardOne) (g' : GarageValue) (memory' : MemoryValue) (unit' : X)
-    → k ≡ j → AreOthersUntouched j a g → Hears g k memory answers unit h g' memory' unit' → AreOthersUntouched j a g'
-others_heard j a g k memory answers unit h g' memory' unit' same before hears =
-    others_both j a g g' before (λ i n l. heard_untouched i g k memory answers unit h g' memory' unit' hears (λ e. n (e ∙ same)) l)
-
 -- ---- all of them
 
 sits_still : (g g' : GarageValue) (s : Sitting) → IsUntouched s.seat g g' → Sits g s → Sits g' s
 sits_still g g' s u h = still_seated g g' s.seat s.name s.events s.events u.keeps h (sym (u.counted ∙ h.counted))
 
--- at first none is marked
-pub crew_begins : {P : Type 0} (sitting : P → Sitting) (g : GarageValue) (us : List P) (marks : List Bool) → AreSeated sitting g us → ((i : ℕ) → slice_get marks i ≢ Some true) → IsCrew sitting g us marks
-crew_begins sitting g us marks seated none = record { seated = seated; told = λ i p e m. absurd (none i m) }
+-- at first nothing is known of their memories
+pub crew_begins : {P : Type 0} (sitting : P → Sitting) (g : GarageValue) (us : List P) (recorded : List Recorded) → AreSeated sitting g us → ((i : ℕ) → slice_get recorded i ≢ Some Current) → IsCrew sitting g us recorded
+crew_begins sitting g us recorded seated none = record { seated = seated; told = λ i p e m. absurd (none i m) }
 
-pub no_marks : (n i : ℕ) → slice_get (replicate n false) i ≢ Some true
-no_marks zero i e = absurd cc
-no_marks (suc n) zero e = absurd cc
-no_marks (suc n) (suc i) e = no_marks n i e
-
--- one more is marked, whose memory is told
-pub crew_marked : {P : Type 0} (sitting : P → Sitting) (g : GarageValue) (us : List P) (marks marks' : List Bool) (i : ℕ) (p : P) → IsCrew sitting g us marks → slice_get us i ≡ Some p → IsTold g (sitting p)
-    → ((j : ℕ) → j ≢ i → slice_get marks' j ≡ Some true → slice_get marks j ≡ Some true) → IsCrew sitting g us marks'
-crew_marked {P} sitting g us marks marks' i p crew at_i told others = record {
-  seated = crew.seated;
-  told = λ j q at m.
-      elim (same_or_not j i) [
-        | inl same ↦
-            let e : Some q ≡ Some p = sym at ∙ (ap (λ (x : ℕ). slice_get us x) same ∙ at_i) in
-            let is : q ≡ p = cc in
-            subst (λ (x : P). IsTold g (sitting x)) (sym is) told
-        | inr n ↦ crew.told j q at (others j n m)
-      ];
-}
+pub none_known : (n i : ℕ) → slice_get (replicate n Unknown) i ≢ Some Current
+none_known zero i e = absurd cc
+none_known (suc n) zero e = absurd cc
+none_known (suc n) (suc i) e = none_known n i e
 
 -- a step that is no unit's leaves all in their seats
-pub crew_still : {P : Type 0} (sitting : P → Sitting) (g g' : GarageValue) (us : List P) (marks : List Bool) → AreUntouched g g' → IsCrew sitting g us marks → IsCrew sitting g' us marks
-crew_still sitting g g' us marks all crew = record {
+pub crew_still : {P : Type 0} (sitting : P → Sitting) (g g' : GarageValue) (us : List P) (recorded : List Recorded) → AreUntouched g g' → IsCrew sitting g us recorded → IsCrew sitting g' us recorded
+crew_still sitting g g' us recorded all crew = record {
   seated = record {
     each = λ i p e. (let s = crew.seated.each i p e in sits_still g g' (sitting p) (all (sitting p).seat s.unit.1) s);
     ordered = crew.seated.ordered;
@@ -172,7 +151,7 @@ ordered_seats sitting g us i j p q seated l at_i at_j =
     let e : j ≡ suc ((j - suc i) + i) = omega arith in
     in_order sitting g us i (j - suc i) j p q seated e at_i at_j
 
-other_seat : {P : Type 0} (sitting : P → Sitting) (g : GarageValue) (us : List P) (i j : ℕ) (p q : P) → AreSeated sitting g us → j ≢ i → slice_get us i ≡ Some p → slice_get us j ≡ Some q → (sitting q).seat ≢ (sitting p).seat
+pub other_seat : {P : Type 0} (sitting : P → Sitting) (g : GarageValue) (us : List P) (i j : ℕ) (p q : P) → AreSeated sitting g us → j ≢ i → slice_get us i ≡ Some p → slice_get us j ≡ Some q → (sitting q).seat ≢ (sitting p).seat
 other_seat sitting g us i j p q seated n at_i at_j same =
     elim (before_or_after i j n) [
       | inl l ↦ (let o = ordered_seats sitting g us i j p q seated l at_i at_j in omega arith)
@@ -180,12 +159,12 @@ other_seat sitting g us i j p q seated n at_i at_j same =
     ]
 
 -- a unit that heard: the others are as they were
-pub crew_heard : {P : Type 0} (sitting : P → Sitting) (g g' : GarageValue) (us : List P) (marks marks' : List Bool) (i : ℕ) (p p' : P) (told : Bool) → IsCrew sitting g us marks → slice_get us i ≡ Some p
-    → (sitting p').seat ≡ (sitting p).seat → Sits g' (sitting p') → (told ≡ true → IsTold g' (sitting p'))
+pub crew_heard : {P : Type 0} (sitting : P → Sitting) (g g' : GarageValue) (us : List P) (recorded recorded' : List Recorded) (i : ℕ) (p p' : P) (known : Recorded) → IsCrew sitting g us recorded → slice_get us i ≡ Some p
+    → (sitting p').seat ≡ (sitting p).seat → Sits g' (sitting p') → (known ≡ Current → IsTold g' (sitting p'))
     → ((k : ℕ) → k ≢ (sitting p).seat → k < length (state_of g).traffic.seats → IsUntouched k g g')
-    → ((j : ℕ) → j ≢ i → slice_get marks' j ≡ Some true → slice_get marks j ≡ Some true) → (slice_get marks' i ≡ Some true → told ≡ true)
-    → IsCrew sitting g' (set us i p') marks'
-crew_heard {P} sitting g g' us marks marks' i p p' told crew at_i seat sits tells all rest here = record {
+    → ((j : ℕ) → j ≢ i → slice_get recorded' j ≡ Some Current → slice_get recorded j ≡ Some Current) → (slice_get recorded' i ≡ Some Current → known ≡ Current)
+    → IsCrew sitting g' (set us i p') recorded'
+crew_heard {P} sitting g g' us recorded recorded' i p p' known crew at_i seat sits tells all rest here = record {
   seated = record {
     each = λ j q e.
         elim (slice_get_set us i j p' q e) [
@@ -218,18 +197,12 @@ crew_heard {P} sitting g g' us marks marks' i p p' told crew at_i seat sits tell
   };
   told = λ j q e m.
       elim (slice_get_set us i j p' q e) [
-        | inl same ↦ subst (λ (x : P). IsTold g' (sitting x)) (sym same.1) (tells (here (ap (λ (x : ℕ). slice_get marks' x) (sym same.0) ∙ m)))
+        | inl same ↦ subst (λ (x : P). IsTold g' (sitting x)) (sym same.1) (tells (here (ap (λ (x : ℕ). slice_get recorded' x) (sym same.0) ∙ m)))
         | inr other ↦
             let s = crew.seated.each j q other.1 in
             (all (sitting q).seat (other_seat sitting g us i j p q crew.seated other.0 at_i other.1) s.unit.1).told ∙ crew.told j q other.1 (rest j other.0 m)
       ];
 }
-
--- a unit that was refused, and nothing changed
-pub crew_same : {P : Type 0} (sitting : P → Sitting) (g g' : GarageValue) (us : List P) (marks : List Bool) (i : ℕ) (d p' : P) → IsCrew sitting g us marks → g' ≡ g → p' ≡ get_or us i d → IsCrew sitting g' (set us i p') marks
-crew_same {P} sitting g g' us marks i d p' crew same kept =
-    let back : set us i p' ≡ us = ap (λ (x : P). set us i x) kept ∙ set-get_or us i d in
-    subst (λ (v : GarageValue). IsCrew sitting v (set us i p') marks) (sym same) (subst (λ (xs : List P). IsCrew sitting g xs marks) (sym back) crew)
 
 -- ---- what leads from one garage to another
 
@@ -241,31 +214,34 @@ comes_one : (old new : GarageValue) (e : Event) → Adds old e new → IsOfRound
 unfolding LeadTo
 comes_one old new e adds is = (e ∷ [], (old, refl, adds, is))
 
-leads_both : (es : List Event) (a b c : GarageValue) (fs : List Event) → LeadTo es a b → LeadTo fs b c → Comes a c
+pub leads_both : (P : Event → Type 0) (es : List Event) (a b c : GarageValue) (fs : List Event) → LeadTo P es a b → LeadTo P fs b c → (gs : List Event) × LeadTo P gs a c
 unfolding LeadTo
-leads_both es a b c [] h h' = (es, subst (λ (v : GarageValue). LeadTo es a v) (sym h') h)
-leads_both es a b c (f ∷ fs) h h' = (let r = leads_both es a b h'.0 fs h h'.1 in (f ∷ r.0, (h'.0, r.1, h'.2, h'.3)))
+leads_both P es a b c [] h h' = (es, subst (λ (v : GarageValue). LeadTo P es a v) (sym h') h)
+leads_both P es a b c (f ∷ fs) h h' = (let r = leads_both P es a b h'.0 fs h h'.1 in (f ∷ r.0, (h'.0, r.1, h'.2, h'.3)))
 
-leads_settings : (es : List Event) (old new : GarageValue) → LeadTo es old new → new.settings ≡ old.settings
+pub leads_settings : (P : Event → Type 0) (es : List Event) (old new : GarageValue) → LeadTo P es old new → new.settings ≡ old.settings
 unfolding LeadTo
-leads_settings [] old new h = ap (λ (g : GarageValue). g.settings) h
-leads_settings (e ∷ es) old new h = ap (λ (g : GarageValue). g.settings) h.2.adds ∙ leads_settings es old h.0 h.1
+leads_settings P [] old new h = ap (λ (g : GarageValue). g.settings) h
+leads_settings P (e ∷ es) old new h = ap (λ (g : GarageValue). g.settings) h.2.adds ∙ leads_settings P es old h.0 h.1
+
+pub leads_as : (P Q : Event → Type 0) (es : List Event) (old new : GarageValue) → ((e : Event) → P e → Q e) → LeadTo P es old new → LeadTo Q es old new
+unfolding LeadTo
+leads_as P Q [] old new is h = h
+leads_as P Q (e ∷ es) old new is h = (h.0, leads_as P Q es old h.0 is h.1, h.2, is e h.3)
 
 -- the settings stay
 pub comes_settings : (old new : GarageValue) → Comes old new → new.settings ≡ old.settings
-comes_settings old new h = leads_settings h.0 old new h.1
+comes_settings old new h = leads_settings IsOfRound h.0 old new h.1
 
 -- so a station that was there still is
 pub station_still : (y : ℕ) (old new : GarageValue) → Comes old new → y < length old.settings.stations → y < length new.settings.stations
 station_still y old new h l = subst (λ (r : Settings). y < length r.stations) (sym (comes_settings old new h)) l
 
 pub comes_both : (a b c : GarageValue) → Comes a b → Comes b c → Comes a c
-comes_both a b c h h' = leads_both h.0 a b c h'.0 h.1 h'.1
+comes_both a b c h h' = leads_both IsOfRound h.0 a b c h'.0 h.1 h'.1
 
-pub comes_heard : {X : Type 0} (g : GarageValue) (k : ℕ) (memory : MemoryValue) (answers : Question → Bool → X → Type 0) (unit : X) (h : HeardOne) (g' : GarageValue) (memory' : MemoryValue) (unit' : X)
-    → Hears g k memory answers unit h g' memory' unit' → Comes g g'
-comes_heard g k memory answers unit (heard.Frame f) g' memory' unit' h = comes_one g g' (Hear k memory h.1.0) h.1.1 tt
-comes_heard g k memory answers unit heard.Nothing g' memory' unit' h = comes_same g g' h.1
+pub comes_heard : (g : GarageValue) (k : ℕ) (memory : MemoryValue) (answered : UnitAnswer) (g' : GarageValue) → Adds g (Hear k memory answered) g' → Comes g g'
+comes_heard g k memory answered g' h = comes_one g g' (Hear k memory answered) h tt
 
 pub comes_read : (y : ℕ) (g g' : GarageValue) (r : Reading) → Reads y g r g' → Comes g g'
 comes_read y g g' reading.Empty h = comes_same g g' h.1
@@ -277,38 +253,6 @@ comes_carried g g' (carried.Frame j f) h = comes_one g g' (Carry j) h.1 tt
 comes_carried g g' carried.Idle h = comes_same g g' h.1
 comes_carried g g' carried.Waiting h = comes_same g g' h.1
 
--- ---- one that hears again and again
-
-pub record Hearing (a g : GarageValue) (s s' : Sitting) : Type 0 where
-  pub seat : s'.seat ≡ s.seat
-  pub name : s'.name ≡ s.name
-  pub sits : Sits g s'
-  pub others : AreOthersUntouched s.seat a g
-  pub more : s.events ≤ s'.events
-  pub comes : Comes a g
-
-pub hearing_begins : (g : GarageValue) (s : Sitting) → Sits g s → Hearing g g s s
-unfolding LeadTo
-hearing_begins g s sits = record { seat = refl; name = refl; sits = sits; others = others_same s.seat g g refl; more = omega arith; comes = ([], refl) }
-
-counted_more : (n : ℕ) (h : HeardOne) → n ≤ counted_hearing n h
-counted_more n (heard.Frame f) = omega arith
-counted_more n heard.Nothing = omega arith
-
-pub hearing_goes_on : {X : Type 0} (a g g' : GarageValue) (s s' s'' : Sitting) (memory : MemoryValue) (answers : Question → Bool → X → Type 0) (unit : X) (h : HeardOne) (memory' : MemoryValue) (unit' : X) → Hearing a g s s'
-    → Hears g s'.seat memory answers unit h g' memory' unit' → s''.seat ≡ s'.seat → s''.name ≡ s'.name → Sits g' s'' → s''.events ≡ counted_hearing s'.events h → Hearing a g' s s''
-hearing_goes_on a g g' s s' s'' memory answers unit h memory' unit' so hears seat name sits counted = record {
-  seat = seat ∙ so.seat;
-  name = name ∙ so.name;
-  sits = sits;
-  others = others_heard s.seat a g s'.seat memory answers unit h g' memory' unit' so.seat so.others hears;
-  more = (let m = counted_more s'.events h in let n = so.more in omega arith);
-  comes = comes_both a g g' so.comes (comes_heard g s'.seat memory answers unit h g' memory' unit' hears);
-}
-
-pub hearing_refused : (a g g' : GarageValue) (s s' s'' : Sitting) → Hearing a g s s' → g' ≡ g → s'' ≡ s' → Hearing a g' s s''
-hearing_refused a g g' s s' s'' so same kept = subst (λ (v : GarageValue). Hearing a v s s'') (sym same) (subst (λ (x : Sitting). Hearing a g s x) (sym kept) so)
-
 lists_both : (a b c : GarageValue) → KeepsLists a b → KeepsLists b c → KeepsLists a c
 lists_both a b c h h' = record {
   grows = λ y n k.
@@ -316,7 +260,7 @@ lists_both a b c h h' = record {
       (one.0 ++ two.0, two.1 ∙ (ap (λ (l : List Shown). l ++ two.0) one.1 ∙ append_assoc (listed_at a y n k) one.0 two.0)));
 }
 
-lists_led : (es : List Event) (a b : GarageValue) → LeadTo es a b → KeepsLists a b
+lists_led : (es : List Event) (a b : GarageValue) → LeadTo IsOfRound es a b → KeepsLists a b
 unfolding LeadTo
 lists_led [] a b h = keeps_same a b h
 lists_led (e ∷ es) a b h = lists_both a h.0 b (lists_led es a h.0 h.1) (keeps_adds h.0 b e h.2)

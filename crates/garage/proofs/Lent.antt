@@ -1,5 +1,5 @@
 -- A boxed value that was lent and came back.
-use Rattle.std.proofs.Common.{◌≡◌, refl, subst, ap, ◌∙◌, OnErr, Result, Ok, Err}
+use Rattle.std.proofs.Common.{◌≡◌, refl, subst, ap, ◌∙◌, IfErr, IfOk, OnErr, OnOk, Result, Ok, Err}
 use Rattle.std.specs.declared.alloc.Global.{Global}
 use Rattle.std.specs.declared.dyn_box.DynBox.{DynBox}
 
@@ -27,3 +27,22 @@ given_back b q v same e = ap (boxed b) (same ∙ e)
 pub on_err : {T E P : Type 0} (r : Result T E) → P → OnErr r P
 on_err (Ok x) p = tt
 on_err (Err e) p = p
+
+pub on_ok_of : {T E P Q : Type 0} (r : Result T E) → (P → Q) → OnOk r P → OnOk r Q
+on_ok_of (Ok x) f p = f p
+on_ok_of (Err e) f p = tt
+
+pub if_err_of : {T E : Type 0} {P Q : E → Type 0} (r : Result T E) → ((e : E) → P e → Q e) → IfErr r P → IfErr r Q
+if_err_of (Ok x) f p = tt
+if_err_of (Err e) f p = f e p
+
+pub if_err_is : {T E : Type 0} (r : Result T E) (P : E → Type 0) (e : E) → r ≡ Err e → P e → IfErr r P
+if_err_is r P e is p = rw is p
+
+pub if_ok_of : {T E : Type 0} {P Q : T → Type 0} (r : Result T E) → ((x : T) → P x → Q x) → IfOk r P → IfOk r Q
+if_ok_of (Ok x) f p = f x p
+if_ok_of (Err e) f p = tt
+
+pub on_ok_if : {T E : Type 0} {P : T → Type 0} {Q : Type 0} (r : Result T E) → ((x : T) → P x → Q) → IfOk r P → OnOk r Q
+on_ok_if (Ok x) f p = f x p
+on_ok_if (Err e) f p = tt

@@ -4,11 +4,14 @@ pub mod Standing
 pub mod Traffics
 mod Passing
 mod LastFrames
-mod Sweeping
+pub mod HearLemmas
+pub mod ReadLemmas
+mod RoundLemmas
 mod Pieces
 pub mod Headline
 mod Lists
 mod CarryLemmas
+mod InTurn
 mod InHand
 mod SeatKept
 mod OrderLemmas

@@ -14,8 +14,8 @@ use Rattle.garage.specs.Answers.{Hears, Begins}
 use Rattle.garage.specs.Inside.{settings_of, garage_value_of, Stands}
 use Rattle.garage.specs.declared.garage.Garage.TheInside.{Inside}
 use Rattle.garage.proofs.Standing.{newest}
-use Rattle.garage.specs.declared.steps.HeardOne.{HeardOne}
-use Rattle.garage.specs.declared.steps.HeardOne.TheVariants as heard
+use Rattle.garage.specs.declared.hearing.HeardOne.{HeardOne}
+use Rattle.garage.specs.declared.hearing.HeardOne.TheVariants as heard
 use Rattle.garage.specs.declared.steps.Begin.{Begin as Began}
 use Rattle.garage.specs.declared.steps.Begin.TheVariants as began
 

@@ -29,7 +29,7 @@ use Rattle.garage.specs.Inside.{settings_of, garage_value_of, place_at, post_at,
 use Rattle.garage.specs.declared.garage.Garage.TheInside.{Inside}
 use Rattle.garage.specs.declared.garage.Place.{Place}
 use Rattle.garage.specs.declared.garage.Post.{Post}
-use Rattle.garage.specs.declared.steps.HeardOne.TheVariants as heard
+use Rattle.garage.specs.declared.hearing.HeardOne.TheVariants as heard
 use Rattle.garage.proofs.Traffics.{keeps_heard}
 use Rattle.garage.proofs.Standing.{stations_are, windows_are, state, added, fresh_one, hear_is, is_answered, joins_hear, next_within, place_tally, place_within, stands_more, tallies_one, unit_is}
 

@@ -33,8 +33,8 @@ use Rattle.journal.specs.declared.tally.Tally.{Tally}
 use Rattle.journal.specs.declared.event.Event.TheVariants.{Hear, Begin, Turned, Carry, Read}
 use Rattle.garage.specs.Crew.{KeepsSeat, KeepsUnit}
 use Rattle.garage.specs.Answers.{Hears, Begins, counted_hearing, counted_beginning}
-use Rattle.garage.specs.declared.steps.HeardOne.{HeardOne}
-use Rattle.garage.specs.declared.steps.HeardOne.TheVariants as heard
+use Rattle.garage.specs.declared.hearing.HeardOne.{HeardOne}
+use Rattle.garage.specs.declared.hearing.HeardOne.TheVariants as heard
 use Rattle.garage.specs.declared.steps.Begin.{Begin as Began}
 use Rattle.garage.specs.declared.steps.Begin.TheVariants as began
 use Rattle.garage.proofs.Standing.{tally_more}
@@ -140,11 +140,13 @@ by_event : (k : ℕ) (g g' new : GarageValue) → g' ≡ new → KeepsUnit k g n
 by_event k g g' new e h = let P : GarageValue → Type 0 = λ v. KeepsUnit k g v in subst P (sym e) h
 
 -- where a unit hears, each unit keeps its seat
-pub seat_hears : {X : Type 0} (i : ℕ) (g : GarageValue) (k : ℕ) (memory : MemoryValue) (answers : Question → Bool → X → Type 0) (unit : X) (h : HeardOne) (g' : GarageValue) (memory' : MemoryValue) (unit' : X)
-    → Hears g k memory answers unit h g' memory' unit' → i < length (state_of g).traffic.seats → KeepsUnit i g g'
+pub event_hears : (i : ℕ) (g : GarageValue) (k : ℕ) (memory : MemoryValue) (answered : UnitAnswer) (g' : GarageValue) → Adds g (Hear k memory answered) g' → i < length (state_of g).traffic.seats → KeepsUnit i g g'
 unfolding state_after
-seat_hears i g k memory answers unit (heard.Frame f) g' memory' unit' h there =
-    by_event i g g' (with_event (Hear k memory h.1.0) g) h.1.1.adds (keeps_hear (next_for (state_of g) k) i k memory h.1.0 (state_of g) there)
+event_hears i g k memory answered g' h there = by_event i g g' (with_event (Hear k memory answered) g) h.adds (keeps_hear (next_for (state_of g) k) i k memory answered (state_of g) there)
+
+seat_hears : {X : Type 0} (i : ℕ) (g : GarageValue) (k : ℕ) (memory : MemoryValue) (answers : Question → Bool → X → Type 0) (unit : X) (h : HeardOne) (g' : GarageValue) (memory' : MemoryValue) (unit' : X)
+    → Hears g k memory answers unit h g' memory' unit' → i < length (state_of g).traffic.seats → KeepsUnit i g g'
+seat_hears i g k memory answers unit (heard.Frame f) g' memory' unit' h there = event_hears i g k memory h.1.0 g' h.1.1 there
 seat_hears i g k memory answers unit heard.Nothing g' memory' unit' h there = by_event i g g' g h.1 (keeps_itself i (state_of g).traffic)
 
 pub unit_hears : {X : Type 0} (g : GarageValue) (k : ℕ) (memory : MemoryValue) (answers : Question → Bool → X → Type 0) (unit : X) (h : HeardOne) (g' : GarageValue) (memory' : MemoryValue) (unit' : X)
@@ -193,9 +195,12 @@ more_events k g g' e n rule h is =
 itself : (k : ℕ) → nat_eq k k ≡ true
 itself k = eq-eqb k k refl
 
+pub event_counted : (g : GarageValue) (k : ℕ) (memory : MemoryValue) (answered : UnitAnswer) (g' : GarageValue) (n : ℕ) → Adds g (Hear k memory answered) g' → (tally_of k g.journal).events ≡ n → (tally_of k g'.journal).events ≡ n + 1
+event_counted g k memory answered g' n h is = more_events k g g' (Hear k memory answered) n (λ t. rw (itself k) refl) h is
+
 pub hearing_counted : {X : Type 0} (g : GarageValue) (k : ℕ) (memory : MemoryValue) (answers : Question → Bool → X → Type 0) (unit : X) (h : HeardOne) (g' : GarageValue) (memory' : MemoryValue) (unit' : X) (n : ℕ)
     → Hears g k memory answers unit h g' memory' unit' → (tally_of k g.journal).events ≡ n → (tally_of k g'.journal).events ≡ counted_hearing n h
-hearing_counted g k memory answers unit (heard.Frame f) g' memory' unit' n h is = more_events k g g' (Hear k memory h.1.0) n (λ t. rw (itself k) refl) h.1.1 is
+hearing_counted g k memory answers unit (heard.Frame f) g' memory' unit' n h is = event_counted g k memory h.1.0 g' n h.1.1 is
 hearing_counted g k memory answers unit heard.Nothing g' memory' unit' n h is = ap (λ (v : GarageValue). (tally_of k v.journal).events) h.1 ∙ is
 
 pub beginning_counted : (g : GarageValue) (k : ℕ) (memory : MemoryValue) (b : Began) (g' : GarageValue) (n : ℕ)

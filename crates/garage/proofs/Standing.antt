@@ -47,7 +47,7 @@ use Rattle.bus_ledger.specs.declared.traffic.CarriedFrame.{CarriedFrame}
 use Rattle.bus_ledger.proofs.Numbers.{same_or_not}
 use Rattle.std.specs.Option.{option_map}
 use Rattle.garage.specs.Answers.{count_with_begun, Hears}
-use Rattle.garage.specs.declared.steps.HeardOne.TheVariants as heard
+use Rattle.garage.specs.declared.hearing.HeardOne.TheVariants as heard
 use Rattle.journal.specs.Fits.{IsAnswered, Fits}
 use Rattle.journal.specs.Journal.{GarageValue, state_after, state_of, AllFit, injected_of, joins, readings_at, tallied, tally_of}
 use Rattle.journal.specs.declared.event.Event.{Event}

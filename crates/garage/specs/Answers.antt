@@ -1,5 +1,5 @@
 -- What a call with this answer did.
-use Rattle.std.specs.Prelude.{◌≡◌, ℕ, Bool, true, Option, Some, None, Result, Ok, Err, ◌+◌}
+use Rattle.std.specs.Prelude.{◌≡◌, ℕ, Bool, true, Option, Some, None, ◌+◌}
 use Rattle.can_frame.specs.FrameValue.{FrameValue}
 use Rattle.can_frame.specs.declared.reading.Reading.{Reading}
 use Rattle.can_frame.specs.declared.reading.Reading.TheVariants as reading
@@ -17,8 +17,8 @@ use Rattle.journal.specs.State.{unit_at}
 use Rattle.journal.specs.Steps.{next_for}
 use Rattle.journal.specs.Journal.{GarageValue, Adds, state_of}
 use Rattle.journal.specs.declared.event.Event.TheVariants as event
-use Rattle.garage.specs.declared.steps.HeardOne.{HeardOne}
-use Rattle.garage.specs.declared.steps.HeardOne.TheVariants as heard
+use Rattle.garage.specs.declared.hearing.HeardOne.{HeardOne}
+use Rattle.garage.specs.declared.hearing.HeardOne.TheVariants as heard
 use Rattle.garage.specs.declared.steps.Begin.{Begin}
 use Rattle.garage.specs.declared.steps.Begin.TheVariants as begin
 
@@ -40,11 +40,6 @@ pub record Passes (old : GarageValue) (k : ℕ) (memory : MemoryValue) (f : Fram
 -- its next frame was heard so
 abbrev pub PassesNext : GarageValue → ℕ → MemoryValue → GarageValue → Type 0
 PassesNext old k memory new = (f : FrameValue) × (next_for (state_of old) k ≡ Some f) × Passes old k memory f new
-
--- what was heard, without whether the memory is told
-abbrev pub heard_one : {T E : Type 0} → Result (HeardOne × T) E → Result HeardOne E
-heard_one (Ok h) = Ok h.0
-heard_one (Err e) = Err e
 
 -- a DM1 of the memory began; or a session of a DM1 is open
 abbrev pub Begins : GarageValue → ℕ → MemoryValue → Begin → GarageValue → Type 0

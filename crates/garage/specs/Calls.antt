@@ -8,8 +8,8 @@ use Rattle.garage.specs.Causes.{held_at, has_open_dm1}
 use Rattle.garage.specs.Room.{IsFull, IsFullForJoin}
 use Rattle.garage.specs.declared.error.GarageError.{GarageError}
 use Rattle.garage.specs.declared.error.GarageError.TheVariants.{BookFull, OutOfMemory, Unclaimed}
-use Rattle.garage.specs.declared.steps.HeardOne.{HeardOne}
-use Rattle.garage.specs.declared.steps.HeardOne.TheVariants as heard
+use Rattle.garage.specs.declared.hearing.HeardOne.{HeardOne}
+use Rattle.garage.specs.declared.hearing.HeardOne.TheVariants as heard
 use Rattle.garage.specs.declared.steps.Begin.{Begin}
 use Rattle.garage.specs.declared.steps.Begin.TheVariants as begin
 

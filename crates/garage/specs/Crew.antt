@@ -1,10 +1,15 @@
 -- Many units in their seats, in turn.
-use Rattle.std.specs.Prelude.{◌≡◌, ◌≢◌, ℕ, suc, ◌-◌, ◌<◌, Bool, true, List, [], ◌∷◌, Option, Some, length, slice_get}
-use Rattle.std.specs.Option.{option_map}
-use Rattle.can_frame.specs.FrameValue.{FrameValue}
-use Rattle.node_core.specs.Passing.{IsSifted}
-use Rattle.node_core.specs.declared.sifted.Sifted.{Sifted}
+use Rattle.std.specs.Prelude.{◌≡◌, ◌≢◌, ℕ, suc, ◌<◌, List, [], ◌∷◌, Some, length, slice_get}
+use Rattle.std.specs.Prelude.{Bool, Option}
+use Rattle.std.specs.declared.alloc.Global.{Global}
+use Rattle.std.specs.declared.dyn_box.DynBox.{DynBox}
+use Rattle.unit_trait.specs.declared.question.Question.{Question}
+use Rattle.node_core.specs.Asking.{IsAsked}
+use Rattle.node_core.specs.declared.heard.Answer.{Answer as UnitAnswer}
 use Rattle.bus_ledger.specs.BusValue.{Traffic, seat_at}
+use Rattle.garage.specs.declared.plug.Parked.{Parked}
+use Rattle.garage.specs.declared.hearing.Recorded.{Recorded}
+use Rattle.garage.specs.declared.hearing.Recorded.TheVariants.{Current}
 use Rattle.fault_memory.specs.Memory.{MemoryValue}
 use Rattle.journal.specs.Journal.{GarageValue, Adds, IsSeated, memory_told, state_of, tally_of}
 use Rattle.journal.specs.declared.event.Event.{Event}
@@ -16,6 +21,14 @@ pub record Sitting : Type 0 where
   pub name : ℕ
   pub events : ℕ
   pub memory : MemoryValue
+
+-- a parked unit is this to a garage, by the NAME and the memory of a box
+abbrev pub sitting_of : {I : Type 0} → {D : I → Type 0} → (DynBox I Global D → ℕ) → (DynBox I Global D → MemoryValue) → Parked I D → Sitting
+sitting_of name_of memory_of p = record { seat = p.seat; name = name_of p.unit; events = p.events; memory = memory_of p.unit }
+
+-- it was asked this and answered so, by what a box may answer, and is else as it was
+abbrev pub asked_of : {I : Type 0} → {D : I → Type 0} → ((b : DynBox I Global D) → Question → Bool → D b.vtable → Type 0) → Parked I D → Parked I D → Option Question → UnitAnswer → Type 0
+asked_of {I} {D} answers p q o a = (u : D p.unit.vtable) × (q.unit ≡ record p.unit { value = u }) × IsAsked (answers p.unit) o a p.unit.value u
 
 abbrev pub Sits : GarageValue → Sitting → Type 0
 Sits g s = IsSeated g s.seat s.name s.events
@@ -29,18 +42,10 @@ pub record AreSeated {P : Type 0} (sitting : P → Sitting) (g : GarageValue) (u
   pub each : (i : ℕ) (p : P) → slice_get units i ≡ Some p → Sits g (sitting p)
   pub ordered : (i : ℕ) (p q : P) → slice_get units i ≡ Some p → slice_get units (suc i) ≡ Some q → (sitting p).seat < (sitting q).seat
 
--- so are they, and those that are marked have the memory that is told of them
-pub record IsCrew {P : Type 0} (sitting : P → Sitting) (g : GarageValue) (units : List P) (marks : List Bool) : Type 0 where
+-- so are they, and those whose memory is known to be recorded have the one that is told of them
+pub record IsCrew {P : Type 0} (sitting : P → Sitting) (g : GarageValue) (units : List P) (recorded : List Recorded) : Type 0 where
   pub seated : AreSeated sitting g units
-  pub told : (i : ℕ) (p : P) → slice_get units i ≡ Some p → slice_get marks i ≡ Some true → IsTold g (sitting p)
-
--- the last frame of the wire
-abbrev pub last_frame : GarageValue → Option FrameValue
-last_frame g = option_map (λ c. c.frame) (slice_get (state_of g).traffic.wire (length (state_of g).traffic.wire - 1))
-
--- that is what it tells the units that it asks nothing of
-abbrev pub IsLastSifted : Sifted → GarageValue → Type 0
-IsLastSifted sifted g = (f : FrameValue) → last_frame g ≡ Some f → IsSifted sifted f
+  pub told : (i : ℕ) (p : P) → slice_get units i ≡ Some p → slice_get recorded i ≡ Some Current → IsTold g (sitting p)
 
 -- a seat is as live as it was, under the same NAME, among as many seats and the same stations
 pub record KeepsSeat (k : ℕ) (t t' : Traffic) : Type 0 where
@@ -78,11 +83,11 @@ IsOfRound (Ordered y order) = ⊥
 IsOfRound (Leave k) = ⊥
 IsOfRound (Inject frame) = ⊥
 
--- these events of rounds, newest first, lead from one garage to another
-unfoldable pub LeadTo : List Event → GarageValue → GarageValue → Type 0
-LeadTo [] old new = new ≡ old
-LeadTo (e ∷ before) old new = (middle : GarageValue) × LeadTo before old middle × Adds middle e new × IsOfRound e
+-- these events of one kind, newest first, lead from one garage to another
+unfoldable pub LeadTo : (Event → Type 0) → List Event → GarageValue → GarageValue → Type 0
+LeadTo P [] old new = new ≡ old
+LeadTo P (e ∷ before) old new = (middle : GarageValue) × LeadTo P before old middle × Adds middle e new × P e
 
--- by such events a garage comes from another
+-- by events of rounds a garage comes from another
 abbrev pub Comes : GarageValue → GarageValue → Type 0
-Comes old new = (events : List Event) × LeadTo events old new
+Comes old new = (events : List Event) × LeadTo IsOfRound events old new

@@ -9,3 +9,5 @@ pub mod Obeying
 pub mod Opening
 pub mod Snapshots
 pub mod Crew
+pub mod Hearing
+pub mod Rounds

@@ -1,4 +1,4 @@
-ghost use Rattle.std.specs.Prelude.{◌≡◌, ◌⊎◌, ◌↔◌, Err, Ok, IfOk, IfErr, IsErrOf};
+ghost use Rattle.std.specs.Prelude.{◌≡◌, ◌⊎◌, ◌↔◌, Err, Ok, IfOk, IfErr, IsErrOf, OnErr};
 ghost use Rattle.bus_ledger.specs.Carrying.{CanCarry, IsIdle, IsWaiting};
 ghost use Rattle.journal.specs.Journal.{state_of};
 ghost use Rattle.journal.specs.Promises.{KeepsLists};
@@ -11,15 +11,17 @@ use crate::room::make_room;
 use bus_ledger::Carried;
 
 impl Garage {
-    /// Carries one frame; nothing changes where the answer is `Idle` or `Waiting`.
+    /// Carries one frame.
     ///
-    /// Refused, where a frame could be carried, where the journal has no room, then where there is no memory; then nothing changed.
+    /// - `Idle` or `Waiting`: nothing changed.
+    /// - Refused if a frame could be carried: `BookFull`, then `OutOfMemory`. Then nothing changed.
     #[tactic(auto, using(crate::proofs::Lists::lists_same, crate::proofs::Lists::lists_added))]
     pub fn carry(&mut self) -> Result<Carried, GarageError>
         ensures ok { IfOk result (λ c. AddsCarry self.old c self.new) }
         ensures idle { (result ≡ Ok Carried.Idle) ↔ IsIdle (state_of self.old).traffic }
         ensures waiting { (result ≡ Ok Carried.Waiting) ↔ IsWaiting (state_of self.old).traffic }
         ensures full { IsErrOf result GarageError.BookFull ↔ (CanCarry (state_of self.old).traffic × IsFull self.old) }
+        ensures could { OnErr result (CanCarry (state_of self.old).traffic) }
         ensures err { IfErr result (λ e. (self.new ≡ self.old) × ((e ≡ GarageError.BookFull) ⊎ (e ≡ GarageError.OutOfMemory))) }
         ensures lists { KeepsLists self.old self.new }
     {
@@ -35,7 +37,9 @@ impl Garage {
         Ok(carried)
     }
 
-    /// What a carry answers for which there is no room: the refusal where a frame could be carried.
+    /// What a carry returns for which there is no room.
+    ///
+    /// The refusal if a frame could be carried, else `Idle` or `Waiting`.
     fn uncarried(&self, refusal: GarageError) -> Result<Carried, GarageError>
         ensures ok { IfOk result (λ c. AddsCarry self.now c self.now) }
         ensures idle { (result ≡ Ok Carried.Idle) ↔ IsIdle (state_of self.now).traffic }

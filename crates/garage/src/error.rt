@@ -30,7 +30,9 @@ pub enum GarageError {
     /// The journal has no room for the event beside the leaves of the live units.
     #[error("BookFull")]
     BookFull,
-    /// An address above 253, a window not of 1 to 4,096, a grant of 0, or a limit not of 1 to 16,777,216.
+    /// A setting or the limit is out of its range.
+    ///
+    /// That is an address above 253, a window not of 1 to 4,096, a grant of 0, or a limit not of 1 to 16,777,216.
     #[error("BadSetting")]
     BadSetting,
     /// No live seat has this seat number, NAME and count of events.

@@ -12,7 +12,9 @@ use std::marker::Model;
 /// The most events that a journal may hold.
 pub const MOST_EVENTS: u32 = 1 << 24;
 
-/// A unit's place on the bus: what it keeps there, the number of the message of its last session, and its own events.
+/// A unit's place on the bus.
+///
+/// It has what the unit keeps there, the number of the message of its last session, and its own events.
 #[derive(Drop)]
 pub(crate) struct Place {
     pub(crate) node: Node,
@@ -29,10 +31,10 @@ pub(crate) struct Post {
     pub(crate) lists: AllEntries,
 }
 
-/// The bus of one vehicle with its units and its stations, and the journal of all that happened on it.
+/// The bus of one vehicle with its units and its stations, and its journal.
 ///
-/// Stations have numbers from 0 on. Calls whose names end in `_at` take a station's number, which is to be below `stations()`; those
-/// of the same names without it speak of station 0.
+/// The journal has all that happened on the bus. Stations have numbers from 0 on. Calls whose names end in `_at` take a station's
+/// number, which is to be below `stations()`; those of the same names without it speak of station 0.
 ///
 /// Contracts see its settings and its journal; all else follows from these (`journal`).
 #[derive(Drop)]
@@ -84,10 +86,11 @@ impl Garage {
         self.stations
     }
 
-    /// What became of the frames that a seat queued; nothing where the seat was never given.
+    /// What became of the frames that a seat queued. None if the seat was never given.
     ///
-    /// The frame ledger: each frame queued was carried, was withdrawn or waits. Those carried are the seat's frames on the
-    /// wire, those that wait stand in its queue, and none waits once the seat is gone.
+    /// The frame ledger: each frame queued was carried, was withdrawn or waits.
+    /// - Those carried are the seat's frames on the wire.
+    /// - Those that wait stand in its queue, and none waits once the seat is gone.
     pub fn counts(&self, seat: u32) -> Option<Counts>
         ensures counts { result ≡ option_map counts_of (slice_get (state_of self.now).traffic.seats seat) }
         ensures balanced { IfSome result (λ c. c.queued ≡ c.carried + c.withdrawn + c.waiting) }
@@ -118,8 +121,8 @@ impl Garage {
 
     /// How many frames stand on the wire.
     ///
-    /// Where none came from outside they are lawful traffic: each frame of a message is that part of it and comes from its seat,
-    /// and the parts of messages stand in their order.
+    /// If none came from outside they are lawful traffic: each frame of a message is that part of it and comes from its seat, and
+    /// the parts of messages stand in their order.
     #[tactic(auto, using(crate::proofs::Headline::wire_lawful))]
     pub fn wire_len(&self) -> u32
         ensures len { result ≡ length (state_of self.now).traffic.wire }
@@ -130,8 +133,8 @@ impl Garage {
 
     /// The i-th frame on the wire, counted from 0.
     ///
-    /// Where none came from outside and it is a part of a message, the last claim of the message's source before it bears the
-    /// NAME of its seat.
+    /// If none came from outside and it is a part of a message, the last claim of the message's source before it bears the NAME of
+    /// its seat.
     #[tactic(auto, using(crate::proofs::Headline::frame_from_owner))]
     pub fn wire_frame(&self, i: u32) -> Option<Frame>
         ensures frame { result ≡ option_map (λ c. c.frame) (slice_get (state_of self.now).traffic.wire i) }

@@ -1,9 +1,12 @@
-//! The bus of one vehicle with its units and its stations, and the journal of all that happens on it.
+//! The bus of one vehicle with its units and its stations, and its journal.
+//!
+//! The journal has all that happens on the bus.
 #![tactic(auto)]
 
 mod carrying;
 mod error;
 mod garage;
+mod hearing;
 mod opening;
 mod orders;
 mod outside;
@@ -16,15 +19,15 @@ mod room;
 mod rounds;
 mod seats;
 mod shown;
-mod sifting;
 mod snapshot;
 mod steps;
 
 pub use bus_ledger::{Carried, Counts, MOST_STATIONS};
 pub use error::GarageError;
 pub use garage::{Garage, MOST_EVENTS};
+pub use hearing::HeardOne;
 pub use opening::Setting;
 pub use plug::{Parked, Plug};
 pub use rounds::Rounds;
 pub use snapshot::{Newest, RowLine, Snapshot};
-pub use steps::{Begin, HeardOne};
+pub use steps::Begin;

@@ -38,7 +38,7 @@ impl Garage {
     /// - `grant`: how many packets of a session it asks for at once, 1 to 255.
     /// - `limit`: how many events the journal may hold, 1 to 16,777,216.
     ///
-    /// Refused: `BadSetting` exactly where one of these is out of its range, else `OutOfMemory`.
+    /// Refused: `BadSetting` exactly if one of these is out of its range, else `OutOfMemory`.
     #[tactic(auto)]
     pub fn new(
         alloc: Global,
@@ -61,11 +61,14 @@ impl Garage {
         Garage::with_stations(alloc, &[setting], limit)
     }
 
-    /// A garage with two stations alone, on the seats 0 and 1, whose claims of their addresses are queued. The journal may hold
-    /// `limit` events, 1 to 16,777,216.
+    /// A garage with two stations alone, on the seats 0 and 1.
     ///
-    /// Refused, in this order: `BadSetting` where a setting or the limit is out of its range, `NameInUse` where both have one NAME,
-    /// `OutOfMemory`.
+    /// Their claims of their addresses are queued. The journal may hold `limit` events, 1 to 16,777,216.
+    ///
+    /// Refused, in this order:
+    /// - `BadSetting` if a setting or the limit is out of its range;
+    /// - `NameInUse` if both have one NAME;
+    /// - `OutOfMemory`.
     #[tactic(auto)]
     pub fn with_two(
         alloc: Global,
@@ -81,11 +84,15 @@ impl Garage {
         Garage::with_stations(alloc, &[first, second], limit)
     }
 
-    /// A garage with these stations alone, 1 to 8, on the seats 0, 1, 2, .. in their order, whose claims of their addresses are
-    /// queued. The journal may hold `limit` events, 1 to 16,777,216.
+    /// A garage with these stations alone, 1 to 8, on the first seats.
     ///
-    /// Refused, in this order: `BadSetting` where there are none or more than 8, or a setting or the limit is out of its range,
-    /// `NameInUse` where two have one NAME, `OutOfMemory`.
+    /// They have the seats 0, 1, 2, .. in their order, and their claims of their addresses are queued. The journal may hold `limit`
+    /// events, 1 to 16,777,216.
+    ///
+    /// Refused, in this order:
+    /// - `BadSetting` if there are none or more than 8, or a setting or the limit is out of its range;
+    /// - `NameInUse` if two have one NAME;
+    /// - `OutOfMemory`.
     #[tactic(auto)]
     pub fn with_stations(
         alloc: Global,

@@ -13,7 +13,9 @@ use name_field::Name;
 use station_table::{Ask, Reaction, StationError};
 use std::alloc::Global;
 
-/// The most frames that a station puts at an order: a command is an announcement and two packets.
+/// The most frames that a station puts at an order.
+///
+/// A command is an announcement and two packets.
 const MOST_ORDERED: usize = 3;
 
 impl Garage {
@@ -40,8 +42,11 @@ impl Garage {
 
     /// Has a station ask the unit of a NAME.
     ///
-    /// Refused, in this order: `NotHeld` where it holds no address, `NoAddress` where it knows none of that NAME,
-    /// `BookFull`, `OutOfMemory`; then nothing changed.
+    /// Refused, in this order, and then nothing changed:
+    /// - `NotHeld` if the station holds no address;
+    /// - `NoAddress` if it knows none of that NAME;
+    /// - `BookFull`;
+    /// - `OutOfMemory`.
     #[tactic(auto, using(crate::proofs::OrderLemmas::obeys_ask))]
     pub fn ask_at(
         &mut self,
@@ -79,7 +84,10 @@ impl Garage {
 
     /// Has a station ask all.
     ///
-    /// Refused, in this order: `NotHeld` where it holds no address, `BookFull`, `OutOfMemory`; then nothing changed.
+    /// Refused, in this order, and then nothing changed:
+    /// - `NotHeld` if the station holds no address;
+    /// - `BookFull`;
+    /// - `OutOfMemory`.
     #[tactic(auto, using(crate::proofs::OrderLemmas::obeys_ask_all))]
     pub fn ask_all_at(&mut self, alloc: Global, station: u32, ask: Ask) -> Result<(), GarageError>
         requires { station < length self.old.settings.stations }
@@ -95,7 +103,7 @@ impl Garage {
         self.obey(station, order, answer)
     }
 
-    /// Has station 0 command the unit of a NAME to hold an address, as `command_at` says.
+    /// Has station 0 command the unit of a NAME, as `command_at` says.
     pub fn command(&mut self, alloc: Global, name: Name, address: u8) -> Result<(), GarageError>
         ensures ok { OnOk result (Adds self.old (Ordered 0 (order.Command name address)) self.new) }
         ensures not_an_address { IsErrOf result GarageError.NotAnAddress ↔ (GREATEST_ADDRESS < address) }
@@ -111,8 +119,11 @@ impl Garage {
 
     /// Has a station command the unit of a NAME to hold an address.
     ///
-    /// Refused, in this order: `NotAnAddress` for 254 and 255, `NotHeld` where it holds no address, `BookFull`,
-    /// `OutOfMemory`; then nothing changed.
+    /// Refused, in this order, and then nothing changed:
+    /// - `NotAnAddress` for 254 and 255;
+    /// - `NotHeld` if the station holds no address;
+    /// - `BookFull`;
+    /// - `OutOfMemory`.
     #[tactic(auto, using(crate::proofs::OrderLemmas::obeys_command))]
     pub fn command_at(
         &mut self,

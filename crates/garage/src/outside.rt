@@ -11,12 +11,12 @@ use crate::room::make_room;
 use can_frame::Frame;
 
 impl Garage {
-    /// Puts a frame that no seat sent at the end of the wire at once. Every seat hears it, and the station reads it; no seat
-    /// counts it as its own.
+    /// Puts a frame that no seat sent at the end of the wire at once.
     ///
-    /// From then on the lists are what the frames read say (`shown`, clause `heard`), and not known to be true.
+    /// Every seat hears it, and the stations read it; no seat counts it as its own. From then on the lists are what the frames read
+    /// say (`shown`, clause `heard`), and not known to be true.
     ///
-    /// Refused: `BookFull`, then `OutOfMemory`; then nothing changed.
+    /// Refused: `BookFull`, then `OutOfMemory`. Then nothing changed.
     #[tactic(auto, using(crate::proofs::Lists::lists_same, crate::proofs::Lists::lists_added))]
     pub fn inject(&mut self, frame: Frame) -> Result<(), GarageError>
         ensures ok { OnOk result (Adds self.old (Inject frame) self.new) }
@@ -32,7 +32,9 @@ impl Garage {
         Ok(())
     }
 
-    /// How many frames came from outside. Where it is 0, all that is promised of what units sent holds.
+    /// How many frames came from outside.
+    ///
+    /// If it is 0, all that is promised of what units sent holds.
     pub fn injected(&self) -> u32
         ensures { result ≡ injected_of self.now.journal }
     {

@@ -14,7 +14,8 @@ ghost use Rattle.garage.specs.contracts.garage.Garage.{the_row};
 
 use crate::error::GarageError;
 use crate::garage::Garage;
-use crate::steps::{Begin, HeardOne};
+use crate::hearing::HeardOne;
+use crate::steps::Begin;
 use can_frame::GREATEST_ADDRESS;
 use fault_memory::{FaultChange, FaultError, FaultMemory};
 use name_field::Name;
@@ -23,17 +24,17 @@ use unit_trait::Unit;
 
 /// A boxed unit with its seat, between steps.
 ///
-/// It must be spent: by `Garage::attach`, or where that is refused by `Garage::disown`.
+/// It must be spent: by `Garage::attach` or `dismiss`, or by `Garage::disown` if it has no seat there.
 pub struct Parked {
     pub(crate) unit: Box<dyn Unit>,
     pub(crate) seat: u32,
     pub(crate) events: u32,
 }
 
-/// A boxed unit in its seat. It borrows the garage, which has a live seat with this number, NAME and count of events.
+/// A boxed unit in its seat.
 ///
-/// Where it is dropped the box is dropped too, and the unit leaves the bus: its queued frames are withdrawn and counted, and
-/// the seat is gone.
+/// It borrows the garage, which has a live seat with this number, NAME and count of events. If it is dropped the box is dropped
+/// too, and the unit leaves the bus: its queued frames are withdrawn and counted, and the seat is gone.
 pub struct Plug<'a, B = Box<dyn Unit>> {
     garage: &'a mut Garage,
     unit: B,
@@ -83,8 +84,9 @@ impl Parked {
         self.unit.think();
     }
 
-    /// Tells the unit of a change of its fault memory, by one call of its `apply`. Refused as the memory refuses it, which is then
-    /// as it was.
+    /// Tells the unit of a change of its fault memory, by one `apply`.
+    ///
+    /// Refused as the memory refuses it. Then the memory is as it was.
     pub fn apply(&mut self, change: FaultChange) -> Result<(), FaultError>
         requires { Unit {0} }
         ensures name { name_of self.new.unit ≡ name_of self.old.unit }
@@ -108,10 +110,14 @@ fn name_in(unit: &Box<dyn Unit>) -> Name
 }
 
 impl Garage {
-    /// Gives a boxed unit a seat, and queues its claim of the address that it wants.
+    /// Gives a boxed unit a seat, and queues its claim of the wanted address.
     ///
-    /// Refused, in this order: `NotAnAddress` above 253, `NameInUse` where a live seat has the NAME, a station's included,
-    /// `TooManySeats` where 64 units are live, `BookFull`, `OutOfMemory`. Then nothing changed, and the box comes back.
+    /// Refused, in this order, and then nothing changed and the box comes back:
+    /// - `NotAnAddress` above 253;
+    /// - `NameInUse` if a live seat has the NAME, a station's included;
+    /// - `TooManySeats` if 64 units are live;
+    /// - `BookFull`;
+    /// - `OutOfMemory`.
     pub fn mount(
         &mut self,
         alloc: Global,
@@ -155,6 +161,7 @@ impl Garage {
     }
 
     /// How many events of its own a live unit has.
+    #[inline(always)]
     #[tactic(auto, using(crate::proofs::Standing::seat_low, crate::proofs::Standing::seat_placed, crate::proofs::Standing::place_told))]
     pub(crate) fn events_of(&self, seat: u32) -> u32
         requires { IsUnit (state_of self.now).traffic seat }
@@ -166,13 +173,15 @@ impl Garage {
 
     /// Puts a unit into its seat.
     ///
-    /// Refused with `Stranger` exactly where this garage has no live seat with its seat number, NAME and count of events; the
+    /// Refused with `Stranger` exactly if this garage has no live seat with its seat number, NAME and count of events; the
     /// unit comes back. Takes no memory.
+    #[tactic(auto, using(crate::proofs::Lists::lists_same))]
     pub fn attach(&mut self, parked: Parked) -> Result<Plug<'_>, (Parked, GarageError)>
         requires { Unit {0} }
         ensures stranger { IsErr result ↔ (¬ IsSeated self.entry.now parked.seat (name_of parked.unit) parked.events) }
         ensures ok { IfOk result (λ p. (p.garage.ghost_name ≡ self.entry.ghost_name) × (p.garage.now ≡ self.entry.now) × (p.unit ≡ parked.unit) × (p.name ≡ name_of parked.unit) × (p.seat ≡ parked.seat) × (p.events ≡ parked.events)) }
         ensures err { IfErr result (λ e. (e.0 ≡ parked) × (e.1 ≡ GarageError.Stranger)) }
+        ensures lists { IfOk result (λ p. KeepsLists self.entry.now p.garage.now) }
         ensures* rests { sem 𝓛 (RestsIfErr the_row self.entry (λ p. p.garage.ghost_name) result (λ g. g ≡ self.old)) }
     {
         let name = parked.name();
@@ -189,7 +198,9 @@ impl Garage {
         })
     }
 
-    /// Gives back the box of a unit that has no seat here, as a refused `attach` tells. Takes no memory.
+    /// Gives back the box of a unit that has no seat here. Takes no memory.
+    ///
+    /// A refused `attach` tells that it has none.
     pub fn disown(&self, parked: Parked) -> Box<dyn Unit>
         requires { ¬ IsSeated self.now parked.seat (name_of parked.unit) parked.events }
         ensures { result ≡ parked.unit }
@@ -202,9 +213,10 @@ impl Garage {
         unit
     }
 
-    /// Takes a unit off the bus and lets it go: it takes its seat, and its plug is dropped.
+    /// Takes a unit off the bus and lets it go. Takes no memory.
     ///
-    /// Refused with `Stranger` exactly where `attach` is; nothing changed then, but the unit is let go too. Takes no memory.
+    /// The unit takes its seat, and its plug is dropped. Refused with `Stranger` exactly if `attach` is: then nothing changed, but
+    /// the unit is let go too.
     #[tactic(auto, using(crate::proofs::Lists::lists_same))]
     pub fn dismiss(&mut self, parked: Parked) -> Result<(), GarageError>
         ensures stranger { IsErr result ↔ (¬ IsSeated self.old parked.seat (name_of parked.unit) parked.events) }
@@ -243,10 +255,12 @@ impl<'a> Plug<'a> {
         self.unit.wants_dm1()
     }
 
-    /// Lets the unit hear its next frame, if there is one that it has not heard; its count of events is then one more. The unit is
-    /// asked exactly what the frame puts to it (to clear, or to hold a commanded address), in one call, and is else as it was.
+    /// Lets the unit hear its next frame, if there is one.
     ///
-    /// Refused where there is one: `BookFull`, then `OutOfMemory`; then nothing changed, and the unit was not asked.
+    /// - It is asked exactly what the frame puts to it (to clear, or to hold a commanded address), in one call, and is else as it
+    ///   was.
+    /// - Its count of events is then one more.
+    /// - Refused if there is a frame: `BookFull`, then `OutOfMemory`. Then nothing changed, and the unit was not asked.
     #[tactic(auto, using(crate::proofs::Lists::lists_same, crate::proofs::Lists::lists_heard))]
     pub fn hear(&mut self, alloc: Global) -> Result<HeardOne, GarageError>
         requires { Unit {0} }
@@ -263,15 +277,18 @@ impl<'a> Plug<'a> {
         ensures unasked { OnErr result (self.new.unit ≡ self.old.unit) }
         ensures lists { KeepsLists self.old.garage.now self.new.garage.now }
     {
-        let (heard, _) = self.garage.hear(alloc, self.seat, &mut *self.unit)?;
+        let heard = self.garage.hear(alloc, self.seat, &mut *self.unit)?;
         self.events = self.garage.events_of(self.seat);
         Ok(heard)
     }
 
-    /// Begins a DM1 of the unit's memory, to all. Where it began, the unit's count of events is one more.
+    /// Begins a DM1 of the unit's memory, to all.
     ///
-    /// Refused: `Unclaimed` where the unit holds no address; then, where no DM1 session is open, `BookFull` and `OutOfMemory`.
-    /// Then nothing changed.
+    /// If it began, the unit's count of events is one more.
+    ///
+    /// Refused, in this order, and then nothing changed:
+    /// - `Unclaimed` if the unit holds no address;
+    /// - if no session of a DM1 is open, `BookFull`, then `OutOfMemory`.
     #[tactic(auto, using(crate::proofs::Lists::lists_same, crate::proofs::Lists::lists_begun))]
     pub fn begin_dm1(&mut self, alloc: Global) -> Result<Begin, GarageError>
         requires { Unit {0} }
@@ -291,9 +308,9 @@ impl<'a> Plug<'a> {
         Ok(begin)
     }
 
-    /// Tells the journal that a turn of the unit is over. The unit's count of events is one more.
+    /// Tells the journal that a turn of the unit is over.
     ///
-    /// Refused: `BookFull`, then `OutOfMemory`; then nothing changed.
+    /// The unit's count of events is one more. Refused: `BookFull`, then `OutOfMemory`. Then nothing changed.
     #[tactic(auto, using(crate::proofs::Lists::lists_same, crate::proofs::Lists::lists_of_event))]
     pub fn turn(&mut self) -> Result<(), GarageError>
         requires { Unit {0} }
@@ -311,8 +328,9 @@ impl<'a> Plug<'a> {
         Ok(())
     }
 
-    /// Takes the unit out of its seat, which stays: the garage has a live seat with the number, the NAME and the count of what
-    /// is parked, so that `attach` gives it back. Takes no memory.
+    /// Takes the unit out of its seat, which stays. Takes no memory.
+    ///
+    /// The garage has a live seat with the number, the NAME and the count of what is parked, so `attach` gives it back.
     pub fn detach(self) -> Parked
         requires { Unit {0} }
         ensures parked { (result.unit ≡ self.entry.unit) × (result.seat ≡ self.entry.seat) × (result.events ≡ self.entry.events) }

@@ -22,7 +22,7 @@ const NO_EVENTS: Tally = Tally {
 };
 
 impl Garage {
-    /// What station 0 knows of a NAME; nothing before it read its first claim.
+    /// What station 0 knows of a NAME. None before it read its first claim.
     pub fn row(&self, name: Name) -> Option<Row>
         ensures heard { option_map row_heard_as result ≡ row_heard (station_of self.now.settings) name (readings_of self.now.journal) }
         ensures kept { result ≡ row_of (table_at (state_of self.now) 0).owners name (kept_under (table_at (state_of self.now) 0).rows name) }
@@ -31,7 +31,9 @@ impl Garage {
         self.row_at(0, name)
     }
 
-    /// What a station knows of a NAME, that of another station too; nothing before it read its first claim.
+    /// What a station knows of a NAME. None before it read its first claim.
+    ///
+    /// The NAME may be another station's.
     #[tactic(auto, using(crate::proofs::Headline::row_known_heard))]
     pub fn row_at(&self, station: u32, name: Name) -> Option<Row>
         requires { station < length self.now.settings.stations }
@@ -41,8 +43,9 @@ impl Garage {
         self.posts[station as usize].station.row(name)
     }
 
-    /// What the journal tells of a seat: its join, its turns, its leave, and all its own events. Of a station's seat, and
-    /// of one that no unit was given, it tells nothing.
+    /// How many joins, turns, leaves and events of its own a seat has.
+    ///
+    /// All are 0 of a station's seat, and of one that no unit was given.
     pub fn tally(&self, seat: u32) -> Tally
         ensures given { length self.now.settings.stations ≤ seat → seat < length self.now.settings.stations + joins self.now.journal → result ≡ tally_of seat self.now.journal }
         ensures never { ((seat < length self.now.settings.stations) ⊎ (length self.now.settings.stations + joins self.now.journal ≤ seat)) → result ≡ no_events }

@@ -134,7 +134,9 @@ fn withdraw_if(bus: &mut Bus, station: u32, withdraw: bool)
     }
 }
 
-/// Marks a unit's next frame as heard, and withdraws and queues what the unit withdraws and queues. The room is there.
+/// Marks a unit's next frame as heard, and withdraws and queues what the unit does.
+///
+/// The room is there.
 pub(crate) fn do_heard(bus: &mut Bus, seat: u32, heard: Heard, numbering: Numbering)
     requires unit { IsUnit bus.old.traffic seat }
     requires next { (seat_at bus.old.traffic seat).heard < length bus.old.traffic.wire }

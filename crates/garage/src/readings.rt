@@ -34,9 +34,10 @@ impl Garage {
         self.read_at(alloc, 0)
     }
 
-    /// A station takes its next reading; there is no event where it is empty.
+    /// Has a station take its next reading.
     ///
-    /// Refused, where there is a reading, where the journal has no room, then where there is no memory; then nothing changed.
+    /// - If it is empty, there is no event.
+    /// - Else refused: `BookFull`, then `OutOfMemory`. Then nothing changed.
     #[inline]
     #[tactic(auto, using(crate::proofs::Lists::lists_same, crate::proofs::Lists::few_events))]
     pub fn read_at(&mut self, alloc: Global, station: u32) -> Result<Reading, GarageError>
@@ -58,9 +59,9 @@ impl Garage {
         Ok(reading)
     }
 
-    /// The station takes this reading, which is its next one and not empty.
+    /// Has a station take this reading, which is its next one and not empty.
     ///
-    /// Refused where the journal has no room, then where there is no memory; then nothing changed.
+    /// Refused: `BookFull`, then `OutOfMemory`. Then nothing changed.
     #[inline(never)]
     #[tactic(auto, using(crate::proofs::Lists::lists_same, crate::proofs::Lists::lists_added))]
     fn take_reading(

@@ -6,6 +6,7 @@ ghost use Rattle.journal.specs.Notes.{IsStored};
 ghost use Rattle.garage.specs.Calls.{IsWant};
 
 use crate::error::GarageError;
+use crate::hearing::Recorded;
 use bus_ledger::Bus;
 use journal::Journal;
 use unit_trait::Unit;
@@ -13,8 +14,9 @@ use unit_trait::Unit;
 /// The most frames that a unit puts at once: the announcement and 255 packets.
 const MOST_OUTS: usize = 256;
 
-/// Whether the limit allows `count` more events, and there is room for them. It may be that the limit does and there is none:
-/// `make_room` makes it.
+/// Whether the limit allows `count` more events, and there is room for them.
+///
+/// If the limit alone does, it is false: `make_room` makes the room.
 #[inline]
 pub(crate) fn has_room(journal: &Journal, count: u32, limit: u32) -> bool
     ensures { IsTrue result → ((length journal.now.items + count ≤ limit) × (count ≤ journal.now.room)) }
@@ -25,9 +27,9 @@ pub(crate) fn has_room(journal: &Journal, count: u32, limit: u32) -> bool
     }
 }
 
-/// Makes room for `count` more events, where the limit allows them.
+/// Makes room for `count` more events, if the limit allows them.
 ///
-/// Refused first where it does not, then where there is no memory; then the journal is as it was.
+/// Refused: `BookFull` if it does not, then `OutOfMemory`. Then the journal's events are as they were.
 #[inline(always)]
 pub(crate) fn make_room(journal: &mut Journal, count: u32, limit: u32) -> Result<(), GarageError>
     requires { limit ≤ 2 ^ 24 }
@@ -43,7 +45,7 @@ pub(crate) fn make_room(journal: &mut Journal, count: u32, limit: u32) -> Result
     make_more_room(journal, count, limit)
 }
 
-/// Makes room as `make_room` does, where it may be that there is none yet.
+/// Makes room as `make_room` does, if there may be none yet.
 #[inline(never)]
 fn make_more_room(journal: &mut Journal, count: u32, limit: u32) -> Result<(), GarageError>
     requires { limit ≤ 2 ^ 24 }
@@ -60,11 +62,11 @@ fn make_more_room(journal: &mut Journal, count: u32, limit: u32) -> Result<(), G
     Ok(())
 }
 
-/// Makes ready to note an event of the unit on the seat: room for `count` more events, and the number of a copy of its memory,
-/// which the event tells.
+/// Reserves room for `count` more events, and returns the number of the unit's memory.
 ///
-/// Refused first where the limit does not allow the events, then where there is no memory; then the journal's events are as they
-/// were.
+/// That is the number of a stored copy of it, which the event tells.
+///
+/// Refused: `BookFull` if the limit does not allow the events, then `OutOfMemory`. Then the journal's events are as they were.
 pub(crate) fn ready_to_note(
     journal: &mut Journal,
     count: u32,
@@ -86,11 +88,14 @@ pub(crate) fn ready_to_note(
     Ok(journal.remember(seat, unit.memory())?)
 }
 
-/// Makes ready for an event of the unit on the seat, as `ready_to_note` does, and makes room for the most frames that a unit puts.
-/// `told` is whether the memory is known to be the one that the seat's latest event tells: then it is not looked at.
+/// Reserves all that a hear or a begin of a unit may need.
 ///
-/// Refused first where the limit does not allow the events, then where there is no memory; then journal and traffic are as they
-/// were.
+/// - Room for `count` more events.
+/// - The stored copy of its memory, whose number is returned. A memory that is known to be recorded is not looked at.
+/// - Places in its seat's queue for the most frames that a unit puts.
+///
+/// Refused: `BookFull` if the limit does not allow the events, then `OutOfMemory`. Then the journal's events and the traffic are as
+/// they were.
 pub(crate) fn make_ready(
     journal: &mut Journal,
     bus: &mut Bus,
@@ -98,12 +103,12 @@ pub(crate) fn make_ready(
     limit: u32,
     seat: u32,
     unit: &dyn Unit,
-    told: bool,
+    recorded: Recorded,
 ) -> Result<u32, GarageError>
     requires few { limit ≤ 2 ^ 24 }
     requires live { IsLive bus.old.traffic seat }
-    requires told { IsTrue told → memory_told seat (reverse journal.old.items) ≡ Some (memory_of unit.now) }
-    requires lawful { IsTrue told → IsLawfulMemory (memory_of unit.now) }
+    requires recorded { recorded ≡ Recorded.Current → memory_told seat (reverse journal.old.items) ≡ Some (memory_of unit.now) }
+    requires lawful { recorded ≡ Recorded.Current → IsLawfulMemory (memory_of unit.now) }
     ensures items { journal.new.items ≡ journal.old.items }
     ensures grows { journal.old.room ≤ journal.new.room }
     ensures traffic { bus.new.traffic ≡ bus.old.traffic }
@@ -115,11 +120,12 @@ pub(crate) fn make_ready(
     ensures full { IsErrOf result GarageError.BookFull ↔ (limit < length journal.old.items + count) }
     ensures only { IfErr result IsWant }
 {
-    let memory = if told {
-        make_room(journal, count, limit)?;
-        journal.told(seat)
-    } else {
-        ready_to_note(journal, count, limit, seat, unit)?
+    let memory = match recorded {
+        Recorded::Current => {
+            make_room(journal, count, limit)?;
+            journal.told(seat)
+        }
+        Recorded::Unknown => ready_to_note(journal, count, limit, seat, unit)?,
     };
     bus.reserve(seat, MOST_OUTS)?;
     Ok(memory)

@@ -1,19 +1,24 @@
-ghost use Rattle.std.specs.Prelude.{◌≡◌, ◌≢◌, ◌<◌, ◌+◌, ◌↔◌, ℕ, suc, length, slice_get, true, IfOk, IfErr, IfSome, IsErrOf, IsTrue, Some};
+ghost use Rattle.std.specs.Prelude.{◌≡◌, ◌≢◌, ◌<◌, ◌+◌, ◌↔◌, ◌⊎◌, ℕ, suc, length, slice_get, IfOk, IfErr, IfSome, IsErrOf, IsNone, OnOk, Some};
 ghost use Rattle.std.specs.Bool.{MatchBool};
+ghost use Rattle.bus_ledger.specs.Reception.{next_reading};
+ghost use Rattle.journal.specs.Journal.{state_of};
 ghost use Rattle.journal.specs.Promises.{KeepsLists};
 ghost use Rattle.garage.specs.Calls.{IsWant};
-ghost use Rattle.garage.specs.Crew.{AreSeated, AreUntouched, Comes, IsCrew};
+ghost use Rattle.garage.specs.Crew.{AreSeated, AreUntouched, Comes, IsCrew, asked_of, sitting_of};
+ghost use Rattle.garage.specs.Hearing.{HasHeardAll, IsLast, IsWantAt};
+ghost use Rattle.garage.specs.Rounds.{EndsSo, HasReadAll, HaveReadAll, HaveRounds, IsListeningCut, IsReadingCut, IsRoundCut, IsUnread, Listens, EachReads, TakesReadings};
 
 use crate::error::GarageError;
 use crate::garage::Garage;
+use crate::hearing::{LastFrame, Recorded, keep, recorded_of};
 use crate::plug::Parked;
 use bus_ledger::Carried;
 use can_frame::Reading;
 use std::alloc::Global;
 use unit_trait::Unit;
 
-/// How many units have a mark in a round. The memory of any further one would be compared at each hear.
-const MARKS: usize = 64;
+/// For so many units it is kept in rounds whether their memory is recorded. That of any further one would be compared at each hear.
+const MOST_RECORDED: usize = 64;
 
 /// What came of rounds.
 #[derive(Clone, Copy, Debug, PartialEq, Eq)]
@@ -26,14 +31,14 @@ pub struct Rounds {
 
 impl Garage {
     /// Runs rounds with these units, so many at most. In a round each unit in turn takes its seat and hears all that it has not heard,
-    /// the stations read all, and one frame is carried. It ends early where none can be; at the end all hear and read once more.
+    /// the stations read all, and one frame is carried. It ends early where none can be. At the end all have heard and read all.
     ///
     /// That is what plugs, `read` and `carry` do, and costs less: seats are looked up once, and a memory that cannot have changed since
     /// its unit's latest event is not compared.
     ///
     /// Refused with `Stranger` exactly where this garage has no live seat with the seat number, NAME and count of events of one of
-    /// them, or where they do not stand in the order of their seats; then nothing changed. `BookFull` and `OutOfMemory`: what was done
-    /// before stays, and the step that was refused changed nothing.
+    /// them, or where they do not stand in the order of their seats; then nothing changed. `BookFull`, then `OutOfMemory`, where there is
+    /// one more frame to hear, to read or to carry: what was done before stays, and the step that was refused changed nothing.
     #[tactic(auto, using(crate::proofs::Crew::lists_come, crate::proofs::Crew::comes_same, crate::proofs::Lists::lists_same))]
     pub fn round(
         &mut self,
@@ -42,22 +47,29 @@ impl Garage {
         most: u32,
     ) -> Result<Rounds, GarageError>
         requires { Unit {0} }
-        ensures stranger { IsErrOf result GarageError.Stranger ↔ (¬ AreSeated (λ p. record { seat = p.seat; name = name_of p.unit; events = p.events; memory = memory_of p.unit }) self.old units.old) }
+        ensures stranger { IsErrOf result GarageError.Stranger ↔ (¬ AreSeated (sitting_of (λ b. name_of b) (λ b. memory_of b)) self.old units.old) }
         ensures unchanged { IsErrOf result GarageError.Stranger → ((self.new ≡ self.old) × (units.new ≡ units.old)) }
-        ensures seated { AreSeated (λ p. record { seat = p.seat; name = name_of p.unit; events = p.events; memory = memory_of p.unit }) self.old units.old → AreSeated (λ p. record { seat = p.seat; name = name_of p.unit; events = p.events; memory = memory_of p.unit }) self.new units.new }
+        ensures seated { AreSeated (sitting_of (λ b. name_of b) (λ b. memory_of b)) self.old units.old → AreSeated (sitting_of (λ b. name_of b) (λ b. memory_of b)) self.new units.new }
+        ensures done { IfOk result (λ r. HaveRounds (sitting_of (λ b. name_of b) (λ b. memory_of b)) (asked_of (λ b. Answers b)) r.carried self.old units.old self.new units.new) }
+        ensures all_heard { OnOk result ((i : ℕ) (p : _) → slice_get units.new i ≡ Some p → HasHeardAll p.seat self.new) }
+        ensures all_read { OnOk result (HaveReadAll (length self.new.settings.stations) self.new) }
+        ensures carried { IfOk result (λ r. length (state_of self.new).traffic.wire ≡ length (state_of self.old).traffic.wire + r.carried) }
+        ensures end { IfOk result (λ r. EndsSo most r.carried r.end self.new) }
+        ensures only { IfErr result (λ e. (e ≡ GarageError.Stranger) ⊎ IsWant e) }
+        ensures cut { IfErr result (λ e. (e ≡ GarageError.Stranger) ⊎ IsRoundCut (sitting_of (λ b. name_of b) (λ b. memory_of b)) (asked_of (λ b. Answers b)) most e self.old units.old self.new units.new) }
         ensures comes { Comes self.old self.new }
         ensures lists { KeepsLists self.old self.new }
     {
         if !self.are_seated(&*units) {
             return Err(GarageError::Stranger);
         }
-        let mut marks = [false; MARKS];
-        self.rounds(alloc, units, &mut marks, most)
+        let mut recorded = [Recorded::Unknown; MOST_RECORDED];
+        self.rounds(alloc, units, &mut recorded, most)
     }
 
     /// Whether each has a live seat here, and they stand in the order of their seats.
     fn are_seated(&self, units: &[Parked]) -> bool
-        ensures { MatchBool result (AreSeated (λ p. record { seat = p.seat; name = name_of p.unit; events = p.events; memory = memory_of p.unit }) self.now units.now) (¬ AreSeated (λ p. record { seat = p.seat; name = name_of p.unit; events = p.events; memory = memory_of p.unit }) self.now units.now) }
+        ensures { MatchBool result (AreSeated (sitting_of (λ b. name_of b) (λ b. memory_of b)) self.now units.now) (¬ AreSeated (sitting_of (λ b. name_of b) (λ b. memory_of b)) self.now units.now) }
     {
         for i in 0..units.len() {
             let parked = &units[i];
@@ -75,28 +87,25 @@ impl Garage {
         &mut self,
         alloc: Global,
         units: &mut [Parked],
-        marks: &mut [bool],
+        recorded: &mut [Recorded],
         most: u32,
     ) -> Result<Rounds, GarageError>
-        requires { IsCrew (λ p. record { seat = p.seat; name = name_of p.unit; events = p.events; memory = memory_of p.unit }) self.old units.old marks.old }
-        ensures crew { IsCrew (λ p. record { seat = p.seat; name = name_of p.unit; events = p.events; memory = memory_of p.unit }) self.new units.new marks.new }
+        requires { IsCrew (sitting_of (λ b. name_of b) (λ b. memory_of b)) self.old units.old recorded.old }
+        ensures seated { AreSeated (sitting_of (λ b. name_of b) (λ b. memory_of b)) self.new units.new }
+        ensures done { IfOk result (λ r. HaveRounds (sitting_of (λ b. name_of b) (λ b. memory_of b)) (asked_of (λ b. Answers b)) r.carried self.old units.old self.new units.new) }
+        ensures end { IfOk result (λ r. EndsSo most r.carried r.end self.new) }
+        ensures cut { IfErr result (λ e. IsRoundCut (sitting_of (λ b. name_of b) (λ b. memory_of b)) (asked_of (λ b. Answers b)) most e self.old units.old self.new units.new) }
         ensures comes { Comes self.old self.new }
-        ensures only { IfErr result IsWant }
     {
         for carried in 0..most {
-            self.listen(alloc, &mut *units, &mut *marks)?;
+            self.listen(alloc, &mut *units, &mut *recorded)?;
             match self.carry()? {
                 Carried::Frame { seat: _, frame: _ } => {}
-                end => {
-                    self.listen(alloc, units, marks)?;
-                    return Ok(Rounds {
-                        carried,
-                        end: Some(end),
-                    });
-                }
+                Carried::Idle => return Ok(ended(carried, Carried::Idle)),
+                Carried::Waiting => return Ok(ended(carried, Carried::Waiting)),
             }
         }
-        self.listen(alloc, units, marks)?;
+        self.listen(alloc, units, recorded)?;
         Ok(Rounds {
             carried: most,
             end: None,
@@ -108,75 +117,51 @@ impl Garage {
         &mut self,
         alloc: Global,
         units: &mut [Parked],
-        marks: &mut [bool],
+        recorded: &mut [Recorded],
     ) -> Result<(), GarageError>
-        requires { IsCrew (λ p. record { seat = p.seat; name = name_of p.unit; events = p.events; memory = memory_of p.unit }) self.old units.old marks.old }
-        ensures crew { IsCrew (λ p. record { seat = p.seat; name = name_of p.unit; events = p.events; memory = memory_of p.unit }) self.new units.new marks.new }
+        requires { IsCrew (sitting_of (λ b. name_of b) (λ b. memory_of b)) self.old units.old recorded.old }
+        ensures crew { OnOk result (IsCrew (sitting_of (λ b. name_of b) (λ b. memory_of b)) self.new units.new recorded.new) }
+        ensures seated { AreSeated (sitting_of (λ b. name_of b) (λ b. memory_of b)) self.new units.new }
+        ensures heard { OnOk result (Listens (sitting_of (λ b. name_of b) (λ b. memory_of b)) (asked_of (λ b. Answers b)) self.old units.old self.new units.new) }
+        ensures cut { IfErr result (λ e. IsListeningCut (sitting_of (λ b. name_of b) (λ b. memory_of b)) (asked_of (λ b. Answers b)) e self.old units.old self.new units.new) }
         ensures comes { Comes self.old self.new }
-        ensures only { IfErr result IsWant }
     {
-        let first = self.first_behind(&*units);
-        if first >= units.len() {
+        let Some(last) = self.last_unheard(&*units) else {
             return self.read_rest(alloc);
+        };
+        let mut next = 0;
+        while next < units.len() {
+            next = self.pass_in_turn(&mut *units, &mut *recorded, next, &last);
+            if next < units.len() {
+                let known = recorded_of(&*recorded, next);
+                let known = self.catch_up(alloc, &mut units[next], &last, known)?;
+                keep(&mut *recorded, next, known);
+                next += 1;
+            }
         }
-        self.hear_from(alloc, units, marks, first)?;
         self.read_rest(alloc)
     }
 
-    /// Each unit in turn, from the `first` one on, hears all that it has not heard.
-    fn hear_from(
-        &mut self,
-        alloc: Global,
-        units: &mut [Parked],
-        marks: &mut [bool],
-        first: usize,
-    ) -> Result<(), GarageError>
-        requires { IsCrew (λ p. record { seat = p.seat; name = name_of p.unit; events = p.events; memory = memory_of p.unit }) self.old units.old marks.old }
-        ensures crew { IsCrew (λ p. record { seat = p.seat; name = name_of p.unit; events = p.events; memory = memory_of p.unit }) self.new units.new marks.new }
-        ensures comes { Comes self.old self.new }
-        ensures only { IfErr result IsWant }
+    /// The last frame of the wire, where one of these units has not heard it; nothing where each has heard all.
+    #[inline(always)]
+    fn last_unheard(&self, units: &[Parked]) -> Option<LastFrame>
+        requires { AreSeated (sitting_of (λ b. name_of b) (λ b. memory_of b)) self.now units.now }
+        ensures heard { IsNone result → (i : ℕ) (p : _) → slice_get units.now i ≡ Some p → HasHeardAll p.seat self.now }
+        ensures last { IfSome result (λ l. IsLast l.frame l.sifted self.now) }
     {
-        let mut next = first;
-        for _ in 0..units.len() {
-            let sifted = self.sifted_last();
-            next = self.hear_last(&mut *units, &mut *marks, next, &sifted);
-            if next >= units.len() {
-                return Ok(());
+        for i in 0..units.len() {
+            if self.unheard(units[i].seat) > 0 {
+                return self.last_frame();
             }
-            self.hear_rest(alloc, &mut *units, &mut *marks, next)?;
-            next += 1;
         }
-        Ok(())
-    }
-
-    /// The i-th unit hears all that it has not heard; nothing, where there is no such unit.
-    fn hear_rest(
-        &mut self,
-        alloc: Global,
-        units: &mut [Parked],
-        marks: &mut [bool],
-        i: usize,
-    ) -> Result<(), GarageError>
-        requires { IsCrew (λ p. record { seat = p.seat; name = name_of p.unit; events = p.events; memory = memory_of p.unit }) self.old units.old marks.old }
-        ensures crew { IsCrew (λ p. record { seat = p.seat; name = name_of p.unit; events = p.events; memory = memory_of p.unit }) self.new units.new marks.new }
-        ensures comes { Comes self.old self.new }
-        ensures only { IfErr result IsWant }
-    {
-        if i >= units.len() {
-            return Ok(());
-        }
-        let told = is_marked(&*marks, i);
-        mark(&mut *marks, i, false);
-        let told = self.hear_all(alloc, &mut units[i], told)?;
-        mark(marks, i, told);
-        Ok(())
+        None
     }
 
     /// Each station in turn reads all.
     fn read_rest(&mut self, alloc: Global) -> Result<(), GarageError>
         ensures untouched { AreUntouched self.old self.new }
-        ensures comes { Comes self.old self.new }
-        ensures only { IfErr result IsWant }
+        ensures reads { OnOk result (EachReads (length self.old.settings.stations) self.old self.new) }
+        ensures cut { IfErr result (λ e. IsReadingCut e self.old self.new) }
     {
         for station in 0..self.stations() {
             self.read_rest_at(alloc, station)?;
@@ -188,16 +173,26 @@ impl Garage {
     fn read_rest_at(&mut self, alloc: Global, station: u32) -> Result<(), GarageError>
         requires { station < length self.old.settings.stations }
         ensures untouched { AreUntouched self.old self.new }
-        ensures comes { Comes self.old self.new }
-        ensures only { IfErr result IsWant }
+        ensures reads { TakesReadings station self.old self.new }
+        ensures all { OnOk result (HasReadAll station self.new) }
+        ensures left { IfErr result (λ e. IsUnread station self.new × IsWantAt self.new e) }
     {
-        for _ in 0..u32::MAX {
+        loop {
             match self.read_at(alloc, station)? {
-                Reading::Empty => break,
+                Reading::Empty => return Ok(()),
                 Reading::Frame(_) | Reading::Gap(_) => {}
             }
         }
-        Ok(())
+    }
+}
+
+/// So many were carried, and no more for this.
+fn ended(carried: u32, end: Carried) -> Rounds
+    ensures { (result.carried ≡ carried) × (result.end ≡ Some end) }
+{
+    Rounds {
+        carried,
+        end: Some(end),
     }
 }
 
@@ -208,24 +203,4 @@ fn seat_before(units: &[Parked], i: usize) -> u32
     ensures before { (k : ℕ) → i ≡ suc k → IfSome (slice_get units.now k) (λ p. result ≡ p.seat) }
 {
     if i == 0 { 0 } else { units[i - 1].seat }
-}
-
-/// Whether there is a mark of this number, and it is set.
-pub(crate) fn is_marked(marks: &[bool], i: usize) -> bool
-    ensures { IsTrue result → slice_get marks.now i ≡ Some true }
-{
-    match marks.get(i) {
-        Some(mark) => *mark,
-        None => false,
-    }
-}
-
-/// Sets the mark of this number, where there is one, or takes it away.
-pub(crate) fn mark(marks: &mut [bool], i: usize, told: bool)
-    ensures others { (j : ℕ) → j ≢ i → slice_get marks.new j ≡ slice_get marks.old j }
-    ensures this { slice_get marks.new i ≡ Some true → told ≡ true }
-{
-    if i < marks.len() {
-        marks[i] = told;
-    }
 }

@@ -17,10 +17,13 @@ use node_core::Node;
 use std::alloc::Global;
 
 impl Garage {
-    /// Gives the next seat to a unit of this NAME, and queues its claim of the address.
+    /// Gives a unit of this NAME the next seat, and queues its claim.
     ///
-    /// Refused, in this order, where a live seat has the NAME, where 64 units are live, where the journal has no room, and
-    /// where there is no memory; then nothing changed.
+    /// Refused, in this order, and then nothing changed:
+    /// - `NameInUse` if a live seat has the NAME;
+    /// - `TooManySeats` if 64 units are live;
+    /// - `BookFull`;
+    /// - `OutOfMemory`.
     #[tactic(auto, using(crate::proofs::Lists::lists_same, crate::proofs::Lists::lists_added))]
     pub(crate) fn join(&mut self, alloc: Global, name: Name, want: u8) -> Result<u32, GarageError>
         requires { want ≤ GREATEST_ADDRESS }
@@ -54,7 +57,7 @@ impl Garage {
         Ok(seat)
     }
 
-    /// The unit on the seat goes: its queued frames are withdrawn. Takes no memory.
+    /// The unit on the seat leaves: its queued frames are withdrawn. Takes no memory.
     #[tactic(auto, using(crate::proofs::Lists::lists_same, crate::proofs::Lists::lists_added))]
     pub(crate) fn leave(&mut self, seat: u32)
         requires { IsUnit (state_of self.old).traffic seat }

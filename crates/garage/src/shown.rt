@@ -13,8 +13,9 @@ use dm_messages::{Kind, Shown};
 use name_field::Name;
 
 impl Garage {
-    /// What station 0 shows of a kind, DM1, DM2 or DM6, under a NAME, as `shown_at` says. Where there are more stations it speaks of the first
-    /// alone.
+    /// What station 0 shows of a kind under a NAME, as `shown_at` says.
+    ///
+    /// If there are more stations it speaks of the first alone.
     pub fn shown(&self, name: Name, kind: Kind) -> &[Shown]
         ensures expected { injected_of self.now.journal ≡ 0 → result.now ≡ shown_of self.now name kind }
         ensures heard { result.now ≡ reverse (entries_heard (station_of self.now.settings) name kind (readings_of self.now.journal)) }
@@ -25,15 +26,18 @@ impl Garage {
         self.shown_at(0, name, kind)
     }
 
-    /// What a station shows: the entries of a kind, DM1, DM2 or DM6, under a NAME, the oldest first; none where the NAME was never seen.
+    /// What a station shows of a kind under a NAME, the oldest entry first.
     ///
-    /// Where no frame came from outside (`injected` answers 0) they are exactly the views of the fault memories with which units
-    /// of that NAME began messages of that kind to all or to that station, whose frames it read all on a clear path, in the order begun (`expected`).
+    /// The kind is DM1, DM2 or DM6. There is no entry if the NAME was never seen.
+    ///
+    /// If no frame came from outside (`injected` returns 0) the entries are exactly the views of the fault memories with which
+    /// units of that NAME began messages of that kind. These are the messages to all or to that station, whose frames it read all
+    /// on a clear path, in the order begun (`expected`).
     ///
     /// - `heard`: whoever sent the frames, they are what was heard of the readings: what the frames read say, under the NAME that
     ///   the last claim read gave.
-    /// - `quiet`: where nothing was missed they are the views of all messages whose last part was read; so in particular where
-    ///   each address was claimed under one NAME only.
+    /// - `quiet`: if nothing was missed they are the views of all messages whose last part was read; so in particular if each
+    ///   address was claimed under one NAME only.
     /// - `looks_back`: what a clear path is, said without the walk of `expected`.
     #[tactic(auto, using(crate::proofs::Headline::shown_expected, crate::proofs::Headline::shown_heard, crate::proofs::Headline::shown_quiet, crate::proofs::Headline::path_looks_back))]
     pub fn shown_at(&self, station: u32, name: Name, kind: Kind) -> &[Shown]
@@ -65,7 +69,7 @@ impl Garage {
         self.posts[station as usize].station.missed()
     }
 
-    /// How many messages station 0 could not read: none where no frame came from outside.
+    /// How many messages station 0 could not read. 0 if no frame came from outside.
     pub fn unread(&self) -> u64
         ensures none { injected_of self.now.journal ≡ 0 → result ≡ 0 }
         ensures heard { result ≡ unread_count (station_of self.now.settings) (readings_of self.now.journal) }
@@ -75,7 +79,7 @@ impl Garage {
         self.unread_at(0)
     }
 
-    /// How many messages a station could not read: none where no frame came from outside.
+    /// How many messages a station could not read. 0 if no frame came from outside.
     #[tactic(auto, using(crate::proofs::Headline::none_unread, crate::proofs::Headline::unread_heard))]
     pub fn unread_at(&self, station: u32) -> u64
         requires { station < length self.now.settings.stations }

@@ -22,7 +22,7 @@ pub struct Newest {
 pub struct RowLine {
     /// The NAME.
     pub name: Name,
-    /// The address that it holds, 0 to 253, where one is known.
+    /// The address that it holds, 0 to 253, if one is known.
     pub address: Option<u8>,
     /// How many DM1 entries it has.
     pub dm1: usize,
@@ -30,11 +30,13 @@ pub struct RowLine {
     pub dm2: usize,
     /// How many DM6 entries it has.
     pub dm6: usize,
-    /// The newest of its DM1 entries; none where there is none.
+    /// The newest of its DM1 entries, if it has any.
     pub newest: Option<Newest>,
 }
 
-/// What a station knows: a line for each NAME, in the order of the NAMEs' first claims.
+/// What a station knows: a line for each NAME.
+///
+/// The lines are in the order of the NAMEs' first claims.
 #[derive(Debug, Drop)]
 pub struct Snapshot {
     /// The lines.
@@ -64,10 +66,10 @@ impl Garage {
         self.snapshot_at(alloc, 0)
     }
 
-    /// What a station knows now, of every NAME that it read a claim of, those of other stations too. Its lines hold what `row_at` and
-    /// `shown_at` answer.
+    /// What a station knows now of every NAME that it read a claim of.
     ///
-    /// Refused only where there is no memory.
+    /// Those of other stations are among them. Its lines hold what `row_at` and `shown_at` return. Refused only if there is no
+    /// memory.
     #[tactic(auto, using(crate::proofs::Lines::line_more, crate::proofs::Lines::name_is_there))]
     pub fn snapshot_at(&self, alloc: Global, station: u32) -> Result<Snapshot, GarageError>
         requires { station < length self.now.settings.stations }
@@ -116,7 +118,7 @@ impl Garage {
         self.posts[station as usize].station.name_at(place)
     }
 
-    /// The address that a NAME holds, where the station knows one.
+    /// The address that a NAME holds, if the station knows one.
     #[tactic(auto, using(crate::proofs::Lines::row_address_heard, crate::proofs::Lines::no_address))]
     fn address_at(&self, station: u32, name: Name) -> Option<u8>
         requires { station < length self.now.settings.stations }

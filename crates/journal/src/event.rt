@@ -13,7 +13,7 @@ pub enum Event {
         name: Name,
         address: u8,
     },
-    /// A unit heard its next frame. Its memory was this, and this is what it answered to what the frame put to it.
+    /// A unit heard its next frame with this memory. What the frame put to it, it answered so.
     Hear {
         seat: u32,
         memory: FaultMemory,
@@ -42,7 +42,7 @@ pub enum Event {
         station: u32,
         order: Order,
     },
-    /// A unit went.
+    /// A unit left.
     Leave {
         seat: u32,
     },

@@ -15,34 +15,47 @@ ghost use Rattle.journal.specs.declared.event.Event.{Event};
 ghost use Rattle.journal.specs.declared.event.Event.TheVariants.{Ordered};
 ghost use Rattle.journal.specs.declared.order.Order.TheVariants.{Command};
 
-/// A journal is a run of the law's machine: the state that a journal leads to, whose every event fits what came before and
-/// into which no frame came from outside, is a world that the machine reaches.
+/// A journal is a run of the law's machine.
+///
+/// If every event fits what came before, and no frame came from outside, the state that the journal leads to is a world that the
+/// machine reaches.
 pub fn journal_is_a_run()
     ensures { (settings : Settings) (journal : List Event) → AllFit settings journal → injected_of journal ≡ 0 → (seats : List Seat) × (steps : List Step) × Run (start (stations_of settings)) steps (world_of settings (state_after settings journal) seats) }
 {}
 
-/// The tables of each station say what was heard of its readings in the journal, whoever sent the frames.
+/// The tables of each station say what was heard of its readings in the journal.
+///
+/// It holds whoever sent the frames.
 pub fn station_stands_for_its_readings()
     ensures { (settings : Settings) (journal : List Event) → AllFit settings journal → (y : ℕ) → y < length settings.stations
         → StandsFor (station_of_at settings y) (setting_at settings y).grant (table_at (state_after settings journal) y) (readings_at y journal) }
 {}
 
-/// The headline: of every journal without frames from outside, at each station, under each NAME and kind, what was heard of the station's
-/// readings, which is what it lists, are the views of the fault memories with which units of that NAME began messages, to all or to that station, whose frames it read all on a clear path, in the
-/// order begun.
+/// The headline: each station lists exactly the entries that it should.
+///
+/// Of every journal without frames from outside, at each station, under each NAME and kind: what was heard of the station's
+/// readings, which is what it lists, are the views of the fault memories with which units of that NAME began messages. These are
+/// the messages to all or to that station, whose frames it read all on a clear path, in the order begun.
 pub fn shown_is_expected()
     ensures { (settings : Settings) (journal : List Event) → AllFit settings journal → injected_of journal ≡ 0 → (y : ℕ) → y < length settings.stations → (n : ℕ) (k : Kind)
         → reverse (entries_heard (station_of_at settings y) n k (readings_at y journal)) ≡ reverse (expected (station_of_at settings y) n k (state_after settings journal).begun (path_at (state_after settings journal) y)) }
 {}
 
-/// No message of a unit that came to its end was unreadable at a station, where no frame came from outside.
+/// No message that came to its end at a station is unreadable there.
+///
+/// It holds of messages of units, if no frame came from outside.
 pub fn nothing_stays_unread()
     ensures { (settings : Settings) (journal : List Event) → AllFit settings journal → injected_of journal ≡ 0 → (y : ℕ) → y < length settings.stations → (table_at (state_after settings journal) y).unread ≡ 0 }
 {}
 
-/// The path of each station is the wire as its readings in the journal mark it: of the frames that are not the station's own, in
-/// order, a frame marks the next one as received and a gap of n the next n as missed; later ones have no mark. For every
-/// garage into which no frame came from outside.
+/// The path of each station is the wire, as its readings mark it.
+///
+/// Of the frames that are not the station's own, in order:
+/// - a frame marks the next one as received;
+/// - a gap of n marks the next n as missed;
+/// - later ones have no mark.
+///
+/// It holds of every garage into which no frame came from outside.
 pub fn path_is_marked()
     ensures { (g : GarageValue) → IsLawful g → injected_of g.journal ≡ 0 → (y : ℕ) → y < length g.settings.stations → IsMarkedBy y (readings_at y g.journal) (wire_of (state_of g)) (path_at (state_of g) y) }
 {}

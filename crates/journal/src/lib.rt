@@ -1,8 +1,8 @@
-//! The journal of a garage: what may happen on the bus of one vehicle, and what each event changes.
+//! The journal of a garage: what may happen on a bus, and what it changes.
 //!
-//! `specs/State.antt` says what there is, `specs/Fits.antt` when an event may happen, `specs/Steps.antt` what it changes
-//! and `specs/Journal.antt` where a list of events leads to. The code that does it is the garage's. `Journal` keeps the events
-//! as notes of 16 bytes (`specs/Notes.antt`).
+//! `specs/State.antt` says what there is, `specs/Fits.antt` when an event may happen, `specs/Steps.antt` what it changes and
+//! `specs/Journal.antt` to which state a list of events leads. The code that does it is the garage's. `Journal` keeps the events as
+//! notes of 16 bytes (`specs/Notes.antt`).
 #![tactic(auto)]
 
 mod event;

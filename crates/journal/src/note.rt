@@ -71,7 +71,7 @@ impl FrameBytes {
         }
     }
 
-    /// As `of`, where there may be fewer than eight.
+    /// As `of`, of fewer than eight bytes too.
     #[inline(never)]
     fn short(bytes: &[u8]) -> FrameBytes
         requires { length bytes.now ≤ 8 }
@@ -98,7 +98,7 @@ impl FrameBytes {
     }
 }
 
-/// What a station can ask for but a group that has no name of its own (`Ask::Other`).
+/// What a station can ask for by a name of its own: all but `Ask::Other`.
 #[derive(Drop)]
 pub(crate) enum ShortAsk {
     /// The active codes.
@@ -115,7 +115,9 @@ pub(crate) enum ShortAsk {
     Claim,
 }
 
-/// What the journal keeps, in 16 bytes: an event, whose fault memory is told by the number of its copy, two events, or a run of them.
+/// What the journal keeps, in 16 bytes: one event, two, or a run.
+///
+/// A fault memory is told by the number of its copy.
 #[derive(Drop)]
 pub(crate) enum Note {
     /// A unit joined, and got this seat.
@@ -130,14 +132,17 @@ pub(crate) enum Note {
         seat: u32,
         memory: u32,
     },
-    /// The units on the seats `first`, `first + 1` and so on, so many as `count` says, one after another heard their next frames and
-    /// were not asked. The memory of each was the one that its own latest event before tells.
+    /// Units heard their next frames, one after another, and were not asked.
+    ///
+    /// They are on the seats `first`, `first + 1` and so on, `count` of them. Each had the memory that its own latest event before
+    /// tells.
     Passed {
         first: u32,
         count: u32,
     },
-    /// The unit on the seat heard its next frames one after another, so many as `count` says, and was not asked. Its memory was at
-    /// each the one that its latest event before tells.
+    /// A unit heard `count` frames, one after another, and was not asked.
+    ///
+    /// At each it had the memory that its own latest event before tells.
     PassedAgain {
         seat: u32,
         count: u32,
@@ -188,7 +193,7 @@ pub(crate) enum Note {
         ask: ShortAsk,
         name: SplitName,
     },
-    /// The station asked the unit of a NAME for a group that has no name of its own (`Ask::Other`).
+    /// The station asked the unit of a NAME for another group (`Ask::Other`).
     AskOther {
         station: u8,
         group: Pgn,
@@ -205,7 +210,7 @@ pub(crate) enum Note {
         address: u8,
         name: SplitName,
     },
-    /// A unit went.
+    /// A unit left.
     Leave {
         seat: u32,
     },

@@ -20,22 +20,25 @@ use std::marker::Model;
 /// The number of no copy.
 const NO_COPY: u32 = u32::MAX;
 
-/// The journal: all events, the oldest first, each in a note of 16 bytes. Some that stand next to each other share a note: a run of
-/// units that pass over their next frames, in the order of their seats; one unit that passes over several frames; the carry of a frame
-/// and a reading of one by station 0, from a seat below 2^16.
+/// The journal: all events, the oldest first, in notes of 16 bytes.
 ///
-/// What a unit's fault memory was at an event is kept once, as long as it stays the same: the event has the number of a stored
-/// copy. Contracts see the events themselves (`Event`), the stored copies, and how many more events there is room for.
+/// Events that stand next to each other may share a note:
+/// - a run of units that pass over their next frames, in the order of their seats;
+/// - the frames that one unit passes over in a row;
+/// - the carry of a frame from a seat below 2^16, and a reading of a frame by station 0.
+///
+/// A unit's fault memory is kept once as long as it stays the same: an event has the number of a stored copy. Contracts see the
+/// events themselves (`Event`), the stored copies, and for how many more events there is room.
 #[derive(Drop)]
 pub struct Journal {
     notes: Vec<Note>,
-    // the run that is growing, whose note is not stored yet
+    // the run that is growing: its note is not stored yet
     passing: Passing,
     events: u32,
-    // so many events there is room for in all
+    // for how many events there is room in all
     limit: u32,
     memories: Vec<FaultMemory>,
-    // for each seat the number of the copy that its latest hear or begin tells
+    // by seat: the number of the copy that its latest hear or begin tells
     told: Vec<u32>,
 }
 
@@ -51,7 +54,7 @@ impl Model for Journal {
 }
 
 impl Journal {
-    /// No event yet. It takes no memory.
+    /// A journal without events. Takes no memory.
     pub fn new(alloc: Global) -> Journal
         ensures { result.items ≡ [] }
     {
@@ -80,9 +83,9 @@ impl Journal {
         count <= self.limit - self.events
     }
 
-    /// Makes room for `count` more events. Where memory is refused there is the room that there was.
+    /// Makes room for `count` more events.
     ///
-    /// Refused, too, where there would be 2^32 events.
+    /// Refused if there is no memory, or there would be 2^32 events. Then there is the room that there was.
     #[inline]
     pub fn reserve(&mut self, count: u32) -> Result<(), AllocError>
         ensures items { self.new.items ≡ self.old.items }
@@ -96,7 +99,7 @@ impl Journal {
         self.make_room(count)
     }
 
-    /// As `reserve`, where there is not enough room: takes all that the notes have then.
+    /// As `reserve`, if there is not enough room yet. Takes all that the notes have then.
     #[inline(never)]
     fn make_room(&mut self, count: u32) -> Result<(), AllocError>
         requires { self.old.room < count }
@@ -119,10 +122,12 @@ impl Journal {
         Ok(())
     }
 
-    /// The number of a copy of the memory that the unit on a seat has now: of the one that its latest event tells or of the newest
-    /// one, where that is the same, else of a new one. No event changes by it.
+    /// Returns the number of a copy of the memory that a unit has now.
     ///
-    /// Refused where there is no memory for the copy, and where 2^32 are stored.
+    /// - The copy that its seat's latest event tells, or the newest one, if it is the same.
+    /// - Else a new copy.
+    ///
+    /// No event changes by it. Refused if there is no memory for the copy, or 2^32 are stored.
     pub fn remember(&mut self, seat: u32, memory: &FaultMemory) -> Result<u32, AllocError>
         ensures items { self.new.items ≡ self.old.items }
         ensures room { self.new.room ≡ self.old.room }
@@ -141,7 +146,7 @@ impl Journal {
         Ok(number)
     }
 
-    /// The number of the copy that the latest hear or begin of a seat tells; 2^32 - 1, where it has none.
+    /// The number of the copy that a seat's latest hear or begin tells. 2^32 - 1 if it has none.
     pub fn told(&self, seat: u32) -> u32
         ensures some { (m : MemoryValue) → memory_told seat (reverse self.now.items) ≡ Some m → (seat < self.now.placed) × IsStored self.now.memories result m }
         ensures none { memory_told seat (reverse self.now.items) ≡ None → result ≡ NO_COPY }
@@ -152,8 +157,9 @@ impl Journal {
         }
     }
 
-    /// Whether the latest hear or begin of a seat tells just this memory. It may tell it and the answer be no: where it has the number
-    /// 2^32 - 1, which is that of no copy.
+    /// True only if the latest hear or begin of a seat tells just this memory.
+    ///
+    /// It is false of the copy with the number 2^32 - 1, which stands for none.
     pub fn tells(&self, seat: u32, memory: &FaultMemory) -> bool
         ensures { IsTrue result → memory_told seat (reverse self.now.items) ≡ Some memory.now }
     {
@@ -161,7 +167,9 @@ impl Journal {
         number != NO_COPY && is_copy(&self.memories, number, memory)
     }
 
-    /// The number of a copy that is the same as this memory: of the one that the seat's latest event tells, or of the newest one.
+    /// The number of a stored copy that is the same as this memory.
+    ///
+    /// Looked at are the one that the seat's latest event tells, and the newest.
     fn found(&self, seat: u32, memory: &FaultMemory) -> Option<u32>
         ensures { IfSome result (λ n. IsStored self.now.memories n memory.now × IsLawfulMemory memory.now) }
     {
@@ -177,7 +185,7 @@ impl Journal {
         }
     }
 
-    /// A unit of this NAME got this seat and claims this address.
+    /// Notes that a unit of this NAME got this seat and claims this address.
     pub fn note_join(&mut self, seat: u32, name: Name, address: u8)
         requires { 0 < self.old.room }
         ensures { Gains self.old (event.Join seat name address) self.new }
@@ -189,7 +197,9 @@ impl Journal {
         });
     }
 
-    /// A unit heard its next frame. Its memory was that of this number, and this is what it answered.
+    /// Notes that a unit heard its next frame and answered so.
+    ///
+    /// It had the memory of this number.
     pub fn note_hear(&mut self, seat: u32, memory: u32, answer: Answer)
         requires room { 0 < self.old.room }
         requires stored { memory < length self.old.memories }
@@ -204,7 +214,9 @@ impl Journal {
         self.tell(seat, memory, note);
     }
 
-    /// A unit heard its next frame and was not asked. Its memory was the one that its latest event tells.
+    /// Notes that a unit heard its next frame and was not asked.
+    ///
+    /// It had the memory that its latest event tells.
     #[inline]
     pub fn note_passed(&mut self, seat: u32)
         requires room { 0 < self.old.room }
@@ -219,7 +231,7 @@ impl Journal {
         }
     }
 
-    /// As `note_passed`, where the run that is growing does not go on with the seat.
+    /// As `note_passed`, if the seat does not go on with the run that is growing.
     #[inline(never)]
     fn begin_run(&mut self, seat: u32)
         requires room { 0 < self.old.room }
@@ -230,7 +242,7 @@ impl Journal {
         self.events += 1;
     }
 
-    /// A unit began a DM1 of the memory of this number.
+    /// Notes that a unit began a DM1 of the memory of this number.
     pub fn note_begin(&mut self, seat: u32, memory: u32)
         requires room { 0 < self.old.room }
         requires stored { memory < length self.old.memories }
@@ -240,7 +252,7 @@ impl Journal {
         self.tell(seat, memory, Note::Begin { seat, memory });
     }
 
-    /// A turn of a unit was over.
+    /// Notes that a turn of a unit is over.
     pub fn note_turned(&mut self, seat: u32)
         requires { 0 < self.old.room }
         ensures { Gains self.old (event.Turned seat) self.new }
@@ -248,7 +260,7 @@ impl Journal {
         self.push(Note::Turned { seat });
     }
 
-    /// The first frame of this seat's queue was carried.
+    /// Notes that the first frame of this seat's queue was carried.
     #[inline]
     pub fn note_carry(&mut self, seat: u32)
         requires { 0 < self.old.room }
@@ -258,7 +270,7 @@ impl Journal {
         self.events += 1;
     }
 
-    /// The station with this number took this reading.
+    /// Notes that the station with this number took this reading.
     #[inline]
     pub fn note_read(&mut self, station: u8, reading: Reading)
         requires { 0 < self.old.room }
@@ -274,7 +286,7 @@ impl Journal {
         }
     }
 
-    /// The station read this frame.
+    /// Notes that the station with this number read this frame.
     #[inline]
     fn note_frame(&mut self, station: u8, frame: &Frame)
         requires { 0 < self.old.room }
@@ -291,7 +303,7 @@ impl Journal {
         self.events += 1;
     }
 
-    /// The station with this number queued what it was told to send.
+    /// Notes that the station with this number queued what it was told to send.
     pub fn note_order(&mut self, station: u8, order: Order)
         requires { 0 < self.old.room }
         ensures { Gains self.old (event.Ordered station order) self.new }
@@ -307,7 +319,7 @@ impl Journal {
         }
     }
 
-    /// A unit went.
+    /// Notes that a unit left.
     pub fn note_leave(&mut self, seat: u32)
         requires { 0 < self.old.room }
         ensures { Gains self.old (event.Leave seat) self.new }
@@ -315,7 +327,7 @@ impl Journal {
         self.push(Note::Leave { seat });
     }
 
-    /// A frame that no seat sent was put on the wire from outside.
+    /// Notes that a frame was put on the wire from outside: no seat sent it.
     pub fn note_inject(&mut self, frame: Frame)
         requires { 0 < self.old.room }
         ensures { Gains self.old (event.Inject frame) self.new }
@@ -326,7 +338,7 @@ impl Journal {
         });
     }
 
-    /// One event more, for which there is room, that tells no memory.
+    /// Adds an event that tells no memory. There is room for it.
     fn push(&mut self, note: Note)
         requires room { 0 < self.old.room }
         requires single { IsSome (event_of self.old.memories note) }
@@ -337,7 +349,9 @@ impl Journal {
         self.events += 1;
     }
 
-    /// One event more, for which there is room, that tells the memory of this number of the unit on a seat.
+    /// Adds an event that tells the memory of this number.
+    ///
+    /// It is an event of the unit on the seat. There is room for it.
     fn tell(&mut self, seat: u32, memory: u32, note: Note)
         requires room { 0 < self.old.room }
         requires stored { memory < length self.old.memories }
@@ -351,7 +365,7 @@ impl Journal {
     }
 }
 
-/// Makes a place for the number of a seat's copy, where there is none. The others stay.
+/// Makes a place for the number of a seat's copy, if there is none. The others stay.
 fn make_place(told: &mut Vec<u32>, seat: u32) -> Result<(), AllocError>
     ensures longer { length told.old.items ≤ length told.new.items }
     ensures kept { (k : ℕ) → k < length told.old.items → slice_index_or told.new.items k 0 ≡ slice_index_or told.old.items k 0 }
@@ -375,7 +389,7 @@ fn is_copy(memories: &[FaultMemory], number: u32, memory: &FaultMemory) -> bool
     }
 }
 
-/// The number of the next copy; refused where all numbers are given.
+/// The number of the next copy. Refused if all numbers are given.
 fn next_number(memories: &[FaultMemory]) -> Result<u32, AllocError>
     ensures { IfOk result (λ n. n ≡ length memories.now) }
 {

@@ -7,7 +7,9 @@ ghost use Rattle.journal.specs.declared.event.Event.{Event};
 use crate::note::Note;
 use crate::sharing::overwrite_last;
 
-/// A run of units, on the seats from `first` up to `next`, that one after another heard their next frames and were not asked.
+/// A run of hears by units that were not asked, one after another.
+///
+/// They are on the seats from `first` to the one before `next`. Each heard its next frame.
 #[derive(Clone, Copy)]
 pub(crate) struct Passing {
     pub(crate) first: u32,
@@ -37,9 +39,13 @@ fn end_run(notes: &mut Vec<Note>, run: &mut Passing)
     *run = NO_RUN;
 }
 
-/// One hear more, of the unit on this seat, which was not asked, and with which the run that is growing does not go on. Where that is
-/// one hear of the very seat, the hear is stored before it, which tells the same; else the run ends, and one begins. There is a place for
-/// one note more.
+/// Records a hear of this seat's unit with which the run does not go on.
+///
+/// The unit was not asked.
+/// - If the run is one hear of the very seat, the hear is stored before it, which tells the same.
+/// - Else the run ends, and another one begins.
+///
+/// There is a place for one note more.
 pub(crate) fn pass_apart(notes: &mut Vec<Note>, run: &mut Passing, seat: u32)
     requires few { run.old.next - run.old.first < 2 ^ 32 }
     requires place { places_of run.old (vec_len notes.old) < vec_capacity notes.old }
@@ -58,8 +64,11 @@ pub(crate) fn pass_apart(notes: &mut Vec<Note>, run: &mut Passing, seat: u32)
     *run = Passing { first: seat, next };
 }
 
-/// Stores one hear more of the unit on this seat, which was not asked, right before the run that is growing: in the note of its hears
-/// that is stored last, where there is such a note; else in a note of its own, for which there is a place.
+/// Counts one hear more of this seat's unit, before the run that is growing.
+///
+/// The unit was not asked.
+/// - In the note stored last, if that is one of such hears of the seat and its number has room.
+/// - Else in a note of its own, for which there is a place.
 fn store_again(notes: &mut Vec<Note>, seat: u32)
     requires place { vec_len notes.old < vec_capacity notes.old }
     ensures events { (memories : List MemoryValue) → events_of memories (reverse notes.new.items) ≡ passed_again seat 1 (events_of memories (reverse notes.old.items)) }
@@ -73,7 +82,9 @@ fn store_again(notes: &mut Vec<Note>, seat: u32)
     }
 }
 
-/// The note of the hears of this seat that is stored last, with one hear more, where there is such a note and its number has room.
+/// The note stored last, with one such hear of this seat more.
+///
+/// None if it is no note of such hears of this seat, or its number has no room.
 fn with_one_more(notes: &[Note], seat: u32) -> Option<Note>
     ensures some { OnSome result (0 < length notes.now) }
     ensures events { IfSome result (λ n. (memories : List MemoryValue)
@@ -90,7 +101,7 @@ fn with_one_more(notes: &[Note], seat: u32) -> Option<Note>
     Some(Note::PassedAgain { seat, count })
 }
 
-/// Stores a note, for which there is a place, after the run that was growing.
+/// Stores a note after the run that was growing. There is a place for it.
 pub(crate) fn store(notes: &mut Vec<Note>, run: &mut Passing, note: Note)
     requires few { run.old.next - run.old.first < 2 ^ 32 }
     requires place { places_of run.old (vec_len notes.old) < vec_capacity notes.old }

@@ -11,8 +11,10 @@ use crate::note::{FrameBytes, Note};
 use crate::passing::{Passing, store};
 use can_frame::Id;
 
-/// Stores the carry of a frame from this seat, for whose note there is a place: in the note of station 0's reading right before it, where
-/// there is one that is stored alone and the seat's number has a place in a note of both; else in a note of its own.
+/// Stores the carry of a frame from this seat. There is a place for its note.
+///
+/// - In the note right before it, if that is a reading by station 0 alone, and a note of both has a place for the seat's number.
+/// - Else in a note of its own.
 pub(crate) fn store_carry(notes: &mut Vec<Note>, run: &mut Passing, seat: u32)
     requires few { run.old.next - run.old.first < 2 ^ 32 }
     requires place { places_of run.old (vec_len notes.old) < vec_capacity notes.old }
@@ -28,8 +30,11 @@ pub(crate) fn store_carry(notes: &mut Vec<Note>, run: &mut Passing, seat: u32)
     }
 }
 
-/// Stores the reading of a frame by a station, for whose note there is a place: in the note of the carry right before it, where there is
-/// one that is stored alone, its seat's number has a place in a note of both, and the station is station 0; else in a note of its own.
+/// Stores the reading of a frame by a station. There is a place for its note.
+///
+/// - In the note right before it, if that is a carry alone, a note of both has a place for its seat's number, and the station is
+///   station 0.
+/// - Else in a note of its own.
 pub(crate) fn store_frame(
     notes: &mut Vec<Note>,
     run: &mut Passing,
@@ -51,7 +56,9 @@ pub(crate) fn store_frame(
     }
 }
 
-/// The note of the reading by station 0 that is told last, and of a carry from this seat after it, where there is such a note.
+/// The note told last with a carry from this seat after it.
+///
+/// None if it is no reading by station 0, or a note of both has no place for the seat's number.
 #[inline]
 fn with_carry(notes: &[Note], run: &Passing, seat: u32) -> Option<Note>
     ensures none { OnSome result (run.now.first ≡ run.now.next) }
@@ -73,8 +80,9 @@ fn with_carry(notes: &[Note], run: &Passing, seat: u32) -> Option<Note>
     })
 }
 
-/// The note of the carry that is told last, and of the reading of a frame of these bytes after it by this station, where there is such a
-/// note.
+/// The note told last with this station's reading of a frame after it.
+///
+/// None if it is no carry, a note of both has no place for its seat's number, or the station is not station 0.
 #[inline]
 fn with_frame(
     notes: &[Note],
@@ -102,7 +110,7 @@ fn with_frame(
     })
 }
 
-/// The note that is stored last, where no run grows after it.
+/// The note stored last. None if a run grows after it.
 #[inline]
 fn newest<'a>(notes: &'a [Note], run: &Passing) -> Option<&'a Note>
     ensures none { OnSome result (run.now.first ≡ run.now.next) }

@@ -2,6 +2,7 @@ ghost use Rattle.std.specs.Prelude.{◌≡◌, ◌<◌, None, Err, true};
 
 use log_lines::{Ended, LogFault};
 use program_io::Fault;
+use watch_lines::Watched;
 
 /// How a run over lines ends the program.
 pub(crate) fn outcome(ended: Ended) -> Result<(), Fault>
@@ -15,4 +16,14 @@ pub(crate) fn outcome(ended: Ended) -> Result<(), Fault>
         None if ended.bad > 0 || ended.is_unread => Err(Fault::BadLines),
         None => Ok(()),
     }
+}
+
+/// How a run that watches lines ends the program: that it was begun anew is told as bad lines are.
+pub(crate) fn outcome_of(watched: Watched) -> Result<(), Fault>
+    ensures bad { watched.ended.fault ≡ None → 0 < watched.ended.bad → result ≡ Err Fault.BadLines }
+    ensures anew { watched.ended.fault ≡ None → watched.is_anew ≡ true → result ≡ Err Fault.BadLines }
+{
+    let Watched { mut ended, is_anew } = watched;
+    ended.is_unread = ended.is_unread || is_anew;
+    outcome(ended)
 }

@@ -2,7 +2,8 @@
 
 use crate::decoding::form_of as decode_form_of;
 use crate::watch_words::{
-    address_of, bus_of, form_of, name_of, shows_unclaimed, silence_of, skips_bad,
+    address_of, bus_of, form_of, keep_of, most_of, name_of, shows_unclaimed, silence_of, skips_bad,
+    time_of, unit_of,
 };
 use command_words::{DecodeWords, Slip, WatchWords};
 use program_io::{Failure, Fault};
@@ -10,6 +11,13 @@ use std::alloc::Global;
 
 /// What can be held.
 const AN_ADDRESS: &str = "a number from 0 to 253";
+
+/// How a unit is named.
+const A_UNIT: &str = "16 hexadecimal digits, or a number from 0 to 253";
+
+/// How a time is written.
+const A_TIME: &str =
+    "a time as the log has it (SECONDS.MICROSECONDS) or a date (YYYY-MM-DD HH:MM:SS.mmm)";
 
 /// What a NAME is written with.
 const A_NAME: &str = "16 hexadecimal digits";
@@ -25,6 +33,7 @@ pub fn look_at_watch_words(
 ) -> Result<(), Failure> {
     refuse(alloc, slip_of_station(words))?;
     refuse(alloc, slip_of_lines(words))?;
+    refuse(alloc, slip_of_filters(words))?;
     refuse(alloc, slip_of_assumed(assumed))
 }
 
@@ -105,6 +114,30 @@ fn slip_of_lines<'a>(words: &WatchWords<'a>) -> Option<Slip<'a>> {
             words.format,
             is_form,
             "text, json or csv",
+        ))
+}
+
+/// The slip in what is said of the unit and of the times of which it is told, and of how much is kept.
+fn slip_of_filters<'a>(words: &WatchWords<'a>) -> Option<Slip<'a>> {
+    let is_unit = unit_of(words.unit).is_ok();
+    let is_from = time_of(words.from).is_ok();
+    let is_to = time_of(words.to).is_ok();
+    let is_most = most_of(words.most).is_ok();
+    let is_keep = keep_of(words.keep).is_ok();
+    slip("unit <NAME|N>", words.unit, is_unit, A_UNIT)
+        .or(slip("from <TIME>", words.from, is_from, A_TIME))
+        .or(slip("to <TIME>", words.to, is_to, A_TIME))
+        .or(slip(
+            "most <NAMES>",
+            words.most,
+            is_most,
+            "a number from 256 to 1000000",
+        ))
+        .or(slip(
+            "keep <RUNS>",
+            words.keep,
+            is_keep,
+            "a number from 1 to 100000000",
         ))
 }
 

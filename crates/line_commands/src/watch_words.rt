@@ -1,10 +1,11 @@
 //! What the words behind `watch` mean.
 
-ghost use Rattle.std.specs.Prelude.{◌≤◌, IfOk};
+ghost use Rattle.std.specs.Prelude.{◌≡◌, ◌≤◌, ℕ, IfOk, IfSome, Some, None, Ok, true, false};
 ghost use Rattle.can_frame.specs.declared.address.TheConstants.{GREATEST_ADDRESS};
 
-use bus_watch::{Selection, Settings};
+use bus_watch::{BusShown, Limits, Selection, Settings, UnitShown};
 use can_frame::GREATEST_ADDRESS;
+use candump_line::Time;
 use command_words::{WatchWords, is_bus};
 use name_field::Name;
 use program_io::Fault;
@@ -17,6 +18,12 @@ const SILENCE: u64 = 750;
 /// The longest silence that can be asked for in milliseconds: an hour.
 const LONGEST_SILENCE: u64 = 3_600_000;
 
+/// Of how many NAMEs is known at once where that is not said: of far more than a bus has in a day.
+const MOST: u64 = 65_536;
+
+/// How many runs are kept at once where that is not said: as many as ten units have that tell another thing each second, a day long.
+const KEEP: u64 = 1_000_000;
+
 /// How the bus is watched, with these units that hold an address before the first line.
 pub(crate) fn options_of<'a>(
     words: &'a WatchWords<'_>,
@@ -26,6 +33,7 @@ pub(crate) fn options_of<'a>(
         settings: settings_of(words)?,
         bus: bus_of(words.bus)?,
         assumed,
+        limits: limits_of(words)?,
         form: form_of(words.format)?,
         strict: words.strict,
     })
@@ -40,14 +48,52 @@ fn settings_of(words: &WatchWords<'_>) -> Result<Settings, Fault> {
         selection: Selection {
             address: shown_of(words.address)?,
             unclaimed: shows_unclaimed(words.unclaimed)?,
+            unit: unit_of(words.unit)?,
+            from: time_of(words.from)?,
+            to: time_of(words.to)?,
         },
         skips_bad: skips_bad(words.bad)?,
         silence: silence_of(words.silence)?,
     })
 }
 
+/// How much is kept at once.
+fn limits_of(words: &WatchWords<'_>) -> Result<Limits, Fault> {
+    Ok(Limits {
+        most: most_of(words.most)? as usize,
+        keep: keep_of(words.keep)?,
+    })
+}
+
+/// Of how many NAMEs is known at once: more than can hold an address.
+pub(crate) fn most_of(word: Option<&str>) -> Result<u64, Fault> {
+    match word {
+        Some(word) => number_of(word, 256, 1_000_000),
+        None => Ok(MOST),
+    }
+}
+
+/// How many runs are kept at once.
+pub(crate) fn keep_of(word: Option<&str>) -> Result<u64, Fault> {
+    match word {
+        Some(word) => number_of(word, 1, 100_000_000),
+        None => Ok(KEEP),
+    }
+}
+
+/// A number from the first to the last.
+fn number_of(word: &str, first: u64, last: u64) -> Result<u64, Fault> {
+    match word.parse::<u64>() {
+        Ok(number) if number >= first && number <= last => Ok(number),
+        Ok(_) | Err(_) => Err(Fault::CommandLine),
+    }
+}
+
 /// The address whose sessions are shown; none: everybody's.
-fn shown_of(word: Option<&str>) -> Result<Option<u8>, Fault> {
+fn shown_of(word: Option<&str>) -> Result<Option<u8>, Fault>
+    ensures default { word.entry ≡ None → result ≡ Ok None }
+    ensures address { IfOk result (λ shown. IfSome shown (λ address. address ≤ GREATEST_ADDRESS)) }
+{
     match word {
         Some(word) => Ok(Some(address_of(word)?)),
         None => Ok(None),
@@ -84,15 +130,63 @@ pub(crate) fn address_of(word: &str) -> Result<u8, Fault>
     }
 }
 
-pub(crate) fn bus_of(word: Option<&str>) -> Result<Option<&str>, Fault> {
+/// The word that stands for each bus.
+const EACH_BUS: &str = "all";
+
+/// Which buses are watched: the first that a line names where that is not said.
+pub(crate) fn bus_of(word: Option<&str>) -> Result<BusShown<'_>, Fault>
+    ensures default { word.entry ≡ None → result ≡ Ok BusShown.First }
+{
     match word {
-        Some(word) if !is_bus(word) => Err(Fault::CommandLine),
-        word => Ok(word),
+        None => Ok(BusShown::First),
+        Some(word) if word == EACH_BUS => Ok(BusShown::Each),
+        Some(word) if is_bus(word) => Ok(BusShown::Named(word)),
+        Some(_) => Err(Fault::CommandLine),
+    }
+}
+
+/// The unit of which alone it is told, by its NAME or by its address; none: of all.
+pub(crate) fn unit_of(word: Option<&str>) -> Result<Option<UnitShown>, Fault>
+    ensures default { word.entry ≡ None → result ≡ Ok None }
+    ensures address { IfOk result (λ unit. IfSome unit (λ shown. (address : ℕ) → shown ≡ UnitShown.Address address → address ≤ GREATEST_ADDRESS)) }
+{
+    let Some(word) = word else {
+        return Ok(None);
+    };
+    match name_of(word) {
+        Ok(name) => Ok(Some(UnitShown::Name(name))),
+        Err(_) => Ok(Some(UnitShown::Address(address_of(word)?))),
+    }
+}
+
+/// A time as a log has it, or whole seconds; none where it is not said.
+pub(crate) fn time_of(word: Option<&str>) -> Result<Option<Time>, Fault>
+    ensures default { word.entry ≡ None → result ≡ Ok None }
+{
+    let Some(word) = word else {
+        return Ok(None);
+    };
+    match Time::read(word).or(whole_seconds(word)) {
+        Some(time) => Ok(Some(time)),
+        None => Err(Fault::CommandLine),
+    }
+}
+
+/// The greatest number of seconds that a log tells.
+const MOST_SECONDS: u64 = 9_999_999_999;
+
+/// The time of so many seconds, in one to ten decimal digits.
+fn whole_seconds(word: &str) -> Option<Time> {
+    match word.parse::<u64>() {
+        Ok(seconds) if seconds <= MOST_SECONDS => Time::from_micros(seconds * 1_000_000),
+        Ok(_) | Err(_) => None,
     }
 }
 
 /// Whether bad lines are passed over.
-pub(crate) fn skips_bad(word: Option<&str>) -> Result<bool, Fault> {
+pub(crate) fn skips_bad(word: Option<&str>) -> Result<bool, Fault>
+    ensures default { word.entry ≡ None → result ≡ Ok false }
+{
     match word {
         None | Some("missed") => Ok(false),
         Some("skip") => Ok(true),
@@ -101,7 +195,9 @@ pub(crate) fn skips_bad(word: Option<&str>) -> Result<bool, Fault> {
 }
 
 /// Whether messages of addresses that nobody has claimed are shown.
-pub(crate) fn shows_unclaimed(word: Option<&str>) -> Result<bool, Fault> {
+pub(crate) fn shows_unclaimed(word: Option<&str>) -> Result<bool, Fault>
+    ensures default { word.entry ≡ None → result ≡ Ok true }
+{
     match word {
         None | Some("show") => Ok(true),
         Some("hide") => Ok(false),
@@ -110,7 +206,10 @@ pub(crate) fn shows_unclaimed(word: Option<&str>) -> Result<bool, Fault> {
 }
 
 /// The silence in microseconds; none: any.
-pub(crate) fn silence_of(word: Option<&str>) -> Result<Option<u64>, Fault> {
+pub(crate) fn silence_of(word: Option<&str>) -> Result<Option<u64>, Fault>
+    ensures default { word.entry ≡ None → result ≡ Ok (Some 750000) }
+    ensures most { IfOk result (λ silence. IfSome silence (λ micros. micros ≤ 3600000000)) }
+{
     let Some(word) = word else {
         return Ok(Some(SILENCE * 1000));
     };
@@ -122,7 +221,9 @@ pub(crate) fn silence_of(word: Option<&str>) -> Result<Option<u64>, Fault> {
 }
 
 /// How changes and report are written: for people where that is not said.
-pub(crate) fn form_of(word: Option<&str>) -> Result<Form, Fault> {
+pub(crate) fn form_of(word: Option<&str>) -> Result<Form, Fault>
+    ensures default { word.entry ≡ None → result ≡ Ok Form.Text }
+{
     match word {
         None | Some("text") => Ok(Form::Text),
         Some("json") => Ok(Form::Json),

@@ -1,4 +1,4 @@
-use crate::ending::outcome;
+use crate::ending::outcome_of;
 use crate::watch_words::{assumed_of, options_of};
 use command_words::WatchWords;
 use program_io::{Fault, Messages};
@@ -11,7 +11,8 @@ use std::io::{LineWriter, Read, Write};
 /// # Errors
 /// - `CommandLine`: the words are none of it; nothing is read.
 /// - `Read`, `Write`, `Memory`: what happened; what was found until then is reported.
-/// - `BadLines`: all is reported, but some lines were bad; each is told on `errors`, where that takes it.
+/// - `BadLines`: all is reported, but some lines were bad, each of which is told on `errors`, where that takes it; or more was heard than is kept
+///   at once, and it was begun anew.
 pub fn watch<R: Read + Drop, W: Write + Drop, E: Write + Drop>(
     alloc: Global,
     words: WatchWords<'_>,
@@ -28,5 +29,6 @@ pub fn watch<R: Read + Drop, W: Write + Drop, E: Write + Drop>(
     let Ok(mut errors) = LineWriter::new(alloc, Messages::new(errors)) else {
         return Err(Fault::Memory);
     };
-    outcome(watch_lines::watch(alloc, reader, writer, &mut errors, &options))
+    let watched = watch_lines::watch(alloc, reader, writer, &mut errors, &options);
+    outcome_of(watched)
 }

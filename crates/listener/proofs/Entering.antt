@@ -5,7 +5,7 @@ use Rattle.address_claim.specs.Claiming.{is_held}
 use Rattle.bus_model.specs.Changed.{displaced_by}
 use Rattle.bus_model.specs.Heard.{RowHeard, kind_of}
 use Rattle.bus_model.specs.Overheard.{EntrySent, MessageSent, entries_overheard, put_sent, put_shown, same_who, sent_by}
-use Rattle.bus_model.specs.OverheardChanged.{announcement_change, gave_up, sent_change}
+use Rattle.bus_model.specs.OverheardChanged.{announcement_change, gave_up, sent_change, why_unread}
 use Rattle.bus_model.specs.declared.overheard.Overheard.{Overheard}
 use Rattle.bus_model.specs.declared.overheard.Overheard.TheVariants.{Listed, Unreadable}
 use Rattle.bus_model.specs.declared.who.Who.{Who}
@@ -51,7 +51,7 @@ says_sent : (source : ℕ) (o : Option MessageSent) → SaysSent (sent_change so
 says_sent source None = refl
 says_sent source (Some m) = go (decoding m.bytes)
   where
-    go : (v : Option Shown) → SaysSent (if is_some v then Listed m.who m.kind source m.to else Unreadable m.who m.kind source m.to) (entry_shown source m.to (record { who = m.who; kind = m.kind }) v)
+    go : (v : Option Shown) → SaysSent (if is_some v then Listed m.who m.kind source m.to else Unreadable m.who m.kind source m.to (why_unread m.bytes)) (entry_shown source m.to (record { who = m.who; kind = m.kind }) v)
     go None = refl
     go (Some v) = (record { who = m.who; kind = m.kind; source = source; to = m.to; shown = v }, refl, refl, refl, refl, refl)
 
@@ -63,9 +63,9 @@ says_giving_up : (n : ℕ) (o : Option RowHeard) → SaysSent (gave_up n o) None
 says_giving_up n None = refl
 says_giving_up n (Some row) = says_if (is_some row.address) _ _ refl refl
 
-says_answer : (l : ListenerValue) (own : Option ℕ) (c q p d : ℕ) → SaysSent (ack_told l own c q p d) None
-says_answer l None c q p d = refl
-says_answer l (Some n) c q p d = refl
+says_answer : (l : ListenerValue) (own : Option ℕ) (c q p d a : ℕ) → SaysSent (ack_told l own c q p d a) None
+says_answer l None c q p d a = refl
+says_answer l (Some n) c q p d a = refl
 
 says_announced : (k : Option Kind) (source : ℕ) (own : Option ℕ) → SaysSent (announcement_change k source own) None
 says_announced None source own = refl
@@ -75,7 +75,7 @@ says_announced (Some k) source (Some n) = refl
 says_group : (l : ListenerValue) (g : Group) → SaysSent (group_told l g) (group_listed l g)
 says_group l (AddressClaimed a n) = says_if (is_held (address_in_tables l n) a) _ _ refl refl
 says_group l (CannotClaim n) = says_giving_up n (row_known l.owners n (kept_under l.rows n))
-says_group l (Acknowledgment c q p d a) = says_answer l (at l.owners a) c q p d
+says_group l (Acknowledgment c q p d a) = says_answer l (at l.owners a) c q p d a
 says_group l (Diagnostic k a bytes) = says_sent a (in_one_frame l (Diagnostic k a bytes))
 says_group l (DataTransfer a d bytes) = says_sent a (whole_with l a d bytes)
 says_group l (ConnectionManagement a d (Bam size packets pgn)) = says_if (d == 255) _ _ (says_announced (kind_of pgn) a (at l.owners a)) refl

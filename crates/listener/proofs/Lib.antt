@@ -7,3 +7,4 @@ pub mod Queries
 pub mod Told
 pub mod Entering
 pub mod Calls
+pub mod Reasons

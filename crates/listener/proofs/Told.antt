@@ -31,9 +31,9 @@ still_same : (l : ListenerValue) (h : List Reading) → HasOverheard l h → (a 
 still_same l h st a None = refl
 still_same l h st a (Some m) = ap (λ (o : Option ℕ). is_held o a) (address_same l h st m)
 
-ack_same : (l : ListenerValue) (h : List Reading) → HasOverheard l h → (c q p d : ℕ) (own : Option ℕ) → ack_told l own c q p d ≡ ack_overheard own c q p d h
-ack_same l h st c q p d None = refl
-ack_same l h st c q p d (Some m) = ap (λ (o : Option RowHeard). Acknowledged m c p q d (is_again c p (ack_in_row o))) (st.rows m)
+ack_same : (l : ListenerValue) (h : List Reading) → HasOverheard l h → (c q p d a : ℕ) (own : Option ℕ) → ack_told l own c q p d a ≡ ack_overheard own c q p d a h
+ack_same l h st c q p d a None = refl
+ack_same l h st c q p d a (Some m) = ap (λ (o : Option RowHeard). Acknowledged m c p a q d (is_again c p (ack_in_row o))) (st.rows m)
 
 -- the message that a frame ends
 pub single_same : (l : ListenerValue) (h : List Reading) (k : Kind) (a : ℕ) (bytes : List ℕ) → a < 256 → HasOverheard l h → in_one_frame l (Diagnostic k a bytes) ≡ sent_by (Diagnostic k a bytes) h
@@ -52,7 +52,7 @@ group_same l h (AddressClaimed a n) lt lu st =
     ∙ (ap (λ (o : Option ℕ). claim_overheard n a (is_held (address_overheard n h) a) (displaced_by n o (has_in_tables l o a))) (st.owners a lt)
     ∙ ap (λ (b : Bool). claim_overheard n a (is_held (address_overheard n h) a) (displaced_by n (owner_heard a h) b)) (still_same l h st a (owner_heard a h)))
 group_same l h (CannotClaim n) lt lu st = ap (gave_up n) (st.rows n)
-group_same l h (Acknowledgment c q p d a) lt lu st = ap (λ (o : Option ℕ). ack_told l o c q p d) (st.owners a lt) ∙ ack_same l h st c q p d (owner_heard a h)
+group_same l h (Acknowledgment c q p d a) lt lu st = ap (λ (o : Option ℕ). ack_told l o c q p d a) (st.owners a lt) ∙ ack_same l h st c q p d a (owner_heard a h)
 group_same l h (Diagnostic k a bytes) lt lu st = ap (sent_change a) (single_same l h k a bytes lt st)
 group_same l h (ConnectionManagement a d c) lt lu st = control_same l h a d c lt st
 group_same l h (DataTransfer a d bytes) lt lu st = ap (sent_change a) (packet_same l h a d bytes lt lu st)

@@ -14,7 +14,7 @@ use Rattle.reassembly.specs.Tables.{at, empty_table}
 use Rattle.bus_model.specs.Changed.{displaced_by, is_again}
 use Rattle.bus_model.specs.Heard.{ack_in_row, counted, kind_of}
 use Rattle.bus_model.specs.Overheard.{HalfSent, MessageSent, newly_sent, sent_whole}
-use Rattle.bus_model.specs.OverheardChanged.{announcement_change, claim_overheard, gave_up, sent_change}
+use Rattle.bus_model.specs.OverheardChanged.{announcement_change, claim_overheard, gave_up, sent_change, why_unread}
 use Rattle.bus_model.specs.declared.overheard.Overheard.{Overheard}
 use Rattle.bus_model.specs.declared.overheard.Overheard.TheVariants.{Nothing, Acknowledged, Listed, Unreadable, Missed}
 use Rattle.station_table.specs.KeptValue.{with_ack, with_claimed, with_row, changed_under, kept_under}
@@ -106,17 +106,17 @@ abbrev pub has_in_tables : ListenerValue → Option ℕ → ℕ → Bool
 has_in_tables l None address = false
 has_in_tables l (Some name) address = is_held (address_in_tables l name) address
 
-abbrev pub ack_told : ListenerValue → Option ℕ → ℕ → ℕ → ℕ → ℕ → Overheard
-ack_told l None control requester pgn destination = Nothing
-ack_told l (Some name) control requester pgn destination =
-    Acknowledged name control pgn requester destination (is_again control pgn (ack_in_row (row_known l.owners name (kept_under l.rows name))))
+abbrev pub ack_told : ListenerValue → Option ℕ → ℕ → ℕ → ℕ → ℕ → ℕ → Overheard
+ack_told l None control requester pgn destination source = Nothing
+ack_told l (Some name) control requester pgn destination source =
+    Acknowledged name control pgn source requester destination (is_again control pgn (ack_in_row (row_known l.owners name (kept_under l.rows name))))
 
 -- what one frame changes
 abbrev pub group_told : ListenerValue → Group → Overheard
 group_told l (AddressClaimed source name) =
     claim_overheard name source (is_held (address_in_tables l name) source) (displaced_by name (at l.owners source) (has_in_tables l (at l.owners source) source))
 group_told l (CannotClaim name) = gave_up name (row_known l.owners name (kept_under l.rows name))
-group_told l (Acknowledgment control requester pgn destination source) = ack_told l (at l.owners source) control requester pgn destination
+group_told l (Acknowledgment control requester pgn destination source) = ack_told l (at l.owners source) control requester pgn destination source
 group_told l (Diagnostic kind source bytes) = sent_change source (in_one_frame l (Diagnostic kind source bytes))
 group_told l (ConnectionManagement source destination (Bam size packets pgn)) =
     if destination == GLOBAL_ADDRESS then announcement_change (kind_of pgn) source (at l.owners source) else Nothing
@@ -131,10 +131,10 @@ reading_told l (Frame f) = group_told l (group_of f)
 
 -- ---- what is listed
 
--- what a message that ended shows, if one did
+-- what a message that ended shows, if one did, or why it cannot be read
 abbrev pub showing : Option MessageSent → Option Ended
 showing None = None
-showing (Some m) = Some (record { sending = record { who = m.who; kind = m.kind }; shown = decoding m.bytes })
+showing (Some m) = Some (record { sending = record { who = m.who; kind = m.kind }; shown = decoding m.bytes; why = why_unread m.bytes })
 
 abbrev pub after_ended : ListenerValue → Option Ended → ListenerValue
 after_ended l None = l
@@ -142,4 +142,4 @@ after_ended l (Some e) = after_showing l e.shown
 
 abbrev pub ended_told : ℕ → ℕ → Option Ended → Overheard
 ended_told source to None = Nothing
-ended_told source to (Some e) = if is_some e.shown then Listed e.sending.who e.sending.kind source to else Unreadable e.sending.who e.sending.kind source to
+ended_told source to (Some e) = if is_some e.shown then Listed e.sending.who e.sending.kind source to else Unreadable e.sending.who e.sending.kind source to e.why

@@ -1,5 +1,6 @@
 ghost use Rattle.std.specs.Prelude.{◌≡◌, Some, IfOk};
 ghost use Rattle.bus_model.specs.Overheard.{sent_whole};
+ghost use Rattle.bus_model.specs.OverheardChanged.{why_unread};
 ghost use Rattle.dm_messages.specs.View as view;
 ghost use Rattle.listener.specs.ListenerSteps.{showing};
 ghost use Rattle.reassembly.specs.Pairs.{pair_at};
@@ -11,21 +12,24 @@ use reassembly::PairedPartials;
 use std::alloc::{AllocError, Global};
 use transport::Took;
 
-/// A message that ended: whose it is and of which kind, and what it shows; nothing where it cannot be read.
+/// A message that ended: whose it is and of which kind, and what it shows; or why it cannot be read, which says nothing where it can.
 #[derive(Debug, Drop)]
 pub struct Ended {
     pub sending: Sending,
     pub shown: Option<Shown>,
+    pub why: ReadError,
 }
 
-/// What a payload shows; none where it cannot be read.
-pub fn shown_by(alloc: Global, payload: &[u8]) -> Result<Option<Shown>, AllocError>
-    ensures { IfOk result (λ o. o ≡ view.decoding payload.now) }
+/// What a payload shows; or none, and why it cannot be read, which says nothing where it can.
+#[tactic(auto, using(crate::proofs::Reasons::none_refused))]
+pub fn shown_by(alloc: Global, payload: &[u8]) -> Result<(Option<Shown>, ReadError), AllocError>
+    ensures shown { IfOk result (λ o. o.0 ≡ view.decoding payload.now) }
+    ensures why { IfOk result (λ o. o.1 ≡ why_unread payload.now) }
 {
     match read(alloc, payload) {
-        Ok(shown) => Ok(Some(shown)),
+        Ok(shown) => Ok((Some(shown), ReadError::BadLength)),
         Err(ReadError::OutOfMemory) => Err(AllocError),
-        Err(_) => Ok(None),
+        Err(why) => Ok((None, why)),
     }
 }
 
@@ -45,8 +49,12 @@ pub fn ended_with(
         return Ok(None);
     };
     let sending = partial.tag();
-    let shown = messages.read_with(source, dest, packet, |payload: &[u8]| {
+    let (shown, why) = messages.read_with(source, dest, packet, |payload: &[u8]| {
         shown_by(alloc, payload)
     })?;
-    Ok(Some(Ended { sending, shown }))
+    Ok(Some(Ended {
+        sending,
+        shown,
+        why,
+    }))
 }

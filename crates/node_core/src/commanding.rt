@@ -34,7 +34,9 @@ impl HalfCommand {
         }
     }
 
-    /// What is half joined after a packet: one that is not the next one drops it, and so does the last one.
+    /// What is half joined after a packet.
+    ///
+    /// Nothing after one that is not the next, and after the last.
     pub fn continued(self, bytes: &[u8]) -> HalfCommand
         ensures { result ≡ commanding.continued self bytes.now }
     {
@@ -44,7 +46,9 @@ impl HalfCommand {
         }
     }
 
-    /// A packet goes on with it, unless it makes a command for this NAME whole: then nothing changes. Answers whether it went on.
+    /// Takes a packet, unless it makes a command for this NAME whole.
+    ///
+    /// Returns whether it took it; if not, nothing changed.
     #[inline(always)]
     pub fn go_on(&mut self, name: Name, bytes: &[u8]) -> bool
         ensures unless { IsTrue result → commanding.for_name name (commanding.completed self.old bytes.now) ≡ None }
@@ -115,7 +119,9 @@ fn nine_bytes(piece: [u8; 7], eighth: u8, ninth: u8) -> [u8; 9]
     bytes
 }
 
-/// Whether these are the packet of this number, 1 or 2: eight bytes, the first of which is the number.
+/// Whether these are the packet of this number, 1 or 2.
+///
+/// It has eight bytes, the first of which is the number.
 #[tactic(auto, using(crate::proofs::CommandPackets::next_by_number))]
 fn is_packet(number: u8, bytes: &[u8]) -> bool
     requires { number ≤ 2 }

@@ -14,20 +14,21 @@ use std::marker::Model;
 
 /// What a unit has of the commanded address that each source, 0 to 253, broadcasts.
 ///
-/// Mostly no more than one source commands an address at a time, and what is half joined from that one stands in place. It takes
-/// memory only where two sources have begun one at the same time: a few bytes for each source, at most 254 of them. A place once
-/// taken stays, so what such a source sends from then on costs one look-up, and takes and gives back no memory.
+/// - As a rule one source commands at a time: what is half joined from it stands in place.
+/// - If two sources have begun one at the same time, it takes memory: a few bytes for each source, at most 254 of them.
+///
+/// A place once taken stays. What such a source sends from then on costs one look-up, and takes and gives back no memory.
 #[derive(Drop)]
 pub struct HalfCommands {
     halves: Halves,
 }
 
-/// Where that which is half joined stands.
+/// Where what is half joined stands.
 #[derive(Drop)]
 enum Halves {
     /// In place: from no other source is anything half joined.
     One { source: u8, half: HalfCommand },
-    /// By source, as two of them had something half joined at the same time.
+    /// By source: two of them had something half joined at the same time.
     Many(BTreeMap<u8, HalfCommand>),
 }
 
@@ -76,7 +77,7 @@ impl HalfCommands {
         }
     }
 
-    /// Whether what is half joined, if anything is, stands in place and is from another source: the short test for nothing of this one.
+    /// A fast test that nothing is half joined from this source. False says nothing.
     #[tactic(auto, using(crate::proofs::HalfCommandLists::nothing_elsewhere))]
     pub fn is_elsewhere(&self, source: u8) -> bool
         ensures { IsTrue result → half_from self.now source ≡ HalfCommand.Nothing }
@@ -87,8 +88,9 @@ impl HalfCommands {
         }
     }
 
-    /// Keeps this as what is half joined from a source. Only where another source has something half joined and this one has no place
-    /// yet can memory be refused.
+    /// Keeps this as what is half joined from a source.
+    ///
+    /// Memory can be refused only if this source has no place yet and another one has something half joined. Then nothing changed.
     pub fn keep(&mut self, alloc: Global, source: u8, half: HalfCommand) -> Result<(), AllocError>
         requires { source ≤ GREATEST_ADDRESS }
         ensures ok { OnOk result (self.new ≡ slice_set self.old source half) }
@@ -102,8 +104,9 @@ impl HalfCommands {
         }
     }
 
-    /// A packet goes on with what is half joined from its source, unless it makes a command for this NAME whole: then nothing
-    /// changes. Answers whether it went on.
+    /// Takes a packet of this source, unless it makes a command for this NAME whole.
+    ///
+    /// Returns whether it took it; if not, nothing changed.
     #[tactic(auto, using(crate::proofs::HalfCommandLists::half_there, crate::proofs::HalfCommandLists::half_rewritten, crate::proofs::HalfCommandLists::other_dropped))]
     pub fn go_on(&mut self, name: Name, source: u8, bytes: &[u8]) -> bool
         requires { source ≤ GREATEST_ADDRESS }
@@ -122,8 +125,10 @@ impl HalfCommands {
         }
     }
 
-    /// An announcement from a source leaves nothing half joined, or the start of a commanded address; answers whether it could be kept:
-    /// where it starts one, its source has no place yet and another has something half joined, nothing changes. Takes no memory.
+    /// Takes an announcement of a source, without memory. Returns whether it took it.
+    ///
+    /// It leaves nothing half joined, or the start of a commanded address. False, with nothing changed, if it starts one, its
+    /// source has no place yet, and another one has something half joined.
     #[tactic(auto, using(crate::proofs::HalfCommandLists::half_rewritten, crate::proofs::HalfCommandLists::other_dropped, crate::proofs::HalfCommandLists::half_moved, crate::proofs::HalfCommandLists::no_half_dropped))]
     pub fn restart(&mut self, source: u8, starts: bool) -> bool
         requires { source ≤ GREATEST_ADDRESS }
@@ -218,7 +223,7 @@ fn both(
     Ok(halves)
 }
 
-/// As `HalfCommands::go_on`, where each source has a place of its own.
+/// As `HalfCommands::go_on`, if each source has a place of its own.
 #[inline(never)]
 #[tactic(auto, using(crate::proofs::HalfCommandLists::half_there, crate::proofs::HalfCommandLists::half_missing, crate::proofs::HalfCommandLists::half_overwritten, crate::proofs::HalfCommandLists::half_read))]
 fn go_on_among(halves: &mut BTreeMap<u8, HalfCommand>, name: Name, source: u8, bytes: &[u8]) -> bool
@@ -233,7 +238,9 @@ fn go_on_among(halves: &mut BTreeMap<u8, HalfCommand>, name: Name, source: u8, b
     half.go_on(name, bytes)
 }
 
-/// Keeps this as what is half joined from a source that has a place of its own; answers whether it has one, else nothing changes.
+/// Keeps this of a source that has a place of its own.
+///
+/// Returns whether it has one; if not, nothing changed.
 #[inline(never)]
 #[tactic(auto, using(crate::proofs::HalfCommandLists::half_there, crate::proofs::HalfCommandLists::half_overwritten))]
 fn overwrite(halves: &mut BTreeMap<u8, HalfCommand>, source: u8, half: HalfCommand) -> bool

@@ -15,7 +15,9 @@ pub enum Withdraw {
     All,
 }
 
-/// A message that a unit begins: its payload encodes the view of the unit's fault memory in that very call.
+/// A message that a unit begins.
+///
+/// Its payload encodes the view of the unit's fault memory in that very call.
 #[derive(Clone, Copy, Debug, PartialEq, Eq)]
 pub struct Begun {
     /// DM1, DM2 or DM6.
@@ -26,7 +28,9 @@ pub struct Begun {
     pub dest: u8,
 }
 
-/// What a unit answered to what a frame put to it: to clear codes, or to hold a commanded address.
+/// What a unit answered to what a frame put to it.
+///
+/// It may be asked to clear codes, or to hold a commanded address.
 #[derive(Clone, Copy, Debug, PartialEq, Eq)]
 pub enum Answer {
     /// Nothing was put to it.

@@ -1,5 +1,6 @@
-//! A unit on the bus: what it owes to each frame that it hears, and the messages that it begins
-//! (SAE J1939-21, -73, -81).
+//! A unit on the bus: what it owes to frames, and what it begins.
+//!
+//! It owes something to frames that it hears, and begins messages (SAE J1939-21, -73, -81).
 #![tactic(auto)]
 
 mod commanding;

@@ -24,8 +24,9 @@ mod giving_up;
 mod sessions;
 mod settling;
 
-/// A unit's place on the bus: its NAME, the address that it holds, the claims that it has noted, what it has of commanded
-/// addresses, and its open session.
+/// A unit's place on the bus.
+///
+/// It has the unit's NAME, the address held, the claims noted, what there is of commanded addresses, and the open session.
 #[derive(Drop)]
 pub struct Node {
     claimer: Claimer,
@@ -61,7 +62,9 @@ impl Node {
         }
     }
 
-    /// The frame by which the unit claims its address, or says that it holds none (SAE J1939-81).
+    /// The frame by which the unit claims its address, or cannot claim.
+    ///
+    /// The latter says that it holds none (SAE J1939-81).
     pub fn start(&self) -> Frame
         ensures frame { result ≡ claim_frame_value self.now.claimer.name self.now.claimer.held }
         ensures name_fits { self.now.claimer.name < 2 ^ 64 }
@@ -87,10 +90,12 @@ impl Node {
         }
     }
 
-    /// Begins a message of this kind to all, in one frame or as a broadcast (SAE J1939-21, -73).
+    /// Begins a message of this kind to all.
     ///
-    /// Its payload encodes the view of the unit's fault memory in this very call. Refused with `Unclaimed` exactly where the
-    /// unit holds no address. Answers `Held` exactly where it holds one and a session of that kind is open.
+    /// It is one frame or a broadcast (SAE J1939-21, -73).
+    /// - `Begun`: its payload encodes the view of the unit's fault memory in this very call.
+    /// - `Held`: exactly if an address is held and a session of that kind is open.
+    /// - Refused: `Unclaimed` exactly if the unit holds no address, else `OutOfMemory`.
     #[tactic(auto, using(crate::proofs::Begins::starts_with_memory))]
     pub fn begin(&self, alloc: Global, kind: Kind, unit: &dyn Unit) -> Result<Started, NodeError>
         ensures unclaimed { IsErrOf result NodeError.Unclaimed ↔ IsNone self.now.claimer.held }
@@ -119,9 +124,10 @@ impl Node {
 
     /// Hears a frame, and puts to the unit what it asks.
     ///
-    /// By what the unit answers where a clear or a commanded address is put to it, the answer, the node and the unit's memory
-    /// afterwards are exactly what is owed. The unit is asked exactly what the frame puts to it, in one call, and is else as it
-    /// was. Where memory is refused, node and unit are as they were, and nothing was put to the unit.
+    /// - The unit is asked exactly what the frame puts to it (to clear, or to hold a commanded address), in one call, and is else
+    ///   as it was.
+    /// - By what the unit answered, the node, the unit's memory and what is returned are exactly what is owed.
+    /// - If memory is refused, node and unit are as they were, and nothing was put to the unit.
     pub fn hear(
         &mut self,
         alloc: Global,

@@ -15,7 +15,9 @@ pub enum Part {
     Session(u16),
 }
 
-/// A frame that a unit wants carried, with the part of a message that it is, if it is one.
+/// A frame that a unit wants carried.
+///
+/// It may be a part of a message.
 #[derive(Clone, Copy, Debug, PartialEq, Eq)]
 pub struct Out {
     /// The frame.
@@ -24,7 +26,7 @@ pub struct Out {
     pub part: Option<Part>,
 }
 
-/// One frame that a unit wants carried, or some parts of one message, one after another.
+/// One frame that a unit wants carried, or parts of one message in a row.
 #[derive(Debug, Drop)]
 pub enum Piece {
     /// One frame.
@@ -33,7 +35,9 @@ pub enum Piece {
     Many { run: Run, part: Part },
 }
 
-/// Frames that a unit wants carried, in order: none, or one piece. A frame of a run is made when it is looked at.
+/// Frames that a unit wants carried, in order: none, or one piece.
+///
+/// A frame of a run is made when it is looked at.
 #[derive(Debug, Drop)]
 pub struct Outs {
     piece: Option<Piece>,
@@ -77,7 +81,9 @@ impl Outs {
         }
     }
 
-    /// The frames that are left of a run; `part` is that of the first of them. Takes no memory.
+    /// The frames that are left of a run. Takes no memory.
+    ///
+    /// `part` is that of the first of them.
     pub fn run(run: Run, part: Part) -> Outs
         requires { option_map part_in (slice_get run 0) ≡ Some (number_in part) }
         ensures { result ≡ map (run_out part) run }
@@ -87,7 +93,7 @@ impl Outs {
         }
     }
 
-    /// Takes the piece, which has at least one frame; none is left.
+    /// Takes the piece out, which has at least one frame. None is left.
     pub fn take_piece(&mut self) -> Option<Piece>
         ensures pieces { MatchOption result (self.old ≡ []) (λ p. self.old ≡ outs_of p ++ self.new) }
         ensures whole { IfSome result (λ p. (self.old ≡ outs_of p) × (self.new ≡ [])) }

@@ -10,8 +10,9 @@ use can_frame::GLOBAL_ADDRESS;
 use std::alloc::{AllocError, Global};
 use transport::{Payload, Run, message_part, packet_frame, packets, part};
 
-/// The frames that are queued when a message of 8 to 1,785 bytes to all begins: one, or the run of a broadcast, into which the
-/// payload moves.
+/// The frames by which a message of 8 to 1,785 bytes to all begins.
+///
+/// They are one frame, or the run of a broadcast, into which the payload moves.
 #[tactic(auto, using(crate::proofs::PartLists::run_of_broadcast, crate::proofs::PartLists::run_begins))]
 pub fn parts_to_all(payload: Payload, begun: Begun) -> Outs
     requires least { 8 ≤ length payload }
@@ -29,7 +30,9 @@ pub fn parts_to_all(payload: Payload, begun: Begun) -> Outs
     Outs::run(run, Part::Begun(0))
 }
 
-/// The first frame of a message of 8 to 1,785 bytes: the only one that is queued when a session begins.
+/// The first frame of a message of 8 to 1,785 bytes.
+///
+/// It is the only one that is queued when a session begins.
 #[tactic(auto, using(crate::proofs::PartLists::one_part))]
 pub fn first_part(payload: &[u8], begun: Begun) -> Outs
     requires least { 8 ≤ length payload.now }
@@ -44,8 +47,11 @@ pub fn first_part(payload: &[u8], begun: Begun) -> Outs
     Outs::one(Out { frame, part })
 }
 
-/// The next packets of an open session, so many of them, from the first one not yet queued on. A single one is made at once.
-/// The session keeps its payload, so a run of more has a copy.
+/// The next `count` packets of an open session.
+///
+/// They begin with the first one not yet queued.
+/// - A single one is made at once.
+/// - A run of more has a copy of the payload, since the session keeps it.
 #[tactic(auto, using(crate::proofs::PartLists::run_of_session, crate::proofs::PartLists::run_begins))]
 pub fn parts_of_session(
     alloc: Global,

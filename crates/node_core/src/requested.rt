@@ -35,8 +35,9 @@ impl Wanted {
     }
 }
 
-/// Whether a request for more than the claim counts: it comes from an address that can be held, 0 to 253, and not from the
-/// unit's own.
+/// Whether a request from this source may ask for more than the claim.
+///
+/// It may if the source can be held, 0 to 253, and is not the unit's own address.
 pub fn counts_from(address: u8, source: u8) -> bool
     ensures { result ≡ counts_from address source }
 {

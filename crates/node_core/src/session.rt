@@ -5,7 +5,7 @@ use can_frame::Pgn;
 use dm_messages::Kind;
 use transport::Sending;
 
-/// An open session: the kind of its message, and what is still to be sent of it.
+/// An open session: its kind, and what is still to be sent.
 #[derive(Debug, Drop)]
 pub struct OpenSession {
     /// DM1, DM2 or DM6.
@@ -24,8 +24,9 @@ impl OpenSession {
         self.sending.dest() == source && self.sending.pgn() == pgn
     }
 
-    /// How many packets a clear to send lets go: the lesser of the grant and the rest where it names the first packet not yet
-    /// queued, else none.
+    /// How many packets a clear to send lets go.
+    ///
+    /// The lesser of the grant and the rest if it names the first packet not yet queued, else none.
     pub fn granted(&self, granted: u8, next: u8) -> u8
         ensures count { result ≡ packets_granted self.now.sending granted next }
         ensures left { result ≤ packets_left self.now.sending }

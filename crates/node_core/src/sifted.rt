@@ -10,19 +10,21 @@ use name_field::Name;
 use parameter_group::ParameterGroup;
 use transport::Control;
 
-/// What a frame tells the units that it asks nothing of, found once for all of them.
+/// What a frame tells the units that it asks nothing of, found once for all.
 ///
-/// A unit that finds by it that the frame asks nothing of it and makes it do nothing, settles it (`Node::settle`) and need not hear it
-/// in full.
+/// By it a unit finds whether the frame asks nothing of it and makes it do nothing. It settles such a frame (`Node::settle`), and
+/// hears any other in full.
 #[derive(Clone, Copy, Debug, PartialEq, Eq)]
 pub enum Sifted {
     /// Nothing: each unit passes it over.
     Passed,
-    /// Nothing, but to the units that a frame to this address concerns: each other one passes it over.
+    /// Nothing, but to the units that a frame to this address concerns. Each other one passes it over.
     Elsewhere(u8),
     /// An address, 0 to 253, is claimed under a NAME (SAE J1939-81).
     Claimed { source: u8, name: Name },
-    /// A source, 0 to 253, announces a broadcast, which may start a commanded address (SAE J1939-21, TP.CM_BAM; -81).
+    /// A source, 0 to 253, announces a broadcast (SAE J1939-21, TP.CM_BAM).
+    ///
+    /// It may start a commanded address (SAE J1939-81).
     Announced { source: u8, starts: bool },
     /// A packet of a broadcast from a source, 0 to 253 (SAE J1939-21, TP.DT).
     Packet { source: u8, frame: Frame },

@@ -1,6 +1,7 @@
 pub mod Answered
 pub mod HandleValues
 pub mod Keeping
+pub mod LineLemmas
 pub mod MachineValues
 pub mod Named
 pub mod Taken

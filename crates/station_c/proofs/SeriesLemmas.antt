@@ -1,5 +1,5 @@
 -- Frames that were taken one after the other, and one more.
-use Rattle.std.proofs.Common.{◌≡◌, ◌+◌, ◌<◌, ◌≤◌, ◌^◌, ◌==◌, ℕ, Bool, Option, IsSomeAnd, slice_get, drop, set, List, [], ◌∷◌, ◌++◌, Result, Ok, Err, IfOk, IfErr, OnOk, true, false, refl, sym, ap, ◌∙◌, subst, take, length, get_or, arith}
+use Rattle.std.proofs.Common.{◌≡◌, ◌+◌, ◌<◌, ◌≤◌, ◌^◌, ◌==◌, ℕ, Bool, Option, IsSomeAnd, slice_get, drop, set, List, ◌∷◌, Result, Ok, Err, IfOk, IfErr, OnOk, true, false, refl, sym, ap, ◌∙◌, subst, take, length, get_or, arith}
 use Rattle.std.proofs.lemmas.List.{drop-drop, drop-set-lt, take_more, take_more_set}
 use Rattle.std.proofs.lemmas.Option.{slice_get-get_or}
 use Rattle.bus_model.specs.Changed.{change_heard}
@@ -75,6 +75,6 @@ one_more before between after fs cs i d c reply low high some small short one =
 pub at_place : (fs : List FrameRecord) (i : ℕ) (d : FrameRecord) (P : FrameRecord → Type 0) → i < length fs → P (get_or fs i d) → IsSomeAnd (slice_get fs i) P
 at_place fs i d P low holds = subst (λ (o : Option FrameRecord). IsSomeAnd o P) (sym (slice_get-get_or fs i d low)) holds
 
--- a change that is written at a place leaves those behind it
-pub untouched : (cs old : List ChangeRecord) (i : ℕ) (c : ChangeRecord) → drop i cs ≡ drop i old → drop (i + 1) (set cs i c) ≡ drop (i + 1) old
+-- what is written at a place leaves what stands behind it
+pub untouched : {X : Type 0} → (cs old : List X) (i : ℕ) (c : X) → drop i cs ≡ drop i old → drop (i + 1) (set cs i c) ≡ drop (i + 1) old
 untouched cs old i c e = drop-set-lt (i + 1) cs i c (omega arith) ∙ (sym (drop-drop 1 i cs) ∙ (ap (drop 1) e ∙ drop-drop 1 i old))

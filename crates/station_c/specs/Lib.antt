@@ -1,5 +1,6 @@
 pub mod Handles
 pub mod Held
+pub mod Lines
 pub mod ListedPosts
 pub mod Orders
 pub mod Places

@@ -10,12 +10,15 @@ mod changes;
 mod exports;
 mod handle;
 mod listed_post;
+mod log_records;
 mod raw_box;
 mod records;
 mod replies;
 mod status;
+mod told;
 
 pub use changes::ChangeRecord;
 pub use handle::StationHandle;
+pub use log_records::{LoggedRecord, ReadRecord};
 pub use records::{CodeRecord, EntryRecord, FrameRecord, ReplyRecord, RowRecord};
 pub use status::Status;

@@ -4,6 +4,8 @@
 ghost use Rattle.std.specs.Prelude.{◌≡◌, ◌⊎◌, ◌<◌, length, vec_len, IfErr, IfOk, IfSome};
 ghost use Rattle.program_io.specs.Fault.{IsOfInput};
 ghost use Rattle.program_io.specs.Input.{input_limit};
+ghost use Rattle.garage.specs.Opening.{new_garage, setting_value};
+ghost use Rattle.threads_command.specs.Opened.{second_wanted, settings_wanted};
 
 use garage::{Garage, GarageError, Setting};
 use journal::Tally;
@@ -100,7 +102,8 @@ fn vehicle_of<I: Read>(alloc: Global, reader: &mut I) -> Result<Vehicle, Failure
 
 /// The garage of a vehicle's station, and of a second one where there is one.
 fn garage_of(alloc: Global, station: Station, second: Option<Second>) -> Result<Garage, Fault>
-    ensures { IfErr result (λ fault. (fault ≡ Fault.Memory) ⊎ (fault ≡ Fault.Vehicle)) }
+    ensures opened { IfOk result (λ garage. garage ≡ new_garage (settings_wanted station second)) }
+    ensures faults { IfErr result (λ fault. (fault ≡ Fault.Memory) ⊎ (fault ≡ Fault.Vehicle)) }
 {
     let Station {
         name,
@@ -129,7 +132,9 @@ fn garage_of(alloc: Global, station: Station, second: Option<Second>) -> Result<
 }
 
 /// How a second station is opened.
-fn setting_of(second: Second) -> Setting {
+fn setting_of(second: Second) -> Setting
+    ensures { setting_value result ≡ second_wanted second }
+{
     let Second {
         name,
         address,

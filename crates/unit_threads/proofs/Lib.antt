@@ -1,3 +1,4 @@
 mod Turning
 mod Comparing
 pub mod Reading
+mod Boxes

@@ -1,88 +1,23 @@
 -- The stations read in turn, event by event.
 use Rattle.std.proofs.Common.{◌≡◌, ◌≢◌, Result, Ok, Err, IfErr, inl, inr, ℕ, suc, zero, ◌+◌, ◌<◌, Bool, true, false, List, [], ◌∷◌, map, length, arith, refl, sym, ap, subst, ◌∙◌}
-use Rattle.std.specs.Prelude.{if◌then◌else◌}
-use Rattle.std.proofs.lemmas.List.{get_or-set_other}
 use Rattle.can_frame.specs.declared.reading.Reading.{Reading}
 use Rattle.can_frame.specs.declared.reading.Reading.TheVariants as reading
 use Rattle.bus_ledger.proofs.Numbers.{same_or_not}
-use Rattle.bus_ledger.specs.BusValue.{SeatValue, Traffic, nobody, seat_at}
-use Rattle.bus_ledger.specs.Changes.{hearing, queueing, with_seat, withdrawing, withdrawn}
-use Rattle.bus_ledger.specs.Reception.{next_reading, passes, reading_taken}
-use Rattle.bus_ledger.specs.declared.traffic.CarriedFrame.{CarriedFrame}
-use Rattle.bus_ledger.specs.declared.traffic.QueuedFrame.{QueuedFrame}
-use Rattle.bus_ledger.specs.declared.traffic.Which.TheVariants as which
-use Rattle.journal.specs.State.{State, table_at}
-use Rattle.journal.specs.Steps.{after_read, put_all, reacted, untagged}
-use Rattle.journal.specs.Journal.{Adds, GarageValue, state_after, state_of}
+use Rattle.journal.specs.Journal.{Adds, GarageValue, state_of}
 use Rattle.journal.specs.declared.event.Event.TheVariants.{Read}
-use Rattle.station_table.specs.Reactions.{station_reaction}
-use Rattle.station_table.specs.declared.reaction.Reaction.{Reaction}
 use Rattle.garage.specs.Answers.{Reads}
 use Rattle.garage.specs.Calls.{IsWant}
+use Rattle.garage.specs.Rounds.{HasReadAll, HaveReadAll, IsReadOf}
 use Rattle.garage.specs.declared.error.GarageError.{GarageError}
-use Rattle.unit_threads.specs.Turns.{CarriesAll, CarriesSome, GrowsBy, HasReadAll, HaveReadAll, IsOneRead, IsPartOfRead, IsPartOfReading, IsReadOf, LeavesOthers, ReadInTurn}
+use Rattle.unit_threads.specs.Turns.{CarriesAll, CarriesSome, GrowsBy, IsOneRead, IsPartOfRead, IsPartOfReading, LeavesOthers, ReadInTurn}
+use Rattle.garage.proofs.ReadLemmas.{event_same, next_same}
 use Rattle.unit_threads.proofs.Turning.{grows_more, grown_same}
-
--- what station j reads next depends on the wire, on the windows and on what it has heard
-record SameNext (j : ℕ) (t u : Traffic) : Type 0 where
-  wire : u.wire ≡ t.wire
-  windows : u.windows ≡ t.windows
-  heard : (seat_at u j).heard ≡ (seat_at t j).heard
-
-same_itself : (j : ℕ) (t : Traffic) → SameNext j t t
-same_itself j t = record { wire = refl; windows = refl; heard = refl }
-
-same_both : (j : ℕ) (t u v : Traffic) → SameNext j t u → SameNext j u v → SameNext j t v
-same_both j t u v a b = record { wire = b.wire ∙ a.wire; windows = b.windows ∙ a.windows; heard = b.heard ∙ a.heard }
-
--- the next reading does not change with another seat
-same_seat : (j y : ℕ) (t : Traffic) (s : SeatValue) → j ≢ y → SameNext j t (with_seat t y s)
-same_seat j y t s n = record { wire = refl; windows = refl; heard = ap (λ (v : SeatValue). v.heard) (get_or-set_other t.seats y j s nobody n) }
-
-same_put : (j y : ℕ) (qs : List QueuedFrame) (t : Traffic) → j ≢ y → SameNext j t (put_all y qs t)
-same_put j y [] t n = same_itself j t
-same_put j y (q ∷ qs) t n =
-    same_both j t (with_seat t y (queueing q (seat_at t y))) (put_all y (q ∷ qs) t) (same_seat j y t (queueing q (seat_at t y)) n) (same_put j y qs (with_seat t y (queueing q (seat_at t y))) n)
-
-same_withdrawn : (b : Bool) (j y : ℕ) (t : Traffic) → j ≢ y → SameNext j t (if b then withdrawn y which.All t else t)
-same_withdrawn true j y t n = same_seat j y t (withdrawing which.All (seat_at t y)) n
-same_withdrawn false j y t n = same_itself j t
-
-same_reacted : (j y : ℕ) (r : Reaction) (t : Traffic) → j ≢ y → SameNext j t (reacted y r t)
-same_reacted j y r t n =
-    let u : Traffic = if r.withdraw then withdrawn y which.All t else t in
-    same_both j t u (reacted y r t) (same_withdrawn r.withdraw j y t n) (same_put j y (map untagged r.put) u n)
-
-same_read : (j y : ℕ) (r : Reading) (s : State) → j ≢ y → SameNext j s.traffic (after_read y r s).traffic
-unfolding after_read
-same_read j y r s n =
-    let t = s.traffic in
-    let u : Traffic = reading_taken y r t in
-    same_both j t u (reacted y (station_reaction (table_at s y) r) u) (same_seat j y t (hearing (passes r) (seat_at t y)) n) (same_reacted j y (station_reaction (table_at s y) r) u n)
-
-next_same : (j : ℕ) (t u : Traffic) → SameNext j t u → next_reading u j ≡ next_reading t j
-next_same j t u s =
-    let at : List CarriedFrame → List ℕ → ℕ → Reading = λ wire windows heard. next_reading (record { wire = wire; seats = with_heard j heard; windows = windows }) j in
-    seen j u ∙ (ap (λ (w : List CarriedFrame). at w u.windows (seat_at u j).heard) s.wire
-    ∙ (ap (λ (w : List ℕ). at t.wire w (seat_at u j).heard) s.windows ∙ (ap (at t.wire t.windows) s.heard ∙ sym (seen j t))))
-  where
-    with_heard : ℕ → ℕ → List SeatValue
-    with_heard zero heard = record nobody { heard = heard } ∷ []
-    with_heard (suc j) heard = nobody ∷ with_heard j heard
-
-    heard_is : (j heard : ℕ) → (seat_at (record { wire = []; seats = with_heard j heard; windows = [] }) j).heard ≡ heard
-    heard_is zero heard = refl
-    heard_is (suc j) heard = heard_is j heard
-
-    seen : (j : ℕ) (t : Traffic) → next_reading t j ≡ next_reading (record { wire = t.wire; seats = with_heard j (seat_at t j).heard; windows = t.windows }) j
-    seen j t = (let e = heard_is j (seat_at t j).heard in cc)
 
 -- a reading of one station leaves the others as they were
 leaves_event : (y : ℕ) (old new : GarageValue) (r : Reading) → Adds old (Read y r) new → LeavesOthers y old new
-unfolding state_after
 leaves_event y old new r h = record {
   settings = ap (λ (g : GarageValue). g.settings) h.adds;
-  next = λ j n. ap (λ (g : GarageValue). next_reading (state_of g).traffic j) h.adds ∙ next_same j (state_of old).traffic (after_read y r (state_of old)).traffic (same_read j y r (state_of old) n);
+  next = λ j n. next_same j (state_of old).traffic (state_of new).traffic (event_same j y r old new h n);
 }
 
 pub leaves_none : (y : ℕ) (g : GarageValue) → LeavesOthers y g g

@@ -20,10 +20,11 @@ use Rattle.journal.specs.declared.tally.Tally.{Tally}
 use Rattle.garage.specs.Answers.{Hears}
 use Rattle.garage.specs.Carrying.{AddsCarry}
 use Rattle.garage.specs.Causes.{held_at, has_open_dm1}
-use Rattle.garage.specs.declared.steps.HeardOne.{HeardOne}
-use Rattle.garage.specs.declared.steps.HeardOne.TheVariants as heard
+use Rattle.garage.specs.Hearing.{HasHeardAll}
+use Rattle.garage.specs.declared.hearing.HeardOne.{HeardOne}
+use Rattle.garage.specs.declared.hearing.HeardOne.TheVariants as heard
 use Rattle.garage.proofs.Traffics.{set_live}
-use Rattle.unit_threads.specs.Turns.{CannotCarry, CarriesAll, CarriesSome, GrowsBy, HasHeardAll, IsCarry, IsHearOf, IsOneTurn, IsPartOfTurn, IsTurnInSeat, KeepsSeats, LeavesAfterSome, LeftTurn, begun_by}
+use Rattle.unit_threads.specs.Turns.{CannotCarry, CarriesAll, CarriesSome, GrowsBy, IsCarry, IsHearOf, IsOneTurn, IsPartOfTurn, IsTurnInSeat, KeepsSeats, LeavesAfterSome, LeftTurn, begun_by}
 
 abbrev pub grows_none : (P : Event → Type 0) (g : GarageValue) → GrowsBy P g g
 grows_none P g = record { events = []; kind = All-nil P; added = refl }

@@ -1,7 +1,12 @@
 -- What a turn and a reading add to the journal of a garage.
-use Rattle.std.specs.Prelude.{ℕ, suc, zero, ◌≡◌, ◌≢◌, ◌⊎◌, ◌<◌, ◌≤◌, ◌&&◌, Bool, not, List, ◌++◌, None, All, is_some, length, if◌then◌else◌}
+use Rattle.std.specs.Prelude.{ℕ, suc, zero, ◌≡◌, ◌≢◌, ◌⊎◌, ◌<◌, ◌≤◌, ◌&&◌, Bool, not, List, ◌++◌, Option, None, All, is_some, length, if◌then◌else◌}
 use Rattle.can_frame.specs.declared.reading.Reading.TheVariants.{Empty}
+use Rattle.std.specs.declared.alloc.Global.{Global}
+use Rattle.std.specs.declared.dyn_box.DynBox.{DynBox}
 use Rattle.fault_memory.specs.Memory.{MemoryValue}
+use Rattle.unit_trait.specs.declared.question.Question.{Question}
+use Rattle.node_core.specs.Asking.{IsAsked}
+use Rattle.node_core.specs.declared.heard.Answer.{Answer as UnitAnswer}
 use Rattle.bus_ledger.specs.Carrying.{IsIdle, IsWaiting}
 use Rattle.bus_ledger.specs.Reception.{next_reading}
 use Rattle.journal.specs.Steps.{next_for}
@@ -9,6 +14,9 @@ use Rattle.journal.specs.Journal.{GarageValue, IsSeated, state_of, with_event}
 use Rattle.journal.specs.declared.event.Event.{Event}
 use Rattle.journal.specs.declared.event.Event.TheVariants.{Hear, Begin, Turned, Carry, Read, Leave}
 use Rattle.garage.specs.Causes.{held_at, has_open_dm1}
+use Rattle.garage.specs.Crew.{Sitting}
+use Rattle.garage.specs.Hearing.{HasHeardAll, HearsMany}
+use Rattle.garage.specs.Rounds.{HasReadAll, HaveReadAll, IsReadOf}
 
 -- these events more, the newest first
 abbrev pub with_events : List Event → GarageValue → GarageValue
@@ -28,23 +36,6 @@ IsHearOf k _ = ⊥
 abbrev pub IsCarry : Event → Type 0
 IsCarry (Carry k) = Unit {0}
 IsCarry _ = ⊥
-
--- the station with this number read
-abbrev pub IsReadOf : ℕ → Event → Type 0
-IsReadOf y (Read j r) = j ≡ y
-IsReadOf y _ = ⊥
-
--- the seat has heard the whole wire
-abbrev pub HasHeardAll : ℕ → GarageValue → Type 0
-HasHeardAll k g = next_for (state_of g) k ≡ None
-
--- a station has nothing left to read
-abbrev pub HasReadAll : ℕ → GarageValue → Type 0
-HasReadAll y g = next_reading (state_of g).traffic y ≡ Empty
-
--- the first n stations have nothing left to read
-abbrev pub HaveReadAll : ℕ → GarageValue → Type 0
-HaveReadAll n g = (y : ℕ) → y < n → HasReadAll y g
 
 -- the first n stations read, one after another
 abbrev pub ReadInTurn : ℕ → GarageValue → GarageValue → Type 0
@@ -146,3 +137,26 @@ IsPartOfRead old new = IsPartOfReading old new ⊎ IsReadCarrying old new
 -- who was seated still is
 pub record KeepsSeats (old new : GarageValue) : Type 0 where
   pub still : (k name events : ℕ) → IsSeated old k name events → IsSeated new k name events
+
+-- ---- the box of a unit
+
+-- a unit and its count of events, as they are to a garage
+abbrev pub sitting_at : {X : Type 0} → ℕ → (X → ℕ) → (X → MemoryValue) → X × ℕ → Sitting
+sitting_at k name_of memory_of p = record { seat = k; name = name_of p.0; events = p.1; memory = memory_of p.0 }
+
+abbrev pub asked_at : {X : Type 0} → (X → Question → Bool → X → Type 0) → X × ℕ → X × ℕ → Option Question → UnitAnswer → Type 0
+asked_at answers p q question answer = IsAsked (answers p.0) question answer p.0 q.0
+
+-- the unit in the box heard some frames, one after another: it was asked exactly what each puts to it, and is else as it was
+abbrev pub BoxHeard : {I : Type 0} → {D : I → Type 0} → ((i : I) → D i → ℕ) → ((i : I) → D i → MemoryValue) → ((i : I) → D i → Question → Bool → D i → Type 0)
+    → ℕ → GarageValue → DynBox I Global D → ℕ → GarageValue → DynBox I Global D → ℕ → Type 0
+BoxHeard {I} {D} name_of memory_of answers k a b e a' b' e' =
+    (u : D b.vtable) × (n : ℕ) × (b' ≡ record b { value = u }) × HearsMany (sitting_at k (name_of b.vtable) (memory_of b.vtable)) (asked_at (answers b.vtable)) n a (b.value, e) a' (u, e')
+
+-- so it heard the whole wire, then began a DM1 where it could, then ended its turn
+pub record IsTurnInBox {I : Type 0} {D : I → Type 0} (name_of : (i : I) → D i → ℕ) (wants : (i : I) → D i → Bool) (memory_of : (i : I) → D i → MemoryValue) (answers : (i : I) → D i → Question → Bool → D i → Type 0) (k : ℕ) (old : GarageValue) (b : DynBox I Global D) (e : ℕ) (new : GarageValue) (b' : DynBox I Global D) : Type 0 where
+  pub heard : GarageValue
+  pub events : ℕ
+  pub box : BoxHeard name_of memory_of answers k old b e heard b' events
+  pub all : HasHeardAll k heard
+  pub turned : new ≡ with_event (Turned k) (begun_by k (wants b'.vtable b'.value) (memory_of b'.vtable b'.value) heard)

@@ -1,6 +1,8 @@
 ghost use Rattle.std.specs.Prelude.{◌≡◌, ◌⊎◌, ◌↔◌, ◌<◌, ◌≤◌, ℕ, length, Err, None, IfErr, IfOk, IsErr, MatchResult, OnErr, OnOk};
-ghost use Rattle.journal.specs.Journal.{IsSeated};
-ghost use Rattle.unit_threads.specs.Turns.{CarriesAll, CarriesSome, GrowsBy, HasHeardAll, HasReadAll, HaveReadAll, IsHearOf, IsOneRead, IsOneTurn, IsPartOfRead, IsPartOfReading, IsPartOfTurn, IsReadOf, IsTurnInSeat, KeepsSeats, LeavesAfterSome, LeavesOthers, LeftTurn, ReadInTurn, begun_by};
+ghost use Rattle.journal.specs.Journal.{GarageValue, IsSeated};
+ghost use Rattle.garage.specs.Hearing.{HasHeardAll};
+ghost use Rattle.garage.specs.Rounds.{HasReadAll, HaveReadAll, IsReadOf};
+ghost use Rattle.unit_threads.specs.Turns.{BoxHeard, CarriesAll, CarriesSome, GrowsBy, IsHearOf, IsOneRead, IsOneTurn, IsPartOfRead, IsPartOfReading, IsPartOfTurn, IsTurnInBox, IsTurnInSeat, KeepsSeats, LeavesAfterSome, LeavesOthers, LeftTurn, ReadInTurn, begun_by};
 ghost use Rattle.garage.specs.Calls.{IsWant};
 
 use can_frame::Reading;
@@ -12,7 +14,8 @@ use unit_trait::Unit;
 const MOST_CARRIED: u32 = 8;
 
 /// One turn of a unit: it hears the whole wire, begins a DM1 if it wants to and can, and ends its turn; then up to eight
-/// frames are carried.
+/// frames are carried. The box that is given back is the one that was handed over, changed only by what the frames that it heard
+/// asked of it.
 ///
 /// # Errors
 /// - `Stranger`: the garage has no live seat with the unit's seat number, NAME and count of events. Nothing changed, and the
@@ -23,6 +26,7 @@ pub fn one_turn(alloc: Global, garage: &mut Garage, parked: Parked) -> Result<Pa
     ensures ok { IfOk result (λ p. IsOneTurn parked.seat ((⟦<dyn Unit as Unit>⟧ p.unit.vtable).wants p.unit.value) ((⟦<dyn Unit as Unit>⟧ p.unit.vtable).memory_of p.unit.value) garage.old garage.new) }
     ensures parked { IfOk result (λ p. (p.seat ≡ parked.seat) × IsSeated garage.new p.seat ((⟦<dyn Unit as Unit>⟧ p.unit.vtable).name_of p.unit.value) p.events) }
     ensures named { IfOk result (λ p. ((⟦<dyn Unit as Unit>⟧ p.unit.vtable).name_of p.unit.value) ≡ ((⟦<dyn Unit as Unit>⟧ parked.unit.vtable).name_of parked.unit.value)) }
+    ensures unit { IfOk result (λ p. (turned : GarageValue) × IsTurnInBox (λ i. (⟦<dyn Unit as Unit>⟧ i).name_of) (λ i. (⟦<dyn Unit as Unit>⟧ i).wants) (λ i. (⟦<dyn Unit as Unit>⟧ i).memory_of) (λ i. (⟦<dyn Unit as Unit>⟧ i).Answers) parked.seat garage.old parked.unit parked.events turned p.unit × CarriesAll turned garage.new) }
     ensures stranger { (result ≡ Err GarageError.Stranger) ↔ (¬ IsSeated garage.old parked.seat ((⟦<dyn Unit as Unit>⟧ parked.unit.vtable).name_of parked.unit.value) parked.events) }
     ensures err { IfErr result (λ e. ((e ≡ GarageError.Stranger) × (garage.new ≡ garage.old)) ⊎ (IsWant e × LeftTurn parked.seat garage.old garage.new)) }
 {
@@ -122,6 +126,7 @@ fn turned_in_seat(
     ensures stranger { IsErr result ↔ (¬ IsSeated garage.old parked.seat ((⟦<dyn Unit as Unit>⟧ parked.unit.vtable).name_of parked.unit.value) parked.events) }
     ensures turned { IfOk result (λ r. IfOk r (λ p. IsTurnInSeat parked.seat ((⟦<dyn Unit as Unit>⟧ p.unit.vtable).wants p.unit.value) ((⟦<dyn Unit as Unit>⟧ p.unit.vtable).memory_of p.unit.value) garage.old garage.new)) }
     ensures seated { IfOk result (λ r. IfOk r (λ p. (p.seat ≡ parked.seat) × (((⟦<dyn Unit as Unit>⟧ p.unit.vtable).name_of p.unit.value) ≡ ((⟦<dyn Unit as Unit>⟧ parked.unit.vtable).name_of parked.unit.value)) × IsSeated garage.new p.seat ((⟦<dyn Unit as Unit>⟧ p.unit.vtable).name_of p.unit.value) p.events)) }
+    ensures unit { IfOk result (λ r. IfOk r (λ p. IsTurnInBox (λ i. (⟦<dyn Unit as Unit>⟧ i).name_of) (λ i. (⟦<dyn Unit as Unit>⟧ i).wants) (λ i. (⟦<dyn Unit as Unit>⟧ i).memory_of) (λ i. (⟦<dyn Unit as Unit>⟧ i).Answers) parked.seat garage.old parked.unit parked.events garage.new p.unit)) }
     ensures left { IfOk result (λ r. IfErr r (λ e. IsWant e × LeftTurn parked.seat garage.old garage.new)) }
     ensures err { IfErr result (λ e. (e.0 ≡ parked) × (e.1 ≡ GarageError.Stranger) × (garage.new ≡ garage.old)) }
 {
@@ -139,6 +144,7 @@ fn steps(alloc: Global, plug: &mut Plug<'_>) -> Result<(), GarageError>
     ensures same { plug.new.garage.ghost_name ≡ plug.old.garage.ghost_name }
     ensures kept { (plug.new.seat ≡ plug.old.seat) × (plug.new.name ≡ plug.old.name) × (((⟦<dyn Unit as Unit>⟧ plug.new.unit.vtable).name_of plug.new.unit.value) ≡ ((⟦<dyn Unit as Unit>⟧ plug.old.unit.vtable).name_of plug.old.unit.value)) }
     ensures ok { OnOk result (IsTurnInSeat plug.old.seat ((⟦<dyn Unit as Unit>⟧ plug.new.unit.vtable).wants plug.new.unit.value) ((⟦<dyn Unit as Unit>⟧ plug.new.unit.vtable).memory_of plug.new.unit.value) plug.old.garage.now plug.new.garage.now) }
+    ensures unit { OnOk result (IsTurnInBox (λ i. (⟦<dyn Unit as Unit>⟧ i).name_of) (λ i. (⟦<dyn Unit as Unit>⟧ i).wants) (λ i. (⟦<dyn Unit as Unit>⟧ i).memory_of) (λ i. (⟦<dyn Unit as Unit>⟧ i).Answers) plug.old.seat plug.old.garage.now plug.old.unit plug.old.events plug.new.garage.now plug.new.unit) }
     ensures err { IfErr result (λ e. IsWant e × IsPartOfTurn plug.old.seat plug.old.garage.now plug.new.garage.now) }
 {
     hear_all(alloc, plug)?;
@@ -154,6 +160,7 @@ fn hear_all(alloc: Global, plug: &mut Plug<'_>) -> Result<(), GarageError>
     ensures same { plug.new.garage.ghost_name ≡ plug.old.garage.ghost_name }
     ensures kept { (plug.new.seat ≡ plug.old.seat) × (plug.new.name ≡ plug.old.name) × (((⟦<dyn Unit as Unit>⟧ plug.new.unit.vtable).name_of plug.new.unit.value) ≡ ((⟦<dyn Unit as Unit>⟧ plug.old.unit.vtable).name_of plug.old.unit.value)) }
     ensures heard { GrowsBy (IsHearOf plug.old.seat) plug.old.garage.now plug.new.garage.now }
+    ensures unit { BoxHeard (λ i. (⟦<dyn Unit as Unit>⟧ i).name_of) (λ i. (⟦<dyn Unit as Unit>⟧ i).memory_of) (λ i. (⟦<dyn Unit as Unit>⟧ i).Answers) plug.old.seat plug.old.garage.now plug.old.unit plug.old.events plug.new.garage.now plug.new.unit plug.new.events }
     ensures all { OnOk result (HasHeardAll plug.old.seat plug.new.garage.now) }
     ensures want { IfErr result IsWant }
 {

@@ -3,12 +3,15 @@
 #![tactic(auto)]
 
 mod form;
+mod hearing;
 mod lines;
 mod objects;
+mod over;
+mod report_object;
 mod rows;
 mod run;
 mod text;
 mod units;
 
-pub use form::{Form, write_changes, write_report};
-pub use run::{Assumed, Options, watch};
+pub use form::{Form, Part, write_changes, write_report};
+pub use run::{Assumed, Options, Watched, watch};

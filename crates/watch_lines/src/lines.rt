@@ -1,6 +1,7 @@
-use crate::form::write_changes;
-use crate::run::Options;
-use bus_watch::Watch;
+use crate::hearing::hear_line;
+use crate::over::Over;
+use crate::run::{Options, Watched};
+use bus_watch::Buses;
 use candump_line::read_line;
 use log_lines::{Clock, Ended, LogFault, Notices, next_line};
 use std::alloc::Global;
@@ -13,12 +14,25 @@ pub(crate) fn read_lines<R: Read + Drop, W: Write + Drop, E: Write>(
     reader: &mut BufReader<R>,
     writer: &mut BufWriter<W>,
     errors: &mut E,
-    watch: &mut Watch,
+    buses: &mut Buses,
     options: &Options<'_>,
-) -> Ended {
+) -> Watched {
     let mut notices = Notices::new();
-    let end = hear_lines(alloc, reader, writer, errors, watch, options, &mut notices);
-    notices.ended(errors, end)
+    let mut over = Over::new();
+    let end = hear_lines(
+        alloc,
+        reader,
+        writer,
+        errors,
+        buses,
+        options,
+        &mut notices,
+        &mut over,
+    );
+    Watched {
+        ended: notices.ended(errors, end),
+        is_anew: over.is_anew(),
+    }
 }
 
 /// Hears line by line. Tells whether the input came to its end.
@@ -27,9 +41,10 @@ fn hear_lines<R: Read + Drop, W: Write + Drop, E: Write>(
     reader: &mut BufReader<R>,
     writer: &mut BufWriter<W>,
     errors: &mut E,
-    watch: &mut Watch,
+    buses: &mut Buses,
     options: &Options<'_>,
     notices: &mut Notices,
+    over: &mut Over,
 ) -> Result<bool, LogFault> {
     let mut line = Vec::new(alloc);
     let mut clock = Clock::new();
@@ -40,12 +55,12 @@ fn hear_lines<R: Read + Drop, W: Write + Drop, E: Write>(
         let text = line.as_slice();
         let said = read_line(text);
         let is_bad = notices.take(errors, number, text, &said)?;
-        let changes = match clock.counts(errors, number, text, &said) {
-            Ok(true) => watch.hear(alloc, &said)?,
-            Ok(false) => watch.hear(alloc, &said.untimed())?,
+        over.make_room(alloc, writer, errors, buses, options, number)?;
+        match clock.counts(errors, number, text, &said) {
+            Ok(true) => hear_line(alloc, writer, buses, options, number, &said)?,
+            Ok(false) => hear_line(alloc, writer, buses, options, number, &said.untimed())?,
             Err(error) => return Err(LogFault::of_write(error)),
-        };
-        write_changes(writer, alloc, watch, options.form, number, changes)?;
+        }
         if is_bad && options.strict {
             return Ok(false);
         }

@@ -1,10 +1,10 @@
-use crate::run::Assumed;
-use crate::units::{KINDS, address_of, is_assumed_unit, kind_word, row_at, row_places};
-use bus_watch::{Change, Counts, Run, Watch, Who};
+use crate::units::{address_of, kind_word};
+use bus_watch::{BusWatch, Change, Run, Watch, Who};
 use can_frame::{GLOBAL_ADDRESS, Pgn};
 use candump_line::Time;
-use dm_messages::Kind;
+use dm_messages::{Kind, ReadError};
 use dm_words::{put_code, put_lamps, put_number};
+use frame_words::{ControlWords, UnreadWords};
 use json::Writer;
 use name_field::Name;
 use std::alloc::{AllocError, Global};
@@ -13,16 +13,18 @@ use trouble_code::Dtc;
 /// A change as a JSON object: the number of its line, its time, what happened, and to whom.
 pub(crate) fn change_object(
     alloc: Global,
-    watch: &Watch,
+    one: &BusWatch,
     number: u64,
     change: Change,
 ) -> Result<Vec<u8>, AllocError> {
+    let watch = &one.watch;
     let mut json = Writer::new(Vec::new(alloc));
     json.begin_object()?;
     put_number(&mut json, "line", number)?;
     put_time(&mut json, alloc, "time", &watch.now())?;
     json.key("event")?;
     put_event(&mut json, alloc, watch, change)?;
+    put_bus(&mut json, one)?;
     json.end_object()?;
     Ok(json.into_inner())
 }
@@ -39,8 +41,23 @@ fn put_event(
         Change::Entry { who, kind } => put_entry(json, alloc, watch, &who, kind),
         Change::Missed { count } => put_counted(json, "missed", "count", u64::from(count)),
         Change::Unowned { source } => put_counted(json, "unowned", "address", u64::from(source)),
-        Change::Ack { name, control, pgn } => put_ack(json, alloc, name, control, pgn),
-        Change::Unread { who, kind, to } => put_unread(json, alloc, watch, &who, kind, to),
+        Change::Ack {
+            name,
+            control,
+            pgn,
+            requester,
+        } => put_ack(json, alloc, name, control, pgn, requester),
+        Change::Unread { who, kind, to, why } => put_unread(
+            json, alloc, watch, &who, kind, to, why,
+        ),
+    }
+}
+
+/// The name of the bus, where each is watched.
+fn put_bus(json: &mut Writer, one: &BusWatch) -> Result<(), AllocError> {
+    match &one.bus {
+        Some(bus) => put_text(json, "bus", bus.as_str()),
+        None => Ok(()),
     }
 }
 
@@ -68,11 +85,15 @@ fn put_ack(
     name: Name,
     control: u8,
     pgn: Pgn,
+    requester: u8,
 ) -> Result<(), AllocError> {
     json.string("ack")?;
     put_name(json, alloc, name)?;
     put_number(json, "control", u64::from(control))?;
-    put_number(json, "pgn", u64::from(pgn.number()))
+    put_number(json, "pgn", u64::from(pgn.number()))?;
+    let answer = ControlWords(control).to_string(alloc)?;
+    put_text(json, "answer", answer.as_str())?;
+    put_number(json, "requester", u64::from(requester))
 }
 
 /// The newest entry of a unit, with its number in the list, from 1.
@@ -91,7 +112,7 @@ fn put_entry(
     put_number(json, "entry", watch.entries(*who, kind))
 }
 
-/// How many messages could not be read, whose the newest of them is, its kind, and where it went, if not to all.
+/// How many messages could not be read, whose the newest of them is, its kind, where it went, if not to all, and why.
 fn put_unread(
     json: &mut Writer,
     alloc: Global,
@@ -99,11 +120,14 @@ fn put_unread(
     who: &Who,
     kind: Kind,
     to: u8,
+    why: ReadError,
 ) -> Result<(), AllocError> {
-    put_counted(json, "unread", "count", watch.unread())?;
+    put_counted(json, "unread", "count", watch.unread_in_all())?;
     put_who(json, alloc, watch, who)?;
     put_text(json, "kind", kind_word(kind))?;
-    put_destination(json, to)
+    put_destination(json, to)?;
+    let why = UnreadWords(why).to_string(alloc)?;
+    put_text(json, "why", why.as_str())
 }
 
 /// A unit: its NAME, null where nobody has claimed its address; that address; and of such a one how many gaps of missed frames were before it.
@@ -153,105 +177,6 @@ fn begin_list(json: &mut Writer, key: &str) -> Result<(), AllocError> {
 fn put_flag(json: &mut Writer, key: &str, holds: bool) -> Result<(), AllocError> {
     json.key(key)?;
     json.boolean(holds)
-}
-
-/// The report: a row for each unit with its runs of entries, the counts of what was heard, and those of the lines.
-pub(crate) fn report_object(
-    alloc: Global,
-    watch: &Watch,
-    assumed: &[Assumed],
-) -> Result<Vec<u8>, AllocError> {
-    let mut json = Writer::new(Vec::new(alloc));
-    json.begin_object()?;
-    json.key("event")?;
-    json.string("report")?;
-    put_rows(&mut json, alloc, watch, assumed)?;
-    put_number(&mut json, "missed", watch.missed())?;
-    put_number(&mut json, "unread", watch.unread())?;
-    put_counts(&mut json, watch.counts())?;
-    json.end_object()?;
-    Ok(json.into_inner())
-}
-
-/// A row for each unit.
-fn put_rows(
-    json: &mut Writer,
-    alloc: Global,
-    watch: &Watch,
-    assumed: &[Assumed],
-) -> Result<(), AllocError> {
-    begin_list(json, "rows")?;
-    for place in 0..row_places(watch) {
-        if let Some(who) = &row_at(watch, place) {
-            put_row(json, alloc, watch, who, is_assumed_unit(assumed, who))?;
-        }
-    }
-    json.end_array()
-}
-
-fn put_row(
-    json: &mut Writer,
-    alloc: Global,
-    watch: &Watch,
-    who: &Who,
-    is_assumed: bool,
-) -> Result<(), AllocError> {
-    json.begin_object()?;
-    put_who(json, alloc, watch, who)?;
-    if is_assumed {
-        put_flag(json, "assumed", true)?;
-    }
-    for kind in KINDS {
-        put_runs(json, alloc, kind_word(kind), watch.runs(*who, kind))?;
-    }
-    json.end_object()
-}
-
-/// The runs of a kind, each with its number of entries and the times of the first and the last.
-fn put_runs(json: &mut Writer, alloc: Global, word: &str, runs: &[Run]) -> Result<(), AllocError> {
-    begin_list(json, word)?;
-    for run in runs {
-        put_run(json, alloc, run)?;
-    }
-    json.end_array()
-}
-
-fn put_run(json: &mut Writer, alloc: Global, run: &Run) -> Result<(), AllocError> {
-    json.begin_object()?;
-    put_number(json, "times", run.times)?;
-    put_time(json, alloc, "first", &run.first)?;
-    put_time(json, alloc, "last", &run.last)?;
-    put_shown(json, alloc, run)?;
-    json.end_object()
-}
-
-fn put_counts(json: &mut Writer, counts: Counts) -> Result<(), AllocError> {
-    json.key("lines")?;
-    json.begin_object()?;
-    for (key, count) in counts_of_lines(counts) {
-        put_number(json, key, count)?;
-    }
-    json.end_object()?;
-    put_number(json, "not_attributed", counts.not_attributed)?;
-    // A listener sends nothing; the key stays for who reads it.
-    put_number(json, "not_sent", 0)
-}
-
-/// How many lines there were of each sort, each with its key.
-fn counts_of_lines(counts: Counts) -> [(&'static str, u64); 11] {
-    [
-        ("all", counts.lines),
-        ("frame", counts.frames),
-        ("bad", counts.bad),
-        ("short", counts.short),
-        ("remote", counts.remote),
-        ("fd", counts.fd),
-        ("error", counts.error),
-        ("other_bus", counts.other_bus),
-        ("drop", counts.drops),
-        ("note", counts.notes),
-        ("withheld", counts.withheld),
-    ]
 }
 
 fn put_name(json: &mut Writer, alloc: Global, name: Name) -> Result<(), AllocError> {

@@ -1,220 +1,179 @@
-use crate::units::{KINDS, WhoWords, address_of, kind_word, row_at, row_places};
-use bus_watch::{Run, Watch, Who};
+//! The report as comma-separated values, written as it goes: nothing of it is held, and no memory is asked for.
+
+use crate::form::Part;
+use crate::units::{KINDS, WhoValue, address_of, has_entries, kind_word, row_at, row_places};
+use bus_watch::{BusWatch, Buses, Run, Who};
 use can_frame::GLOBAL_ADDRESS;
 use candump_line::Time;
-use csv::Writer;
 use dm_messages::Kind;
-use dm_words::NO_COUNT;
-use std::alloc::{AllocError, Global};
-use trouble_code::{Dtc, Lamps};
+use dm_words::{LampBytes, NO_COUNT};
+use std::io;
+use std::io::Write;
+use trouble_code::Dtc;
 
 /// The names of the values.
-const HEADER: [&[u8]; 12] = [
-    b"name",
-    b"address",
-    b"kind",
-    b"first_time",
-    b"last_time",
-    b"entries",
-    b"lamps",
-    b"spn",
-    b"fmi",
-    b"count",
-    b"contested",
-    b"to",
-];
+const HEADER: &str =
+    "name,address,kind,first_time,last_time,entries,lamps,spn,fmi,count,contested,to";
 
-/// Writes rows to memory, where only memory can fail.
-type Rows = Writer<Vec<u8>>;
+/// Writes the report: a row for each code of each run of equal entries, one without a code for a run without codes, and one
+/// without a kind for a unit without entries. Where each bus is watched, the bus is the last value.
+/// The names of the values stand before the first part.
+pub(crate) fn write_rows<W: Write>(writer: &mut W, buses: &Buses, part: Part) -> io::Result<()> {
+    if is_first(part) {
+        write_header(writer, buses.are_each())?;
+    }
+    for one in buses.watches() {
+        write_bus_rows(writer, one)?;
+    }
+    Ok(())
+}
 
-/// The report: a row for each code of each run of equal entries, one without a code for a run without codes, and one
-/// without a kind for a unit without entries.
-pub(crate) fn report_rows(alloc: Global, watch: &Watch) -> Result<Vec<u8>, AllocError> {
-    let mut rows = Writer::from_writer(Vec::new(alloc));
-    put_row(&mut rows, &HEADER)?;
-    for place in 0..row_places(watch) {
-        if let Some(who) = &row_at(watch, place) {
-            put_unit(&mut rows, alloc, watch, who)?;
+/// Whether no rows stand before this part.
+fn is_first(part: Part) -> bool {
+    match part {
+        Part::Before { is_first, .. } => is_first,
+        Part::Last { is_all } => is_all,
+    }
+}
+
+/// The names of the values.
+fn write_header<W: Write>(writer: &mut W, names_bus: bool) -> io::Result<()> {
+    write!(writer, "{HEADER}")?;
+    if names_bus {
+        write!(writer, ",bus")?;
+    }
+    writeln!(writer)
+}
+
+/// The rows of a bus.
+fn write_bus_rows<W: Write>(writer: &mut W, one: &BusWatch) -> io::Result<()> {
+    for place in 0..row_places(&one.watch) {
+        if let Some(who) = &row_at(&one.watch, place) {
+            write_unit(writer, one, who)?;
         }
     }
-    match rows.into_inner() {
-        Ok(text) => Ok(text),
-        Err(_) => Err(AllocError),
+    Ok(())
+}
+
+/// The rows of a unit.
+fn write_unit<W: Write>(writer: &mut W, one: &BusWatch, who: &Who) -> io::Result<()> {
+    if !has_entries(&one.watch, who) {
+        write_front(writer, one, who)?;
+        write!(writer, ",,,,,,,,,,")?;
+        return end_row(writer, one);
+    }
+    for kind in KINDS {
+        for run in one.watch.runs(*who, kind) {
+            write_run(writer, one, who, kind, run)?;
+        }
+    }
+    Ok(())
+}
+
+/// The first two values of a row: the unit, and its address. In the place of a NAME stands that nobody has claimed its address, so that no two
+/// units have the same there; that has a comma.
+fn write_front<W: Write>(writer: &mut W, one: &BusWatch, who: &Who) -> io::Result<()> {
+    let unit = WhoValue(*who);
+    match *who {
+        Who::Named(_) => write!(writer, "{unit},")?,
+        Who::Unclaimed { .. } => write!(writer, "\"{unit}\",")?,
+    }
+    match address_of(&one.watch, who) {
+        Some(address) => write!(writer, "{address}"),
+        None => Ok(()),
     }
 }
 
-fn put_row(rows: &mut Rows, fields: &[&[u8]]) -> Result<(), AllocError> {
-    match rows.write_fields(fields) {
-        Ok(()) => Ok(()),
-        Err(_) => Err(AllocError),
-    }
-}
-
-/// The rows of a unit. In the place of a NAME stands that nobody has claimed its address, so that no two units have the same there.
-fn put_unit(rows: &mut Rows, alloc: Global, watch: &Watch, who: &Who) -> Result<(), AllocError> {
-    let address = address_text(alloc, address_of(watch, who))?;
-    let words = WhoWords(*who);
-    let unit = format!(in alloc; "{words}")?;
-    put_entries(
-        rows,
-        alloc,
-        [unit.as_bytes(), address.as_bytes()],
-        watch,
-        who,
-    )
-}
-
-/// The rows of a unit behind these two values.
-fn put_entries(
-    rows: &mut Rows,
-    alloc: Global,
-    before: [&[u8]; 2],
-    watch: &Watch,
+/// The rows of a run of equal entries: one for each code, or one without a code where there are none.
+fn write_run<W: Write>(
+    writer: &mut W,
+    one: &BusWatch,
     who: &Who,
-) -> Result<(), AllocError> {
-    if !has_entries(watch, who) {
-        let none: &[u8] = b"";
-        return put_row(
-            rows,
-            &[
-                before[0], before[1], none, none, none, none, none, none, none, none, none, none,
-            ],
-        );
-    }
-    for kind in KINDS {
-        put_runs(rows, alloc, before, watch.runs(*who, kind), kind)?;
-    }
-    Ok(())
-}
-
-/// Whether a unit has an entry of some kind.
-fn has_entries(watch: &Watch, who: &Who) -> bool {
-    for kind in KINDS {
-        if !watch.runs(*who, kind).is_empty() {
-            return true;
-        }
-    }
-    false
-}
-
-/// The rows of a kind.
-fn put_runs(
-    rows: &mut Rows,
-    alloc: Global,
-    before: [&[u8]; 2],
-    runs: &[Run],
     kind: Kind,
-) -> Result<(), AllocError> {
-    for run in runs {
-        put_run(rows, alloc, before, kind_word(kind).as_bytes(), run)?;
-    }
-    Ok(())
-}
-
-/// The rows of a run of equal entries.
-fn put_run(
-    rows: &mut Rows,
-    alloc: Global,
-    before: [&[u8]; 2],
-    kind: &[u8],
     run: &Run,
-) -> Result<(), AllocError> {
-    let first = time_text(alloc, &run.first)?;
-    let last = time_text(alloc, &run.last)?;
-    let times = number_text(alloc, run.times)?;
-    let lamps = lamps_text(alloc, run.shown.lamps)?;
-    let to = destination_text(alloc, run.to)?;
-    let run_fields = [
-        before[0],
-        before[1],
-        kind,
-        first.as_bytes(),
-        last.as_bytes(),
-        times.as_bytes(),
-        lamps.as_bytes(),
-        if run.contested { b"true" } else { b"false" },
-        to.as_bytes(),
-    ];
-    put_codes(rows, alloc, run_fields, run.shown.codes.as_slice())
-}
-
-/// A row for each code; one without a code where there are none.
-fn put_codes(
-    rows: &mut Rows,
-    alloc: Global,
-    run: [&[u8]; 9],
-    codes: &[Dtc],
-) -> Result<(), AllocError> {
+) -> io::Result<()> {
+    let codes = run.shown.codes.as_slice();
     if codes.is_empty() {
-        return put_code(rows, run, [b"", b"", b""]);
+        return write_row(writer, one, who, kind, run, None);
     }
     for code in codes {
-        put_code_of(rows, alloc, run, *code)?;
+        write_row(writer, one, who, kind, run, Some(*code))?;
     }
     Ok(())
 }
 
-fn put_code_of(
-    rows: &mut Rows,
-    alloc: Global,
-    run: [&[u8]; 9],
-    code: Dtc,
-) -> Result<(), AllocError> {
-    let spn = number_text(alloc, u64::from(code.spn()))?;
-    let fmi = number_text(alloc, u64::from(code.fmi()))?;
-    let count = count_text(alloc, code.count())?;
-    put_code(
-        rows,
-        run,
-        [spn.as_bytes(), fmi.as_bytes(), count.as_bytes()],
-    )
+fn write_row<W: Write>(
+    writer: &mut W,
+    one: &BusWatch,
+    who: &Who,
+    kind: Kind,
+    run: &Run,
+    code: Option<Dtc>,
+) -> io::Result<()> {
+    write_front(writer, one, who)?;
+    let kind = kind_word(kind);
+    write!(writer, ",{kind},")?;
+    write_time(writer, &run.first)?;
+    write_time(writer, &run.last)?;
+    let times = run.times;
+    let lamps = LampBytes(run.shown.lamps);
+    write!(writer, "{times},{lamps},")?;
+    write_code(writer, code)?;
+    let contested = run.contested;
+    write!(writer, "{contested},")?;
+    if run.to != GLOBAL_ADDRESS {
+        let to = run.to;
+        write!(writer, "{to}")?;
+    }
+    end_row(writer, one)
 }
 
-/// The values of a code stand before the last two of its run.
-fn put_code(rows: &mut Rows, run: [&[u8]; 9], code: [&[u8]; 3]) -> Result<(), AllocError> {
-    let fields = [
-        run[0], run[1], run[2], run[3], run[4], run[5], run[6], code[0], code[1], code[2], run[7],
-        run[8],
-    ];
-    put_row(rows, &fields)
-}
-
-fn time_text(alloc: Global, time: &Option<Time>) -> Result<String, AllocError> {
+/// A time and a comma; the comma alone where the line told none.
+fn write_time<W: Write>(writer: &mut W, time: &Option<Time>) -> io::Result<()> {
     match time {
-        Some(time) => Ok(format!(in alloc; "{time}")?),
-        None => Ok(String::new(alloc)),
+        Some(time) => write!(writer, "{time},"),
+        None => write!(writer, ","),
     }
 }
 
-fn number_text(alloc: Global, number: u64) -> Result<String, AllocError> {
-    Ok(format!(in alloc; "{number}")?)
-}
-
-/// The occurrence count; nothing where it is not available.
-fn count_text(alloc: Global, count: u8) -> Result<String, AllocError> {
-    if count == NO_COUNT {
-        return Ok(String::new(alloc));
+/// The SPN, the FMI and the count of a code, each with a comma; the count is empty where it is not available, and all are without a code.
+fn write_code<W: Write>(writer: &mut W, code: Option<Dtc>) -> io::Result<()> {
+    let Some(code) = code else {
+        return write!(writer, ",,,");
+    };
+    let spn = code.spn();
+    let fmi = code.fmi();
+    write!(writer, "{spn},{fmi},")?;
+    let count = code.count();
+    if count != NO_COUNT {
+        write!(writer, "{count}")?;
     }
-    number_text(alloc, u64::from(count))
+    write!(writer, ",")
 }
 
-fn address_text(alloc: Global, address: Option<u8>) -> Result<String, AllocError> {
-    match address {
-        Some(address) => number_text(alloc, u64::from(address)),
-        None => Ok(String::new(alloc)),
+/// The bus behind a row, where each is watched, and the end of the row.
+fn end_row<W: Write>(writer: &mut W, one: &BusWatch) -> io::Result<()> {
+    if let Some(bus) = &one.bus {
+        write!(writer, ",")?;
+        write_text(writer, bus.as_str())?;
     }
+    writeln!(writer)
 }
 
-/// The address that an entry went to; nothing where it went to all.
-fn destination_text(alloc: Global, to: u8) -> Result<String, AllocError> {
-    if to == GLOBAL_ADDRESS {
-        return Ok(String::new(alloc));
+/// A text, in quotes where it has a comma, a quote or an end of a line.
+fn write_text<W: Write>(writer: &mut W, text: &str) -> io::Result<()> {
+    if !text
+        .bytes()
+        .any(|byte| matches!(byte, b',' | b'"' | b'\r' | b'\n'))
+    {
+        return write!(writer, "{text}");
     }
-    number_text(alloc, u64::from(to))
-}
-
-/// The two bytes of lamps in four digits.
-fn lamps_text(alloc: Global, lamps: Lamps) -> Result<String, AllocError> {
-    let [lamps, flashes] = lamps.to_bytes();
-    Ok(format!(in alloc; "{lamps:02X}{flashes:02X}")?)
+    write!(writer, "\"")?;
+    for letter in text.chars() {
+        if letter == '"' {
+            write!(writer, "\"")?;
+        }
+        write!(writer, "{letter}")?;
+    }
+    write!(writer, "\"")
 }

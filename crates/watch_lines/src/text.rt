@@ -1,34 +1,65 @@
+use crate::form::Part;
 use crate::run::Assumed;
-use crate::units::{KINDS, WhoWords, address_of, is_assumed_unit, kind_word, row_at, row_places};
-use bus_watch::{Change, Counts, Run, Watch, Who};
-use can_frame::GLOBAL_ADDRESS;
+use crate::units::{
+    KINDS, WhoWords, address_of, address_words, is_assumed_unit, kind_word, row_at, row_places,
+};
+use bus_watch::{BusWatch, Buses, Change, Counts, Run, Watch, Who};
+use can_frame::{GLOBAL_ADDRESS, Pgn};
 use candump_line::Time;
-use dm_messages::Kind;
-use dm_words::{CodeWords, LampWords};
+use dm_messages::{Kind, ReadError};
+use dm_words::{CodeWords, LampBytes, LampWords};
+use frame_words::{Audience, ControlWords, GroupWords, UnreadWords};
+use name_field::Name;
 use std::io;
 use std::io::Write;
 
-/// Writes a line for a change, with the time of the line that made it, or `-` where no line has a time.
-pub fn write_change<W: Write>(writer: &mut W, watch: &Watch, change: Change) -> io::Result<()> {
+/// Writes a line for a change, with the time of the line that made it, or `-` where no line has a time, and its bus where each is watched.
+pub fn write_change<W: Write>(writer: &mut W, one: &BusWatch, change: Change) -> io::Result<()> {
+    let watch = &one.watch;
     write_time(writer, watch.now())?;
+    if let Some(bus) = &one.bus {
+        write!(writer, " {bus}")?;
+    }
     match change {
-        Change::At { name, address } => writeln!(writer, " unit {name} at {address}"),
+        Change::At { name, address } => {
+            let address = address_words(address);
+            writeln!(writer, " unit {name} at {address}")
+        }
         Change::NoAddress { name } => writeln!(writer, " unit {name} has no address"),
         Change::Entry { who, kind } => write_entry(writer, watch, &who, kind),
         Change::Missed { count } => writeln!(
             writer,
             " missed {count}: no owner is known until units claim again (cansend can0 18EAFFFE#00EE00)"
         ),
-        Change::Unowned { source } => writeln!(
-            writer,
-            " unowned DM from {source}, which nobody has claimed in what was read: not shown"
-        ),
-        Change::Ack { name, control, pgn } => {
-            let number = pgn.number();
-            writeln!(writer, " ack {name} control {control} of {number}")
+        Change::Unowned { source } => {
+            let source = address_words(source);
+            writeln!(
+                writer,
+                " unowned DM from {source}, which nobody has claimed in what was read: not shown"
+            )
         }
-        Change::Unread { who, kind, to } => write_unread(writer, watch, &who, kind, to),
+        Change::Ack {
+            name,
+            control,
+            pgn,
+            requester,
+        } => write_ack(writer, name, control, pgn, requester),
+        Change::Unread { who, kind, to, why } => write_unread(writer, watch, &who, kind, to, why),
     }
+}
+
+/// What a NAME answered, whom, and of which group.
+fn write_ack<W: Write>(
+    writer: &mut W,
+    name: Name,
+    control: u8,
+    pgn: Pgn,
+    requester: u8,
+) -> io::Result<()> {
+    let answer = ControlWords(control);
+    let to = address_words(requester);
+    let group = GroupWords(pgn, Audience::People);
+    writeln!(writer, " ack {name}: {answer}, to {to}, of {group}")
 }
 
 fn write_time<W: Write>(writer: &mut W, time: Option<Time>) -> io::Result<()> {
@@ -38,20 +69,22 @@ fn write_time<W: Write>(writer: &mut W, time: Option<Time>) -> io::Result<()> {
     }
 }
 
-/// How many messages could not be read, whose the newest of them is, and where it went, if not to all.
+/// How many messages could not be read, whose the newest of them is, where it went, if not to all, and why.
 fn write_unread<W: Write>(
     writer: &mut W,
     watch: &Watch,
     who: &Who,
     kind: Kind,
     to: u8,
+    why: ReadError,
 ) -> io::Result<()> {
-    let unread = watch.unread();
+    let unread = watch.unread_in_all();
     let word = kind_word(kind);
     let unit = WhoWords(*who);
+    let why = UnreadWords(why);
     write!(writer, " unread {unread}: {word} of {unit}")?;
     write_destination(writer, to)?;
-    writeln!(writer)
+    writeln!(writer, ": {why}")
 }
 
 /// The newest entry of a unit.
@@ -73,9 +106,10 @@ fn write_entry<W: Write>(writer: &mut W, watch: &Watch, who: &Who, kind: Kind) -
 /// The lamps, the codes, whether the entry is contested, and where it went, if not to all.
 fn write_shown<W: Write>(writer: &mut W, run: &Run) -> io::Result<()> {
     let lamps = LampWords(run.shown.lamps);
+    let bytes = LampBytes(run.shown.lamps);
     let codes = CodeWords(run.shown.codes.as_slice());
     let contested = if run.contested { " contested" } else { "" };
-    write!(writer, " {lamps}; {codes}{contested}")?;
+    write!(writer, " {lamps} ({bytes}); {codes}{contested}")?;
     write_destination(writer, run.to)
 }
 
@@ -84,34 +118,58 @@ fn write_destination<W: Write>(writer: &mut W, to: u8) -> io::Result<()> {
     if to == GLOBAL_ADDRESS {
         return Ok(());
     }
+    let to = address_words(to);
     write!(writer, " to {to}")
 }
 
-/// Writes a line for each unit, the counts of what was heard, and those of the lines.
+/// Writes for each bus a line for each unit, and the counts of what was heard; then those of the lines.
 pub fn write_report<W: Write>(
     writer: &mut W,
-    watch: &Watch,
+    buses: &Buses,
     assumed: &[Assumed],
+    part: Part,
 ) -> io::Result<()> {
-    for place in 0..row_places(watch) {
-        if let Some(who) = &row_at(watch, place) {
-            write_row(writer, watch, who, is_assumed_unit(assumed, who))?;
-        }
+    if let Part::Before { line, .. } = part {
+        writeln!(writer, "over at line {line}, so far:")?;
     }
-    let missed = watch.missed();
-    let unread = watch.unread();
-    writeln!(writer, "missed {missed} unread {unread}")?;
-    write_counts(writer, watch.counts())
+    for one in buses.watches() {
+        write_bus(writer, one, assumed)?;
+    }
+    write_counts(writer, buses.counts())
 }
 
-/// The unit, the address of its NAME, how many messages of each kind stand under it, and the lamps and the number of codes of the
+/// A line for each unit of a bus, and the counts of what was heard there.
+fn write_bus<W: Write>(writer: &mut W, one: &BusWatch, assumed: &[Assumed]) -> io::Result<()> {
+    let watch = &one.watch;
+    for place in 0..row_places(watch) {
+        if let Some(who) = &row_at(watch, place) {
+            write_row(writer, one, who, is_assumed_unit(assumed, who))?;
+        }
+    }
+    write_bus_name(writer, one)?;
+    let missed = watch.missed_in_all();
+    let unread = watch.unread_in_all();
+    writeln!(writer, "missed {missed} unread {unread}")
+}
+
+/// The name of a bus before what is told of it, where each is watched.
+fn write_bus_name<W: Write>(writer: &mut W, one: &BusWatch) -> io::Result<()> {
+    match &one.bus {
+        Some(bus) => write!(writer, "{bus} "),
+        None => Ok(()),
+    }
+}
+
+/// The unit, the address of its NAME, how many messages of each kind stand under it, and the number of codes and the lamps of the
 /// newest DM1.
 fn write_row<W: Write>(
     writer: &mut W,
-    watch: &Watch,
+    one: &BusWatch,
     who: &Who,
     is_assumed: bool,
 ) -> io::Result<()> {
+    let watch = &one.watch;
+    write_bus_name(writer, one)?;
     let unit = WhoWords(*who);
     write!(writer, "{unit} ")?;
     if let Who::Named(_) = *who {
@@ -127,8 +185,10 @@ fn write_row<W: Write>(
 
 fn write_address<W: Write>(writer: &mut W, address: Option<u8>) -> io::Result<()> {
     match address {
-        Some(address) => write!(writer, "{address:>4} "),
-        None => write!(writer, "none "),
+        Some(address @ 0..=9) => write!(writer, "{address:>7} "),
+        Some(address @ 10..=99) => write!(writer, " {address}({address:02X}) "),
+        Some(address) => write!(writer, "{address}({address:02X}) "),
+        None => write!(writer, "   none "),
     }
 }
 
@@ -136,15 +196,16 @@ fn write_entries<W: Write>(writer: &mut W, entries: u64) -> io::Result<()> {
     write!(writer, "{entries:>6} ")
 }
 
-/// The lamps and the number of codes of an entry.
+/// The number of codes and the lamps of an entry.
 fn write_newest<W: Write>(writer: &mut W, newest: Option<&Run>) -> io::Result<()> {
     match newest {
         Some(newest) => {
-            let [lamps, flashes] = newest.shown.lamps.to_bytes();
             let codes = newest.shown.codes.as_slice().len();
-            write!(writer, "{lamps:02X}{flashes:02X} {codes:>4}")
+            let lamps = LampWords(newest.shown.lamps);
+            let bytes = LampBytes(newest.shown.lamps);
+            write!(writer, "{codes:>4} {lamps} ({bytes})")
         }
-        None => write!(writer, "----    -"),
+        None => write!(writer, "   - -"),
     }
 }
 

@@ -1,6 +1,8 @@
 use crate::run::{Assumed, is_assumed};
-use bus_watch::{Watch, Who};
+use bus_watch::{UnitShown, Watch, Who};
 use dm_messages::Kind;
+use frame_words::{AddressWords, Audience};
+use name_field::Name;
 use std::fmt;
 
 /// The kinds of messages that are listed, in the order in which a report has them.
@@ -15,7 +17,13 @@ pub(crate) fn kind_word(kind: Kind) -> &'static str {
     }
 }
 
-/// A unit in words: its NAME; or its address, with the gap of missed frames since which nobody was seen to claim it, counted from 1.
+/// An address as people read it: in decimal, with its hexadecimal digits behind.
+pub(crate) fn address_words(address: u8) -> AddressWords {
+    AddressWords(address, Audience::People)
+}
+
+/// A unit in words, for people: its NAME; or its address, with the gap of missed frames since which nobody was seen to claim it, counted
+/// from 1.
 #[derive(Clone, Copy)]
 pub(crate) struct WhoWords(pub(crate) Who);
 
@@ -23,12 +31,37 @@ impl fmt::Display for WhoWords {
     fn fmt<W: fmt::Write>(&self, f: &mut fmt::Formatter<W>) -> fmt::Result {
         match self.0 {
             Who::Named(name) => write!(f, "{name}"),
-            Who::Unclaimed { address, gaps: 0 } => write!(f, "address {address}, no claim seen"),
             Who::Unclaimed { address, gaps } => {
-                write!(f, "address {address}, no claim seen since gap {gaps}")
+                let address = address_words(address);
+                write!(f, "address {address}, no claim seen")?;
+                write_gap(f, gaps)
             }
         }
     }
+}
+
+/// The same for programs, with its address in decimal alone.
+#[derive(Clone, Copy)]
+pub(crate) struct WhoValue(pub(crate) Who);
+
+impl fmt::Display for WhoValue {
+    fn fmt<W: fmt::Write>(&self, f: &mut fmt::Formatter<W>) -> fmt::Result {
+        match self.0 {
+            Who::Named(name) => write!(f, "{name}"),
+            Who::Unclaimed { address, gaps } => {
+                write!(f, "address {address}, no claim seen")?;
+                write_gap(f, gaps)
+            }
+        }
+    }
+}
+
+/// Since which gap nobody was seen to claim an address; nothing where there was none.
+fn write_gap<W: fmt::Write>(f: &mut fmt::Formatter<W>, gaps: u64) -> fmt::Result {
+    if gaps == 0 {
+        return Ok(());
+    }
+    write!(f, " since gap {gaps}")
 }
 
 /// The address of a unit; none where its NAME holds none, or was not heard of.
@@ -50,14 +83,53 @@ pub(crate) fn is_assumed_unit(assumed: &[Assumed], who: &Who) -> bool {
     }
 }
 
+/// Whether a unit has an entry of some kind.
+pub(crate) fn has_entries(watch: &Watch, who: &Who) -> bool {
+    for kind in KINDS {
+        if !watch.runs(*who, kind).is_empty() {
+            return true;
+        }
+    }
+    false
+}
+
+/// Whether the row of a unit is shown: it is the unit of which alone it is told, or has or had the address of which it is.
+fn shows_row(watch: &Watch, who: &Who) -> bool {
+    let selection = watch.selection();
+    match &selection.unit {
+        Some(UnitShown::Name(name)) => is_named(name, who),
+        Some(UnitShown::Address(address)) => {
+            address_of(watch, who) == Some(*address) || has_entries(watch, who)
+        }
+        None => true,
+    }
+}
+
+fn is_named(name: &Name, who: &Who) -> bool {
+    match who {
+        Who::Named(own) => *name == *own,
+        Who::Unclaimed { .. } => false,
+    }
+}
+
 /// How many places of rows a report has, of which some stay empty.
 pub(crate) fn row_places(watch: &Watch) -> usize {
     watch.names().saturating_add(watch.units())
 }
 
-/// The unit whose row stands at this place: first all NAMEs, in the order of their first claims, then the addresses that nobody has claimed, in
-/// the order of their first entries. A place behind the NAMEs where the entry was one of a NAME stays empty.
+/// The unit whose row stands at this place, where that is shown.
 pub(crate) fn row_at(watch: &Watch, place: usize) -> Option<Who> {
+    let who = unit_at(watch, place)?;
+    if shows_row(watch, &who) {
+        Some(who)
+    } else {
+        None
+    }
+}
+
+/// The unit of this place: first all NAMEs, in the order of their first claims, then the addresses that nobody has claimed, in the order of
+/// their first entries. A place behind the NAMEs where the entry was one of a NAME stays empty.
+fn unit_at(watch: &Watch, place: usize) -> Option<Who> {
     let names = watch.names();
     if place < names {
         return match watch.name_at(place) {

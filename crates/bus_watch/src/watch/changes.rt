@@ -1,5 +1,5 @@
 ghost use Rattle.std.specs.Prelude.{◌≡◌, IfOk, OnOk, OnErr};
-ghost use Rattle.bus_watch.specs.Tellings.{news_by, told_after, told_of};
+ghost use Rattle.bus_watch.specs.Tellings.{is_new, news_by, told_after, told_of};
 ghost use Rattle.bus_watch.specs.Tellings as tellings;
 ghost use Rattle.bus_watch.specs.WatchValue.{Takes, Tells};
 ghost use Rattle.can_frame.specs.FrameValue.{FrameValue};
@@ -10,20 +10,32 @@ ghost use Rattle.parameter_group.specs.Said.{IsLawfulGroup, said};
 use crate::change::{Changes, nothing};
 use crate::watch::Watch;
 use can_frame::Reading;
+use candump_line::Time;
 use listener::{Overheard, Who};
 use parameter_group::ParameterGroup;
 use std::alloc::{AllocError, Global};
 
 impl Watch {
-    /// Has the listener take a reading, and tells what it changed. Where memory is refused, nothing changes.
-    pub(super) fn take(&mut self, alloc: Global, reading: Reading) -> Result<Changes, AllocError>
-        ensures takes { OnOk result (Takes self.old self.new reading self.old.followed) }
+    /// Has the listener take a reading of a line with this time, or with none, and tells what it changed. Where memory is refused, nothing
+    /// changes.
+    pub(super) fn take(
+        &mut self,
+        alloc: Global,
+        reading: Reading,
+        time: Option<Time>,
+    ) -> Result<Changes, AllocError>
+        ensures takes { OnOk result (Takes self.old self.new reading time self.old.followed) }
         ensures tells { IfOk result (λ c. Tells self.old self.new reading c) }
         ensures err { OnErr result (self.new ≡ self.old) }
     {
+        let before = self.lists.now();
+        self.lists.pass(time);
         match self.listener.take(alloc, reading, &mut self.lists) {
             Ok(heard) => Ok(self.tell(&heard, false)),
-            Err(refused) => Err(refused),
+            Err(refused) => {
+                self.lists.go_back(before);
+                Err(refused)
+            }
         }
     }
 
@@ -33,38 +45,46 @@ impl Watch {
         &mut self,
         alloc: Global,
         group: &ParameterGroup<'_>,
+        time: Option<Time>,
     ) -> Result<Changes, AllocError>
         requires { IsLawfulGroup group.now }
-        ensures takes { OnOk result ((f : FrameValue) → group_of f ≡ said group.now → Takes self.old self.new (FrameRead f) self.old.followed) }
+        ensures takes { OnOk result ((f : FrameValue) → group_of f ≡ said group.now → Takes self.old self.new (FrameRead f) time self.old.followed) }
         ensures tells { IfOk result (λ c. (f : FrameValue) → group_of f ≡ said group.now → Tells self.old self.new (FrameRead f) c) }
         ensures err { OnErr result (self.new ≡ self.old) }
     {
+        let before = self.lists.now();
+        self.lists.pass(time);
         if let ParameterGroup::Other = *group {
             return Ok(nothing());
         }
         match self.listener.take_group(alloc, group, &mut self.lists) {
             Ok(heard) => Ok(self.tell(&heard, is_single(group))),
-            Err(refused) => Err(refused),
+            Err(refused) => {
+                self.lists.go_back(before);
+                Err(refused)
+            }
         }
     }
 
     /// Tells of what the listener heard, of a diagnostic message in one frame or not, and takes note of it.
     fn tell(&mut self, heard: &Overheard, single: bool) -> Changes
-        ensures noted { self.new ≡ record self.old { told = told_after heard.now self.old.told } }
-        ensures told { result ≡ told_of self.old.lists.selection.unclaimed (news_by self.old.told self.old.lists.selection self.old.lists.began heard.now) heard.now }
+        ensures noted { self.new ≡ record self.old { told = told_after (tellings.is_told self.old.lists.selection self.old.lists.time heard.now) heard.now self.old.told } }
+        ensures told { result ≡ told_of self.old.lists.selection.unclaimed (news_by self.old.told self.old.lists.selection self.old.lists.time self.old.lists.began heard.now) heard.now }
     {
         if let Overheard::Nothing = *heard {
             return nothing();
         }
-        let is_news = self.is_news(heard);
-        self.unowned.follow(heard);
+        let is_told = self.lists.tells(heard);
+        let is_news = is_told && self.is_news(heard);
+        self.unowned.follow(heard, is_told);
         self.note(heard, single);
+        self.count_run(heard);
         Changes::of(heard, self.lists.selection(), is_news)
     }
 
-    /// Whether what the listener heard is news. Its entry, if it listed one, is in the lists.
+    /// Whether what the listener heard, of which it is told, is news. Its entry, if it listed one, is in the lists.
     fn is_news(&self, heard: &Overheard) -> bool
-        ensures { result ≡ news_by self.now.told self.now.lists.selection self.now.lists.began heard.now }
+        ensures { result ≡ is_new self.now.told self.now.lists.selection self.now.lists.began heard.now }
     {
         let selection = self.lists.selection();
         match *heard {
@@ -86,7 +106,7 @@ impl Watch {
     fn is_entry_news(&self, who: Who, source: u8) -> bool
         ensures { result ≡ tellings.is_entry_news self.now.told self.now.lists.selection.unclaimed self.now.lists.began who source }
     {
-        if self.lists.selection().shows_of(who) {
+        if self.lists.selection().shows_of(&who) {
             self.lists.has_begun()
         } else {
             !self.unowned.is_told(source)
@@ -109,6 +129,21 @@ impl Watch {
                 self.count_entry(who);
             }
             _ => {}
+        }
+    }
+
+    /// Counts the run that the newest entry began, if it began one, and each further one of its codes.
+    fn count_run(&mut self, heard: &Overheard)
+        ensures { self.new ≡ self.old }
+    {
+        if let Overheard::Listed { who, kind, .. } = *heard
+            && self.lists.has_begun()
+        {
+            let codes = match self.lists.runs(who, kind).last() {
+                Some(run) => run.shown.codes.as_slice().len() as u64,
+                None => 0,
+            };
+            self.kept = self.kept.saturating_add(codes.max(1));
         }
     }
 

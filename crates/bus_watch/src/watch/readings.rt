@@ -32,7 +32,7 @@ impl Watch {
     /// where it is another one than the last, and of an address without owner once.
     ///
     /// # Errors
-    /// Memory was refused. The watch is as it was before the line, but that `counts` and `now` may have it.
+    /// Memory was refused. The watch is as it was before the line, but that `counts` may have it.
     pub fn hear(&mut self, alloc: Global, line: &Line<'_>) -> Result<Changes, AllocError>
         ensures told { IfOk result (λ c. IsToldAs (told.Read line.now) self.old self.new c) }
         ensures stands { OnOk result ((b : Beginning) (ts : List Told) → StandsForAll b ts self.old → StandsForAll b (told.Read line.now ∷ ts) self.new) }
@@ -53,7 +53,23 @@ impl Watch {
         ensures err { OnErr result (self.new ≡ self.old) }
     {
         let claim = claim_frame(name, Some(address));
-        self.take(alloc, Reading::Frame(claim))
+        self.take(alloc, Reading::Frame(claim), None)
+    }
+
+    /// Assumes it, and tells nothing of it.
+    pub(super) fn take_over(
+        &mut self,
+        alloc: Global,
+        name: Name,
+        address: u8,
+    ) -> Result<(), AllocError>
+        requires { address ≤ GREATEST_ADDRESS }
+        ensures { OnOk result ((b : Beginning) (ts : List Told) → StandsForAll b ts self.old → StandsForAll b (told.Assumed name address ∷ ts) self.new) }
+    {
+        match self.assume(alloc, name, address) {
+            Ok(_) => Ok(()),
+            Err(error) => Err(error),
+        }
     }
 
     /// Has the listener take the reading that a line is, and tells what it changed.
@@ -66,17 +82,17 @@ impl Watch {
             Line::Frame { time, bus, frame } => self.hear_frame(alloc, *time, *bus, frame),
             Line::Dropped { bus, count } => {
                 let reading = self.reading_of_drops(*bus, *count);
-                self.take(alloc, reading)
+                self.take(alloc, reading, None)
             }
             Line::Overflow { time, bus } => self.hear_overflow(alloc, *time, *bus),
             Line::Foreign { bus, what } => self.hear_foreign(alloc, *bus, *what),
             Line::Note => {
                 self.count_note();
-                self.take(alloc, Reading::Empty)
+                self.take(alloc, Reading::Empty, None)
             }
             Line::Bad(_) => {
                 let reading = self.reading_of_bad();
-                self.take(alloc, reading)
+                self.take(alloc, reading, None)
             }
         }
     }
@@ -94,12 +110,10 @@ impl Watch {
         ensures err { OnErr result (self.new ≡ self.old) }
     {
         if !self.is_watched(bus) {
-            return self.take(alloc, Reading::Empty);
+            return self.take(alloc, Reading::Empty, None);
         }
-        let at = time;
         let named = self.bus_named(alloc, bus)?;
         self.counts.frames = self.counts.frames.saturating_add(1);
-        self.lists.pass(at);
         self.read_frame(alloc, named, time, frame)
     }
 
@@ -111,7 +125,7 @@ impl Watch {
         time: Option<Time>,
         frame: &Frame,
     ) -> Result<Changes, AllocError>
-        ensures takes { OnOk result (Takes self.old self.new (followed.frame_reading time self.old.followed frame.now)
+        ensures takes { OnOk result (Takes self.old self.new (followed.frame_reading time self.old.followed frame.now) time
             (followed.followed_with self.old.followed.silence time (group_of frame.now) (followed.with_bus_name (option_map string_bytes named) self.old.followed))) }
         ensures tells { IfOk result (λ c. Tells self.old self.new (followed.frame_reading time self.old.followed frame.now) c) }
         ensures err { OnErr result (self.new ≡ self.old) }
@@ -133,16 +147,17 @@ impl Watch {
     ) -> Result<Changes, AllocError>
         requires { IsLawfulGroup group.now }
         ensures takes { OnOk result ((f : FrameValue) → group_of f ≡ group_said group.now
-            → Takes self.old self.new (followed.frame_reading time self.old.followed f) self.old.followed) }
+            → Takes self.old self.new (followed.frame_reading time self.old.followed f) time self.old.followed) }
         ensures tells { IfOk result (λ c. (f : FrameValue) → group_of f ≡ group_said group.now
             → Tells self.old self.new (followed.frame_reading time self.old.followed f) c) }
         ensures err { OnErr result (self.new ≡ self.old) }
     {
-        if self.is_withheld(time, group) {
+        let at = time;
+        if self.is_withheld(at, group) {
             self.count_withheld();
-            self.take(alloc, Reading::Empty)
+            self.take(alloc, Reading::Empty, time)
         } else {
-            self.take_group(alloc, group)
+            self.take_group(alloc, group, time)
         }
     }
 
@@ -169,8 +184,23 @@ impl Watch {
     fn follow_group(&mut self, time: Option<Time>, group: &ParameterGroup<'_>)
         ensures { self.new ≡ record self.old { followed = followed.followed_with self.old.followed.silence time (group_said group.now) self.old.followed } }
     {
+        self.note_pair(group);
         if let Some(most) = self.settings.silence {
             self.follow_packets(time, most, group);
+        }
+    }
+
+    /// Takes note of between whom a message is announced.
+    fn note_pair(&mut self, group: &ParameterGroup<'_>)
+        ensures { self.new ≡ self.old }
+    {
+        if let ParameterGroup::ConnectionManagement {
+            source,
+            dest,
+            control: Control::Rts { .. } | Control::Bam { .. },
+        } = *group
+        {
+            self.pairs.add(source, dest);
         }
     }
 
@@ -237,22 +267,27 @@ impl Watch {
         ensures err { OnErr result (self.new ≡ self.old) }
     {
         let named = self.bus_named(alloc, bus)?;
-        let reading = self.reading_of_overflow(time, bus);
-        let changes = self.take(alloc, reading)?;
+        let (reading, at) = self.reading_of_overflow(time, bus);
+        let changes = self.take(alloc, reading, at)?;
         self.name_bus(named);
         Ok(changes)
     }
 
-    fn reading_of_overflow(&mut self, time: Option<Time>, bus: Option<&str>) -> Reading
-        ensures reading { result ≡ followed.reading_by self.old.followed (said.Overflow time bus.entry) }
+    /// The reading, and the time that it has.
+    fn reading_of_overflow(
+        &mut self,
+        time: Option<Time>,
+        bus: Option<&str>,
+    ) -> (Reading, Option<Time>)
+        ensures reading { result.0 ≡ followed.reading_by self.old.followed (said.Overflow time bus.entry) }
+        ensures time { result.1 ≡ followed.time_by self.old.followed (said.Overflow time bus.entry) }
         ensures same { self.new ≡ self.old }
     {
         if !self.is_watched(bus) {
-            return Reading::Empty;
+            return (Reading::Empty, None);
         }
         self.counts.error = self.counts.error.saturating_add(1);
-        self.lists.pass(time);
-        Reading::Gap(1)
+        (Reading::Gap(1), time)
     }
 
     /// A bad line is one frame missed, unless bad lines are passed over.
@@ -280,7 +315,7 @@ impl Watch {
     {
         let named = self.bus_named(alloc, bus)?;
         self.count_foreign(bus, what);
-        let changes = self.take(alloc, Reading::Empty)?;
+        let changes = self.take(alloc, Reading::Empty, None)?;
         self.name_bus(named);
         Ok(changes)
     }

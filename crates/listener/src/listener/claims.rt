@@ -106,6 +106,7 @@ impl Listener {
             name,
             control,
             pgn,
+            source: ack.source,
             requester: ack.requester,
             to: ack.dest,
             again,

@@ -38,7 +38,14 @@ impl Listener {
         ensures err { OnErr result (self.new ≡ self.old) }
         ensures err_lists { OnErr result (lists.new ≡ lists.old) }
     {
-        let Some(Ended { sending, shown }) = ended else {
+        let Some(
+            Ended {
+                sending,
+                shown,
+                why,
+            },
+        ) = ended
+        else {
             return Ok(Overheard::Nothing);
         };
         match shown {
@@ -65,6 +72,7 @@ impl Listener {
                     kind: sending.kind(),
                     source,
                     to,
+                    why,
                 })
             }
         }
@@ -85,10 +93,11 @@ impl Listener {
         ensures err { OnErr result (self.new ≡ self.old) }
         ensures err_lists { OnErr result (lists.new ≡ lists.old) }
     {
-        let shown = shown_by(alloc, bytes)?;
+        let (shown, why) = shown_by(alloc, bytes)?;
         let ended = Ended {
             sending: Sending::new(self.who(source), kind),
             shown,
+            why,
         };
         self.keep(alloc, source, GLOBAL_ADDRESS, Some(ended), lists)
     }

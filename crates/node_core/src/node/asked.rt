@@ -102,7 +102,9 @@ impl Node {
         }
     }
 
-    /// A message asked of all: one frame or a broadcast, but not while a session of that kind is open.
+    /// A message asked of all, in one frame or as a broadcast.
+    ///
+    /// None while a session of that kind is open.
     #[tactic(auto, using(crate::proofs::Begins::begins_with_memory))]
     fn message_to_all(
         &self,
@@ -167,8 +169,11 @@ impl Node {
         }
     }
 
-    /// A message asked for at the unit's own address: not while a session of that kind is open; one frame to all if eight
-    /// bytes suffice; else a session with the requester, one at a time.
+    /// A message asked for at the unit's own address.
+    ///
+    /// - None while a session of that kind is open.
+    /// - One frame to all if eight bytes suffice.
+    /// - Else a session with the requester, one at a time.
     #[tactic(auto, using(crate::proofs::Begins::begins_with_memory, crate::proofs::Begins::opens_with_memory))]
     fn asked_for_message(
         &mut self,
@@ -212,7 +217,9 @@ impl Node {
     }
 }
 
-/// Asked to clear at the unit's own address. Takes no memory, so nothing is refused once the unit was asked.
+/// Asked to clear at the unit's own address.
+///
+/// Takes no memory, so nothing is refused once the unit was asked.
 fn asked_to_clear(which: Clear, request: Request, address: u8, unit: &mut dyn Unit) -> Heard
     ensures name { name_of unit.new ≡ name_of unit.old }
     ensures heard { result ≡ heard_of result.answer (Replies (requested.acknowledgment (if is_agreed result.answer then POSITIVE else NEGATIVE) request.source request.pgn address)) }

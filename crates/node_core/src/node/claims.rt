@@ -34,7 +34,9 @@ impl Node {
         Ok(self.claim_again(Answer::NotAsked))
     }
 
-    /// Takes note of a claim; a half command from an address that was last claimed under another NAME is dropped.
+    /// Notes a claim.
+    ///
+    /// A half command from an address that was last claimed under another NAME is dropped.
     pub(super) fn note_claim(
         &mut self,
         alloc: Global,

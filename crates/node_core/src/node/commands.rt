@@ -16,8 +16,9 @@ impl Node {
     ghost use Rattle.node_core.specs.Asking.{IsAnswerTo, IsAsked};
     ghost use Rattle.node_core.specs.Reaction.{announced, command_heard, put_by_command, packet_heard, on_packet};
 
-    /// Takes note of a broadcast announcement: it drops what is half joined from its source, and may start a commanded
-    /// address.
+    /// Notes a broadcast announcement.
+    ///
+    /// It drops what is half joined from its source, and may start a commanded address.
     pub(super) fn note_announcement(
         &mut self,
         alloc: Global,
@@ -36,7 +37,9 @@ impl Node {
             .keep(alloc, source, HalfCommand::started(size, pgn))
     }
 
-    /// Hears a packet (SAE J1939-21, TP.DT); only one of a commanded address to all counts (SAE J1939-81).
+    /// Hears a packet (SAE J1939-21, TP.DT).
+    ///
+    /// Only one of a commanded address to all counts (SAE J1939-81).
     pub(super) fn hear_packet(
         &mut self,
         alloc: Global,

@@ -16,10 +16,12 @@ impl Node {
     ghost use Rattle.node_core.specs.Deed.{after_deed};
     ghost use Rattle.node_core.specs.GivingUp.{given_up, is_held_open, put_at_parting, withdrawn_at_parting};
 
-    /// Gives up the open session, as one that was left alone for too long: an abort with reason 3 goes to its destination, and its
-    /// frames are withdrawn (SAE J1939-21, connection abort). Where no session is open nothing is done. Takes no memory.
+    /// Gives up the open session, as one that was left alone for too long.
     ///
-    /// When a session was left alone is for the caller to say: a node has no clock.
+    /// - An abort with reason 3 goes to its destination, and its frames are withdrawn (SAE J1939-21, connection abort).
+    /// - If no session is open, nothing is done.
+    ///
+    /// Takes no memory. When a session was left alone is for the caller to say: a node has no clock.
     pub fn give_up(&mut self) -> Heard
         ensures heard { result ≡ given_up self.old }
         ensures node { self.new ≡ after_deed self.old EndsSession }
@@ -35,8 +37,9 @@ impl Node {
         heard
     }
 
-    /// Whether a frame holds the open session open: a clear to send of it that lets no packet go (SAE J1939-21, TP.CM_CTS). It
-    /// changes nothing; `hear` is what hears the frame.
+    /// Whether a frame holds the open session open. Nothing changes by it.
+    ///
+    /// Such a frame is a clear to send of the session that lets no packet go (SAE J1939-21, TP.CM_CTS). `hear` is what hears it.
     pub fn is_held_open(&self, frame: &Frame) -> bool
         ensures { result ≡ is_held_open self.now (group_of frame.now) }
     {
@@ -56,7 +59,7 @@ impl Node {
         }
     }
 
-    /// What is put where the open session is given up.
+    /// What is put if the open session is given up.
     fn put_at_parting(&self) -> Outs
         ensures value { result ≡ put_at_parting self.now.session self.now.claimer.held }
         ensures few { length result ≤ 1 }
@@ -73,7 +76,7 @@ impl Node {
         }
     }
 
-    /// What is withdrawn where the open session is given up.
+    /// What is withdrawn if the open session is given up.
     fn withdrawn_at_parting(&self) -> Withdraw
         ensures { result ≡ withdrawn_at_parting self.now.session }
     {

@@ -12,8 +12,11 @@ impl Node {
     ghost use Rattle.node_core.specs.Reaction.{noted_from, on_claim};
     ghost use Rattle.parameter_group.specs.Group.{AddressClaimed};
 
-    /// Hears a frame by what was sifted of it, where it asks nothing of the unit and makes it do nothing; it may tell it something to
-    /// keep: a claim, or a part of a commanded address. Answers whether that is so; else the node is as it was.
+    /// Settles a frame by what was sifted of it. Returns whether it could.
+    ///
+    /// - True: the frame asks nothing of the unit and makes it do nothing. What it tells is kept: a claim, or a part of a commanded
+    ///   address.
+    /// - False: the frame is to be heard in full, and the node is as it was.
     ///
     /// Takes no memory: what would take some, as the first claim of an address, is to be heard in full.
     #[inline(always)]
@@ -27,7 +30,9 @@ impl Node {
         }
     }
 
-    /// As `settle`, for what is not passed over by all. Most of it are packets of sources from which nothing is half joined.
+    /// As `settle`, for what is not passed over by all.
+    ///
+    /// Most of it are packets of sources from which nothing is half joined.
     #[inline(never)]
     fn take_note(&mut self, sifted: &Sifted) -> bool
         ensures settled { IsTrue result → Settles sifted.now self.old self.new }
@@ -39,7 +44,7 @@ impl Node {
         self.take_told(sifted)
     }
 
-    /// Whether it is a packet that joins nothing, as a short test tells.
+    /// A short test whether it is a packet that joins nothing. False says nothing.
     #[inline(always)]
     #[tactic(auto, using(crate::proofs::Sifting::nothing_joined))]
     fn joins_nothing(&self, sifted: &Sifted) -> bool
@@ -51,7 +56,7 @@ impl Node {
         }
     }
 
-    /// As `take_note`, for what is not told by a short test.
+    /// As `take_note`, for what the short test does not tell.
     #[inline(never)]
     fn take_told(&mut self, sifted: &Sifted) -> bool
         ensures settled { IsTrue result → Settles sifted.now self.old self.new }
@@ -74,8 +79,9 @@ impl Node {
         }
     }
 
-    /// Takes note of a claim that is not contested and does not end the session, of an address of which a claim was noted before;
-    /// answers whether it is such a claim, else nothing changes.
+    /// Notes a claim of an address of which one was noted before. Returns whether it did.
+    ///
+    /// False, with nothing changed, if it is the first of its address, or the address is held or the session's destination.
     #[inline(never)]
     fn renote_claim(&mut self, source: u8, name: Name) -> bool
         requires { source ≤ GREATEST_ADDRESS }

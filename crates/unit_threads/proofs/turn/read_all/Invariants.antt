@@ -1,5 +1,6 @@
 use Rattle.std.proofs.Common.{◌-◌, ◌^◌, length}
-use Rattle.unit_threads.specs.Turns.{GrowsBy, IsReadOf, LeavesOthers}
+use Rattle.garage.specs.Rounds.{IsReadOf}
+use Rattle.unit_threads.specs.Turns.{GrowsBy, LeavesOthers}
 use Rattle.unit_threads.proofs.turn.read_all.Given as goal
 
 abbrev pub invariant-loop : goal.invariant-loop

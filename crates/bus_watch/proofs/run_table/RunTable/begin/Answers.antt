@@ -1,13 +1,22 @@
-use Rattle.std.proofs.Common.{List, ap, ◌∙◌}
-use Rattle.indexmap.specs.IndexMap.{insert_entry}
-use Rattle.bus_watch.specs.Runs.{UnitValue, same_key}
+use Rattle.std.proofs.Common.{◌≡◌, ◌++◌, ◌∷◌, [], Some, cond, if◌then◌else◌, ap, ◌∙◌, subst}
+use Rattle.std.specs.Map.{lookup}
+use Rattle.bus_model.specs.declared.who.Who.{Who}
+use Rattle.dm_messages.specs.View.{same_kind}
+use Rattle.dm_messages.specs.declared.kind.Kind.{Kind}
+use Rattle.bus_watch.specs.Runs.{UnitValue, runs_of, same_key, units_of, unrolled, who_of, with_unit}
 use Rattle.bus_watch.specs.declared.key.Key.{Key}
-use Rattle.bus_watch.proofs.Units.{units_more}
+use Rattle.bus_watch.proofs.Units.{begun, who_of_key}
 use Rattle.bus_watch.proofs.run_table.RunTable.begin.Goals as goal
+
+pub returns-clause-entries : goal.returns-clause-entries
+returns-clause-entries c =
+    begun c.args.self.now c.put.new.self c.args.entry.who c.args.entry.kind c.add.new.self (record { to = c.args.entry.to; shown = c.args.entry.shown }) c.requires
+    (λ q. c.in_ok-put.ensures.runs q ∙ ap (λ (p : Key). cond (same_key p q) (Some c.add.new.self) (lookup (same_key q) c.args.self.now.runs)) c.of-key.ensures)
+    (subst (λ (x : UnitValue). (k : Kind) → unrolled (runs_of c.add.new.self k)
+    ≡ (if same_kind c.args.entry.kind k then unrolled (runs_of x k) ++ (record { to = c.args.entry.to; shown = c.args.entry.shown }) ∷ [] else unrolled (runs_of x k)))
+    c.new-unit.ensures c.in_ok-begins.ensures.entries)
 
 pub returns-clause-units : goal.returns-clause-units
 returns-clause-units c =
-    units_more c.args.self.now c.insert.new.self.entries c.args.entry.who c.add.new.self c.requires
-    (c.in_ok-insert.ensures.entries
-    ∙ (ap (λ (l : List (Key × UnitValue)). insert_entry same_key l c.of-key.result c.add.new.self) c.self.view_is
-    ∙ ap (λ (q : Key). insert_entry same_key c.args.self.now q c.add.new.self) c.of-key.ensures))
+    c.in_ok-put.ensures.units
+    ∙ (ap (λ (q : Key). with_unit (who_of q) (units_of c.args.self.now)) c.of-key.ensures ∙ ap (λ (u : Who). with_unit u (units_of c.args.self.now)) (who_of_key c.args.entry.who))

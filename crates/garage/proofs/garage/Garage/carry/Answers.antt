@@ -11,7 +11,7 @@ use Rattle.journal.specs.State.{State}
 use Rattle.journal.specs.declared.event.Event.{Event}
 use Rattle.journal.specs.declared.event.Event.TheVariants.{Carry}
 use Rattle.garage.proofs.Standing.{carry_table, state, joins_carry, stands_more, tallies_still, fresh_still, carry_is, sent_queued, sent_units}
-use Rattle.garage.proofs.CarryLemmas.{uncarried_full}
+use Rattle.garage.proofs.CarryLemmas.{uncarried_could, uncarried_full}
 use Rattle.garage.proofs.Lists.{lists_pushed}
 use Rattle.garage.proofs.garage.Garage.carry.Goals as goal
 
@@ -71,3 +71,6 @@ pub returns-in-Err-clause-full : goal.returns-in-Err-clause-full
 returns-in-Err-clause-full c =
     uncarried_full c.self.inside c.args.self.now _ _ c.make_room.result c.uncarried.result c.in-Err.refusal c.self.view_is c.self.invariant refl c.make_room.ensures.items c.in-Err.is c.make_room.ensures.full
     c.uncarried.ensures.err c.uncarried.ensures.only
+
+pub returns-in-Err-clause-could : goal.returns-in-Err-clause-could
+returns-in-Err-clause-could c = uncarried_could c.self.inside c.args.self.now _ _ c.uncarried.result c.in-Err.refusal c.self.view_is refl c.make_room.ensures.items c.uncarried.ensures.err c.uncarried.ensures.only

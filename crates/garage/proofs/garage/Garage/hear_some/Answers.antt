@@ -1,142 +1,43 @@
-use Rattle.std.proofs.Common.{ap, arith}
-use Rattle.garage.proofs.Crew.{hearing_begins, hearing_goes_on, hearing_refused}
+use Rattle.std.proofs.Common.{◌≡◌, Err, arith, refl, rules, sym, ap, ◌∙◌}
+use Rattle.journal.specs.Journal.{state_of}
+use Rattle.journal.specs.Steps.{next_for}
+use Rattle.garage.proofs.HearLemmas.{cut_here, hearing_many, many_count, many_more, many_none, want_at}
+use Rattle.garage.proofs.Lent.{if_err_is}
 use Rattle.garage.proofs.garage.Garage.hear_some.Goals as goal
 
-pub loop-init : goal.loop-init
-loop-init g c =
-    (hearing_begins c.args.self.now (record { seat = c.args.parked.now.seat; name = (goal.Unit-dyn g (c.args.parked.now.unit.vtable, c.args.parked.now.unit.value)).name_of c.args.parked.now.unit.value; events = c.args.parked.now.events; memory = (goal.Unit-dyn g (c.args.parked.now.unit.vtable, c.args.parked.now.unit.value)).memory_of c.args.parked.now.unit.value }) c.requires.seated, c.requires.told)
+pub loop-heard-init : goal.loop-heard-init
+loop-heard-init g c = (many_none _ _ c.args.self.now c.args.parked.now, c.requires.recorded)
+
+pub next_for-requires : goal.next_for-requires
+next_for-requires g c = (hearing_many _ _ c.loop-heard.heard c.args.self.now c.args.parked.now c.loop-heard.self c.loop-heard.parked c.loop-heard.invariant.0 c.requires.seated).sits.unit
 
 pub hear_seated-requires-clause-seated : goal.hear_seated-requires-clause-seated
-hear_seated-requires-clause-seated g c =
-    c.loop.invariant.0.sits
+hear_seated-requires-clause-seated g c = (hearing_many _ _ c.loop-heard.heard c.args.self.now c.args.parked.now c.loop-heard.self c.loop-heard.parked c.loop-heard.invariant.0 c.requires.seated).sits
 
-pub hear_seated-requires-clause-told : goal.hear_seated-requires-clause-told
-hear_seated-requires-clause-told g c =
-    c.loop.invariant.1
+pub returns-in_default-clause-all : goal.returns-in_default-clause-all
+returns-in_default-clause-all g c = λ l.
+    (let so = hearing_many _ _ c.loop-heard.heard c.args.self.now c.args.parked.now c.loop-heard.self c.loop-heard.parked c.loop-heard.invariant.0 c.requires.seated in
+    ap (λ k. next_for (state_of c.loop-heard.self) k) (sym so.seat) ∙ (sym c.next_for.ensures ∙ c.in_default.is))
 
-pub returns-in_err-one-clause-kept : goal.returns-in_err-one-clause-kept
-returns-in_err-one-clause-kept g c =
-    let x = c.loop.parked in
-    let y = c.hear_seated.new.parked in
-    let so = hearing_refused c.args.self.now c.loop.self c.hear_seated.new.self (record { seat = c.args.parked.now.seat; name = (goal.Unit-dyn g (c.args.parked.now.unit.vtable, c.args.parked.now.unit.value)).name_of c.args.parked.now.unit.value; events = c.args.parked.now.events; memory = (goal.Unit-dyn g (c.args.parked.now.unit.vtable, c.args.parked.now.unit.value)).memory_of c.args.parked.now.unit.value }) (record { seat = x.seat; name = (goal.Unit-dyn g (x.unit.vtable, x.unit.value)).name_of x.unit.value; events = x.events; memory = (goal.Unit-dyn g (x.unit.vtable, x.unit.value)).memory_of x.unit.value }) (record { seat = y.seat; name = (goal.Unit-dyn g (y.unit.vtable, y.unit.value)).name_of y.unit.value; events = y.events; memory = (goal.Unit-dyn g (y.unit.vtable, y.unit.value)).memory_of y.unit.value })
-    c.loop.invariant.0 c.in_err-one.ensures.err.0 (ap (λ p. record { seat = p.seat; name = (goal.Unit-dyn g (p.unit.vtable, p.unit.value)).name_of p.unit.value; events = p.events; memory = (goal.Unit-dyn g (p.unit.vtable, p.unit.value)).memory_of p.unit.value }) c.in_err-one.ensures.err.1) in
-    (so.seat, so.name)
+pub returns-in_err-recorded-clause-cut : goal.returns-in_err-recorded-clause-cut
+returns-in_err-recorded-clause-cut g c =
+    let e = c.in_err-recorded.field-0.0 in
+    let told : c.from_residual.result ≡ Err e = search rules in
+    let err = c.in_err-recorded.ensures in
+    if_err_is c.from_residual.result _ e told (
+      c.loop-heard.heard,
+      c.loop-heard-test.true,
+      cut_here _ _ c.loop-heard.heard e c.in-Some.frame c.args.self.now c.loop-heard.self c.hear_seated.new.self c.args.parked.now c.loop-heard.parked c.hear_seated.new.parked c.loop-heard.invariant.0 c.requires.seated
+          err.err.0 err.err.1 (sym c.next_for.ensures ∙ c.in-Some.is)
+          (want_at c.loop-heard.self c.hear_seated.new.self e err.err.0 (λ b. err.full.0 (ap Err b)) (λ f. (let y = err.full.1 f in cc)) err.only),
+    )
 
-pub returns-in_err-one-clause-seated : goal.returns-in_err-one-clause-seated
-returns-in_err-one-clause-seated g c =
-    let x = c.loop.parked in
-    let y = c.hear_seated.new.parked in
-    let so = hearing_refused c.args.self.now c.loop.self c.hear_seated.new.self (record { seat = c.args.parked.now.seat; name = (goal.Unit-dyn g (c.args.parked.now.unit.vtable, c.args.parked.now.unit.value)).name_of c.args.parked.now.unit.value; events = c.args.parked.now.events; memory = (goal.Unit-dyn g (c.args.parked.now.unit.vtable, c.args.parked.now.unit.value)).memory_of c.args.parked.now.unit.value }) (record { seat = x.seat; name = (goal.Unit-dyn g (x.unit.vtable, x.unit.value)).name_of x.unit.value; events = x.events; memory = (goal.Unit-dyn g (x.unit.vtable, x.unit.value)).memory_of x.unit.value }) (record { seat = y.seat; name = (goal.Unit-dyn g (y.unit.vtable, y.unit.value)).name_of y.unit.value; events = y.events; memory = (goal.Unit-dyn g (y.unit.vtable, y.unit.value)).memory_of y.unit.value })
-    c.loop.invariant.0 c.in_err-one.ensures.err.0 (ap (λ p. record { seat = p.seat; name = (goal.Unit-dyn g (p.unit.vtable, p.unit.value)).name_of p.unit.value; events = p.events; memory = (goal.Unit-dyn g (p.unit.vtable, p.unit.value)).memory_of p.unit.value }) c.in_err-one.ensures.err.1) in
-    so.sits
+pub loop-heard-preserved : goal.loop-heard-preserved
+loop-heard-preserved g c = (
+  many_more _ _ c.loop-heard.heard _ c.in-Some.frame c.args.self.now c.loop-heard.self c.hear_seated.new.self c.args.parked.now c.loop-heard.parked c.hear_seated.new.parked refl c.loop-heard.invariant.0 c.in_ok-recorded.ensures.heard,
+  c.in_ok-recorded.ensures.recorded,
+)
 
-pub returns-in_err-one-clause-others : goal.returns-in_err-one-clause-others
-returns-in_err-one-clause-others g c =
-    let x = c.loop.parked in
-    let y = c.hear_seated.new.parked in
-    let so = hearing_refused c.args.self.now c.loop.self c.hear_seated.new.self (record { seat = c.args.parked.now.seat; name = (goal.Unit-dyn g (c.args.parked.now.unit.vtable, c.args.parked.now.unit.value)).name_of c.args.parked.now.unit.value; events = c.args.parked.now.events; memory = (goal.Unit-dyn g (c.args.parked.now.unit.vtable, c.args.parked.now.unit.value)).memory_of c.args.parked.now.unit.value }) (record { seat = x.seat; name = (goal.Unit-dyn g (x.unit.vtable, x.unit.value)).name_of x.unit.value; events = x.events; memory = (goal.Unit-dyn g (x.unit.vtable, x.unit.value)).memory_of x.unit.value }) (record { seat = y.seat; name = (goal.Unit-dyn g (y.unit.vtable, y.unit.value)).name_of y.unit.value; events = y.events; memory = (goal.Unit-dyn g (y.unit.vtable, y.unit.value)).memory_of y.unit.value })
-    c.loop.invariant.0 c.in_err-one.ensures.err.0 (ap (λ p. record { seat = p.seat; name = (goal.Unit-dyn g (p.unit.vtable, p.unit.value)).name_of p.unit.value; events = p.events; memory = (goal.Unit-dyn g (p.unit.vtable, p.unit.value)).memory_of p.unit.value }) c.in_err-one.ensures.err.1) in
-    so.others
-
-pub returns-in_err-one-clause-comes : goal.returns-in_err-one-clause-comes
-returns-in_err-one-clause-comes g c =
-    let x = c.loop.parked in
-    let y = c.hear_seated.new.parked in
-    let so = hearing_refused c.args.self.now c.loop.self c.hear_seated.new.self (record { seat = c.args.parked.now.seat; name = (goal.Unit-dyn g (c.args.parked.now.unit.vtable, c.args.parked.now.unit.value)).name_of c.args.parked.now.unit.value; events = c.args.parked.now.events; memory = (goal.Unit-dyn g (c.args.parked.now.unit.vtable, c.args.parked.now.unit.value)).memory_of c.args.parked.now.unit.value }) (record { seat = x.seat; name = (goal.Unit-dyn g (x.unit.vtable, x.unit.value)).name_of x.unit.value; events = x.events; memory = (goal.Unit-dyn g (x.unit.vtable, x.unit.value)).memory_of x.unit.value }) (record { seat = y.seat; name = (goal.Unit-dyn g (y.unit.vtable, y.unit.value)).name_of y.unit.value; events = y.events; memory = (goal.Unit-dyn g (y.unit.vtable, y.unit.value)).memory_of y.unit.value })
-    c.loop.invariant.0 c.in_err-one.ensures.err.0 (ap (λ p. record { seat = p.seat; name = (goal.Unit-dyn g (p.unit.vtable, p.unit.value)).name_of p.unit.value; events = p.events; memory = (goal.Unit-dyn g (p.unit.vtable, p.unit.value)).memory_of p.unit.value }) c.in_err-one.ensures.err.1) in
-    so.comes
-
-pub overflow_sub-result : goal.overflow_sub-result
-overflow_sub-result g c =
-    let x = c.loop.parked in
-    let y = c.hear_seated.new.parked in
-    let so = hearing_goes_on c.args.self.now c.loop.self c.hear_seated.new.self (record { seat = c.args.parked.now.seat; name = (goal.Unit-dyn g (c.args.parked.now.unit.vtable, c.args.parked.now.unit.value)).name_of c.args.parked.now.unit.value; events = c.args.parked.now.events; memory = (goal.Unit-dyn g (c.args.parked.now.unit.vtable, c.args.parked.now.unit.value)).memory_of c.args.parked.now.unit.value }) (record { seat = x.seat; name = (goal.Unit-dyn g (x.unit.vtable, x.unit.value)).name_of x.unit.value; events = x.events; memory = (goal.Unit-dyn g (x.unit.vtable, x.unit.value)).memory_of x.unit.value }) (record { seat = y.seat; name = (goal.Unit-dyn g (y.unit.vtable, y.unit.value)).name_of y.unit.value; events = y.events; memory = (goal.Unit-dyn g (y.unit.vtable, y.unit.value)).memory_of y.unit.value })
-    ((goal.Unit-dyn g (x.unit.vtable, x.unit.value)).memory_of x.unit.value) ((goal.Unit-dyn g (x.unit.vtable, x.unit.value)).Answers x.unit.value) x.unit.value c.in_ok-one.one
-    ((goal.Unit-dyn g (y.unit.vtable, y.unit.value)).memory_of y.unit.value) c.in_ok-one.ensures.ok.0
-    c.loop.invariant.0 c.in_ok-one.ensures.ok.2 c.in_ok-one.ensures.kept.0 c.in_ok-one.ensures.kept.1 c.in_ok-one.ensures.seated c.in_ok-one.ensures.counted in
-    let m = so.more in omega arith
-
-pub returns-in-Nothing-clause-kept : goal.returns-in-Nothing-clause-kept
-returns-in-Nothing-clause-kept g c =
-    let x = c.loop.parked in
-    let y = c.hear_seated.new.parked in
-    let so = hearing_goes_on c.args.self.now c.loop.self c.hear_seated.new.self (record { seat = c.args.parked.now.seat; name = (goal.Unit-dyn g (c.args.parked.now.unit.vtable, c.args.parked.now.unit.value)).name_of c.args.parked.now.unit.value; events = c.args.parked.now.events; memory = (goal.Unit-dyn g (c.args.parked.now.unit.vtable, c.args.parked.now.unit.value)).memory_of c.args.parked.now.unit.value }) (record { seat = x.seat; name = (goal.Unit-dyn g (x.unit.vtable, x.unit.value)).name_of x.unit.value; events = x.events; memory = (goal.Unit-dyn g (x.unit.vtable, x.unit.value)).memory_of x.unit.value }) (record { seat = y.seat; name = (goal.Unit-dyn g (y.unit.vtable, y.unit.value)).name_of y.unit.value; events = y.events; memory = (goal.Unit-dyn g (y.unit.vtable, y.unit.value)).memory_of y.unit.value })
-    ((goal.Unit-dyn g (x.unit.vtable, x.unit.value)).memory_of x.unit.value) ((goal.Unit-dyn g (x.unit.vtable, x.unit.value)).Answers x.unit.value) x.unit.value c.in_ok-one.one
-    ((goal.Unit-dyn g (y.unit.vtable, y.unit.value)).memory_of y.unit.value) c.in_ok-one.ensures.ok.0
-    c.loop.invariant.0 c.in_ok-one.ensures.ok.2 c.in_ok-one.ensures.kept.0 c.in_ok-one.ensures.kept.1 c.in_ok-one.ensures.seated c.in_ok-one.ensures.counted in
-    (so.seat, so.name)
-
-pub returns-in-Nothing-clause-others : goal.returns-in-Nothing-clause-others
-returns-in-Nothing-clause-others g c =
-    let x = c.loop.parked in
-    let y = c.hear_seated.new.parked in
-    let so = hearing_goes_on c.args.self.now c.loop.self c.hear_seated.new.self (record { seat = c.args.parked.now.seat; name = (goal.Unit-dyn g (c.args.parked.now.unit.vtable, c.args.parked.now.unit.value)).name_of c.args.parked.now.unit.value; events = c.args.parked.now.events; memory = (goal.Unit-dyn g (c.args.parked.now.unit.vtable, c.args.parked.now.unit.value)).memory_of c.args.parked.now.unit.value }) (record { seat = x.seat; name = (goal.Unit-dyn g (x.unit.vtable, x.unit.value)).name_of x.unit.value; events = x.events; memory = (goal.Unit-dyn g (x.unit.vtable, x.unit.value)).memory_of x.unit.value }) (record { seat = y.seat; name = (goal.Unit-dyn g (y.unit.vtable, y.unit.value)).name_of y.unit.value; events = y.events; memory = (goal.Unit-dyn g (y.unit.vtable, y.unit.value)).memory_of y.unit.value })
-    ((goal.Unit-dyn g (x.unit.vtable, x.unit.value)).memory_of x.unit.value) ((goal.Unit-dyn g (x.unit.vtable, x.unit.value)).Answers x.unit.value) x.unit.value c.in_ok-one.one
-    ((goal.Unit-dyn g (y.unit.vtable, y.unit.value)).memory_of y.unit.value) c.in_ok-one.ensures.ok.0
-    c.loop.invariant.0 c.in_ok-one.ensures.ok.2 c.in_ok-one.ensures.kept.0 c.in_ok-one.ensures.kept.1 c.in_ok-one.ensures.seated c.in_ok-one.ensures.counted in
-    so.others
-
-pub returns-in-Nothing-clause-counted : goal.returns-in-Nothing-clause-counted
-returns-in-Nothing-clause-counted g c =
-    let x = c.loop.parked in
-    let y = c.hear_seated.new.parked in
-    let so = hearing_goes_on c.args.self.now c.loop.self c.hear_seated.new.self (record { seat = c.args.parked.now.seat; name = (goal.Unit-dyn g (c.args.parked.now.unit.vtable, c.args.parked.now.unit.value)).name_of c.args.parked.now.unit.value; events = c.args.parked.now.events; memory = (goal.Unit-dyn g (c.args.parked.now.unit.vtable, c.args.parked.now.unit.value)).memory_of c.args.parked.now.unit.value }) (record { seat = x.seat; name = (goal.Unit-dyn g (x.unit.vtable, x.unit.value)).name_of x.unit.value; events = x.events; memory = (goal.Unit-dyn g (x.unit.vtable, x.unit.value)).memory_of x.unit.value }) (record { seat = y.seat; name = (goal.Unit-dyn g (y.unit.vtable, y.unit.value)).name_of y.unit.value; events = y.events; memory = (goal.Unit-dyn g (y.unit.vtable, y.unit.value)).memory_of y.unit.value })
-    ((goal.Unit-dyn g (x.unit.vtable, x.unit.value)).memory_of x.unit.value) ((goal.Unit-dyn g (x.unit.vtable, x.unit.value)).Answers x.unit.value) x.unit.value c.in_ok-one.one
-    ((goal.Unit-dyn g (y.unit.vtable, y.unit.value)).memory_of y.unit.value) c.in_ok-one.ensures.ok.0
-    c.loop.invariant.0 c.in_ok-one.ensures.ok.2 c.in_ok-one.ensures.kept.0 c.in_ok-one.ensures.kept.1 c.in_ok-one.ensures.seated c.in_ok-one.ensures.counted in
-    (let m = so.more in omega arith)
-
-pub returns-in-Nothing-clause-comes : goal.returns-in-Nothing-clause-comes
-returns-in-Nothing-clause-comes g c =
-    let x = c.loop.parked in
-    let y = c.hear_seated.new.parked in
-    let so = hearing_goes_on c.args.self.now c.loop.self c.hear_seated.new.self (record { seat = c.args.parked.now.seat; name = (goal.Unit-dyn g (c.args.parked.now.unit.vtable, c.args.parked.now.unit.value)).name_of c.args.parked.now.unit.value; events = c.args.parked.now.events; memory = (goal.Unit-dyn g (c.args.parked.now.unit.vtable, c.args.parked.now.unit.value)).memory_of c.args.parked.now.unit.value }) (record { seat = x.seat; name = (goal.Unit-dyn g (x.unit.vtable, x.unit.value)).name_of x.unit.value; events = x.events; memory = (goal.Unit-dyn g (x.unit.vtable, x.unit.value)).memory_of x.unit.value }) (record { seat = y.seat; name = (goal.Unit-dyn g (y.unit.vtable, y.unit.value)).name_of y.unit.value; events = y.events; memory = (goal.Unit-dyn g (y.unit.vtable, y.unit.value)).memory_of y.unit.value })
-    ((goal.Unit-dyn g (x.unit.vtable, x.unit.value)).memory_of x.unit.value) ((goal.Unit-dyn g (x.unit.vtable, x.unit.value)).Answers x.unit.value) x.unit.value c.in_ok-one.one
-    ((goal.Unit-dyn g (y.unit.vtable, y.unit.value)).memory_of y.unit.value) c.in_ok-one.ensures.ok.0
-    c.loop.invariant.0 c.in_ok-one.ensures.ok.2 c.in_ok-one.ensures.kept.0 c.in_ok-one.ensures.kept.1 c.in_ok-one.ensures.seated c.in_ok-one.ensures.counted in
-    so.comes
-
-pub loop-preserved : goal.loop-preserved
-loop-preserved g c =
-    let x = c.loop.parked in
-    let y = c.hear_seated.new.parked in
-    let so = hearing_goes_on c.args.self.now c.loop.self c.hear_seated.new.self (record { seat = c.args.parked.now.seat; name = (goal.Unit-dyn g (c.args.parked.now.unit.vtable, c.args.parked.now.unit.value)).name_of c.args.parked.now.unit.value; events = c.args.parked.now.events; memory = (goal.Unit-dyn g (c.args.parked.now.unit.vtable, c.args.parked.now.unit.value)).memory_of c.args.parked.now.unit.value }) (record { seat = x.seat; name = (goal.Unit-dyn g (x.unit.vtable, x.unit.value)).name_of x.unit.value; events = x.events; memory = (goal.Unit-dyn g (x.unit.vtable, x.unit.value)).memory_of x.unit.value }) (record { seat = y.seat; name = (goal.Unit-dyn g (y.unit.vtable, y.unit.value)).name_of y.unit.value; events = y.events; memory = (goal.Unit-dyn g (y.unit.vtable, y.unit.value)).memory_of y.unit.value })
-    ((goal.Unit-dyn g (x.unit.vtable, x.unit.value)).memory_of x.unit.value) ((goal.Unit-dyn g (x.unit.vtable, x.unit.value)).Answers x.unit.value) x.unit.value c.in_ok-one.one
-    ((goal.Unit-dyn g (y.unit.vtable, y.unit.value)).memory_of y.unit.value) c.in_ok-one.ensures.ok.0
-    c.loop.invariant.0 c.in_ok-one.ensures.ok.2 c.in_ok-one.ensures.kept.0 c.in_ok-one.ensures.kept.1 c.in_ok-one.ensures.seated c.in_ok-one.ensures.counted in
-    (so, c.in_ok-one.ensures.told)
-
-pub overflow_sub-result-2 : goal.overflow_sub-result-2
-overflow_sub-result-2 g c =
-    let so = c.loop.invariant.0 in
-    let m = so.more in omega arith
-
-pub returns-clause-kept : goal.returns-clause-kept
-returns-clause-kept g c =
-    let so = c.loop.invariant.0 in
-    (so.seat, so.name)
-
-pub returns-clause-seated : goal.returns-clause-seated
-returns-clause-seated g c =
-    let so = c.loop.invariant.0 in
-    so.sits
-
-pub returns-clause-others : goal.returns-clause-others
-returns-clause-others g c =
-    let so = c.loop.invariant.0 in
-    so.others
-
-pub returns-clause-counted : goal.returns-clause-counted
-returns-clause-counted g c =
-    let so = c.loop.invariant.0 in
-    (let m = so.more in omega arith)
-
-pub returns-clause-told : goal.returns-clause-told
-returns-clause-told g c =
-    let so = c.loop.invariant.0 in
-    c.loop.invariant.1
-
-pub returns-clause-comes : goal.returns-clause-comes
-returns-clause-comes g c =
-    let so = c.loop.invariant.0 in
-    so.comes
+pub returns-clause-heard : goal.returns-clause-heard
+returns-clause-heard g c =
+    many_count _ _ c.loop-heard.heard c.args.most c.args.self.now c.args.parked.now c.loop-heard.self c.loop-heard.parked (let past = c.loop-heard-test.false in let few = c.loop-heard.auto.heard-end in omega arith) c.loop-heard.invariant.0

@@ -1,0 +1,147 @@
+//! Rows of comma-separated values (RFC 4180).
+
+use std::alloc::{AllocError, Global};
+
+/// A row: the line on which it begins, from 1, and its values.
+#[derive(Drop)]
+pub(crate) struct Row {
+    alloc: Global,
+    line: u64,
+    values: Vec<Vec<u8>>,
+}
+
+impl Row {
+    /// One without values.
+    pub(crate) fn new(alloc: Global) -> Row {
+        Row {
+            alloc,
+            line: 0,
+            values: Vec::new(alloc),
+        }
+    }
+
+    pub(crate) fn line(&self) -> u64 {
+        self.line
+    }
+
+    pub(crate) fn len(&self) -> usize {
+        self.values.len()
+    }
+
+    pub(crate) fn get(&self, place: usize) -> Option<&[u8]> {
+        match self.values.get(place) {
+            Some(value) => Some(value.as_slice()),
+            None => None,
+        }
+    }
+
+    /// Begins a row on a line, with an empty value.
+    fn begin(&mut self, line: u64) -> Result<(), AllocError> {
+        self.line = line;
+        self.values.clear();
+        self.begin_value()
+    }
+
+    fn begin_value(&mut self) -> Result<(), AllocError> {
+        self.values.push(Vec::new(self.alloc))?;
+        Ok(())
+    }
+
+    /// Puts a byte to the last value.
+    fn put(&mut self, byte: u8) -> Result<(), AllocError> {
+        if let Some(value) = self.values.last_mut() {
+            value.push(byte)?;
+        }
+        Ok(())
+    }
+}
+
+/// Where in a row a byte stands.
+#[derive(Clone, Copy, PartialEq, Eq)]
+enum Place {
+    /// Before a row: ends of lines are passed over.
+    Between,
+    /// At the front of a value.
+    Front,
+    /// In a value without quotes, or behind those.
+    Plain,
+    /// In quotes.
+    Quoted,
+    /// Behind a quote in quotes: their end, or the first of two.
+    Quote,
+}
+
+/// The rows of a text. A value in quotes may have commas, ends of lines, and quotes, each twice; an empty line is no row.
+#[derive(Drop)]
+pub(crate) struct Rows<'a> {
+    rest: &'a [u8],
+    line: u64,
+}
+
+impl<'a> Rows<'a> {
+    /// Those of this text, behind its byte order mark.
+    pub(crate) fn of(text: &'a [u8]) -> Rows<'a> {
+        let rest = match text.strip_prefix(b"\xEF\xBB\xBF") {
+            Some(rest) => rest,
+            None => text,
+        };
+        Rows { rest, line: 1 }
+    }
+
+    /// Reads the next row; tells whether there was one.
+    ///
+    /// # Errors
+    /// Memory was refused.
+    pub(crate) fn read(&mut self, row: &mut Row) -> Result<bool, AllocError> {
+        let text = self.rest;
+        let mut place = Place::Between;
+        for (at, byte) in text.iter().enumerate() {
+            if place == Place::Between && !is_end(*byte) {
+                row.begin(self.line)?;
+                place = Place::Front;
+            }
+            if *byte == b'\n' {
+                self.line = self.line.saturating_add(1);
+            }
+            if is_end(*byte) && place != Place::Quoted {
+                if place != Place::Between {
+                    self.rest = &text[at + 1..];
+                    return Ok(true);
+                }
+            } else {
+                place = put_byte(row, place, *byte)?;
+            }
+        }
+        self.rest = &[];
+        Ok(place != Place::Between)
+    }
+}
+
+/// Whether a byte ends a line.
+fn is_end(byte: u8) -> bool {
+    byte == b'\n' || byte == b'\r'
+}
+
+/// Puts a byte of a row where it belongs, and tells where the next one stands.
+fn put_byte(row: &mut Row, place: Place, byte: u8) -> Result<Place, AllocError> {
+    match (place, byte) {
+        (Place::Quoted, b'"') => Ok(Place::Quote),
+        (Place::Front, b'"') => Ok(Place::Quoted),
+        (Place::Quoted, _) => {
+            row.put(byte)?;
+            Ok(Place::Quoted)
+        }
+        (Place::Quote, b'"') => {
+            row.put(byte)?;
+            Ok(Place::Quoted)
+        }
+        (_, b',') => {
+            row.begin_value()?;
+            Ok(Place::Front)
+        }
+        _ => {
+            row.put(byte)?;
+            Ok(Place::Plain)
+        }
+    }
+}

@@ -1,0 +1,561 @@
+ghost use Rattle.std.specs.Prelude.{◌≡◌, ◌≢◌, ◌+◌, ◌-◌, ◌<◌, ◌≤◌, ◌^◌, ◌↔◌, ◌⊎◌, ℕ, length, reverse, slice_get, IfOk, IfErr, IfSome, IsErrOf, IsFalse, IsTrue, MatchOption, OnErr, OnOk, Some};
+ghost use Rattle.can_frame.specs.FrameValue.{FrameValue};
+ghost use Rattle.fault_memory.specs.Memory.{MemoryValue};
+ghost use Rattle.bus_ledger.specs.BusValue.{IsUnit, seat_at};
+ghost use Rattle.bus_ledger.specs.Changes.{heard_more};
+ghost use Rattle.node_core.specs.Passing.{IsSifted};
+ghost use Rattle.journal.specs.Journal.{memory_told, one_more, state_of, IsSeated};
+ghost use Rattle.journal.specs.Notes.{Gains};
+ghost use Rattle.journal.specs.Promises.{KeepsLists};
+ghost use Rattle.journal.specs.Steps.{begins_session, next_for, session_message_after};
+ghost use Rattle.journal.specs.declared.event.Event.TheVariants.{Hear};
+ghost use Rattle.garage.specs.Answers.{Hears, PassesNext, count_with_begun};
+ghost use Rattle.garage.specs.Calls.{HearsFull, HearsNothing, IsWant};
+ghost use Rattle.garage.specs.Crew.{Comes, IsCrew, asked_of, sitting_of};
+ghost use Rattle.garage.specs.Hearing.{HasHeardAll, HearsFrame, HearsMany, HearsOut, IsHearingCut, IsLast};
+ghost use Rattle.garage.specs.Room.{IsFull};
+ghost use Rattle.garage.specs.Rounds.{HearOnward};
+
+use crate::error::GarageError;
+use crate::garage::{Garage, Place};
+use crate::plug::Parked;
+use crate::queueing::{Numbering, do_heard};
+use crate::room::{has_room, make_ready};
+use bus_ledger::Bus;
+use can_frame::{Frame, GLOBAL_ADDRESS};
+use journal::Journal;
+use node_core::{Answer, Begun, Sifted};
+use std::alloc::Global;
+use unit_trait::Unit;
+
+/// What a unit heard.
+#[derive(Clone, Copy, Debug, PartialEq, Eq)]
+pub enum HeardOne {
+    /// It has heard the whole wire.
+    Nothing,
+    /// This frame.
+    Frame(Frame),
+}
+
+/// What is known of the memory that the journal has of a unit, which is the one of its latest event.
+#[derive(Clone, Copy, Debug, PartialEq, Eq)]
+pub(crate) enum Recorded {
+    /// It is the one that the unit has now.
+    Current,
+    /// Nothing: the two are to be compared.
+    Unknown,
+}
+
+/// The last frame of the wire, and what it tells the units that it asks nothing of.
+#[derive(Clone, Copy, Debug, PartialEq, Eq)]
+pub(crate) struct LastFrame {
+    pub(crate) frame: Frame,
+    pub(crate) sifted: Sifted,
+}
+
+/// How units hear. Each frame that a unit hears is heard by `hear_frame`: a frame that asks nothing of it and makes it do nothing is
+/// passed over (`passes_over`), to any other one it reacts (`react`).
+///
+/// What a frame tells those that it asks nothing of is sifted of it, by its identifier for the most part, and in a round once for all.
+impl Garage {
+    /// The next frame that the unit on the seat has not heard.
+    #[tactic(auto, using(crate::proofs::Passing::next_is))]
+    pub(crate) fn next_for(&self, seat: u32) -> Option<Frame>
+        requires { IsUnit (state_of self.now).traffic seat }
+        ensures { result ≡ next_for (state_of self.now) seat }
+    {
+        self.bus.next_for(seat)
+    }
+
+    /// How many frames of the wire the unit on the seat has not heard.
+    #[inline(always)]
+    pub(crate) fn unheard(&self, seat: u32) -> u32
+        requires { IsUnit (state_of self.now).traffic seat }
+        ensures { (seat_at (state_of self.now).traffic seat).heard + result ≡ length (state_of self.now).traffic.wire }
+    {
+        self.bus.unheard(seat)
+    }
+
+    /// The last frame of the wire; nothing where it has none.
+    pub(crate) fn last_frame(&self) -> Option<LastFrame>
+        ensures { MatchOption result (length (state_of self.now).traffic.wire ≡ 0) (λ l. IsLast l.frame l.sifted self.now) }
+    {
+        let last = self.bus.wire_len().checked_sub(1)?;
+        let frame = self.bus.wire_frame(last)?;
+        Some(LastFrame {
+            frame,
+            sifted: Sifted::of(&frame),
+        })
+    }
+
+    /// The unit on the seat hears its next frame. It is asked exactly what the frame puts to it, and is else as it was.
+    ///
+    /// Refused where there is a frame and the journal has no room, then where there is no memory; then nothing changed, and the
+    /// unit was not asked.
+    pub(crate) fn hear(
+        &mut self,
+        alloc: Global,
+        seat: u32,
+        unit: &mut dyn Unit,
+    ) -> Result<HeardOne, GarageError>
+        requires unit { IsUnit (state_of self.old).traffic seat }
+        ensures name { name_of unit.new ≡ name_of unit.old }
+        ensures ok { IfOk result (λ h. (u : _) × (unit.new ≡ (unit.old.0, u)) × Hears self.old seat (memory_of unit.old) (Answers unit.old) unit.old.1 h self.new (memory_of unit.new) u) }
+        ensures nothing { HearsNothing self.old seat result }
+        ensures full { HearsFull self.old seat result }
+        ensures only { IfErr result IsWant }
+        ensures err { OnErr result (self.new ≡ self.old) }
+        ensures unasked { OnErr result (unit.new ≡ unit.old) }
+    {
+        let Some(frame) = self.next_for(seat) else {
+            return Ok(HeardOne::Nothing);
+        };
+        let sifted = Sifted::of(&frame);
+        self.hear_frame(alloc, seat, frame, Some(&sifted), unit, Recorded::Unknown)?;
+        Ok(HeardOne::Frame(frame))
+    }
+
+    /// The unit on the seat hears this frame, its next one, of which this was sifted; nothing, where it is known not to pass it over. It is
+    /// asked exactly what the frame puts to it, and is else as it was. The answer says what is known of its memory afterwards.
+    ///
+    /// Refused where the journal has no room, then where there is no memory; then nothing changed, and the unit was not asked.
+    #[inline(always)]
+    fn hear_frame(
+        &mut self,
+        alloc: Global,
+        seat: u32,
+        frame: Frame,
+        sifted: Option<&Sifted>,
+        unit: &mut dyn Unit,
+        recorded: Recorded,
+    ) -> Result<Recorded, GarageError>
+        requires unit { IsUnit (state_of self.old).traffic seat }
+        requires next { next_for (state_of self.old) seat ≡ Some frame }
+        requires sifted { IfSome sifted (λ s. IsSifted s.now frame) }
+        requires recorded { recorded ≡ Recorded.Current → memory_told seat self.old.journal ≡ Some (memory_of unit.old) }
+        ensures name { name_of unit.new ≡ name_of unit.old }
+        ensures ok { OnOk result ((u : _) × (unit.new ≡ (unit.old.0, u)) × Hears self.old seat (memory_of unit.old) (Answers unit.old) unit.old.1 (HeardOne.Frame frame) self.new (memory_of unit.new) u) }
+        ensures recorded { IfOk result (λ r. r ≡ Recorded.Current → memory_told seat self.new.journal ≡ Some (memory_of unit.new)) }
+        ensures full { IsErrOf result GarageError.BookFull ↔ IsFull self.old }
+        ensures only { IfErr result IsWant }
+        ensures err { OnErr result (self.new ≡ self.old) }
+        ensures unasked { OnErr result (unit.new ≡ unit.old) }
+    {
+        let recorded = self.recorded(seat, &*unit, recorded);
+        if let Some(sifted) = sifted {
+            if is_current(recorded) && self.passes_over(seat, sifted) {
+                return Ok(Recorded::Current);
+            }
+        }
+        self.react(alloc, seat, frame, unit, recorded)
+    }
+
+    /// What is known of the memory that the journal has of a unit, once the two are compared.
+    #[inline(always)]
+    fn recorded(&self, seat: u32, unit: &dyn Unit, recorded: Recorded) -> Recorded
+        requires { recorded ≡ Recorded.Current → memory_told seat self.now.journal ≡ Some (memory_of unit.now) }
+        ensures { result ≡ Recorded.Current → memory_told seat self.now.journal ≡ Some (memory_of unit.now) }
+    {
+        match recorded {
+            Recorded::Current => Recorded::Current,
+            Recorded::Unknown => self.compared(seat, unit),
+        }
+    }
+
+    /// Compares a unit's memory with the one that the journal has of it.
+    #[inline(never)]
+    fn compared(&self, seat: u32, unit: &dyn Unit) -> Recorded
+        ensures { result ≡ Recorded.Current → memory_told seat self.now.journal ≡ Some (memory_of unit.now) }
+    {
+        if self.journal.tells(seat, unit.memory()) {
+            Recorded::Current
+        } else {
+            Recorded::Unknown
+        }
+    }
+
+    /// The unit on the seat, whose memory is recorded, passes over its next frame, of which this was sifted; answers whether it did.
+    /// Else, and where the journal has no room ready, nothing changes.
+    #[inline(always)]
+    #[tactic(auto, using(crate::proofs::Standing::seat_low, crate::proofs::Standing::seat_placed))]
+    fn passes_over(&mut self, seat: u32, sifted: &Sifted) -> bool
+        requires unit { IsUnit (state_of self.old).traffic seat }
+        requires next { (f : FrameValue) × (next_for (state_of self.old) seat ≡ Some f) × IsSifted sifted.now f }
+        requires recorded { (m : MemoryValue) × (memory_told seat self.old.journal ≡ Some m) }
+        ensures passed { (m : MemoryValue) → memory_told seat self.old.journal ≡ Some m → IsTrue result → PassesNext self.old seat m self.new }
+        ensures ready { IsTrue result → ¬ IsFull self.old }
+        ensures left { IsFalse result → self.new ≡ self.old }
+    {
+        if !has_room(&self.journal, self.live + 1, self.limit) {
+            return false;
+        }
+        let place = &mut self.places[(seat - self.stations) as usize];
+        if !place.node.settle(sifted) {
+            return false;
+        }
+        pass_over(place, &mut self.bus, &mut self.journal, seat);
+        true
+    }
+
+    /// The unit on the seat hears this frame, its next one, and does what it owes to it. It is asked exactly what the frame puts to
+    /// it, and is else as it was. The answer says what is known of its memory afterwards.
+    ///
+    /// Refused where the journal has no room, then where there is no memory; then nothing changed, and the unit was not asked.
+    #[inline(never)]
+    #[tactic(auto, using(crate::proofs::Standing::seat_low, crate::proofs::Standing::seat_placed))]
+    fn react(
+        &mut self,
+        alloc: Global,
+        seat: u32,
+        frame: Frame,
+        unit: &mut dyn Unit,
+        recorded: Recorded,
+    ) -> Result<Recorded, GarageError>
+        requires unit { IsUnit (state_of self.old).traffic seat }
+        requires next { next_for (state_of self.old) seat ≡ Some frame }
+        requires recorded { recorded ≡ Recorded.Current → memory_told seat self.old.journal ≡ Some (memory_of unit.old) }
+        ensures name { name_of unit.new ≡ name_of unit.old }
+        ensures ok { OnOk result ((u : _) × (unit.new ≡ (unit.old.0, u)) × Hears self.old seat (memory_of unit.old) (Answers unit.old) unit.old.1 (HeardOne.Frame frame) self.new (memory_of unit.new) u) }
+        ensures recorded { IfOk result (λ r. r ≡ Recorded.Current → memory_told seat self.new.journal ≡ Some (memory_of unit.new)) }
+        ensures full { IsErrOf result GarageError.BookFull ↔ IsFull self.old }
+        ensures only { IfErr result IsWant }
+        ensures err { OnErr result (self.new ≡ self.old) }
+        ensures unasked { OnErr result (unit.new ≡ unit.old) }
+    {
+        let memory = make_ready(
+            &mut self.journal,
+            &mut self.bus,
+            self.live + 1,
+            self.limit,
+            seat,
+            &*unit,
+            recorded,
+        )?;
+        let place = &mut self.places[(seat - self.stations) as usize];
+        let heard = place.node.hear(alloc, &frame, &mut *unit)?;
+        place.session_message = last_session(place.session_message, self.begun, heard.begun);
+        place.tally.events += 1;
+        let numbering = Numbering {
+            begun: self.begun,
+            is_session: begins_session(heard.begun),
+            session: place.session_message,
+        };
+        let begun = begun_count(self.begun, heard.begun);
+        let answer = heard.answer;
+        do_heard(&mut self.bus, seat, heard, numbering);
+        self.begun = begun;
+        self.journal.note_hear(seat, memory, answer);
+        Ok(recorded_after(answer))
+    }
+
+    /// Lets a parked unit take its seat, hear so many frames at most, and be parked again; answers how many it heard: so many as were
+    /// asked for, or fewer where it has heard the whole wire then.
+    ///
+    /// At each frame the journal tells the memory that the unit had then and what it answered; it was asked exactly what the frame puts to
+    /// it, and is else as it was.
+    ///
+    /// Refused with `Stranger` exactly where this garage has no live seat with its seat number, NAME and count of events; then
+    /// nothing changed. `BookFull`, then `OutOfMemory`, where there is one more frame to hear: what was heard before stays, and the
+    /// hearing that was refused changed nothing.
+    #[tactic(auto, using(crate::proofs::Crew::lists_come, crate::proofs::Crew::comes_same, crate::proofs::Lists::lists_same))]
+    pub fn let_hear(
+        &mut self,
+        alloc: Global,
+        parked: &mut Parked,
+        most: u32,
+    ) -> Result<u32, GarageError>
+        requires { Unit {0} }
+        ensures stranger { IsErrOf result GarageError.Stranger ↔ (¬ IsSeated self.old parked.old.seat (name_of parked.old.unit) parked.old.events) }
+        ensures unchanged { IsErrOf result GarageError.Stranger → ((self.new ≡ self.old) × (parked.new ≡ parked.old)) }
+        ensures kept { (parked.new.seat ≡ parked.old.seat) × (name_of parked.new.unit ≡ name_of parked.old.unit) }
+        ensures seated { IsSeated self.old parked.old.seat (name_of parked.old.unit) parked.old.events → IsSeated self.new parked.new.seat (name_of parked.new.unit) parked.new.events }
+        ensures heard { IfOk result (λ n. HearsMany (sitting_of (λ b. name_of b) (λ b. memory_of b)) (asked_of (λ b. Answers b)) n self.old parked.old self.new parked.new) }
+        ensures most { IfOk result (λ n. n ≤ most) }
+        ensures all { IfOk result (λ n. n < most → HasHeardAll parked.old.seat self.new) }
+        ensures counted { IfOk result (λ n. parked.new.events ≡ parked.old.events + n) }
+        ensures only { IfErr result (λ e. (e ≡ GarageError.Stranger) ⊎ IsWant e) }
+        ensures cut { IfErr result (λ e. (e ≡ GarageError.Stranger) ⊎ ((n : ℕ) × (n < most) × IsHearingCut (sitting_of (λ b. name_of b) (λ b. memory_of b)) (asked_of (λ b. Answers b)) n e self.old parked.old self.new parked.new)) }
+        ensures comes { Comes self.old self.new }
+        ensures lists { KeepsLists self.old self.new }
+    {
+        if !self.knows(parked) {
+            return Err(GarageError::Stranger);
+        }
+        let (heard, _) = self.hear_some(alloc, parked, Recorded::Unknown, most)?;
+        Ok(heard)
+    }
+
+    /// A unit in its seat hears so many frames at most; answers how many, and what is known of its memory afterwards.
+    ///
+    /// Refused as `let_hear` is.
+    pub(crate) fn hear_some(
+        &mut self,
+        alloc: Global,
+        parked: &mut Parked,
+        recorded: Recorded,
+        most: u32,
+    ) -> Result<(u32, Recorded), GarageError>
+        requires seated { IsSeated self.old parked.old.seat (name_of parked.old.unit) parked.old.events }
+        requires recorded { recorded ≡ Recorded.Current → memory_told parked.old.seat self.old.journal ≡ Some (memory_of parked.old.unit) }
+        ensures heard { IfOk result (λ h. HearsMany (sitting_of (λ b. name_of b) (λ b. memory_of b)) (asked_of (λ b. Answers b)) h.0 self.old parked.old self.new parked.new) }
+        ensures most { IfOk result (λ h. h.0 ≤ most) }
+        ensures all { IfOk result (λ h. h.0 < most → HasHeardAll parked.old.seat self.new) }
+        ensures recorded { IfOk result (λ h. h.1 ≡ Recorded.Current → memory_told parked.new.seat self.new.journal ≡ Some (memory_of parked.new.unit)) }
+        ensures cut { IfErr result (λ e. (n : ℕ) × (n < most) × IsHearingCut (sitting_of (λ b. name_of b) (λ b. memory_of b)) (asked_of (λ b. Answers b)) n e self.old parked.old self.new parked.new) }
+    {
+        let mut recorded = recorded;
+        for heard in 0..most {
+            let Some(frame) = self.next_for(parked.seat) else {
+                return Ok((heard, recorded));
+            };
+            let sifted = Sifted::of(&frame);
+            recorded = self.hear_seated(alloc, &mut *parked, frame, Some(&sifted), recorded)?;
+        }
+        Ok((most, recorded))
+    }
+
+    /// A unit in its seat hears this frame, its next one, as `hear_frame` does; answers what is known of its memory afterwards.
+    ///
+    /// Refused where the journal has no room, then where there is no memory; then nothing changed.
+    #[inline(always)]
+    fn hear_seated(
+        &mut self,
+        alloc: Global,
+        parked: &mut Parked,
+        frame: Frame,
+        sifted: Option<&Sifted>,
+        recorded: Recorded,
+    ) -> Result<Recorded, GarageError>
+        requires seated { IsSeated self.old parked.old.seat (name_of parked.old.unit) parked.old.events }
+        requires next { next_for (state_of self.old) parked.old.seat ≡ Some frame }
+        requires sifted { IfSome sifted (λ s. IsSifted s.now frame) }
+        requires recorded { recorded ≡ Recorded.Current → memory_told parked.old.seat self.old.journal ≡ Some (memory_of parked.old.unit) }
+        ensures heard { OnOk result (HearsFrame (sitting_of (λ b. name_of b) (λ b. memory_of b)) (asked_of (λ b. Answers b)) frame self.old parked.old self.new parked.new) }
+        ensures recorded { IfOk result (λ r. r ≡ Recorded.Current → memory_told parked.new.seat self.new.journal ≡ Some (memory_of parked.new.unit)) }
+        ensures full { IsErrOf result GarageError.BookFull ↔ IsFull self.old }
+        ensures only { IfErr result IsWant }
+        ensures err { OnErr result ((self.new ≡ self.old) × (parked.new ≡ parked.old)) }
+    {
+        let recorded = self.hear_frame(
+            alloc,
+            parked.seat,
+            frame,
+            sifted,
+            &mut *parked.unit,
+            recorded,
+        )?;
+        parked.events = self.events_of(parked.seat);
+        Ok(recorded)
+    }
+
+    /// A unit in its seat hears all that it has not heard; most have not heard the last frame of the wire alone. Answers what is
+    /// known of its memory afterwards.
+    ///
+    /// Refused where the journal has no room, then where there is no memory; what was heard before stays.
+    #[inline(always)]
+    pub(crate) fn catch_up(
+        &mut self,
+        alloc: Global,
+        parked: &mut Parked,
+        last: &LastFrame,
+        recorded: Recorded,
+    ) -> Result<Recorded, GarageError>
+        requires seated { IsSeated self.old parked.old.seat (name_of parked.old.unit) parked.old.events }
+        requires last { IsLast last.now.frame last.now.sifted self.old }
+        requires recorded { recorded ≡ Recorded.Current → memory_told parked.old.seat self.old.journal ≡ Some (memory_of parked.old.unit) }
+        ensures heard { OnOk result (HearsOut (sitting_of (λ b. name_of b) (λ b. memory_of b)) (asked_of (λ b. Answers b)) self.old parked.old self.new parked.new) }
+        ensures recorded { IfOk result (λ r. r ≡ Recorded.Current → memory_told parked.new.seat self.new.journal ≡ Some (memory_of parked.new.unit)) }
+        ensures cut { IfErr result (λ e. (n : ℕ) × IsHearingCut (sitting_of (λ b. name_of b) (λ b. memory_of b)) (asked_of (λ b. Answers b)) n e self.old parked.old self.new parked.new) }
+    {
+        let unheard = self.unheard(parked.seat);
+        if unheard == 0 {
+            return Ok(recorded);
+        }
+        if unheard == 1 {
+            // one whose memory is recorded did not pass it over (`pass_in_turn`)
+            let sifted = if is_current(recorded) {
+                None
+            } else {
+                Some(&last.sifted)
+            };
+            return self.hear_seated(alloc, parked, last.frame, sifted, recorded);
+        }
+        let (_, recorded) = self.hear_some(alloc, parked, recorded, unheard)?;
+        Ok(recorded)
+    }
+
+    /// From the `first` unit on each in turn passes over the last frame of the wire, where it is its next one, or has heard all, as far as
+    /// that goes. Answers the number of the first that is to hear otherwise: it and all after it are as they were.
+    ///
+    /// That is what `catch_up` does with most units, by the same commit. Room is looked at once for all of them, which for 64 units saves a
+    /// quarter of the instructions of a round.
+    #[inline(never)]
+    pub(crate) fn pass_in_turn(
+        &mut self,
+        units: &mut [Parked],
+        recorded: &mut [Recorded],
+        first: usize,
+        last: &LastFrame,
+    ) -> usize
+        requires crew { IsCrew (sitting_of (λ b. name_of b) (λ b. memory_of b)) self.old units.old recorded.old }
+        requires last { IsLast last.now.frame last.now.sifted self.old }
+        requires first { first ≤ length units.old }
+        ensures crew { IsCrew (sitting_of (λ b. name_of b) (λ b. memory_of b)) self.new units.new recorded.new }
+        ensures last { IsLast last.now.frame last.now.sifted self.new }
+        ensures heard { HearOnward (sitting_of (λ b. name_of b) (λ b. memory_of b)) (asked_of (λ b. Answers b)) first result self.old units.old self.new units.new }
+        ensures count { length units.new ≡ length units.old }
+        ensures onward { first ≤ result }
+        ensures within { result ≤ length units.new }
+    {
+        if !has_room(&self.journal, with_live(units.len(), self.live), self.limit) {
+            return first;
+        }
+        let stations = self.stations;
+        for i in first..units.len() {
+            let seat = units[i].seat;
+            let behind = self.bus.unheard(seat);
+            if behind == 0 {
+                continue;
+            }
+            if behind != 1 || !is_recorded(&self.journal, &units[i], &mut *recorded, i) {
+                return i;
+            }
+            let place = &mut self.places[(seat - stations) as usize];
+            if !place.node.settle(&last.sifted) {
+                return i;
+            }
+            pass_over(place, &mut self.bus, &mut self.journal, seat);
+            units[i].events = place.tally.events;
+        }
+        units.len()
+    }
+}
+
+/// The one commit for a frame that a unit passes over, once its node has settled it: the unit has one event more, its seat has heard one
+/// frame more, and the journal tells that it heard and was not asked. Its memory is recorded, and there is room.
+#[inline(always)]
+fn pass_over(place: &mut Place, bus: &mut Bus, journal: &mut Journal, seat: u32)
+    requires unit { IsUnit bus.old.traffic seat }
+    requires next { (seat_at bus.old.traffic seat).heard < length bus.old.traffic.wire }
+    requires recorded { (m : MemoryValue) × (memory_told seat (reverse journal.old.items) ≡ Some m) }
+    requires room { 0 < journal.old.room }
+    requires few { place.old.tally.events + 1 < 2 ^ 32 }
+    ensures place { place.new ≡ record place.old { tally = one_more place.old.tally } }
+    ensures traffic { bus.new.traffic ≡ heard_more seat 1 bus.old.traffic }
+    ensures noted { (m : MemoryValue) → memory_told seat (reverse journal.old.items) ≡ Some m → Gains journal.old (Hear seat m Answer.NotAsked) journal.new }
+{
+    place.tally.events += 1;
+    bus.mark_heard(seat);
+    journal.note_passed(seat);
+}
+
+/// How many events so many units may hear and all live ones leave by; the most that can be said, where it is more.
+fn with_live(count: usize, live: u32) -> u32
+    ensures { (result ≡ 2 ^ 32 - 1) ⊎ (result ≡ count + live) }
+{
+    match u32::try_from(count) {
+        Ok(count) => count.saturating_add(live),
+        Err(_) => u32::MAX,
+    }
+}
+
+/// Whether a unit's memory is known to be recorded.
+#[inline(always)]
+fn is_current(recorded: Recorded) -> bool
+    ensures { IsTrue result → recorded ≡ Recorded.Current }
+{
+    match recorded {
+        Recorded::Current => true,
+        Recorded::Unknown => false,
+    }
+}
+
+/// What is known of the memory of the unit of this number; nothing, where that is not kept.
+#[inline(always)]
+pub(crate) fn recorded_of(recorded: &[Recorded], i: usize) -> Recorded
+    ensures { result ≡ Recorded.Current → slice_get recorded.now i ≡ Some Recorded.Current }
+{
+    match recorded.get(i) {
+        Some(known) => *known,
+        None => Recorded::Unknown,
+    }
+}
+
+/// Keeps what is known of the memory of the unit of this number, as far as that is kept.
+#[inline(always)]
+pub(crate) fn keep(recorded: &mut [Recorded], i: usize, known: Recorded)
+    ensures others { (j : ℕ) → j ≢ i → slice_get recorded.new j ≡ slice_get recorded.old j }
+    ensures this { slice_get recorded.new i ≡ Some Recorded.Current → known ≡ Recorded.Current }
+{
+    if i < recorded.len() {
+        recorded[i] = known;
+    }
+}
+
+/// Whether the memory of the i-th unit is recorded: as is known, or as a look tells, which is kept.
+#[inline(always)]
+fn is_recorded(journal: &Journal, unit: &Parked, recorded: &mut [Recorded], i: usize) -> bool
+    requires { slice_get recorded.old i ≡ Some Recorded.Current → memory_told unit.now.seat (reverse journal.now.items) ≡ Some (memory_of unit.now.unit) }
+    ensures told { IsTrue result → memory_told unit.now.seat (reverse journal.now.items) ≡ Some (memory_of unit.now.unit) }
+    ensures others { (j : ℕ) → j ≢ i → slice_get recorded.new j ≡ slice_get recorded.old j }
+    ensures this { slice_get recorded.new i ≡ Some Recorded.Current → memory_told unit.now.seat (reverse journal.now.items) ≡ Some (memory_of unit.now.unit) }
+{
+    is_current(recorded_of(&*recorded, i)) || is_found_recorded(journal, unit, recorded, i)
+}
+
+/// As `is_recorded`, where that is not known: the memory is compared.
+#[inline(never)]
+fn is_found_recorded(journal: &Journal, unit: &Parked, recorded: &mut [Recorded], i: usize) -> bool
+    requires { slice_get recorded.old i ≡ Some Recorded.Current → memory_told unit.now.seat (reverse journal.now.items) ≡ Some (memory_of unit.now.unit) }
+    ensures told { IsTrue result → memory_told unit.now.seat (reverse journal.now.items) ≡ Some (memory_of unit.now.unit) }
+    ensures others { (j : ℕ) → j ≢ i → slice_get recorded.new j ≡ slice_get recorded.old j }
+    ensures this { slice_get recorded.new i ≡ Some Recorded.Current → memory_told unit.now.seat (reverse journal.now.items) ≡ Some (memory_of unit.now.unit) }
+{
+    if !journal.tells(unit.seat, unit.memory()) {
+        return false;
+    }
+    keep(recorded, i, Recorded::Current);
+    true
+}
+
+/// What is known of a unit's memory after an event that told it, once the unit answered so.
+fn recorded_after(answer: Answer) -> Recorded
+    ensures { result ≡ Recorded.Current → answer ≡ Answer.NotAsked }
+{
+    match answer {
+        Answer::NotAsked => Recorded::Current,
+        Answer::Agreed | Answer::Declined => Recorded::Unknown,
+    }
+}
+
+/// Whether a message begins that goes to one address.
+fn begins_session(begun: Option<Begun>) -> bool
+    ensures { result ≡ begins_session begun }
+{
+    match begun {
+        Some(begun) => begun.dest != GLOBAL_ADDRESS,
+        None => false,
+    }
+}
+
+/// The number of the message of the last session, once this one has begun.
+fn last_session(before: u32, number: u32, begun: Option<Begun>) -> u32
+    ensures { result ≡ session_message_after before number begun }
+{
+    if begins_session(begun) {
+        number
+    } else {
+        before
+    }
+}
+
+/// How many messages have begun, with this one.
+fn begun_count(before: u32, begun: Option<Begun>) -> u32
+    requires { before + 1 < 2 ^ 32 }
+    ensures { result ≡ count_with_begun before begun }
+{
+    match begun {
+        Some(_) => before + 1,
+        None => before,
+    }
+}

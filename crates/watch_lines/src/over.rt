@@ -1,0 +1,97 @@
+//! What becomes of a watch of which as much is kept as may be: what was heard so far is reported, and it is begun anew.
+
+use crate::form::{Part, write_report};
+use crate::run::Options;
+use bus_watch::{Buses, Limits};
+use log_lines::LogFault;
+use std::alloc::Global;
+use std::io;
+use std::io::Write;
+
+/// Whether it was begun anew.
+#[derive(Clone, Copy)]
+pub(crate) struct Over {
+    is_anew: bool,
+}
+
+impl Over {
+    /// It was not.
+    pub(crate) fn new() -> Over {
+        Over { is_anew: false }
+    }
+
+    pub(crate) fn is_anew(&self) -> bool {
+        self.is_anew
+    }
+
+    /// Makes room before the line of this number is heard, where there is none: all that was heard so far is reported, and each bus is begun
+    /// anew with the units that hold addresses. That is told on `errors` once.
+    pub(crate) fn make_room<W: Write, E: Write>(
+        &mut self,
+        alloc: Global,
+        writer: &mut W,
+        errors: &mut E,
+        buses: &mut Buses,
+        options: &Options<'_>,
+        number: u64,
+    ) -> Result<(), LogFault> {
+        if is_full(buses, options.limits) {
+            self.begin_anew(alloc, writer, errors, buses, options, number)?;
+        }
+        Ok(())
+    }
+
+    #[inline(never)]
+    fn begin_anew<W: Write, E: Write>(
+        &mut self,
+        alloc: Global,
+        writer: &mut W,
+        errors: &mut E,
+        buses: &mut Buses,
+        options: &Options<'_>,
+        number: u64,
+    ) -> Result<(), LogFault> {
+        if !self.is_anew
+            && let Err(error) = tell(errors, options.limits, number)
+        {
+            return Err(LogFault::of_write(error));
+        }
+        let part = Part::Before {
+            line: number,
+            is_first: !self.is_anew,
+        };
+        write_report(writer, buses, options, part)?;
+        self.is_anew = true;
+        start_over(alloc, buses)
+    }
+}
+
+/// Whether of a bus as much is kept as may be.
+fn is_full(buses: &Buses, limits: Limits) -> bool {
+    for one in buses.watches() {
+        if one.watch.is_full(limits) {
+            return true;
+        }
+    }
+    false
+}
+
+/// Begins each bus anew.
+fn start_over(alloc: Global, buses: &mut Buses) -> Result<(), LogFault> {
+    for place in 0..buses.watches().len() {
+        if let Some(one) = buses.watch_at(place) {
+            one.watch.start_over(alloc)?;
+        }
+    }
+    Ok(())
+}
+
+/// Tells that more is heard than is kept at once.
+fn tell<E: Write>(errors: &mut E, limits: Limits, number: u64) -> io::Result<()> {
+    let most = limits.most;
+    let keep = limits.keep;
+    writeln!(
+        errors,
+        "line {number}: more than is kept at once, {most} NAMEs (--most) and {keep} runs (--keep): what was heard so far is reported, and it is begun anew with the units that hold addresses"
+    )
+}

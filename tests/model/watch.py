@@ -11,7 +11,7 @@ from .listener import Listener, Unclaimed
 from .log_cases import reach
 from .log_line import ERROR, FD, REMOTE, SHORT
 from .notices import BadLines, Clock, without_frames
-from .words import ANSWERS, NOT_AVAILABLE, address_words, dumped, group_words, lamp_words, name_text, shown_object, shown_words, time_text
+from .words import ANSWERS, NOT_AVAILABLE, address_words, dumped, group_words, lamp_words, name_fields, name_text, shown_object, shown_words, time_text
 
 # What the program has. To be switched on with it: all tests of lines of a log then try the program as one that listens.
 PROGRAM_LISTENS = True  # whether a listener stands behind `watch`, or still a station
@@ -94,6 +94,23 @@ class Options:
     def is_in_time(self, now):
         """Whether it is told of a time; before any time it is."""
         return now is None or (self.first is None or self.first <= now) and (self.last is None or now <= self.last)
+
+
+def unit_keys(name):
+    """What a NAME says of its unit, under the keys of JSON."""
+    fields = name_fields(name)
+    return {"function": fields["function"], "instance": fields["function_instance"], "manufacturer": fields["manufacturer"], "identity": fields["identity"]}
+
+
+def unit_values(who):
+    """The same in a row of CSV, and the shop's texts for the unit and for the code, of which there are none."""
+    return [""] * 6 if isinstance(who, Unclaimed) else [*map(str, unit_keys(who).values()), "", ""]
+
+
+def field_words(name):
+    """The same in words."""
+    keys = unit_keys(name)
+    return f"function {keys['function']} instance {keys['instance']}, manufacturer {keys['manufacturer']}, identity {keys['identity']}"
 
 
 def time_asked(word):
@@ -274,12 +291,14 @@ class Watch:
             {"displaced": self.displaced, "unit": self.tell_unit, "lost": self.tell_lost, "entry": self.tell_entry, "missed": self.tell_missed,
              "unowned": self.tell_unowned, "ack": self.tell_ack, "unread": self.tell_unread}[what](number, *of)
 
-    def write(self, number, event, words, **told):
+    def write(self, number, event, words, unit=None, **told):
+        """A change, and behind all else what the NAME says of a unit that claims or loses an address."""
         if self.now is None:
             reach("an event before any time")
         time = None if self.now is None else time_text(self.now)
         self.text.append(f"{time or '-'} {self.place()}{words}\n")
-        self.objects.append(dumped({"line": number, "time": time, "event": event, **told, **self.bus_object()}) + "\n")
+        self.objects.append(dumped({"line": number, "time": time, "event": event, **told, **self.bus_object(),
+                                    **({} if unit is None else unit_keys(unit))}) + "\n")
 
     def place(self):
         """A line says its bus where each is watched."""
@@ -309,7 +328,7 @@ class Watch:
             return
         if losers:
             self.write_lost(number, self.loser)
-        self.write(number, "unit", f"unit {name_text(name)} at {address_words(source, True)}", name=name_text(name), address=source)
+        self.write(number, "unit", f"unit {name_text(name)} ({field_words(name)}) at {address_words(source, True)}", name, name=name_text(name), address=source)
 
     def tell_lost(self, number, name, by_claim):
         """Who loses its address to a claim is told of with it; who cannot claim one is, where it is told of an address, told of too."""
@@ -319,7 +338,7 @@ class Watch:
             self.write_lost(number, name)
 
     def write_lost(self, number, name):
-        self.write(number, "unit", f"unit {name_text(name)} has no address", name=name_text(name), address=None)
+        self.write(number, "unit", f"unit {name_text(name)} has no address", name, name=name_text(name), address=None)
 
     def tell_missed(self, number, count):
         """With the owners all is forgotten that was told of addresses."""
@@ -471,7 +490,7 @@ class Watch:
         if isinstance(who, Unclaimed):
             return f"{self.who_words(who)} {entries} {last}"
         held = "none" if address is None else address_words(address, True)
-        return f"{name_text(who)} {held:>7} {entries} {last}" + (" assumed" if self.is_assumed(who) else "")
+        return f"{name_text(who)} {held:>7} {entries} {last}" + (" assumed" if self.is_assumed(who) else "") + f"; {field_words(who)}"
 
     def rows_text(self):
         rows = [f"{self.place()}{self.text_row(who)}\n" for who in self.rows()]
@@ -490,7 +509,7 @@ class Watch:
         for word, kind in KINDS.items():
             row[word] = [{"times": run.times, "first": self.time(run.first), "last": self.time(run.last), **run.object(listens)}
                          for run in self.runs_of(who, kind)]
-        return row | self.bus_object()
+        return row | self.bus_object() | ({} if isinstance(who, Unclaimed) else unit_keys(who))
 
     @staticmethod
     def report_object(watches, counts, options, head={"event": "report"}):
@@ -503,12 +522,12 @@ class Watch:
 
     @staticmethod
     def header(options):
-        return HEADER + (",to" if options.listens else "") + (",bus" if options.each else "") + "\n"
+        return HEADER + (",to" if options.listens else "") + (",bus" if options.each else "") + ",function,instance,manufacturer,identity,unit_text,code_text\n"
 
     @staticmethod
     def report_rows(watches, options):
         """A row for each code of each run; without a code one for the run, and without entries one for the NAME."""
-        return "".join(",".join([*row, *([watch.csv_bus()] if options.each else [])]) + "\n"
+        return "".join(",".join([*row, *([watch.csv_bus()] if options.each else []), *unit_values(who)]) + "\n"
                                 for watch in watches for who in watch.rows() for row in watch.rows_of(who))
 
     def csv_bus(self):

@@ -7,8 +7,10 @@ mod errors;
 use command_line::{LineFault, read_line};
 use command_words::{DecodeWords, Job, LogWords, WatchWords, path_of};
 use errors::Errors;
+use line_commands::ShopFiles;
 use program_io::{Failure, Fault};
-use std::io::Read;
+use reading_progress::TellingReader;
+use std::io::{IsTerminal, Read};
 use std::process::ExitCode;
 use std::rt::Runtime;
 use std::sync::Wait;
@@ -16,7 +18,8 @@ use std::thread::Threads;
 use std::{fs, io};
 
 fn main(rt: HostRuntime) -> ExitCode {
-    match run(&rt) {
+    let is_terminal = rt.stderr().is_terminal();
+    match run(&rt, is_terminal) {
         Ok(()) => ExitCode::SUCCESS,
         Err(failure) => {
             tell(&rt, &failure);
@@ -36,8 +39,11 @@ fn tell<R: Eprint>(rt: &R, failure: &Failure) {
     }
 }
 
-/// Does what the words of the command line ask for.
-fn run<R: Runtime + AllocGlobal + Threads + Wait + Sync>(rt: &R) -> Result<(), Failure> {
+/// Does what the words of the command line ask for. Where standard error is a terminal, it is told there how far a long log is read.
+fn run<R: Runtime + AllocGlobal + Threads + Wait + Sync>(
+    rt: &R,
+    is_terminal: bool,
+) -> Result<(), Failure> {
     let words = match read_words(rt) {
         Ok(words) => words,
         Err(error) if error.kind() == io::ErrorKind::OutOfMemory => {
@@ -46,7 +52,7 @@ fn run<R: Runtime + AllocGlobal + Threads + Wait + Sync>(rt: &R) -> Result<(), F
         Err(_) => return Err(Failure::from(Fault::CommandLine)),
     };
     match read_line(rt.alloc(), words.as_slice()) {
-        Ok(job) => do_job(rt, job),
+        Ok(job) => do_job(rt, job, is_terminal),
         Err(LineFault::Help(page)) => print_page(rt, page.as_str()),
         Err(LineFault::Refused(words)) => Err(Failure {
             fault: Fault::CommandLine,
@@ -76,6 +82,7 @@ fn read_words<R: Runtime + AllocGlobal>(rt: &R) -> io::Result<Vec<String>> {
 fn do_job<R: Runtime + AllocGlobal + Threads + Wait + Sync>(
     rt: &R,
     job: Job<'_>,
+    is_terminal: bool,
 ) -> Result<(), Failure> {
     match job {
         Job::Script => script(rt),
@@ -84,9 +91,9 @@ fn do_job<R: Runtime + AllocGlobal + Threads + Wait + Sync>(
             reads,
             report,
         } => threads(rt, turns, reads, report),
-        Job::Watch { words, assumed } => watch(rt, words, assumed.as_slice()),
+        Job::Watch { words, assumed } => watch(rt, words, assumed.as_slice(), is_terminal),
         Job::Log(words) => log(rt, words),
-        Job::Decode(words) => decode(rt, words),
+        Job::Decode(words) => decode(rt, words, is_terminal),
         Job::Check => check(rt),
     }
 }
@@ -121,11 +128,62 @@ fn watch<R: Runtime + AllocGlobal>(
     rt: &R,
     words: WatchWords<'_>,
     assumed: &[&str],
+    is_terminal: bool,
 ) -> Result<(), Failure> {
     line_commands::look_at_watch_words(rt.alloc(), &words, assumed)?;
+    let units = read_texts(rt, words.units)?;
+    let texts = read_texts(rt, words.texts)?;
+    let files = ShopFiles {
+        units: named(words.units, &units),
+        texts: named(words.texts, &texts),
+    };
     match path_of(words.file) {
-        Some(path) => watch_from(rt, words, assumed, open(rt, path)?),
-        None => watch_from(rt, words, assumed, &mut rt.reader()),
+        Some(path) => {
+            let reader = told(rt, open(rt, path)?, size_of(rt, path), is_terminal);
+            watch_from(rt, words, assumed, files, reader)
+        }
+        None => {
+            let mut input = rt.reader();
+            let reader = told(rt, &mut input, None, is_terminal);
+            watch_from(rt, words, assumed, files, reader)
+        }
+    }
+}
+
+/// A reader over this one, which tells on standard error how far it is, where that is a terminal.
+#[inline(never)]
+fn told<'a, R: Runtime, I>(
+    rt: &'a R,
+    reader: I,
+    size: Option<u64>,
+    is_terminal: bool,
+) -> TellingReader<'a, I, R, Errors<'a, R>> {
+    TellingReader::new(reader, rt, Errors::new(rt), size, is_terminal)
+}
+
+/// How large a file is; none where it is no regular file, or that cannot be told.
+#[inline(never)]
+fn size_of<R: Runtime>(rt: &R, path: &str) -> Option<u64> {
+    match fs::metadata(rt, path) {
+        Ok(metadata) if metadata.is_file() => Some(metadata.len()),
+        _ => None,
+    }
+}
+
+/// What a file of texts has; nothing where none is named.
+#[inline(never)]
+fn read_texts<R: Runtime + AllocGlobal>(rt: &R, path: Option<&str>) -> Result<Vec<u8>, Failure> {
+    match path {
+        Some(path) => read_file(rt, path),
+        None => Ok(Vec::new(rt.alloc())),
+    }
+}
+
+/// What a file has, where one is named.
+fn named<'a>(path: Option<&str>, file: &'a Vec<u8>) -> Option<&'a [u8]> {
+    match path {
+        Some(_) => Some(file.as_slice()),
+        None => None,
     }
 }
 
@@ -134,17 +192,18 @@ fn watch_from<R: Runtime + AllocGlobal, I: Read + Drop>(
     rt: &R,
     words: WatchWords<'_>,
     assumed: &[&str],
+    files: ShopFiles<'_>,
     reader: I,
 ) -> Result<(), Failure> {
     line_commands::watch(
         rt.alloc(),
         words,
         assumed,
+        files,
         reader,
         io::writer(rt),
         Errors::new(rt),
-    )?;
-    Ok(())
+    )
 }
 
 #[inline(never)]
@@ -164,21 +223,30 @@ fn check<R: Runtime + AllocGlobal>(rt: &R) -> Result<(), Failure> {
     Ok(())
 }
 
-/// Reads the file of texts, where there is one, and answers the lines of a file, where one is named, or of standard input.
+/// Reads the files of texts, where there are such, and answers the lines of a file, where one is named, or of standard input.
 #[inline(never)]
-fn decode<R: Runtime + AllocGlobal>(rt: &R, words: DecodeWords<'_>) -> Result<(), Failure> {
+fn decode<R: Runtime + AllocGlobal>(
+    rt: &R,
+    words: DecodeWords<'_>,
+    is_terminal: bool,
+) -> Result<(), Failure> {
     line_commands::look_at_decode_words(rt.alloc(), &words)?;
-    let file = match words.texts {
-        Some(path) => read_file(rt, path)?,
-        None => Vec::new(rt.alloc()),
-    };
-    let texts = match words.texts {
-        Some(_) => Some(file.as_slice()),
-        None => None,
+    let units = read_texts(rt, words.units)?;
+    let texts = read_texts(rt, words.texts)?;
+    let files = ShopFiles {
+        units: named(words.units, &units),
+        texts: named(words.texts, &texts),
     };
     match path_of(words.file) {
-        Some(path) => decode_from(rt, words, texts, open(rt, path)?),
-        None => decode_from(rt, words, texts, &mut rt.reader()),
+        Some(path) => {
+            let reader = told(rt, open(rt, path)?, size_of(rt, path), is_terminal);
+            decode_from(rt, words, files, reader)
+        }
+        None => {
+            let mut input = rt.reader();
+            let reader = told(rt, &mut input, None, is_terminal);
+            decode_from(rt, words, files, reader)
+        }
     }
 }
 
@@ -186,13 +254,13 @@ fn decode<R: Runtime + AllocGlobal>(rt: &R, words: DecodeWords<'_>) -> Result<()
 fn decode_from<R: Runtime + AllocGlobal, I: Read + Drop>(
     rt: &R,
     words: DecodeWords<'_>,
-    texts: Option<&[u8]>,
+    files: ShopFiles<'_>,
     reader: I,
 ) -> Result<(), Failure> {
     line_commands::decode(
         rt.alloc(),
         words,
-        texts,
+        files,
         reader,
         io::writer(rt),
         Errors::new(rt),

@@ -42,6 +42,12 @@ pub(crate) fn command<'a>(alloc: Global) -> Result<Command<'a>, AllocError>
             given: Given::Once,
         },
         CommandOption {
+            name: "units",
+            value: "FILE",
+            help: "Texts of units, as watch takes them",
+            given: Given::Once,
+        },
+        CommandOption {
             name: "texts",
             value: "FILE",
             help: "Texts of SPNs and FMIs",
@@ -73,6 +79,7 @@ pub(crate) fn command<'a>(alloc: Global) -> Result<Command<'a>, AllocError>
 pub(crate) fn words<'a>(found: &ArgMatches<'a>) -> DecodeWords<'a> {
     DecodeWords {
         format: found.get_str("format"),
+        units: found.get_str("units"),
         texts: found.get_str("texts"),
         join: found.get_flag("join"),
         file: found.get_str("file"),

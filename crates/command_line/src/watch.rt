@@ -22,6 +22,15 @@ An address stands in decimal, from 10 on with its hexadecimal digits behind it: 
 All is heard, whatever is shown: --address, --unclaimed, --unit, --from and --to leave out what they do not ask for, in the changes and in the
 entries of the report. With --bus all each bus has units of its own, and a line says its bus.
 
+As html: a page that a browser shows without a network: how it stands, each unit with its lamps and codes, when it was, each change.
+
+The file of --units is a shop's own, comma-separated. Its first line names its columns: text, and one or more of name, function and
+manufacturer; the row that says most exactly which units it is for counts:
+
+  name,function,manufacturer,text
+  ,0,,Engine
+  1000000001419907,,,Engine of the first truck
+
 Limits: on a real bus the last claim is not always the holder (an entry within 250 ms of a claim that displaced another NAME is
 marked contested); frames lost without notice can mix two messages (a packet after --silence is withheld); where no claim of an address
 was seen, its entries stand under the address alone (have the units claim: cansend can0 18EAFFFE#00EE00; or --assume).
@@ -113,8 +122,26 @@ pub(crate) fn command<'a>(alloc: Global) -> Result<Command<'a>, AllocError>
         },
         CommandOption {
             name: "format",
-            value: "text|json|csv",
-            help: "How changes and report are written [text]; csv: the report alone",
+            value: "text|json|csv|html",
+            help: "How changes and report are written [text]; csv, html: the report alone",
+            given: Given::Once,
+        },
+        CommandOption {
+            name: "units",
+            value: "FILE",
+            help: "Texts of units",
+            given: Given::Once,
+        },
+        CommandOption {
+            name: "texts",
+            value: "FILE",
+            help: "Texts of SPNs and FMIs, as decode takes them",
+            given: Given::Once,
+        },
+        CommandOption {
+            name: "clock",
+            value: "utc|log|relative",
+            help: "How times are told in text and on the page [log; on the page utc where times count from 1970]",
             given: Given::Once,
         },
         CommandOption {
@@ -154,6 +181,9 @@ pub(crate) fn words<'a>(found: &ArgMatches<'a>) -> WatchWords<'a> {
         from: found.get_str("from"),
         to: found.get_str("to"),
         format: found.get_str("format"),
+        units: found.get_str("units"),
+        texts: found.get_str("texts"),
+        clock: found.get_str("clock"),
         strict: found.get_flag("strict"),
         file: found.get_str("file"),
     }

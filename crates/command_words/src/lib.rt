@@ -65,6 +65,12 @@ pub struct WatchWords<'a> {
     pub to: Option<&'a str>,
     /// How changes and report are written.
     pub format: Option<&'a str>,
+    /// A file of texts for units.
+    pub units: Option<&'a str>,
+    /// A file of texts for SPNs and FMIs.
+    pub texts: Option<&'a str>,
+    /// How times are told to people: `utc`, `log` or `relative`.
+    pub clock: Option<&'a str>,
     /// Whether the first bad line ends the run.
     pub strict: bool,
     /// The file that is read.
@@ -85,6 +91,8 @@ pub struct LogWords<'a> {
 pub struct DecodeWords<'a> {
     /// How each line is answered.
     pub format: Option<&'a str>,
+    /// A file of texts for units.
+    pub units: Option<&'a str>,
     /// A file of texts for SPNs and FMIs.
     pub texts: Option<&'a str>,
     /// Whether packets are joined to messages.

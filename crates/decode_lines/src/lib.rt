@@ -4,9 +4,7 @@
 
 mod joining;
 mod objects;
-mod rows;
 mod run;
-mod texts;
 
+pub use code_texts::{Texts, TextsFault};
 pub use run::{Form, Options, decode};
-pub use texts::{Texts, TextsFault};

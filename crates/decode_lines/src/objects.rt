@@ -1,7 +1,7 @@
 use crate::run::{place_of, shown_by, shown_in};
-use crate::texts::Texts;
 use can_frame::{Frame, GLOBAL_ADDRESS, Id, Pgn};
 use candump_line::{Line, Time};
+use code_texts::Texts;
 use dm_messages::Shown;
 use dm_words::{put_code, put_lamps, put_number};
 use frame_words::{Audience, data_group_name, write_line_words, write_message, write_payload};

@@ -1,8 +1,8 @@
 use crate::joining::Joining;
 use crate::objects::{joined_object, line_object};
-use crate::texts::Texts;
 use can_frame::{Frame, Pgn};
 use candump_line::{Line, Time, read_line};
+use code_texts::Texts;
 use dm_messages::{Shown, read};
 use frame_words::{write_joined_words, write_line_words};
 use log_lines::{Ended, LogFault, Notices, ROOM, next_line};
@@ -11,6 +11,7 @@ use parameter_group::ParameterGroup;
 use std::alloc::Global;
 use std::io::{BufReader, BufWriter, Read, Write};
 use trouble_code::Dtc;
+use unit_words::UnitTexts;
 
 /// How a line is answered.
 #[derive(Clone, Copy, Debug, PartialEq, Eq)]
@@ -22,10 +23,11 @@ pub enum Form {
 }
 
 /// How lines are answered.
-#[derive(Clone, Copy, Debug)]
+#[derive(Clone, Copy)]
 pub struct Options<'a> {
     pub form: Form,
-    /// A shop's texts for codes.
+    /// A shop's texts for units, and for codes.
+    pub units: &'a UnitTexts,
     pub texts: &'a Texts,
     /// Whether packets are joined to messages.
     pub join: bool,
@@ -105,7 +107,7 @@ fn answer<W: Write>(
     number: u64,
 ) -> Result<(), LogFault> {
     match options.form {
-        Form::Text => write_words(alloc, writer, options.texts, said)?,
+        Form::Text => write_words(alloc, writer, options, said)?,
         Form::Json => {
             let object = line_object(alloc, options.texts, number, said)?;
             write_object(writer, object)?;
@@ -182,16 +184,36 @@ fn write_object<W: Write>(writer: &mut W, object: Vec<u8>) -> Result<(), LogFaul
 fn write_words<W: Write>(
     alloc: Global,
     writer: &mut W,
-    texts: &Texts,
+    options: &Options<'_>,
     line: &Line<'_>,
 ) -> Result<(), LogFault> {
     if let Err(error) = write_line_words(writer, alloc, line) {
         return Err(LogFault::of_write(error));
     }
     if let Line::Frame { frame, .. } = line {
-        write_texts_of(alloc, writer, texts, frame)?;
+        write_unit_of(writer, options.units, frame)?;
+        write_texts_of(alloc, writer, options.texts, frame)?;
     }
     match writeln!(writer) {
+        Ok(()) => Ok(()),
+        Err(_) => Err(LogFault::Write),
+    }
+}
+
+/// Writes the text of the unit whose NAME a frame tells, where it has one.
+fn write_unit_of<W: Write>(
+    writer: &mut W,
+    units: &UnitTexts,
+    frame: &Frame,
+) -> Result<(), LogFault> {
+    let (ParameterGroup::AddressClaimed { name, .. } | ParameterGroup::CannotClaim { name }) =
+        ParameterGroup::read(frame) else {
+        return Ok(());
+    };
+    let Some(text) = units.text_of(name) else {
+        return Ok(());
+    };
+    match write!(writer, " ({text})") {
         Ok(()) => Ok(()),
         Err(_) => Err(LogFault::Write),
     }

@@ -3,10 +3,12 @@
 
 mod decoding;
 mod ending;
+mod shop;
 mod slips;
 mod watch_words;
 mod watching;
 
 pub use decoding::decode;
+pub use shop::ShopFiles;
 pub use slips::{look_at_decode_words, look_at_watch_words};
 pub use watching::watch;

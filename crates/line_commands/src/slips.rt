@@ -2,8 +2,8 @@
 
 use crate::decoding::form_of as decode_form_of;
 use crate::watch_words::{
-    address_of, bus_of, form_of, keep_of, most_of, name_of, shows_unclaimed, silence_of, skips_bad,
-    time_of, unit_of,
+    address_of, bus_of, clock_of, form_of, keep_of, most_of, name_of, shows_unclaimed, silence_of,
+    skips_bad, time_of, unit_of,
 };
 use command_words::{DecodeWords, Slip, WatchWords};
 use program_io::{Failure, Fault};
@@ -110,20 +110,21 @@ fn slip_of_lines<'a>(words: &WatchWords<'a>) -> Option<Slip<'a>> {
             "show or hide",
         ))
         .or(slip(
-            "format <text|json|csv>",
+            "format <text|json|csv|html>",
             words.format,
             is_form,
-            "text, json or csv",
+            "text, json, csv or html",
         ))
 }
 
-/// The slip in what is said of the unit and of the times of which it is told, and of how much is kept.
+/// The slip in what is said of the unit and of the times of which it is told, of how much is kept, and of how times are told.
 fn slip_of_filters<'a>(words: &WatchWords<'a>) -> Option<Slip<'a>> {
     let is_unit = unit_of(words.unit).is_ok();
     let is_from = time_of(words.from).is_ok();
     let is_to = time_of(words.to).is_ok();
     let is_most = most_of(words.most).is_ok();
     let is_keep = keep_of(words.keep).is_ok();
+    let is_clock = clock_of(words.clock).is_ok();
     slip("unit <NAME|N>", words.unit, is_unit, A_UNIT)
         .or(slip("from <TIME>", words.from, is_from, A_TIME))
         .or(slip("to <TIME>", words.to, is_to, A_TIME))
@@ -138,6 +139,12 @@ fn slip_of_filters<'a>(words: &WatchWords<'a>) -> Option<Slip<'a>> {
             words.keep,
             is_keep,
             "a number from 1 to 100000000",
+        ))
+        .or(slip(
+            "clock <utc|log|relative>",
+            words.clock,
+            is_clock,
+            "utc, log or relative",
         ))
 }
 

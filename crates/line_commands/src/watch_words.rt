@@ -3,10 +3,12 @@
 ghost use Rattle.std.specs.Prelude.{◌≡◌, ◌≤◌, ℕ, IfOk, IfSome, Some, None, Ok, true, false};
 ghost use Rattle.can_frame.specs.declared.address.TheConstants.{GREATEST_ADDRESS};
 
+use crate::shop::ShopTexts;
 use bus_watch::{BusShown, Limits, Selection, Settings, UnitShown};
 use can_frame::GREATEST_ADDRESS;
 use candump_line::Time;
-use command_words::{WatchWords, is_bus};
+use clock_words::Clock;
+use command_words::{WatchWords, is_bus, path_of};
 use name_field::Name;
 use program_io::Fault;
 use std::alloc::Global;
@@ -28,6 +30,7 @@ const KEEP: u64 = 1_000_000;
 pub(crate) fn options_of<'a>(
     words: &'a WatchWords<'_>,
     assumed: &'a [Assumed],
+    shop: &'a ShopTexts,
 ) -> Result<Options<'a>, Fault> {
     Ok(Options {
         settings: settings_of(words)?,
@@ -35,8 +38,21 @@ pub(crate) fn options_of<'a>(
         assumed,
         limits: limits_of(words)?,
         form: form_of(words.format)?,
+        title: title_of(words.file),
+        units: &shop.units,
+        texts: &shop.texts,
+        clock: clock_of(words.clock)?,
         strict: words.strict,
     })
+}
+
+/// What is read: the path of a file, or words for standard input.
+fn title_of(word: Option<&str>) -> &str {
+    let path = path_of(word);
+    match path {
+        Some(path) => path,
+        None => "standard input",
+    }
 }
 
 /// What of the bus is shown, and how its lines are read. The NAME that old command lines give is looked at, and says nothing.
@@ -228,6 +244,18 @@ pub(crate) fn form_of(word: Option<&str>) -> Result<Form, Fault>
         None | Some("text") => Ok(Form::Text),
         Some("json") => Ok(Form::Json),
         Some("csv") => Ok(Form::Csv),
+        Some("html") => Ok(Form::Html),
+        Some(_) => Err(Fault::CommandLine),
+    }
+}
+
+/// How times are told; none where that is not said.
+pub(crate) fn clock_of(word: Option<&str>) -> Result<Option<Clock>, Fault> {
+    match word {
+        None => Ok(None),
+        Some("utc") => Ok(Some(Clock::Utc)),
+        Some("log") => Ok(Some(Clock::Log)),
+        Some("relative") => Ok(Some(Clock::Relative)),
         Some(_) => Err(Fault::CommandLine),
     }
 }

@@ -1,4 +1,5 @@
 use crate::form::write_changes;
+use crate::kept::Kept;
 use crate::run::{Assumed, Options};
 use bus_watch::{BusWatch, Buses, Hearers};
 use candump_line::Line;
@@ -11,20 +12,22 @@ pub(crate) fn hear_line<W: Write>(
     alloc: Global,
     writer: &mut W,
     buses: &mut Buses,
+    kept: &mut Kept,
     options: &Options<'_>,
     number: u64,
     line: &Line<'_>,
 ) -> Result<(), LogFault> {
+    kept.pass(number, line);
     match buses.hearers(alloc, line)? {
         Hearers::Nobody => Ok(()),
-        Hearers::One(place) => hear_at(alloc, writer, buses, place, options, number, line),
+        Hearers::One(place) => hear_at(alloc, writer, buses, kept, place, options, number, line),
         Hearers::New(place) => {
-            assume_owners(alloc, writer, buses, place, options)?;
-            hear_at(alloc, writer, buses, place, options, number, line)
+            assume_owners(alloc, writer, buses, kept, place, options)?;
+            hear_at(alloc, writer, buses, kept, place, options, number, line)
         }
         Hearers::Every => {
             for place in 0..buses.watches().len() {
-                hear_at(alloc, writer, buses, place, options, number, line)?;
+                hear_at(alloc, writer, buses, kept, place, options, number, line)?;
             }
             Ok(())
         }
@@ -36,6 +39,7 @@ fn hear_at<W: Write>(
     alloc: Global,
     writer: &mut W,
     buses: &mut Buses,
+    kept: &mut Kept,
     place: usize,
     options: &Options<'_>,
     number: u64,
@@ -45,7 +49,9 @@ fn hear_at<W: Write>(
         return Ok(());
     };
     let changes = one.watch.hear(alloc, line)?;
-    write_changes(writer, alloc, one, options.form, number, changes)
+    let start = kept.start();
+    write_changes(writer, alloc, one, options, &start, number, &changes)?;
+    kept.tell(place, one, &changes)
 }
 
 /// Has the watch at this place take in the assumed owners, and writes each as a change of the line 0. Where there is none, nothing happens.
@@ -53,6 +59,7 @@ pub(crate) fn assume_owners<W: Write>(
     alloc: Global,
     writer: &mut W,
     buses: &mut Buses,
+    kept: &mut Kept,
     place: usize,
     options: &Options<'_>,
 ) -> Result<(), LogFault> {
@@ -60,7 +67,7 @@ pub(crate) fn assume_owners<W: Write>(
         return Ok(());
     };
     for assumed in options.assumed {
-        assume_owner(alloc, writer, one, options, assumed)?;
+        assume_owner(alloc, writer, one, kept, place, options, assumed)?;
     }
     Ok(())
 }
@@ -69,9 +76,13 @@ fn assume_owner<W: Write>(
     alloc: Global,
     writer: &mut W,
     one: &mut BusWatch,
+    kept: &mut Kept,
+    place: usize,
     options: &Options<'_>,
     assumed: &Assumed,
 ) -> Result<(), LogFault> {
     let changes = one.watch.assume(alloc, assumed.name, assumed.address)?;
-    write_changes(writer, alloc, one, options.form, 0, changes)
+    let start = kept.start();
+    write_changes(writer, alloc, one, options, &start, 0, &changes)?;
+    kept.tell(place, one, &changes)
 }

@@ -4,6 +4,7 @@
 
 mod form;
 mod hearing;
+mod kept;
 mod lines;
 mod objects;
 mod over;
@@ -13,5 +14,5 @@ mod run;
 mod text;
 mod units;
 
-pub use form::{Form, Part, write_changes, write_report};
+pub use form::Form;
 pub use run::{Assumed, Options, Watched, watch};

@@ -1,4 +1,5 @@
 use crate::hearing::hear_line;
+use crate::kept::Kept;
 use crate::over::Over;
 use crate::run::{Options, Watched};
 use bus_watch::Buses;
@@ -15,6 +16,7 @@ pub(crate) fn read_lines<R: Read + Drop, W: Write + Drop, E: Write>(
     writer: &mut BufWriter<W>,
     errors: &mut E,
     buses: &mut Buses,
+    kept: &mut Kept,
     options: &Options<'_>,
 ) -> Watched {
     let mut notices = Notices::new();
@@ -25,6 +27,7 @@ pub(crate) fn read_lines<R: Read + Drop, W: Write + Drop, E: Write>(
         writer,
         errors,
         buses,
+        kept,
         options,
         &mut notices,
         &mut over,
@@ -42,6 +45,7 @@ fn hear_lines<R: Read + Drop, W: Write + Drop, E: Write>(
     writer: &mut BufWriter<W>,
     errors: &mut E,
     buses: &mut Buses,
+    kept: &mut Kept,
     options: &Options<'_>,
     notices: &mut Notices,
     over: &mut Over,
@@ -55,10 +59,10 @@ fn hear_lines<R: Read + Drop, W: Write + Drop, E: Write>(
         let text = line.as_slice();
         let said = read_line(text);
         let is_bad = notices.take(errors, number, text, &said)?;
-        over.make_room(alloc, writer, errors, buses, options, number)?;
+        over.make_room(alloc, writer, errors, buses, kept, options, number)?;
         match clock.counts(errors, number, text, &said) {
-            Ok(true) => hear_line(alloc, writer, buses, options, number, &said)?,
-            Ok(false) => hear_line(alloc, writer, buses, options, number, &said.untimed())?,
+            Ok(true) => hear_line(alloc, writer, buses, kept, options, number, &said)?,
+            Ok(false) => hear_line(alloc, writer, buses, kept, options, number, &said.untimed())?,
             Err(error) => return Err(LogFault::of_write(error)),
         }
         if is_bad && options.strict {

@@ -1,7 +1,9 @@
+use crate::run::Options;
 use crate::units::{address_of, kind_word};
 use bus_watch::{BusWatch, Change, Run, Watch, Who};
 use can_frame::{GLOBAL_ADDRESS, Pgn};
 use candump_line::Time;
+use code_texts::Texts;
 use dm_messages::{Kind, ReadError};
 use dm_words::{put_code, put_lamps, put_number};
 use frame_words::{ControlWords, UnreadWords};
@@ -9,13 +11,15 @@ use json::Writer;
 use name_field::Name;
 use std::alloc::{AllocError, Global};
 use trouble_code::Dtc;
+use unit_words::UnitTexts;
 
 /// A change as a JSON object: the number of its line, its time, what happened, and to whom.
 pub(crate) fn change_object(
     alloc: Global,
     one: &BusWatch,
+    options: &Options<'_>,
     number: u64,
-    change: Change,
+    change: &Change,
 ) -> Result<Vec<u8>, AllocError> {
     let watch = &one.watch;
     let mut json = Writer::new(Vec::new(alloc));
@@ -23,8 +27,9 @@ pub(crate) fn change_object(
     put_number(&mut json, "line", number)?;
     put_time(&mut json, alloc, "time", &watch.now())?;
     json.key("event")?;
-    put_event(&mut json, alloc, watch, change)?;
+    put_event(&mut json, alloc, watch, options.texts, *change)?;
     put_bus(&mut json, one)?;
+    put_unit_words(&mut json, options.units, change)?;
     json.end_object()?;
     Ok(json.into_inner())
 }
@@ -33,12 +38,13 @@ fn put_event(
     json: &mut Writer,
     alloc: Global,
     watch: &Watch,
+    texts: &Texts,
     change: Change,
 ) -> Result<(), AllocError> {
     match change {
         Change::At { name, address } => put_unit(json, alloc, name, Some(address)),
         Change::NoAddress { name } => put_unit(json, alloc, name, None),
-        Change::Entry { who, kind } => put_entry(json, alloc, watch, &who, kind),
+        Change::Entry { who, kind } => put_entry(json, alloc, watch, texts, &who, kind),
         Change::Missed { count } => put_counted(json, "missed", "count", u64::from(count)),
         Change::Unowned { source } => put_counted(json, "unowned", "address", u64::from(source)),
         Change::Ack {
@@ -50,6 +56,27 @@ fn put_event(
         Change::Unread { who, kind, to, why } => put_unread(
             json, alloc, watch, &who, kind, to, why,
         ),
+    }
+}
+
+/// What the NAME says of a unit that claims or loses an address, and the shop's text for it.
+fn put_unit_words(json: &mut Writer, units: &UnitTexts, change: &Change) -> Result<(), AllocError> {
+    match change {
+        Change::At { name, .. } | Change::NoAddress { name } => put_fields(json, units, *name),
+        _ => Ok(()),
+    }
+}
+
+/// What a NAME says of its unit (SAE J1939-81), and the shop's text for it, where there is one.
+fn put_fields(json: &mut Writer, units: &UnitTexts, name: Name) -> Result<(), AllocError> {
+    let fields = name.fields();
+    put_number(json, "function", u64::from(fields.function))?;
+    put_number(json, "instance", u64::from(fields.function_instance))?;
+    put_number(json, "manufacturer", u64::from(fields.manufacturer))?;
+    put_number(json, "identity", u64::from(fields.identity))?;
+    match units.text_of(name) {
+        Some(text) => put_text(json, "text", text),
+        None => Ok(()),
     }
 }
 
@@ -101,13 +128,14 @@ fn put_entry(
     json: &mut Writer,
     alloc: Global,
     watch: &Watch,
+    texts: &Texts,
     who: &Who,
     kind: Kind,
 ) -> Result<(), AllocError> {
     json.string(kind_word(kind))?;
     put_who(json, alloc, watch, who)?;
     if let Some(run) = watch.runs(*who, kind).last() {
-        put_shown(json, alloc, run)?;
+        put_shown(json, alloc, texts, run)?;
     }
     put_number(json, "entry", watch.entries(*who, kind))
 }
@@ -144,9 +172,9 @@ fn put_who(json: &mut Writer, alloc: Global, watch: &Watch, who: &Who) -> Result
 }
 
 /// The lamps, the codes, whether the entry is contested, and where it went, if not to all.
-fn put_shown(json: &mut Writer, alloc: Global, run: &Run) -> Result<(), AllocError> {
+fn put_shown(json: &mut Writer, alloc: Global, texts: &Texts, run: &Run) -> Result<(), AllocError> {
     put_lamps(json, alloc, run.shown.lamps)?;
-    put_codes(json, run.shown.codes.as_slice())?;
+    put_codes(json, alloc, texts, run.shown.codes.as_slice())?;
     put_flag(json, "contested", run.contested)?;
     put_destination(json, run.to)
 }
@@ -159,12 +187,30 @@ fn put_destination(json: &mut Writer, to: u8) -> Result<(), AllocError> {
     put_number(json, "to", u64::from(to))
 }
 
-fn put_codes(json: &mut Writer, codes: &[Dtc]) -> Result<(), AllocError> {
+fn put_codes(
+    json: &mut Writer,
+    alloc: Global,
+    texts: &Texts,
+    codes: &[Dtc],
+) -> Result<(), AllocError> {
     begin_list(json, "codes")?;
     for code in codes {
-        put_code(json, *code, None)?;
+        put_code_of(json, alloc, texts, *code)?;
     }
     json.end_array()
+}
+
+/// A code, with the shop's text for it, where there is one.
+fn put_code_of(
+    json: &mut Writer,
+    alloc: Global,
+    texts: &Texts,
+    code: Dtc,
+) -> Result<(), AllocError> {
+    match texts.text_of(alloc, code.spn(), code.fmi())? {
+        Some(text) => put_code(json, code, Some(text.as_str())),
+        None => put_code(json, code, None),
+    }
 }
 
 /// Writes a key, and begins the list that stands under it.

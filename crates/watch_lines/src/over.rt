@@ -1,6 +1,7 @@
 //! What becomes of a watch of which as much is kept as may be: what was heard so far is reported, and it is begun anew.
 
 use crate::form::{Part, write_report};
+use crate::kept::Kept;
 use crate::run::Options;
 use bus_watch::{Buses, Limits};
 use log_lines::LogFault;
@@ -32,11 +33,12 @@ impl Over {
         writer: &mut W,
         errors: &mut E,
         buses: &mut Buses,
+        kept: &mut Kept,
         options: &Options<'_>,
         number: u64,
     ) -> Result<(), LogFault> {
         if is_full(buses, options.limits) {
-            self.begin_anew(alloc, writer, errors, buses, options, number)?;
+            self.begin_anew(alloc, writer, errors, buses, kept, options, number)?;
         }
         Ok(())
     }
@@ -48,6 +50,7 @@ impl Over {
         writer: &mut W,
         errors: &mut E,
         buses: &mut Buses,
+        kept: &mut Kept,
         options: &Options<'_>,
         number: u64,
     ) -> Result<(), LogFault> {
@@ -61,6 +64,7 @@ impl Over {
             is_first: !self.is_anew,
         };
         write_report(writer, buses, options, part)?;
+        kept.begin_anew(buses, number)?;
         self.is_anew = true;
         start_over(alloc, buses)
     }

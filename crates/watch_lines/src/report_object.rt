@@ -1,13 +1,14 @@
 //! The report as a JSON object, written as it goes: nothing of it is held, and no memory is asked for.
 
 use crate::form::Part;
-use crate::run::Assumed;
+use crate::run::Options;
 use crate::units::{KINDS, address_of, is_assumed_unit, kind_word, row_at, row_places};
 use bus_watch::{BusWatch, Buses, Counts, Run, Who};
 use can_frame::GLOBAL_ADDRESS;
 use candump_line::Time;
 use dm_messages::Kind;
 use dm_words::{LampBytes, NO_COUNT};
+use name_field::Name;
 use std::io;
 use std::io::Write;
 use trouble_code::Dtc;
@@ -16,7 +17,7 @@ use trouble_code::Dtc;
 pub(crate) fn write_object<W: Write>(
     writer: &mut W,
     buses: &Buses,
-    assumed: &[Assumed],
+    options: &Options<'_>,
     part: Part,
 ) -> io::Result<()> {
     match part {
@@ -26,7 +27,7 @@ pub(crate) fn write_object<W: Write>(
     write!(writer, ",\"rows\":[")?;
     let mut follows = false;
     for one in buses.watches() {
-        follows = write_rows(writer, one, assumed, follows)?;
+        follows = write_rows(writer, one, options, follows)?;
     }
     write!(writer, "]")?;
     write_heard(writer, buses.watches())?;
@@ -41,14 +42,14 @@ pub(crate) fn write_object<W: Write>(
 fn write_rows<W: Write>(
     writer: &mut W,
     one: &BusWatch,
-    assumed: &[Assumed],
+    options: &Options<'_>,
     follows: bool,
 ) -> io::Result<bool> {
     let mut follows = follows;
     for place in 0..row_places(&one.watch) {
         if let Some(who) = &row_at(&one.watch, place) {
             write_comma(writer, follows)?;
-            write_row(writer, one, who, is_assumed_unit(assumed, who))?;
+            write_row(writer, one, options, who)?;
             follows = true;
         }
     }
@@ -66,22 +67,43 @@ fn write_comma<W: Write>(writer: &mut W, follows: bool) -> io::Result<()> {
 fn write_row<W: Write>(
     writer: &mut W,
     one: &BusWatch,
+    options: &Options<'_>,
     who: &Who,
-    is_assumed: bool,
 ) -> io::Result<()> {
     write!(writer, "{{")?;
     write_who(writer, one, who)?;
-    if is_assumed {
+    if is_assumed_unit(options.assumed, who) {
         write!(writer, ",\"assumed\":true")?;
     }
     for kind in KINDS {
-        write_runs(writer, kind, one.watch.runs(*who, kind))?;
+        write_runs(writer, options, kind, one.watch.runs(*who, kind))?;
     }
     if let Some(bus) = &one.bus {
         write!(writer, ",\"bus\":")?;
         write_text(writer, bus.as_str())?;
     }
+    if let Who::Named(name) = *who {
+        write_fields(writer, options, name)?;
+    }
     write!(writer, "}}")
+}
+
+/// What a NAME says of its unit (SAE J1939-81), and the shop's text for it, where there is one.
+fn write_fields<W: Write>(writer: &mut W, options: &Options<'_>, name: Name) -> io::Result<()> {
+    let fields = name.fields();
+    let (function, instance) = (fields.function, fields.function_instance);
+    let (manufacturer, identity) = (fields.manufacturer, fields.identity);
+    write!(
+        writer,
+        ",\"function\":{function},\"instance\":{instance},\"manufacturer\":{manufacturer},\"identity\":{identity}"
+    )?;
+    match options.units.text_of(name) {
+        Some(text) => {
+            write!(writer, ",\"text\":")?;
+            write_text(writer, text)
+        }
+        None => Ok(()),
+    }
 }
 
 /// A unit: its NAME, null where nobody has claimed its address; that address; and of such a one how many gaps of missed frames were before it.
@@ -101,20 +123,25 @@ fn write_who<W: Write>(writer: &mut W, one: &BusWatch, who: &Who) -> io::Result<
 }
 
 /// The runs of a kind.
-fn write_runs<W: Write>(writer: &mut W, kind: Kind, runs: &[Run]) -> io::Result<()> {
+fn write_runs<W: Write>(
+    writer: &mut W,
+    options: &Options<'_>,
+    kind: Kind,
+    runs: &[Run],
+) -> io::Result<()> {
     let word = kind_word(kind);
     write!(writer, ",\"{word}\":[")?;
     let mut follows = false;
     for run in runs {
         write_comma(writer, follows)?;
-        write_run(writer, run)?;
+        write_run(writer, options, run)?;
         follows = true;
     }
     write!(writer, "]")
 }
 
 /// A run: its number of entries, the times of the first and the last, what they show, and where they went, if not to all.
-fn write_run<W: Write>(writer: &mut W, run: &Run) -> io::Result<()> {
+fn write_run<W: Write>(writer: &mut W, options: &Options<'_>, run: &Run) -> io::Result<()> {
     let times = run.times;
     write!(writer, "{{\"times\":{times}")?;
     write_time(writer, "first", &run.first)?;
@@ -124,7 +151,7 @@ fn write_run<W: Write>(writer: &mut W, run: &Run) -> io::Result<()> {
     let mut follows = false;
     for code in run.shown.codes.as_slice() {
         write_comma(writer, follows)?;
-        write_code(writer, *code)?;
+        write_code(writer, options, *code)?;
         follows = true;
     }
     let contested = run.contested;
@@ -136,17 +163,38 @@ fn write_run<W: Write>(writer: &mut W, run: &Run) -> io::Result<()> {
     write!(writer, "}}")
 }
 
-/// A code: its SPN, FMI and count, which is null where it is not available.
-fn write_code<W: Write>(writer: &mut W, code: Dtc) -> io::Result<()> {
+/// A code: its SPN, FMI and count, which is null where it is not available, and the shop's text for it, where there is one.
+fn write_code<W: Write>(writer: &mut W, options: &Options<'_>, code: Dtc) -> io::Result<()> {
     let spn = code.spn();
     let fmi = code.fmi();
     write!(writer, "{{\"spn\":{spn},\"fmi\":{fmi},\"count\":")?;
     let count = code.count();
     if count == NO_COUNT {
-        write!(writer, "null}}")
+        write!(writer, "null")?;
     } else {
-        write!(writer, "{count}}}")
+        write!(writer, "{count}")?;
     }
+    write_code_text(writer, options, spn, fmi)?;
+    write!(writer, "}}")
+}
+
+/// The shop's text for a code, where there is one.
+fn write_code_text<W: Write>(
+    writer: &mut W,
+    options: &Options<'_>,
+    spn: u32,
+    fmi: u8,
+) -> io::Result<()> {
+    let Some((text, more)) = options.texts.parts_of(spn, fmi) else {
+        return Ok(());
+    };
+    write!(writer, ",\"text\":\"")?;
+    write_letters(writer, text)?;
+    if let Some(more) = more {
+        write!(writer, ", ")?;
+        write_letters(writer, more)?;
+    }
+    write!(writer, "\"")
 }
 
 /// A time under its key, null where the line told none.
@@ -223,10 +271,15 @@ fn counts_of_lines(counts: Counts) -> [(&'static str, u64); 11] {
 /// A text in quotes, as JSON has it.
 fn write_text<W: Write>(writer: &mut W, text: &str) -> io::Result<()> {
     write!(writer, "\"")?;
+    write_letters(writer, text)?;
+    write!(writer, "\"")
+}
+
+fn write_letters<W: Write>(writer: &mut W, text: &str) -> io::Result<()> {
     for letter in text.chars() {
         write_letter(writer, letter)?;
     }
-    write!(writer, "\"")
+    Ok(())
 }
 
 fn write_letter<W: Write>(writer: &mut W, letter: char) -> io::Result<()> {

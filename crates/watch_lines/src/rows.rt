@@ -1,12 +1,14 @@
 //! The report as comma-separated values, written as it goes: nothing of it is held, and no memory is asked for.
 
 use crate::form::Part;
+use crate::run::Options;
 use crate::units::{KINDS, WhoValue, address_of, has_entries, kind_word, row_at, row_places};
 use bus_watch::{BusWatch, Buses, Run, Who};
 use can_frame::GLOBAL_ADDRESS;
 use candump_line::Time;
 use dm_messages::Kind;
 use dm_words::{LampBytes, NO_COUNT};
+use name_field::Name;
 use std::io;
 use std::io::Write;
 use trouble_code::Dtc;
@@ -16,14 +18,20 @@ const HEADER: &str =
     "name,address,kind,first_time,last_time,entries,lamps,spn,fmi,count,contested,to";
 
 /// Writes the report: a row for each code of each run of equal entries, one without a code for a run without codes, and one
-/// without a kind for a unit without entries. Where each bus is watched, the bus is the last value.
+/// without a kind for a unit without entries. Where each bus is watched, the bus follows; the last values are what the NAME says of the unit, and the
+/// shop's texts for the unit and for the code.
 /// The names of the values stand before the first part.
-pub(crate) fn write_rows<W: Write>(writer: &mut W, buses: &Buses, part: Part) -> io::Result<()> {
+pub(crate) fn write_rows<W: Write>(
+    writer: &mut W,
+    buses: &Buses,
+    options: &Options<'_>,
+    part: Part,
+) -> io::Result<()> {
     if is_first(part) {
         write_header(writer, buses.are_each())?;
     }
     for one in buses.watches() {
-        write_bus_rows(writer, one)?;
+        write_bus_rows(writer, one, options)?;
     }
     Ok(())
 }
@@ -42,29 +50,41 @@ fn write_header<W: Write>(writer: &mut W, names_bus: bool) -> io::Result<()> {
     if names_bus {
         write!(writer, ",bus")?;
     }
-    writeln!(writer)
+    writeln!(
+        writer,
+        ",function,instance,manufacturer,identity,unit_text,code_text"
+    )
 }
 
 /// The rows of a bus.
-fn write_bus_rows<W: Write>(writer: &mut W, one: &BusWatch) -> io::Result<()> {
+fn write_bus_rows<W: Write>(
+    writer: &mut W,
+    one: &BusWatch,
+    options: &Options<'_>,
+) -> io::Result<()> {
     for place in 0..row_places(&one.watch) {
         if let Some(who) = &row_at(&one.watch, place) {
-            write_unit(writer, one, who)?;
+            write_unit(writer, one, options, who)?;
         }
     }
     Ok(())
 }
 
 /// The rows of a unit.
-fn write_unit<W: Write>(writer: &mut W, one: &BusWatch, who: &Who) -> io::Result<()> {
+fn write_unit<W: Write>(
+    writer: &mut W,
+    one: &BusWatch,
+    options: &Options<'_>,
+    who: &Who,
+) -> io::Result<()> {
     if !has_entries(&one.watch, who) {
         write_front(writer, one, who)?;
         write!(writer, ",,,,,,,,,,")?;
-        return end_row(writer, one);
+        return end_row(writer, one, options, who, None);
     }
     for kind in KINDS {
         for run in one.watch.runs(*who, kind) {
-            write_run(writer, one, who, kind, run)?;
+            write_run(writer, one, options, who, kind, run)?;
         }
     }
     Ok(())
@@ -88,16 +108,17 @@ fn write_front<W: Write>(writer: &mut W, one: &BusWatch, who: &Who) -> io::Resul
 fn write_run<W: Write>(
     writer: &mut W,
     one: &BusWatch,
+    options: &Options<'_>,
     who: &Who,
     kind: Kind,
     run: &Run,
 ) -> io::Result<()> {
     let codes = run.shown.codes.as_slice();
     if codes.is_empty() {
-        return write_row(writer, one, who, kind, run, None);
+        return write_row(writer, one, options, who, kind, run, None);
     }
     for code in codes {
-        write_row(writer, one, who, kind, run, Some(*code))?;
+        write_row(writer, one, options, who, kind, run, Some(code))?;
     }
     Ok(())
 }
@@ -105,10 +126,11 @@ fn write_run<W: Write>(
 fn write_row<W: Write>(
     writer: &mut W,
     one: &BusWatch,
+    options: &Options<'_>,
     who: &Who,
     kind: Kind,
     run: &Run,
-    code: Option<Dtc>,
+    code: Option<&Dtc>,
 ) -> io::Result<()> {
     write_front(writer, one, who)?;
     let kind = kind_word(kind);
@@ -125,7 +147,7 @@ fn write_row<W: Write>(
         let to = run.to;
         write!(writer, "{to}")?;
     }
-    end_row(writer, one)
+    end_row(writer, one, options, who, code)
 }
 
 /// A time and a comma; the comma alone where the line told none.
@@ -137,7 +159,7 @@ fn write_time<W: Write>(writer: &mut W, time: &Option<Time>) -> io::Result<()> {
 }
 
 /// The SPN, the FMI and the count of a code, each with a comma; the count is empty where it is not available, and all are without a code.
-fn write_code<W: Write>(writer: &mut W, code: Option<Dtc>) -> io::Result<()> {
+fn write_code<W: Write>(writer: &mut W, code: Option<&Dtc>) -> io::Result<()> {
     let Some(code) = code else {
         return write!(writer, ",,,");
     };
@@ -151,13 +173,59 @@ fn write_code<W: Write>(writer: &mut W, code: Option<Dtc>) -> io::Result<()> {
     write!(writer, ",")
 }
 
-/// The bus behind a row, where each is watched, and the end of the row.
-fn end_row<W: Write>(writer: &mut W, one: &BusWatch) -> io::Result<()> {
+/// The bus behind a row, where each is watched; the unit and the code in words, and the end of the row.
+fn end_row<W: Write>(
+    writer: &mut W,
+    one: &BusWatch,
+    options: &Options<'_>,
+    who: &Who,
+    code: Option<&Dtc>,
+) -> io::Result<()> {
     if let Some(bus) = &one.bus {
         write!(writer, ",")?;
         write_text(writer, bus.as_str())?;
     }
+    match *who {
+        Who::Named(name) => write_fields(writer, options, name)?,
+        Who::Unclaimed { .. } => write!(writer, ",,,,,")?,
+    }
+    write!(writer, ",")?;
+    if let Some(code) = code {
+        write_code_text(writer, options, code.spn(), code.fmi())?;
+    }
     writeln!(writer)
+}
+
+/// What a NAME says of its unit (SAE J1939-81), and the shop's text for it, each behind a comma.
+fn write_fields<W: Write>(writer: &mut W, options: &Options<'_>, name: Name) -> io::Result<()> {
+    let fields = name.fields();
+    let (function, instance) = (fields.function, fields.function_instance);
+    let (manufacturer, identity) = (fields.manufacturer, fields.identity);
+    write!(writer, ",{function},{instance},{manufacturer},{identity},")?;
+    match options.units.text_of(name) {
+        Some(text) => write_text(writer, text),
+        None => Ok(()),
+    }
+}
+
+/// The shop's text for a code.
+fn write_code_text<W: Write>(
+    writer: &mut W,
+    options: &Options<'_>,
+    spn: u32,
+    fmi: u8,
+) -> io::Result<()> {
+    match options.texts.parts_of(spn, fmi) {
+        Some((text, Some(more))) => {
+            write!(writer, "\"")?;
+            write_quoted(writer, text)?;
+            write!(writer, ", ")?;
+            write_quoted(writer, more)?;
+            write!(writer, "\"")
+        }
+        Some((text, None)) => write_text(writer, text),
+        None => Ok(()),
+    }
 }
 
 /// A text, in quotes where it has a comma, a quote or an end of a line.
@@ -169,11 +237,17 @@ fn write_text<W: Write>(writer: &mut W, text: &str) -> io::Result<()> {
         return write!(writer, "{text}");
     }
     write!(writer, "\"")?;
+    write_quoted(writer, text)?;
+    write!(writer, "\"")
+}
+
+/// A text in quotes, each of its own twice.
+fn write_quoted<W: Write>(writer: &mut W, text: &str) -> io::Result<()> {
     for letter in text.chars() {
         if letter == '"' {
             write!(writer, "\"")?;
         }
         write!(writer, "{letter}")?;
     }
-    write!(writer, "\"")
+    Ok(())
 }

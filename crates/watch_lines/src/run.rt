@@ -1,14 +1,18 @@
 ghost use Rattle.std.specs.Prelude.{◌≤◌};
 ghost use Rattle.can_frame.specs.declared.address.TheConstants.{GREATEST_ADDRESS};
 
-use crate::form::{Form, Part, write_report};
+use crate::form::{Form, Part, write_page, write_report};
 use crate::hearing::assume_owners;
+use crate::kept::Kept;
 use crate::lines::read_lines;
 use bus_watch::{BusShown, Buses, Limits, Settings};
+use clock_words::Clock;
+use code_texts::Texts;
 use log_lines::{Ended, LogFault, ROOM};
 use name_field::Name;
 use std::alloc::Global;
 use std::io::{BufReader, BufWriter, Read, Write};
+use unit_words::UnitTexts;
 
 /// A NAME that is taken to hold an address before the first line.
 #[derive(Clone, Copy, Debug)]
@@ -20,7 +24,7 @@ pub struct Assumed {
 }
 
 /// How a log or a live bus is watched.
-#[derive(Clone, Copy, Debug)]
+#[derive(Clone, Copy)]
 pub struct Options<'a> {
     /// What of the bus is shown, and how its lines are read.
     pub settings: Settings,
@@ -32,6 +36,14 @@ pub struct Options<'a> {
     pub limits: Limits,
     /// How changes and report are written.
     pub form: Form,
+    /// What is read: a file's name, or words for it.
+    pub title: &'a str,
+    /// A shop's texts for units, and for codes.
+    pub units: &'a UnitTexts,
+    pub texts: &'a Texts,
+    /// How times are told to people; where that is not said, in text as the log has them, and on a page by UTC where they count from the
+    /// start of 1970, else since the first.
+    pub clock: Option<Clock>,
     /// Whether the first bad line ends the run.
     pub strict: bool,
 }
@@ -93,9 +105,16 @@ fn watch_from<R: Read + Drop, W: Write + Drop, E: Write>(
     errors: &mut E,
     options: &Options<'_>,
 ) -> Watched {
-    match Buses::new(alloc, options.settings, options.bus) {
-        Ok(mut buses) => watch_with(alloc, reader, writer, errors, &mut buses, options),
-        Err(_) => Watched::failed(LogFault::Memory),
+    match (
+        Buses::new(alloc, options.settings, options.bus),
+        Kept::new(alloc, options.form),
+    ) {
+        (Ok(mut buses), Ok(mut kept)) => {
+            watch_with(
+                alloc, reader, writer, errors, &mut buses, &mut kept, options,
+            )
+        }
+        _ => Watched::failed(LogFault::Memory),
     }
 }
 
@@ -106,10 +125,11 @@ fn watch_with<R: Read + Drop, W: Write + Drop, E: Write>(
     writer: &mut BufWriter<W>,
     errors: &mut E,
     buses: &mut Buses,
+    kept: &mut Kept,
     options: &Options<'_>,
 ) -> Watched {
-    match assume_owners(alloc, writer, buses, 0, options) {
-        Ok(()) => read_and_report(alloc, reader, writer, errors, buses, options),
+    match assume_owners(alloc, writer, buses, kept, 0, options) {
+        Ok(()) => read_and_report(alloc, reader, writer, errors, buses, kept, options),
         Err(fault) => Watched::failed(fault),
     }
 }
@@ -121,19 +141,22 @@ fn read_and_report<R: Read + Drop, W: Write + Drop, E: Write>(
     writer: &mut BufWriter<W>,
     errors: &mut E,
     buses: &mut Buses,
+    kept: &mut Kept,
     options: &Options<'_>,
 ) -> Watched {
-    let watched = read_lines(alloc, reader, writer, errors, buses, options);
+    let watched = read_lines(alloc, reader, writer, errors, buses, kept, options);
     Watched {
-        ended: reported(writer, buses, options, watched),
+        ended: reported(alloc, writer, buses, kept, options, watched),
         is_anew: watched.is_anew,
     }
 }
 
 /// Writes the report, but where writing has failed.
 fn reported<W: Write>(
+    alloc: Global,
     writer: &mut W,
     buses: &Buses,
+    kept: &mut Kept,
     options: &Options<'_>,
     watched: Watched,
 ) -> Ended {
@@ -141,7 +164,7 @@ fn reported<W: Write>(
     if ended.fault == Some(LogFault::Write) {
         return ended;
     }
-    let fault = match written_out(writer, buses, options, !is_anew) {
+    let fault = match written_out(alloc, writer, buses, kept, options, !is_anew) {
         Ok(()) => ended.fault,
         Err(fault) => Some(fault),
     };
@@ -150,12 +173,17 @@ fn reported<W: Write>(
 
 /// Writes the report, and what is still to be written.
 fn written_out<W: Write>(
+    alloc: Global,
     writer: &mut W,
     buses: &Buses,
+    kept: &mut Kept,
     options: &Options<'_>,
     is_all: bool,
 ) -> Result<(), LogFault> {
-    write_report(writer, buses, options, Part::Last { is_all })?;
+    match options.form {
+        Form::Html => write_page(writer, alloc, buses, kept, options)?,
+        _ => write_report(writer, buses, options, Part::Last { is_all })?,
+    }
     match writer.flush() {
         Ok(()) => Ok(()),
         Err(_) => Err(LogFault::Write),

@@ -4,6 +4,7 @@ use dm_messages::Kind;
 use frame_words::{AddressWords, Audience};
 use name_field::Name;
 use std::fmt;
+use unit_words::UnitTexts;
 
 /// The kinds of messages that are listed, in the order in which a report has them.
 pub(crate) const KINDS: [Kind; 3] = [Kind::Dm1, Kind::Dm2, Kind::Dm6];
@@ -22,12 +23,45 @@ pub(crate) fn address_words(address: u8) -> AddressWords {
     AddressWords(address, Audience::People)
 }
 
-/// A unit in words, for people: its NAME; or its address, with the gap of missed frames since which nobody was seen to claim it, counted
-/// from 1.
+/// A NAME for people, with the shop's text for its unit behind, where there is one: `1000000001419907 (Engine)`.
 #[derive(Clone, Copy)]
-pub(crate) struct WhoWords(pub(crate) Who);
+pub(crate) struct NameWords<'a>(pub(crate) Name, pub(crate) &'a UnitTexts);
 
-impl fmt::Display for WhoWords {
+impl fmt::Display for NameWords<'_> {
+    fn fmt<W: fmt::Write>(&self, f: &mut fmt::Formatter<W>) -> fmt::Result {
+        let name = self.0;
+        match self.1.text_of(name) {
+            Some(text) => write!(f, "{name} ({text})"),
+            None => write!(f, "{name}"),
+        }
+    }
+}
+
+/// A unit for people: its NAME, with the shop's text for it, where there is one; or its address, with the gap of missed frames since which
+/// nobody was seen to claim it, counted from 1.
+#[derive(Clone, Copy)]
+pub(crate) struct WhoWords<'a>(pub(crate) Who, pub(crate) &'a UnitTexts);
+
+impl fmt::Display for WhoWords<'_> {
+    fn fmt<W: fmt::Write>(&self, f: &mut fmt::Formatter<W>) -> fmt::Result {
+        match self.0 {
+            Who::Named(name) => {
+                let unit = NameWords(name, self.1);
+                write!(f, "{unit}")
+            }
+            Who::Unclaimed { .. } => {
+                let unit = PlainWho(self.0);
+                write!(f, "{unit}")
+            }
+        }
+    }
+}
+
+/// The same without the text.
+#[derive(Clone, Copy)]
+pub(crate) struct PlainWho(pub(crate) Who);
+
+impl fmt::Display for PlainWho {
     fn fmt<W: fmt::Write>(&self, f: &mut fmt::Formatter<W>) -> fmt::Result {
         match self.0 {
             Who::Named(name) => write!(f, "{name}"),

@@ -1,8 +1,8 @@
-use crate::rows::{Row, Rows};
+use csv_rows::{Row, Rows};
 use indexmap::IndexMap;
 use std::alloc::{AllocError, AllocFailed, Global};
 use std::fmt;
-use trouble_code::{GREATEST_FMI, GREATEST_SPN};
+use trouble_code::{Dtc, GREATEST_FMI, GREATEST_SPN};
 
 /// Why texts were refused.
 #[derive(Debug, Drop)]
@@ -178,6 +178,46 @@ impl Texts {
             (Some(spn), Some(fmi)) => joined(alloc, spn, fmi),
             (Some(text), None) | (None, Some(text)) => copied(alloc, text),
             (None, None) => Ok(None),
+        }
+    }
+}
+
+/// The texts of codes as people read them behind these: ` (190/2: Engine speed, erratic)` for each that has one.
+#[derive(Clone, Copy)]
+pub struct TextWords<'a> {
+    pub texts: &'a Texts,
+    pub codes: &'a [Dtc],
+}
+
+impl fmt::Display for TextWords<'_> {
+    fn fmt<W: fmt::Write>(&self, f: &mut fmt::Formatter<W>) -> fmt::Result {
+        for code in self.codes {
+            self.texts.write_text(f, *code)?;
+        }
+        Ok(())
+    }
+}
+
+impl Texts {
+    /// The text of a code: its own, or that of its SPN, or of its FMI; and that of its FMI, where both have one.
+    pub fn parts_of(&self, spn: u32, fmi: u8) -> Option<(&str, Option<&str>)> {
+        if let Some(text) = self.codes.get(key(spn, u32::from(fmi))) {
+            return Some((text, None));
+        }
+        match (self.spns.get(u64::from(spn)), self.fmis.get(u64::from(fmi))) {
+            (Some(text), more) => Some((text, more)),
+            (None, Some(text)) => Some((text, None)),
+            (None, None) => None,
+        }
+    }
+
+    /// Writes the text of a code in parentheses, where it has one.
+    fn write_text<W: fmt::Write>(&self, f: &mut fmt::Formatter<W>, code: Dtc) -> fmt::Result {
+        let (spn, fmi) = (code.spn(), code.fmi());
+        match self.parts_of(spn, fmi) {
+            Some((text, Some(more))) => write!(f, " ({spn}/{fmi}: {text}, {more})"),
+            Some((text, None)) => write!(f, " ({spn}/{fmi}: {text})"),
+            None => Ok(()),
         }
     }
 }

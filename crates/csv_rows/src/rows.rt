@@ -1,10 +1,8 @@
-//! Rows of comma-separated values (RFC 4180).
-
 use std::alloc::{AllocError, Global};
 
 /// A row: the line on which it begins, from 1, and its values.
 #[derive(Drop)]
-pub(crate) struct Row {
+pub struct Row {
     alloc: Global,
     line: u64,
     values: Vec<Vec<u8>>,
@@ -12,7 +10,7 @@ pub(crate) struct Row {
 
 impl Row {
     /// One without values.
-    pub(crate) fn new(alloc: Global) -> Row {
+    pub fn new(alloc: Global) -> Row {
         Row {
             alloc,
             line: 0,
@@ -20,15 +18,18 @@ impl Row {
         }
     }
 
-    pub(crate) fn line(&self) -> u64 {
+    /// The line on which it begins, from 1.
+    pub fn line(&self) -> u64 {
         self.line
     }
 
-    pub(crate) fn len(&self) -> usize {
+    /// How many values it has.
+    pub fn len(&self) -> usize {
         self.values.len()
     }
 
-    pub(crate) fn get(&self, place: usize) -> Option<&[u8]> {
+    /// The value at this place, from 0.
+    pub fn get(&self, place: usize) -> Option<&[u8]> {
         match self.values.get(place) {
             Some(value) => Some(value.as_slice()),
             None => None,
@@ -73,14 +74,14 @@ enum Place {
 
 /// The rows of a text. A value in quotes may have commas, ends of lines, and quotes, each twice; an empty line is no row.
 #[derive(Drop)]
-pub(crate) struct Rows<'a> {
+pub struct Rows<'a> {
     rest: &'a [u8],
     line: u64,
 }
 
 impl<'a> Rows<'a> {
     /// Those of this text, behind its byte order mark.
-    pub(crate) fn of(text: &'a [u8]) -> Rows<'a> {
+    pub fn of(text: &'a [u8]) -> Rows<'a> {
         let rest = match text.strip_prefix(b"\xEF\xBB\xBF") {
             Some(rest) => rest,
             None => text,
@@ -92,7 +93,7 @@ impl<'a> Rows<'a> {
     ///
     /// # Errors
     /// Memory was refused.
-    pub(crate) fn read(&mut self, row: &mut Row) -> Result<bool, AllocError> {
+    pub fn read(&mut self, row: &mut Row) -> Result<bool, AllocError> {
         let text = self.rest;
         let mut place = Place::Between;
         for (at, byte) in text.iter().enumerate() {

@@ -1,0 +1,6 @@
+//! A shop's texts for trouble codes: of SPNs, of FMIs, and of both together (SAE J1939-73).
+#![tactic(auto)]
+
+mod texts;
+
+pub use texts::{TextWords, Texts, TextsFault};

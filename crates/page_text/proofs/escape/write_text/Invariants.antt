@@ -1,0 +1,8 @@
+use Rattle.std.proofs.Common.{drop}
+use Rattle.std.specs.Io.KnownBytes.{Keeps, append_known}
+use Rattle.page_text.specs.Escape.{escaped, escaped_behind}
+use Rattle.page_text.proofs.escape.write_text.Given as goal
+
+abbrev pub invariant-loop-byte : goal.invariant-loop-byte
+invariant-loop-byte g l =
+    Keeps (append_known (g.W.Write.contents l.initial.writer) (escaped l.byte-items)) (append_known (g.W.Write.contents l.writer) (escaped_behind l.before l.last (drop l.byte-index l.byte-items)))

@@ -1,0 +1,10 @@
+use crate::unit::Unit;
+
+/// An address that changed hands: another unit claimed it, and the one that held it lost it.
+#[derive(Clone, Copy, Debug)]
+pub struct Handover {
+    pub moment: u64,
+    pub address: u8,
+    pub from: Unit,
+    pub to: Unit,
+}

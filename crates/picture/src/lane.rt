@@ -1,0 +1,265 @@
+ghost use Rattle.std.specs.Prelude.{◌≤◌};
+
+use crate::brief::Brief;
+use crate::severity::Severity;
+use crate::span::{Shows, Span};
+use crate::track::Track;
+use crate::unit::{Sender, Unit};
+use dm_messages::Kind;
+use std::alloc::{AllocError, Global};
+
+/// How many spans of addresses a lane keeps, how many of DM1 messages, and how many of DM2 and of DM6 messages.
+pub const ADDRESS_SPANS: usize = 128;
+
+pub const DM1_SPANS: usize = 1024;
+
+pub const OTHER_SPANS: usize = 64;
+
+/// How equal messages in a row ended.
+#[derive(Clone, Copy, Debug)]
+pub struct RunEnd {
+    /// When the last of them was told, where lines have times.
+    pub micros: Option<u64>,
+    /// How many they were.
+    pub times: u64,
+}
+
+/// A lane of the picture: what one unit held and told.
+#[derive(Debug, Drop)]
+pub struct Lane {
+    unit: Unit,
+    addresses: Track,
+    holding: Holding,
+    is_past: bool,
+    dm1: Messages,
+    dm2: Messages,
+    dm6: Messages,
+}
+
+/// Which address a unit holds, as far as was read.
+#[derive(Clone, Copy, Debug, PartialEq, Eq)]
+pub enum Holding {
+    /// It was not told that it holds one.
+    Never,
+    /// It holds this one since a moment.
+    Since { address: u8, moment: u64 },
+    /// It held one, and lost it.
+    Lost,
+    /// It held one, and frames were missed since.
+    Unknown,
+}
+
+/// Messages of a kind: those that ended, and those that may go on.
+#[derive(Debug, Drop)]
+struct Messages {
+    ended: Track,
+    newest: Option<Newest>,
+}
+
+/// The newest message, and when the first equal to it was told.
+#[derive(Clone, Copy, Debug)]
+struct Newest {
+    brief: Brief,
+    since: u64,
+}
+
+impl Messages {
+    fn new(alloc: Global, most: usize) -> Messages
+        requires { 2 ≤ most }
+    {
+        Messages {
+            ended: Track::new(alloc, most),
+            newest: None,
+        }
+    }
+
+    /// The newest messages end, and others begin at this moment.
+    fn begin(&mut self, brief: Brief, moment: u64, end: Option<RunEnd>) -> Result<(), AllocError> {
+        self.end(moment, end)?;
+        self.newest = Some(Newest {
+            brief,
+            since: moment,
+        });
+        Ok(())
+    }
+
+    /// The newest messages end, at this moment at the latest.
+    fn end(&mut self, moment: u64, end: Option<RunEnd>) -> Result<(), AllocError> {
+        let Some(newest) = self.newest.take() else {
+            return Ok(());
+        };
+        let span = newest.ended(moment, end);
+        self.ended.add(&span)
+    }
+}
+
+impl Newest {
+    /// The span of messages that ended.
+    fn ended(self, moment: u64, end: Option<RunEnd>) -> Span {
+        let (to, times) = match end {
+            Some(end) => (end.micros.unwrap_or(moment), end.times),
+            None => (moment, 1),
+        };
+        let shows = Shows::Message {
+            brief: self.brief,
+            severity: self.brief.severity(),
+            times,
+        };
+        Span::new(self.since, to.min(moment).max(self.since), shows)
+    }
+}
+
+impl Lane {
+    /// A lane of a unit of which nothing was told.
+    pub(crate) fn new(alloc: Global, unit: &Unit) -> Lane {
+        Lane {
+            unit: *unit,
+            addresses: Track::new(alloc, ADDRESS_SPANS),
+            holding: Holding::Never,
+            is_past: false,
+            dm1: Messages::new(alloc, DM1_SPANS),
+            dm2: Messages::new(alloc, OTHER_SPANS),
+            dm6: Messages::new(alloc, OTHER_SPANS),
+        }
+    }
+
+    /// Whose it is.
+    pub fn unit(&self) -> &Unit {
+        &self.unit
+    }
+
+    /// Whether it is of this unit.
+    pub(crate) fn is_of(&self, unit: &Unit) -> bool {
+        self.unit == *unit
+    }
+
+    /// Whether it is of an address that nobody has claimed, and frames were missed since, or somebody claimed it: who sends from there now is
+    /// another lane's.
+    pub fn is_past(&self) -> bool {
+        self.is_past
+    }
+
+    /// Frames were missed on this bus: who sent without a claim may be another one now.
+    pub(crate) fn pass_gap(&mut self, bus: u16) {
+        if let Sender::Unclaimed { .. } = self.unit.sender {
+            if self.unit.bus == bus {
+                self.is_past = true;
+            }
+        }
+    }
+
+    /// Somebody claimed this address of this bus.
+    pub(crate) fn pass_claim(&mut self, bus: u16, claimed: u8) {
+        if let Sender::Unclaimed { address, .. } = self.unit.sender {
+            if self.unit.bus == bus && address == claimed {
+                self.is_past = true;
+            }
+        }
+    }
+
+    /// Whether its unit is on this bus.
+    pub(crate) fn is_on(&self, bus: u16) -> bool {
+        self.unit.bus == bus
+    }
+
+    /// The worst that it told by a DM1 that ended.
+    pub fn worst(&self) -> Severity {
+        let mut worst = Severity::Fine;
+        for span in self.dm1.ended.spans() {
+            worst = worst.worse(span.shows.severity());
+        }
+        worst
+    }
+
+    /// When it held which address.
+    pub fn addresses(&self) -> &[Span] {
+        self.addresses.spans()
+    }
+
+    /// Which address it holds.
+    pub fn holding(&self) -> Holding {
+        self.holding
+    }
+
+    /// When it told what by messages of this kind.
+    pub fn messages(&self, kind: Kind) -> &[Span] {
+        match kind {
+            Kind::Dm1 => self.dm1.ended.spans(),
+            Kind::Dm2 => self.dm2.ended.spans(),
+            Kind::Dm6 => self.dm6.ended.spans(),
+        }
+    }
+
+    /// It holds this address from this moment on.
+    pub(crate) fn hold(&mut self, address: u8, moment: u64) -> Result<(), AllocError> {
+        if let Holding::Since { address: held, .. } = self.holding {
+            if held == address {
+                return Ok(());
+            }
+        }
+        self.part(moment)?;
+        self.holding = Holding::Since { address, moment };
+        Ok(())
+    }
+
+    /// It holds no address from this moment on.
+    pub(crate) fn lose(&mut self, moment: u64) -> Result<(), AllocError> {
+        self.part(moment)?;
+        if self.holding != Holding::Never {
+            self.holding = Holding::Lost;
+        }
+        Ok(())
+    }
+
+    /// Frames were missed at this moment: which address it holds is not known from then on.
+    pub(crate) fn forget(&mut self, moment: u64) -> Result<(), AllocError> {
+        self.part(moment)?;
+        if let Holding::Since { .. } = self.holding {
+            self.holding = Holding::Unknown;
+        }
+        Ok(())
+    }
+
+    /// Keeps until when an address was held, where one was.
+    pub(crate) fn part(&mut self, moment: u64) -> Result<(), AllocError> {
+        match self.holding {
+            Holding::Since {
+                address,
+                moment: since,
+            } => {
+                let span = Span::new(since, moment, Shows::Address(address));
+                self.addresses.add(&span)
+            }
+            _ => Ok(()),
+        }
+    }
+
+    /// It tells something else by messages of this kind. How those before it ended is said, where there were any.
+    pub(crate) fn tell(
+        &mut self,
+        kind: Kind,
+        brief: Brief,
+        moment: u64,
+        before: Option<RunEnd>,
+    ) -> Result<(), AllocError> {
+        self.messages_mut(kind).begin(brief, moment, before)
+    }
+
+    /// The newest messages of this kind ended so.
+    pub(crate) fn end(
+        &mut self,
+        kind: Kind,
+        moment: u64,
+        end: Option<RunEnd>,
+    ) -> Result<(), AllocError> {
+        self.messages_mut(kind).end(moment, end)
+    }
+
+    fn messages_mut(&mut self, kind: Kind) -> &mut Messages {
+        match kind {
+            Kind::Dm1 => &mut self.dm1,
+            Kind::Dm2 => &mut self.dm2,
+            Kind::Dm6 => &mut self.dm6,
+        }
+    }
+}

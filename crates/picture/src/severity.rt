@@ -1,0 +1,68 @@
+ghost use Rattle.std.specs.Prelude.{◌≡◌, max};
+ghost use Rattle.picture.specs.Spans.{rank};
+
+use trouble_code::{LampName, Lamps};
+
+/// How bad it is what a unit tells: the worst lamp that is on, else whether there are codes.
+#[derive(Clone, Copy, Debug, PartialEq, Eq)]
+pub enum Severity {
+    /// No lamp is on, and there is no code.
+    Fine,
+    /// There are codes, and no lamp is on.
+    Codes,
+    /// The protect lamp is on.
+    Protect,
+    /// The malfunction indicator lamp is on.
+    Malfunction,
+    /// The amber warning lamp is on.
+    Amber,
+    /// The red stop lamp is on.
+    Red,
+}
+
+/// The state of a lamp that is on (SAE J1939-73).
+const ON: u8 = 1;
+
+impl Severity {
+    /// How bad it is what lamps and so many codes tell.
+    pub fn of(lamps: Lamps, codes: usize) -> Severity {
+        if lamps.lamp(LampName::RedStop) == ON {
+            Severity::Red
+        } else if lamps.lamp(LampName::Amber) == ON {
+            Severity::Amber
+        } else if lamps.lamp(LampName::Malfunction) == ON {
+            Severity::Malfunction
+        } else if lamps.lamp(LampName::Protect) == ON {
+            Severity::Protect
+        } else if codes > 0 {
+            Severity::Codes
+        } else {
+            Severity::Fine
+        }
+    }
+
+    /// Its place from the least bad on, from 0.
+    pub fn rank(self) -> u8
+        ensures { result ≡ rank self }
+    {
+        match self {
+            Severity::Fine => 0,
+            Severity::Codes => 1,
+            Severity::Protect => 2,
+            Severity::Malfunction => 3,
+            Severity::Amber => 4,
+            Severity::Red => 5,
+        }
+    }
+
+    /// The worse of two.
+    pub fn worse(self, other: Severity) -> Severity
+        ensures { rank result ≡ max (rank self) (rank other) }
+    {
+        if self.rank() < other.rank() {
+            other
+        } else {
+            self
+        }
+    }
+}

@@ -1,0 +1,86 @@
+ghost use Rattle.std.specs.Prelude.{◌≡◌, [], ◌∷◌, ◌++◌, IfSome, IfNone, OnOk, OnErr};
+ghost use Rattle.unit_words.specs.Exact.{IsPlaceOf, IsTextOf, NoneFits};
+
+use crate::row::UnitRow;
+use crate::words::UnitWords;
+use name_field::Name;
+use std::alloc::{AllocError, Global};
+use std::marker::Model;
+
+/// A shop's texts for units, seen as their rows in the order of the file.
+#[derive(Debug, Drop)]
+pub struct UnitTexts {
+    rows: Vec<UnitRow>,
+}
+
+impl Model for UnitTexts {
+    ghost use Rattle.std.specs.Prelude.{List};
+    ghost use Rattle.unit_words.specs.declared.row.UnitRow.{UnitRow};
+
+    ghost Value = { List UnitRow };
+
+    ghost view = { λ t. t.rows.items };
+}
+
+impl UnitTexts {
+    /// No texts.
+    pub fn new(alloc: Global) -> UnitTexts
+        ensures { result ≡ [] }
+    {
+        UnitTexts {
+            rows: Vec::new(alloc),
+        }
+    }
+
+    /// Adds a text behind all others.
+    ///
+    /// # Errors
+    /// Memory was refused; nothing is changed.
+    pub fn add(&mut self, row: UnitRow) -> Result<(), AllocError>
+        ensures ok { OnOk result (self.new ≡ self.old ++ row ∷ []) }
+        ensures err { OnErr result (self.new ≡ self.old) }
+    {
+        self.rows.push(row)?;
+        Ok(())
+    }
+
+    /// The text of a unit: that of the most exact row that is for it, and of equally exact ones that of the last; none where no row is for it.
+    ///
+    /// A NAME is more exact than function and manufacturer together, these more than a function, and that more than a manufacturer.
+    #[tactic(auto, using(crate::proofs::Exact::text_found))]
+    pub fn text_of(&self, name: Name) -> Option<&str>
+        ensures found { IfSome result (λ text. IsTextOf self.entry.now name text.now) }
+        ensures none { IfNone result (NoneFits self.entry.now name) }
+    {
+        match self.place_of(name) {
+            Some(place) => Some(self.rows[place].text.as_str()),
+            None => None,
+        }
+    }
+
+    /// A unit in words: its text, or what its NAME says of it.
+    pub fn words_of(&self, name: Name) -> UnitWords<'_> {
+        UnitWords {
+            name,
+            text: self.text_of(name),
+        }
+    }
+
+    /// The place of the most exact row for a unit.
+    #[tactic(auto, using(crate::proofs::Exact::nothing_yet))]
+    fn place_of(&self, name: Name) -> Option<usize>
+        ensures found { IfSome result (λ place. IsPlaceOf self.now name place) }
+        ensures none { IfNone result (NoneFits self.now name) }
+    {
+        let mut best: Option<usize> = None;
+        let mut most = 0;
+        for (place, row) in self.rows.iter().enumerate() {
+            let exactness = row.exactness();
+            if row.fits(name) && exactness >= most {
+                best = Some(place);
+                most = exactness;
+            }
+        }
+        best
+    }
+}

@@ -1,0 +1,281 @@
+use crate::form::Form;
+use crate::units::KINDS;
+use bus_watch::{BusWatch, Buses, Change, Changes, Run, Watch, Who};
+use candump_line::{Line, Time};
+use dm_messages::Kind;
+use log_lines::LogFault;
+use name_field::Name;
+use picture::{Brief, Picture, RunEnd, Sender, Told, Unit};
+use std::alloc::{AllocError, Global};
+
+/// What is kept beside the watches while lines are read: when the first of them was, and for a page its picture.
+#[derive(Drop)]
+pub(crate) struct Kept {
+    start: Option<Time>,
+    picture: Option<Picture>,
+    anew_at: Option<u64>,
+}
+
+impl Kept {
+    /// Nothing yet, in this form.
+    ///
+    /// # Errors
+    /// Memory was refused.
+    pub(crate) fn new(alloc: Global, form: Form) -> Result<Kept, AllocError> {
+        let picture = match form {
+            Form::Html => Some(Picture::new(alloc)?),
+            _ => None,
+        };
+        Ok(Kept {
+            start: None,
+            picture,
+            anew_at: None,
+        })
+    }
+
+    /// The time of the first line that has one.
+    pub(crate) fn start(&self) -> Option<Time> {
+        self.start
+    }
+
+    /// The picture, where one is kept.
+    pub(crate) fn picture(&self) -> Option<&Picture> {
+        match &self.picture {
+            Some(picture) => Some(picture),
+            None => None,
+        }
+    }
+
+    /// The line of this number is read.
+    pub(crate) fn pass(&mut self, number: u64, line: &Line<'_>) {
+        if self.start.is_some() && self.picture.is_none() {
+            return;
+        }
+        if self.start.is_none() {
+            self.start = time_of(line);
+        }
+        if let Some(picture) = &mut self.picture {
+            picture.pass(number, time_of(line));
+        }
+    }
+
+    /// The line that is read changed this of the bus at this place.
+    ///
+    /// # Errors
+    /// Memory was refused.
+    pub(crate) fn tell(
+        &mut self,
+        place: usize,
+        one: &BusWatch,
+        changes: &Changes,
+    ) -> Result<(), LogFault> {
+        let Some(picture) = &mut self.picture else {
+            return Ok(());
+        };
+        let Some(change) = &changes.change else {
+            return Ok(());
+        };
+        let bus = bus_at(place);
+        tell_change(
+            picture,
+            &one.watch,
+            bus,
+            *change,
+            lost_unit(bus, &changes.lost),
+        )?;
+        Ok(())
+    }
+
+    /// The line before which the watches were last begun anew, where they were.
+    pub(crate) fn anew_at(&self) -> Option<u64> {
+        self.anew_at
+    }
+
+    /// Before the line of this number the watches are begun anew: how messages ended that they know of is kept.
+    ///
+    /// # Errors
+    /// Memory was refused.
+    pub(crate) fn begin_anew(&mut self, buses: &Buses, number: u64) -> Result<(), LogFault> {
+        self.anew_at = Some(number);
+        let Some(picture) = &mut self.picture else {
+            return Ok(());
+        };
+        for place in 0..picture.lanes().len() {
+            end_messages(picture, buses, place)?;
+        }
+        Ok(())
+    }
+
+    /// All lines are read.
+    ///
+    /// # Errors
+    /// Memory was refused.
+    pub(crate) fn finish(&mut self, buses: &Buses) -> Result<(), LogFault> {
+        let Some(picture) = &mut self.picture else {
+            return Ok(());
+        };
+        picture.finish()?;
+        for place in 0..picture.lanes().len() {
+            end_messages(picture, buses, place)?;
+        }
+        Ok(())
+    }
+}
+
+/// How the newest messages of the unit of a lane ended.
+fn end_messages(picture: &mut Picture, buses: &Buses, place: usize) -> Result<(), AllocError> {
+    let Some(lane) = picture.lanes().get(place) else {
+        return Ok(());
+    };
+    let unit = *lane.unit();
+    let Some(one) = buses.watches().get(usize::from(unit.bus)) else {
+        return Ok(());
+    };
+    for kind in KINDS {
+        let end = end_of(one.watch.runs(who_of(&unit.sender), kind).last());
+        picture.end_messages(&unit, kind, end)?;
+    }
+    Ok(())
+}
+
+/// How equal messages in a row ended.
+fn end_of(run: Option<&Run>) -> Option<RunEnd> {
+    match run {
+        Some(run) => Some(RunEnd {
+            micros: match run.last {
+                Some(last) => Some(last.micros()),
+                None => None,
+            },
+            times: run.times,
+        }),
+        None => None,
+    }
+}
+
+/// Tells a change of a bus.
+fn tell_change(
+    picture: &mut Picture,
+    watch: &Watch,
+    bus: u16,
+    change: Change,
+    lost_by: Option<Unit>,
+) -> Result<(), AllocError> {
+    match change {
+        Change::Entry { who, kind } => tell_entry(picture, watch, bus, &who, kind),
+        Change::At { name, address } => {
+            let unit = Unit::named(bus, name);
+            picture.tell(
+                &Told::At {
+                    unit,
+                    address,
+                    lost_by,
+                },
+                None,
+            )
+        }
+        Change::NoAddress { name } => picture.tell(
+            &Told::NoAddress {
+                unit: Unit::named(bus, name),
+            },
+            None,
+        ),
+        Change::Missed { count } => picture.tell(
+            &Told::Missed {
+                bus,
+                count: u64::from(count),
+            },
+            None,
+        ),
+        Change::Unowned { source } => picture.tell(&Told::Unowned { bus, source }, None),
+        Change::Ack {
+            name,
+            control,
+            pgn,
+            ..
+        } => picture.tell(
+            &Told::Acknowledged {
+                unit: Unit::named(bus, name),
+                control,
+                pgn: pgn.number(),
+            },
+            None,
+        ),
+        Change::Unread { who, kind, .. } => picture.tell(
+            &Told::Unread {
+                unit: unit_of(bus, who),
+                kind,
+            },
+            None,
+        ),
+    }
+}
+
+/// Tells an entry that begins a run, and how the run before it ended.
+fn tell_entry(
+    picture: &mut Picture,
+    watch: &Watch,
+    bus: u16,
+    who: &Who,
+    kind: Kind,
+) -> Result<(), AllocError> {
+    let runs = watch.runs(*who, kind);
+    let Some(run) = runs.last() else {
+        return Ok(());
+    };
+    let before = end_of(match runs.len() {
+        0 | 1 => None,
+        count => runs.get(count - 2),
+    });
+    let brief = Brief::of(
+        run.shown.lamps,
+        run.shown.codes.as_slice(),
+        run.to,
+        run.contested,
+    );
+    picture.tell(
+        &Told::Message {
+            unit: unit_of(bus, *who),
+            kind,
+            brief,
+        },
+        before,
+    )
+}
+
+/// The number of the bus at a place.
+fn bus_at(place: usize) -> u16 {
+    place.min(usize::from(u16::MAX)) as u16
+}
+
+/// The unit of a bus that sends so.
+fn unit_of(bus: u16, who: Who) -> Unit {
+    let sender = match who {
+        Who::Named(name) => Sender::Named(name.number()),
+        Who::Unclaimed { address, gaps } => Sender::Unclaimed { address, gaps },
+    };
+    Unit { bus, sender }
+}
+
+/// The unit of a bus that lost its address, where one did.
+fn lost_unit(bus: u16, lost: &Option<Name>) -> Option<Unit> {
+    match lost {
+        Some(name) => Some(Unit::named(bus, *name)),
+        None => None,
+    }
+}
+
+/// Whom a watch has there.
+fn who_of(sender: &Sender) -> Who {
+    match *sender {
+        Sender::Named(name) => Who::Named(Name::from_number(name)),
+        Sender::Unclaimed { address, gaps } => Who::Unclaimed { address, gaps },
+    }
+}
+
+/// The time of a line, where it has one.
+fn time_of(line: &Line<'_>) -> Option<Time> {
+    match line {
+        Line::Frame { time, .. } => *time,
+        _ => None,
+    }
+}

@@ -1,0 +1,169 @@
+use crate::fault::PageFault;
+use crate::message_words::{LAMPS, is_on};
+use crate::view::{View, places_of, sender_at, who_of};
+use bus_watch::{Run, Watch};
+use dm_messages::Kind;
+use name_field::Name;
+use picture::{Holding, Sender, Severity, Unit};
+
+/// How many units of each order are listed.
+const MOST: usize = 1_000;
+
+/// How many orders there are: by how bad it is what a unit on the bus tells, and then those that are gone.
+const ORDERS: usize = 7;
+
+/// Whether a unit is on the bus.
+#[derive(Clone, Copy, Debug, PartialEq, Eq)]
+pub(crate) enum Presence {
+    /// It holds an address, or sends from one that nobody has claimed.
+    On,
+    /// It has lost its address, or could not claim one.
+    Gone,
+    /// It sent from an address that nobody had claimed, and frames were missed since, or somebody claimed it.
+    Past,
+    /// Frames were missed since it was heard: which address it holds is not known.
+    Unknown,
+}
+
+/// A unit that is listed.
+#[derive(Clone, Copy, Debug)]
+pub(crate) struct Listed {
+    pub(crate) order: usize,
+    pub(crate) unit: Unit,
+    pub(crate) presence: Presence,
+}
+
+/// How it stands at the end.
+#[derive(Drop)]
+pub(crate) struct Standing {
+    /// How many units there are.
+    pub(crate) all: u64,
+    /// How many of them are on the bus, and how many of those report faults.
+    pub(crate) on: u64,
+    pub(crate) faulty: u64,
+    /// How many of them have each lamp on, in the order of `LAMPS`.
+    pub(crate) lamps: [u64; 4],
+    /// The units that are listed.
+    pub(crate) listed: Vec<Listed>,
+    counts: [usize; ORDERS],
+}
+
+impl Standing {
+    /// How the units of all buses stand.
+    pub(crate) fn of(view: &View<'_>) -> Result<Standing, PageFault> {
+        let mut standing = Standing {
+            all: 0,
+            on: 0,
+            faulty: 0,
+            lamps: [0; 4],
+            listed: Vec::new(view.alloc),
+            counts: [0; ORDERS],
+        };
+        for number in 0..view.buses.len() {
+            standing.add_bus(view, number)?;
+        }
+        Ok(standing)
+    }
+
+    fn add_bus(&mut self, view: &View<'_>, number: usize) -> Result<(), PageFault> {
+        let Some(bus) = view.buses.get(number) else {
+            return Ok(());
+        };
+        for place in 0..places_of(&bus.watch) {
+            if let Some(sender) = sender_at(&bus.watch, place) {
+                let unit = Unit {
+                    bus: number.min(usize::from(u16::MAX)) as u16,
+                    sender,
+                };
+                self.add(view, &bus.watch, &unit)?;
+            }
+        }
+        Ok(())
+    }
+
+    fn add(&mut self, view: &View<'_>, watch: &Watch, unit: &Unit) -> Result<(), PageFault> {
+        let presence = presence_of(view, watch, unit);
+        let newest = watch.runs(who_of(&unit.sender), Kind::Dm1).last();
+        let severity = severity_of(newest);
+        self.all = self.all.saturating_add(1);
+        if presence == Presence::On {
+            self.on = self.on.saturating_add(1);
+            self.count_faults(newest, severity);
+        }
+        self.list(order_of(presence, severity), unit, presence)
+    }
+
+    fn count_faults(&mut self, newest: Option<&Run>, severity: Severity) {
+        if severity == Severity::Fine {
+            return;
+        }
+        self.faulty = self.faulty.saturating_add(1);
+        let Some(run) = newest else {
+            return;
+        };
+        for place in 0..4 {
+            let (lamp, _, _, _) = LAMPS[place];
+            if is_on(run.shown.lamps, lamp) {
+                self.lamps[place] = self.lamps[place].saturating_add(1);
+            }
+        }
+    }
+
+    fn list(&mut self, order: usize, unit: &Unit, presence: Presence) -> Result<(), PageFault> {
+        let count = self.counts[order.min(ORDERS - 1)];
+        if count >= MOST {
+            return Ok(());
+        }
+        self.counts[order.min(ORDERS - 1)] = count.saturating_add(1);
+        let listed = Listed {
+            order,
+            unit: *unit,
+            presence,
+        };
+        self.listed.reserve(1)?;
+        self.listed.push_reserved(listed);
+        Ok(())
+    }
+}
+
+/// Whether a unit is on the bus.
+pub(crate) fn presence_of(view: &View<'_>, watch: &Watch, unit: &Unit) -> Presence {
+    let Sender::Named(name) = unit.sender else {
+        return match view.picture.lane_of(unit) {
+            Some(lane) if lane.is_past() => Presence::Past,
+            _ => Presence::On,
+        };
+    };
+    if let Some(row) = watch.row(Name::from_number(name)) {
+        if row.address.is_some() {
+            return Presence::On;
+        }
+    }
+    match view.picture.lane_of(unit) {
+        Some(lane) => match lane.holding() {
+            Holding::Unknown => Presence::Unknown,
+            _ => Presence::Gone,
+        },
+        None if watch.missed_in_all() > 0 => Presence::Unknown,
+        None => Presence::Gone,
+    }
+}
+
+/// How bad it is what the newest of some equal messages tells.
+pub(crate) fn severity_of(newest: Option<&Run>) -> Severity {
+    match newest {
+        Some(run) => Severity::of(run.shown.lamps, run.shown.codes.as_slice().len()),
+        None => Severity::Fine,
+    }
+}
+
+/// In which order a unit stands: the worst on the bus first, those that are gone last.
+pub(crate) fn order_of(presence: Presence, severity: Severity) -> usize {
+    match presence {
+        Presence::Gone | Presence::Past => ORDERS - 1,
+        _ => 5usize.saturating_sub(usize::from(severity.rank())),
+    }
+}
+
+/// The orders.
+pub(crate) const ALL_ORDERS: usize = ORDERS;

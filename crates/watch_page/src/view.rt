@@ -1,0 +1,70 @@
+use bus_watch::{BusWatch, Watch, Who};
+use clock_words::Clock;
+use code_texts::Texts;
+use name_field::Name;
+use picture::{Picture, Sender, Unit};
+use std::alloc::Global;
+use unit_words::UnitTexts;
+
+/// What a page is written of.
+#[derive(Clone, Copy)]
+pub struct View<'a> {
+    pub alloc: Global,
+    /// What was read: a file's name, or words for it.
+    pub title: &'a str,
+    pub picture: &'a Picture,
+    /// The buses, in the order of the numbers that units have.
+    pub buses: &'a [BusWatch],
+    pub units: &'a UnitTexts,
+    pub texts: &'a Texts,
+    /// How times are told.
+    pub clock: Clock,
+    /// The line before which the watches were last begun anew, since as much was kept as may be: they know of what came from there on.
+    pub anew_at: Option<u64>,
+}
+
+impl<'a> View<'a> {
+    /// The watch of a unit's bus, and whom it has there.
+    pub(crate) fn watched(&self, unit: &Unit) -> Option<(&'a Watch, Who)> {
+        let bus = self.buses.get(usize::from(unit.bus))?;
+        Some((&bus.watch, who_of(&unit.sender)))
+    }
+
+    /// How many frames were missed on all buses.
+    pub(crate) fn missed(&self) -> u64 {
+        let mut missed = 0u64;
+        for bus in self.buses {
+            missed = missed.saturating_add(bus.watch.missed_in_all());
+        }
+        missed
+    }
+}
+
+/// Whom a watch has there.
+pub(crate) fn who_of(sender: &Sender) -> Who {
+    match *sender {
+        Sender::Named(name) => Who::Named(Name::from_number(name)),
+        Sender::Unclaimed { address, gaps } => Who::Unclaimed { address, gaps },
+    }
+}
+
+/// How many places of units a watch has, of which some stay empty.
+pub(crate) fn places_of(watch: &Watch) -> usize {
+    watch.names().saturating_add(watch.units())
+}
+
+/// The sender at this place: first all NAMEs, in the order of their first claims, then the addresses that nobody has claimed. A place
+/// behind the NAMEs where the entry was one of a NAME stays empty.
+pub(crate) fn sender_at(watch: &Watch, place: usize) -> Option<Sender> {
+    let names = watch.names();
+    if place < names {
+        return match watch.name_at(place) {
+            Some(name) => Some(Sender::Named(name.number())),
+            None => None,
+        };
+    }
+    match watch.unit_at(place - names) {
+        Some(Who::Unclaimed { address, gaps }) => Some(Sender::Unclaimed { address, gaps }),
+        _ => None,
+    }
+}

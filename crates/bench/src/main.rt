@@ -3,6 +3,7 @@
 #![tactic(auto)]
 
 mod errors;
+mod live;
 
 use command_line::{LineFault, read_line};
 use command_words::{DecodeWords, Job, LogWords, WatchWords, path_of};
@@ -10,9 +11,10 @@ use errors::Errors;
 use line_commands::ShopFiles;
 use program_io::{Failure, Fault};
 use reading_progress::TellingReader;
-use std::io::{IsTerminal, Read};
+use std::fs::File;
+use std::io::{IsTerminal, Read, StdinLock};
 use std::process::ExitCode;
-use std::rt::Runtime;
+use std::rt::{Files, Runtime};
 use std::sync::Wait;
 use std::thread::Threads;
 use std::{fs, io};
@@ -40,10 +42,17 @@ fn tell<R: Eprint>(rt: &R, failure: &Failure) {
 }
 
 /// Does what the words of the command line ask for. Where standard error is a terminal, it is told there how far a long log is read.
-fn run<R: Runtime + AllocGlobal + Threads + Wait + Sync>(
-    rt: &R,
-    is_terminal: bool,
-) -> Result<(), Failure> {
+fn run<
+    R: Runtime
+        + AllocGlobal
+        + Threads
+        + Wait
+        + Sync
+        + Send
+        + Input<Reader = StdinLock<'static>>
+        + Files<File = File>
+        + 'static,
+>(rt: &R, is_terminal: bool) -> Result<(), Failure> {
     let words = match read_words(rt) {
         Ok(words) => words,
         Err(error) if error.kind() == io::ErrorKind::OutOfMemory => {
@@ -79,11 +88,17 @@ fn read_words<R: Runtime + AllocGlobal>(rt: &R) -> io::Result<Vec<String>> {
 /// Hands a job to its subcommand. Each of them is a call of its own, so that none takes the stack of all. (A reader of standard input has
 /// some kilobytes of room in itself, and is lent.)
 #[inline(never)]
-fn do_job<R: Runtime + AllocGlobal + Threads + Wait + Sync>(
-    rt: &R,
-    job: Job<'_>,
-    is_terminal: bool,
-) -> Result<(), Failure> {
+fn do_job<
+    R: Runtime
+        + AllocGlobal
+        + Threads
+        + Wait
+        + Sync
+        + Send
+        + Input<Reader = StdinLock<'static>>
+        + Files<File = File>
+        + 'static,
+>(rt: &R, job: Job<'_>, is_terminal: bool) -> Result<(), Failure> {
     match job {
         Job::Script => script(rt),
         Job::Threads {
@@ -95,6 +110,7 @@ fn do_job<R: Runtime + AllocGlobal + Threads + Wait + Sync>(
         Job::Log(words) => log(rt, words),
         Job::Decode(words) => decode(rt, words, is_terminal),
         Job::Check => check(rt),
+        Job::Live(words) => live::live(rt, words),
     }
 }
 

@@ -1,5 +1,5 @@
 -- What `clap` makes of the program's command.
-use Rattle.std.proofs.Common.{◌≡◌, ◌&&◌, ◌⊎◌, inl, inr, ◌∷◌, [], List, Option, Some, None, Result, Ok, Err, IfErr, OnOk, option_map, true, refl, sym, ◌∙◌, ap, subst, codes, Box}
+use Rattle.std.proofs.Common.{◌≡◌, ◌&&◌, ◌⊎◌, inl, inr, ◌∷◌, [], List, Option, Some, None, Result, Ok, Err, OnOk, option_map, true, refl, sym, ◌∙◌, ap, subst, codes, Box}
 use Rattle.std.specs.Box.{box_value}
 use Rattle.clap.specs.Walk.{Text, nothing_held, stop_after}
 use Rattle.clap.specs.Simple.{App, app_of, built, entered, is_simple, names_of, subcommand_of, subcommand_rows, subcommand_rows_of}
@@ -16,8 +16,7 @@ use Rattle.clap.specs.declared.parser.matches.ArgMatches.{ArgMatches}
 use Rattle.clap.specs.declared.parser.matches.ArgMatches.TheViews.{out-ArgMatches, out-SubCommand}
 use Rattle.clap.specs.declared.parser.matches.SubCommand.{SubCommand}
 use Rattle.clap.proofs.OnLiterals.{clap_on_literals}
-use Rattle.command_line.specs.CommandLine.{AsksForHelp, AsksForScript, IsHelp, bench_app, faults_in}
-use Rattle.command_line.specs.declared.fault.LineFault.{LineFault}
+use Rattle.command_line.specs.CommandLine.{AsksForHelp, AsksForScript, bench_app, faults_in}
 
 pub is_exact : is_simple_and_free bench_app ≡ true
 unfolding clap_on_literals

@@ -1,5 +1,5 @@
 -- The words that the program takes, as `clap` reads them.
-use Rattle.std.specs.Prelude.{ℕ, List, Some, true, codes, drop, slice_get, IsSomeAnd, ◌≡◌, ◌≤◌, ◌⊎◌, ◌∷◌, [], ◌++◌}
+use Rattle.std.specs.Prelude.{ℕ, List, Some, true, codes, drop, slice_get, IsSomeAnd, ◌≡◌, ◌≤◌, ◌⊎◌, ◌∷◌, []}
 use Rattle.clap.specs.Simple.{App, Shape, new_app, new_rule, new_shape, with_subcommand, on_top}
 use Rattle.clap.specs.Faults.{fault_of}
 use Rattle.clap.specs.Kinds.{Kinds, IsAmong}
@@ -73,6 +73,11 @@ decode_shape = subcommand_shape (codes "decode")
 abbrev pub check_shape : Shape
 check_shape = subcommand_shape (codes "check") []
 
+abbrev pub live_shape : Shape
+live_shape = subcommand_shape (codes "live")
+    (value_rule (codes "bus") ∷ value_rule (codes "control") ∷ value_rule (codes "dm1") ∷ value_rule (codes "gap") ∷ value_rule (codes "settle")
+    ∷ value_rule (codes "pace") ∷ value_rule (codes "times") ∷ flag_rule (codes "strict") ∷ place_rule (codes "file") ∷ [])
+
 -- the command `j1939bench`: it has a version, and wants one of its subcommands
 abbrev pub garage_app : App
 garage_app = with_subcommand (with_subcommand
@@ -82,8 +87,11 @@ garage_app = with_subcommand (with_subcommand
 abbrev pub wire_app : App
 wire_app = with_subcommand (with_subcommand garage_app log_shape) check_shape
 
+abbrev pub lines_app : App
+lines_app = with_subcommand (with_subcommand wire_app watch_shape) decode_shape
+
 abbrev pub bench_app : App
-bench_app = with_subcommand (with_subcommand wire_app watch_shape) decode_shape
+bench_app = with_subcommand lines_app live_shape
 
 -- what `clap` finds wrong with the words, where it finds anything
 abbrev pub faults_in : List Text → Kinds
@@ -118,7 +126,7 @@ IsHelp _ = ⊥
 
 -- the first word behind the program's name is one of these subcommands, of which it is told what is wrong behind them
 abbrev pub TellsWhy : List Text → Type 0
-TellsWhy words = IsSomeAnd (slice_get words 1) (λ word. (word ≡ codes "watch") ⊎ (word ≡ codes "log") ⊎ (word ≡ codes "decode") ⊎ (word ≡ codes "check"))
+TellsWhy words = IsSomeAnd (slice_get words 1) (λ word. (word ≡ codes "watch") ⊎ (word ≡ codes "log") ⊎ (word ≡ codes "decode") ⊎ (word ≡ codes "check") ⊎ (word ≡ codes "live"))
 
 -- something is told behind the fault's line
 abbrev pub HasWords : LineFault → Type 0

@@ -6,6 +6,7 @@
 
 mod decode;
 mod fault;
+mod live;
 mod options;
 mod reading;
 mod script;

@@ -1,10 +1,10 @@
 ghost use Rattle.std.specs.Prelude.{◌≡◌, ◌⊎◌, ◌↔◌, [], IfErr, IfOk, IsTrue, OnOk, codes, map, string_bytes};
 ghost use Rattle.clap.specs.Words.{app_of, subcommand_name_of};
 ghost use Rattle.clap.specs.Simple.{new_app};
-ghost use Rattle.command_line.specs.CommandLine.{AsksForHelp, AsksForScript, HasCounts, HasWords, IsHelp, TellsWhy, bench_app, faults_in, garage_app, wire_app};
+ghost use Rattle.command_line.specs.CommandLine.{AsksForHelp, AsksForScript, HasCounts, HasWords, IsHelp, TellsWhy, bench_app, faults_in, garage_app, lines_app, wire_app};
 
 use crate::fault::{LineFault, fault_of};
-use crate::{decode, script, threads, watch};
+use crate::{decode, live, script, threads, watch};
 use clap::{ArgMatches, Command};
 use command_words::Job;
 use std::alloc::{AllocError, Global};
@@ -18,7 +18,7 @@ const PROGRAM: &str = "j1939bench";
 /// # Errors
 /// - `Help`: the words ask for help or for the version.
 /// - `Refused`: the words are none of the program's, or a number of turns or readings is not 1 to 100,000. Behind `watch`, `log`,
-///   `decode` and `check` it has what is wrong, with the words that may have been meant and the usage.
+///   `decode`, `check` and `live` it has what is wrong, with the words that may have been meant and the usage.
 /// - `Memory`: memory ran out.
 pub fn read_line<'a>(alloc: Global, words: &'a [String]) -> Result<Job<'a>, LineFault>
     ensures range { IfOk result HasCounts }
@@ -42,7 +42,7 @@ fn is_told(words: &[String]) -> bool
         return false;
     };
     match word.as_str() {
-        "watch" | "log" | "decode" | "check" => true,
+        "watch" | "log" | "decode" | "check" | "live" => true,
         _ => false,
     }
 }
@@ -64,6 +64,7 @@ fn job_of<'a>(alloc: Global, matches: &ArgMatches<'a>) -> Result<Job<'a>, LineFa
         Some(("log", found)) => Ok(Job::Log(script::log_words(found))),
         Some(("decode", found)) => Ok(Job::Decode(decode::words(found))),
         Some(("check", _)) => Ok(Job::Check),
+        Some(("live", found)) => Ok(Job::Live(live::words(found))),
         _ => Err(LineFault::Refused(None)),
     }
 }
@@ -72,7 +73,15 @@ fn job_of<'a>(alloc: Global, matches: &ArgMatches<'a>) -> Result<Job<'a>, LineFa
 fn bench_command<'a>(alloc: Global) -> Result<Command<'a>, AllocError>
     ensures { IfOk result (λ c. app_of c ≡ bench_app) }
 {
-    with_wire(alloc, with_garage(alloc)?)?
+    with_lines(alloc, with_wire(alloc, with_garage(alloc)?)?)?.subcommand(live::command(alloc)?)
+}
+
+/// With those that read the lines of a log.
+fn with_lines<'a>(alloc: Global, command: Command<'a>) -> Result<Command<'a>, AllocError>
+    requires { app_of command ≡ wire_app }
+    ensures { IfOk result (λ c. app_of c ≡ lines_app) }
+{
+    command
         .subcommand(watch::command(alloc)?)?
         .subcommand(decode::command(alloc)?)
 }

@@ -36,6 +36,31 @@ pub enum Job<'a> {
     Decode(DecodeWords<'a>),
     /// `check`: a script from standard input, each line of it that is not accepted.
     Check,
+    /// `live`: the units of a vehicle on the bus whose lines come from standard input.
+    Live(LiveWords<'a>),
+}
+
+/// The words behind `live`. A word that was not given is none.
+#[derive(Clone, Copy)]
+pub struct LiveWords<'a> {
+    /// The file of the vehicle.
+    pub file: Option<&'a str>,
+    /// The bus whose frames are heard, which the lines name.
+    pub bus: Option<&'a str>,
+    /// A file of what is asked of the units while the bus runs.
+    pub control: Option<&'a str>,
+    /// When a unit sends its DM1: `active` or `always`.
+    pub dm1: Option<&'a str>,
+    /// Milliseconds from a packet of a broadcast to the next.
+    pub gap: Option<&'a str>,
+    /// Milliseconds from a claim to anything else.
+    pub settle: Option<&'a str>,
+    /// Microseconds from a line to the next.
+    pub pace: Option<&'a str>,
+    /// Whose times count: `clock` or `lines`.
+    pub times: Option<&'a str>,
+    /// Whether the first bad line ends the run.
+    pub strict: bool,
 }
 
 /// The words behind `watch`, but for the units that it assumes. A word that was not given is none.

@@ -1,5 +1,5 @@
 -- From which address what waits is, after more was put.
-use Rattle.std.proofs.Common.{ℕ, ◌≡◌, ◌⊎◌, inl, inr, Bool, true, false, List, [], ◌∷◌, refl, sym, ap, ◌∙◌}
+use Rattle.std.proofs.Common.{ℕ, ◌≡◌, ◌⊎◌, inl, inr, Bool, List, [], ◌∷◌, refl, sym, ◌∙◌}
 use Rattle.node_core.specs.declared.heard.Heard.{Heard}
 use Rattle.node_core.specs.declared.heard.Withdraw.{Withdraw}
 use Rattle.node_core.specs.declared.heard.Withdraw.TheVariants as withdraw

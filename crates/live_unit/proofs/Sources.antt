@@ -1,10 +1,9 @@
 -- What a node puts is from the address that it then holds, or from 254 where it holds none.
-use Rattle.std.proofs.Common.{◌≡◌, ℕ, ◌+◌, ◌*◌, ◌-◌, ◌^◌, ◌%◌, ◌<◌, ◌≤◌, ◌⊎◌, ◌==◌, inl, inr, Bool, true, false, if◌then◌else◌, zero, suc, List, [], ◌∷◌, map, length, Option, Some, None, IfSome, arith, refl, sym, ap, ◌∙◌, subst}
-use Rattle.std.specs.List.{All, range_with_len}
+use Rattle.std.proofs.Common.{◌≡◌, ℕ, ◌<◌, ◌≤◌, ◌⊎◌, ◌==◌, inl, inr, Bool, true, false, if◌then◌else◌, zero, suc, List, [], ◌∷◌, map, Option, Some, None, IfSome, arith, refl, sym, ap, ◌∙◌, subst}
+use Rattle.std.specs.List.{All}
 use Rattle.can_frame.specs.Fields.{source_of, pdu1_number, pdu2_number}
 use Rattle.can_frame.specs.FrameValue.{FrameValue}
-use Rattle.transport.specs.Messages.{part_of_message, first_part, control_frame}
-use Rattle.transport.specs.declared.control.Control.{Control}
+use Rattle.transport.specs.Messages.{part_of_message}
 use Rattle.transport.specs.declared.control.Control.TheVariants.{Rts, Cts, EndAck, Bam, Abort}
 use Rattle.address_claim.specs.Claiming.{CanHold, claim_step, held_after, is_held}
 use Rattle.address_claim.specs.declared.claimer.ClaimStep.{ClaimStep}
@@ -22,7 +21,7 @@ use Rattle.node_core.specs.Reaction.{is_all_queued_with, is_open_with, noted_fro
 use Rattle.node_core.specs.declared.heard.Answer.{Answer}
 use Rattle.node_core.specs.declared.heard.Heard.{Heard}
 use Rattle.node_core.specs.declared.heard.Withdraw.TheVariants as withdraw
-use Rattle.node_core.specs.Deed.{Deed, Nothing, Replies, Begins, Sends, EndsSession, Claims, after_deed, marked_part, marked_parts, parts_begun, parts_of_session, plain, put_of, withdraw_of}
+use Rattle.node_core.specs.Deed.{Deed, Nothing, Replies, Begins, Sends, EndsSession, Claims, after_deed, marked_part, parts_begun, plain, put_of, withdraw_of}
 use Rattle.node_core.specs.Laws.{IsLawfulDeed, IsReply, reaction_is_lawful}
 use Rattle.node_core.specs.declared.out.Out.{Out}
 use Rattle.node_core.specs.declared.out.Part.{Part}

@@ -1,8 +1,8 @@
 -- What is due waits.
-use Rattle.std.proofs.Common.{ℕ, ◌≡◌, ◌<◌, Bool, true, false, not, ◌&&◌, ◌||◌, nat_lt, if◌then◌else◌, Option, Some, None, length, slice_get, refl, subst}
+use Rattle.std.proofs.Common.{ℕ, ◌≡◌, ◌<◌, Bool, true, false, if◌then◌else◌, Option, Some, None, length, refl, subst}
 use Rattle.std.proofs.lemmas.Bool.{and_parts, ltb-true}
 use Rattle.live_unit.specs.Queue.{QueueValue, lane_of, waits}
-use Rattle.live_unit.specs.Times.{is_further, lane_due, message_goes, other_lane_due}
+use Rattle.live_unit.specs.Times.{lane_due, message_goes, other_lane_due}
 use Rattle.live_unit.specs.declared.clock.Clock.{Clock}
 use Rattle.live_unit.specs.declared.queue.Lane.{Lane}
 use Rattle.live_unit.specs.declared.queue.Lane.TheVariants.{Claims, Singles, Session, Messages}

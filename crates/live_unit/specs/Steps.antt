@@ -1,5 +1,5 @@
 -- What one call changes of a unit that takes part in a bus.
-use Rattle.std.specs.Prelude.{ℕ, ◌≡◌, ◌⊎◌, ◌≤◌, ◌<◌, ◌&&◌, Bool, true, false, not, is_some, if◌then◌else◌, Option, Some, None, slice_get}
+use Rattle.std.specs.Prelude.{ℕ, ◌≡◌, ◌⊎◌, ◌≤◌, ◌<◌, ◌&&◌, Bool, true, false, not, is_some, Option, Some, slice_get}
 use Rattle.can_frame.specs.FrameValue.{FrameValue}
 use Rattle.can_frame.specs.declared.address.TheConstants.{GLOBAL_ADDRESS}
 use Rattle.transport.specs.declared.control.Control.{Control}

@@ -1,5 +1,5 @@
 -- When what goes: times are microseconds of any clock, and waits are added to the time that is handed in.
-use Rattle.std.specs.Prelude.{ℕ, ◌≡◌, ◌⊎◌, ◌+◌, ◌*◌, ◌-◌, ◌%◌, ◌^◌, ◌≤◌, ◌&&◌, ◌||◌, Bool, true, false, not, min, nat_le, nat_lt, List, length, Option, Some, None, slice_get, is_some, if◌then◌else◌}
+use Rattle.std.specs.Prelude.{ℕ, ◌+◌, ◌*◌, ◌-◌, ◌%◌, ◌^◌, ◌&&◌, ◌||◌, Bool, false, not, min, nat_le, nat_lt, length, Option, Some, None, slice_get, is_some, if◌then◌else◌}
 use Rattle.fault_memory.specs.Memory.{MemoryValue}
 use Rattle.dm_messages.specs.declared.kind.Kind.TheVariants.{Dm1}
 use Rattle.node_core.specs.NodeValue.{NodeValue, is_open}
@@ -64,6 +64,10 @@ clock_after_hearing held_open lost name now c = record c {
   alone_from = if held_open then later now HELD_FOR else c.alone_from;
   claim_from = if lost then later now (pause_of name) else c.claim_from;
 }
+
+-- from when on the unit may send frames beside those that wait: it holds an address, and no claim of it waits
+abbrev pub free_from : Clock → NodeValue → QueueValue → Option ℕ
+free_from c node q = if is_some node.claimer.held && not (waits q.claims) then Some c.settled_from else None
 
 -- ---- what a unit does of its own accord
 

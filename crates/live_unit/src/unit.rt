@@ -115,6 +115,7 @@ impl LiveUnit {
     /// Refused: `Full`, where as much waits as there is room for and the frame is a request, a request to send or a clear to send;
     /// `OutOfMemory`. Then nothing changed, and the unit was not asked.
     pub fn hear(&mut self, alloc: Global, frame: &Frame, now: u64) -> Result<Answer, LiveError>
+        requires { Unit {0} }
         ensures heard { IfOk result (λ a. HasHeardFrame frame.now a (standing self.old.node (memory_of self.old.unit) self.old.queue) (standing self.new.node (memory_of self.new.unit) self.new.queue)) }
         ensures clock { OnOk result (self.new.clock ≡ clock_after_hearing (is_held_open self.old.node (group_of frame.now)) (has_lost self.old.node.claimer.held self.new.node.claimer.held) (name_of self.old.unit) now self.old.clock) }
         ensures asked { IfOk result (λ a. (u : _) × (self.new.unit ≡ record self.old.unit { value = u }) × IsAsked (Answers self.old.unit) (question self.old.node frame.now) a self.old.unit.value u) }
@@ -149,6 +150,7 @@ impl LiveUnit {
     /// to all, whose packets keep their gap. What goes is from the address that the unit holds, or from 254 where it holds none.
     #[tactic(auto, using(crate::proofs::Timing::due_waits))]
     pub fn due(&mut self, now: u64) -> Option<Frame>
+        requires { Unit {0} }
         ensures writes { MatchOption result ((lane_due self.old.clock now self.old.queue ≡ None) × (self.new.queue ≡ self.old.queue) × (self.new.clock ≡ self.old.clock)) (λ f. Writes self.old.settings now f self.old.queue self.old.clock self.new.queue self.new.clock) }
         ensures source { IfSome result (λ f. source_of f.id ≡ claim_source self.old.node.claimer.held) }
         ensures same { (self.new.node ≡ self.old.node) × (self.new.unit ≡ self.old.unit) × (self.new.settings ≡ self.old.settings) }
@@ -166,6 +168,7 @@ impl LiveUnit {
     /// more after that, for a unit that wants to tell; it waits until the unit has settled and what it said to all before is written.
     /// Refused: `OutOfMemory`; then nothing changed.
     pub fn act(&mut self, alloc: Global, now: u64) -> Result<Act, LiveError>
+        requires { Unit {0} }
         ensures acts { IfOk result (λ a. Acts self.old.settings now (wants self.old.unit) a (standing self.old.node (memory_of self.old.unit) self.old.queue) self.old.clock (standing self.new.node (memory_of self.new.unit) self.new.queue) self.new.clock) }
         ensures same { (self.new.unit ≡ self.old.unit) × (self.new.settings ≡ self.old.settings) }
         ensures only { IfErr result (λ e. e ≡ LiveError.OutOfMemory) }
@@ -195,6 +198,7 @@ impl LiveUnit {
     /// Refused: `Full`, where as much waits as there is room for; `Unclaimed`, where the unit holds no address; `OutOfMemory`. Then
     /// nothing changed.
     pub fn begin(&mut self, alloc: Global, kind: Kind) -> Result<bool, LiveError>
+        requires { Unit {0} }
         ensures begun { result ≡ Ok true → BeginsToAll kind (standing self.old.node (memory_of self.old.unit) self.old.queue) (standing self.new.node (memory_of self.new.unit) self.new.queue) }
         ensures held { IfOk result (λ b. (b ≡ false) ↔ (is_open self.old.node.session kind ≡ true)) }
         ensures unchanged { result ≡ Ok false → ((self.new.node ≡ self.old.node) × (self.new.queue ≡ self.old.queue)) }
@@ -218,6 +222,17 @@ impl LiveUnit {
         let frame = frame_from(&self.clock, &self.queue);
         let act = self.alone_from().min(self.dm1_from());
         frame.min(act).max(now)
+    }
+
+    /// From when on frames may go in the unit's name beside what waits: none while it holds no address, or a claim of it waits.
+    pub fn free_from(&self) -> Option<u64>
+        ensures { result ≡ times.free_from self.now.clock self.now.node self.now.queue }
+    {
+        if self.node.held().is_some() && !self.queue.waits(Lane::Claims) {
+            Some(self.clock.settled_from)
+        } else {
+            None
+        }
     }
 
     /// When the open session will have been left alone.
@@ -245,6 +260,7 @@ impl LiveUnit {
     /// Tells the unit of a change of its fault memory, by one call of its `apply`. Refused as the memory refuses it, which is then as it
     /// was.
     pub fn change(&mut self, change: FaultChange) -> Result<(), FaultError>
+        requires { Unit {0} }
         ensures ok { OnOk result (changed (memory_of self.old.unit) change ≡ Ok (memory_of self.new.unit)) }
         ensures refused { (e : AnyFault) → changed (memory_of self.old.unit) change ≡ Err e → result ≡ Err e }
         ensures why { IfErr result (λ e. ((e ≡ FaultError.OutOfMemory) × Grows (changed (memory_of self.old.unit) change) (memory_of self.old.unit)) ⊎ (changed (memory_of self.old.unit) change ≡ Err e)) }

@@ -1,2 +1,4 @@
 mod KeyLemmas
 mod UnitLemmas
+mod CodeLemmas
+mod SendLemmas

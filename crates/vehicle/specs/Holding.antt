@@ -70,10 +70,15 @@ HoldsKind d Guarded = text_at (codes "kind") d ≡ Some (codes "guarded")
 HoldsKind d (Flicker spn fmi) = (text_at (codes "kind") d ≡ Some (codes "flicker"))
     × HasNumber d (codes "spn") spn 0 GREATEST_SPN × HasNumber d (codes "fmi") fmi 0 GREATEST_FMI
 
+-- of a unit's keys and those of a flicker, the ones that a unit of a kind may have
+abbrev pub keys_by : UnitKind → List (List ℕ) → List (List ℕ) → List (List ℕ)
+keys_by (Flicker spn fmi) keys flicker_keys = flicker_keys
+keys_by _ keys flicker_keys = keys
+
 -- the keys of a unit of a kind
 abbrev pub keys_of_kind : UnitKind → List (List ℕ)
-keys_of_kind (Flicker spn fmi) = codes "name" ∷ codes "address" ∷ codes "kind" ∷ codes "spn" ∷ codes "fmi" ∷ []
-keys_of_kind _ = codes "name" ∷ codes "address" ∷ codes "kind" ∷ []
+keys_of_kind kind = keys_by kind (codes "name" ∷ codes "address" ∷ codes "kind" ∷ [])
+    (codes "name" ∷ codes "address" ∷ codes "kind" ∷ codes "spn" ∷ codes "fmi" ∷ [])
 
 -- a unit's NAME, its address and its kind; nothing else
 pub record HoldsUnit (d : Data) (u : UnitLine) : Type 0 where
@@ -82,12 +87,16 @@ pub record HoldsUnit (d : Data) (u : UnitLine) : Type 0 where
   pub address : HasNumber d (codes "address") u.address 0 GREATEST_ADDRESS
   pub kind : HoldsKind d u.kind
 
+-- one thing for each item, in order, of which this holds
+abbrev pub EachHolds : {A : Type 0} → (Data → A → Type 0) → Items → List A → Type 0
+EachHolds holds no_items [] = Unit {0}
+EachHolds holds no_items (x ∷ xs) = ⊥
+EachHolds holds (item d ds) [] = ⊥
+EachHolds holds (item d ds) (x ∷ xs) = holds d x × EachHolds holds ds xs
+
 -- one unit for each item, in order
 abbrev pub HoldsUnits : Items → List UnitLine → Type 0
-HoldsUnits no_items [] = Unit {0}
-HoldsUnits no_items (u ∷ us) = ⊥
-HoldsUnits (item d ds) [] = ⊥
-HoldsUnits (item d ds) (u ∷ us) = HoldsUnit d u × HoldsUnits ds us
+HoldsUnits = EachHolds HoldsUnit
 
 -- the units at the key "unit": none where there is no such key
 abbrev pub HoldsUnitsAt : Option Data → List UnitLine → Type 0

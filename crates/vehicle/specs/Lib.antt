@@ -1,1 +1,3 @@
 pub mod Holding
+pub mod Live
+pub mod Sending

@@ -26,17 +26,42 @@
 //! spn = 100                   # 0 to 524287
 //! fmi = 1                     # 0 to 31
 //! ```
+//!
+//! As its units take part in a real bus, a unit may have keys more, and no station has to be there:
+//!
+//! ```toml
+//! [[unit]]
+//! name = "00000000000000C0"
+//! address = 2
+//! kind = "plain"
+//! lamps = "04FF"              # the lamps' byte and the flash codes' byte
+//! active = ["110/0", "190/2/3"]   # SPN/FMI, or SPN/FMI/COUNT
+//! previous = ["94/1"]
+//! pending = []
+//!
+//! [[unit.sends]]              # a group that it sends again and again
+//! pgn = 61444                 # one that goes to all
+//! bytes = "F07D84A61F00F07D"  # 1 to 8
+//! period = 100                # 10 to 60000 ms
+//! priority = 3                # 0 to 7; 6 where it is left out
+//! ```
 #![tactic(auto)]
 
+mod codes;
 mod fault;
 mod lines;
+mod live;
 mod misfit;
 mod read;
+mod send_line;
+mod sends;
 
 pub use fault::VehicleFault;
+pub use live::{LiveLine, read_live_units};
 use name_field::Name;
 pub use read::read_vehicle;
 pub use script_line::UnitKind;
+pub use send_line::SendLine;
 
 /// The station of a vehicle, and the settings of its bus.
 #[derive(Clone, Copy, Debug, PartialEq, Eq)]

@@ -8,6 +8,7 @@ use crate::misfit::Place;
 pub(crate) fn line_of(text: &str, place: Place, key: Option<&str>) -> Option<u64> {
     let mut here = Some(Place::Whole);
     let mut units = 0usize;
+    let mut sends = 0usize;
     let mut header = None;
     let mut number = 0u64;
     for line in text.lines() {
@@ -18,9 +19,12 @@ pub(crate) fn line_of(text: &str, place: Place, key: Option<&str>) -> Option<u64
             }
             continue;
         };
-        here = place_of(name, units);
+        here = place_of(name, units, sends);
         if name == "unit" {
             units = units.saturating_add(1);
+            sends = 0;
+        } else if name == "unit.sends" {
+            sends = sends.saturating_add(1);
         }
         if place == Place::Whole && key == Some(name) {
             return Some(number);
@@ -32,12 +36,16 @@ pub(crate) fn line_of(text: &str, place: Place, key: Option<&str>) -> Option<u64
     header
 }
 
-/// The table that a header begins, where so many units stand before it.
-fn place_of(name: &str, units: usize) -> Option<Place> {
+/// The table that a header begins, where so many units stand before it, and so many groups that the last of them sends.
+fn place_of(name: &str, units: usize, sends: usize) -> Option<Place> {
     match name {
         "station" => Some(Place::Station),
         "second" => Some(Place::Second),
         "unit" => Some(Place::Unit(units)),
+        "unit.sends" => Some(Place::Send {
+            unit: units.saturating_sub(1),
+            number: sends,
+        }),
         _ => None,
     }
 }

@@ -12,6 +12,8 @@ pub(crate) enum Place {
     Second,
     /// That of a unit, which is this one from 0 on.
     Unit(usize),
+    /// That of a group which a unit sends, each of them counted from 0 on.
+    Send { unit: usize, number: usize },
 }
 
 /// What is wrong at a key.
@@ -21,6 +23,8 @@ pub(crate) enum Wrong<'a> {
     Missing,
     /// No such key is known.
     NotKnown,
+    /// A unit has it only as it takes part in a real bus.
+    OfLive,
     /// Its value, or that of the table itself, is of another type than this.
     NoSuch(&'a str),
     /// Its number is not within these two.
@@ -29,6 +33,8 @@ pub(crate) enum Wrong<'a> {
     NotOne { found: &'a str, wanted: &'a str },
     /// The first station has this NAME.
     InUse,
+    /// No unit sends the group of this number as it likes.
+    NotFree(u32),
 }
 
 /// Where a text is no vehicle's, and why.
@@ -50,6 +56,12 @@ pub(crate) enum Unread<'a> {
 
 impl<T: Drop> From<AllocFailed<T>> for Unread<'_> {
     fn from(_: AllocFailed<T>) -> Self {
+        Unread::Memory
+    }
+}
+
+impl From<AllocError> for Unread<'_> {
+    fn from(_: AllocError) -> Self {
         Unread::Memory
     }
 }
@@ -102,6 +114,7 @@ impl fmt::Display for Misfit<'_> {
             Place::Station => "station",
             Place::Second => "second",
             Place::Unit(_) => "unit",
+            Place::Send { .. } => "unit.sends",
         };
         match self.key {
             Some(key) if table.is_empty() => write!(f, "{key}: {wrong}"),
@@ -116,10 +129,15 @@ impl fmt::Display for Wrong<'_> {
         match self {
             Wrong::Missing => write!(f, "missing"),
             Wrong::NotKnown => write!(f, "no such key is known"),
+            Wrong::OfLive => write!(f, "only live takes this key"),
             Wrong::NoSuch(wanted) => write!(f, "no {wanted}"),
             Wrong::Outside { found, least, most } => write!(f, "{found} is not {least} to {most}"),
             Wrong::NotOne { found, wanted } => write!(f, "'{found}' is not {wanted}"),
             Wrong::InUse => write!(f, "the first station has this NAME"),
+            Wrong::NotFree(pgn) => write!(
+                f,
+                "{pgn} does not go to all, or is of the protocol or of diagnostics"
+            ),
         }
     }
 }

@@ -5,7 +5,7 @@ ghost use Rattle.hex_text.specs.Hex.{hex_value};
 ghost use Rattle.toml.specs.Data.{Members, table};
 ghost use Rattle.toml.specs.Parse.{parse_document};
 ghost use Rattle.toml.specs.View.{view, items_view};
-ghost use Rattle.vehicle.specs.Holding.{number_at, text_at, HasName, HasNumber, HasOnly, HoldsStation, HoldsSecond, HoldsUnit, HoldsKind, HoldsVehicle, HoldsUnits, keys_of_kind};
+ghost use Rattle.vehicle.specs.Holding.{number_at, text_at, HasName, HasNumber, HasOnly, HoldsStation, HoldsSecond, HoldsUnit, HoldsKind, HoldsVehicle, HoldsUnits, keys_by};
 
 use crate::fault::VehicleFault;
 use crate::misfit::{Place, Unread, Wrong};
@@ -46,7 +46,7 @@ pub fn read_vehicle(alloc: Global, text: &str) -> Result<Vehicle, VehicleFault>
 }
 
 /// What a text that is no TOML is told as: the line at which it is none, and why.
-fn fault_of(alloc: Global, text: &str, error: &Error) -> VehicleFault {
+pub(crate) fn fault_of(alloc: Global, text: &str, error: &Error) -> VehicleFault {
     let Some(span) = error.span() else {
         return VehicleFault::Memory;
     };
@@ -89,7 +89,7 @@ fn vehicle_of(alloc: Global, root: &Value) -> Result<Vehicle, Unread<'_>>
     })
 }
 
-fn read_station(value: &Value) -> Result<Station, Unread<'_>>
+pub(crate) fn read_station(value: &Value) -> Result<Station, Unread<'_>>
     ensures { IfOk result (HoldsStation (view value.now)) }
 {
     let place = Place::Station;
@@ -113,7 +113,7 @@ fn read_station(value: &Value) -> Result<Station, Unread<'_>>
 }
 
 /// A second station, beside one of this NAME.
-fn read_second(value: &Value, first: Name) -> Result<Second, Unread<'_>>
+pub(crate) fn read_second(value: &Value, first: Name) -> Result<Second, Unread<'_>>
     ensures holds { IfOk result (HoldsSecond (view value.now)) }
     ensures apart { IfOk result (λ s. s.name ≢ first) }
 {
@@ -151,22 +151,33 @@ fn read_unit(place: Place, value: &Value) -> Result<UnitLine, Unread<'_>>
     Ok(UnitLine {
         name: read_name(place, value)?,
         address: read_address(place, value)?,
-        kind: read_kind(place, value)?,
+        kind: read_kind(
+            place,
+            value,
+            &["name", "address", "kind"],
+            &["name", "address", "kind", "spn", "fmi"],
+        )?,
     })
 }
 
-fn read_kind(place: Place, value: &Value) -> Result<UnitKind, Unread<'_>>
+/// The kind of a unit whose table has these keys alone, those for a flicker where it is one.
+pub(crate) fn read_kind<'a>(
+    place: Place,
+    value: &'a Value,
+    keys: &[&str],
+    flicker_keys: &[&str],
+) -> Result<UnitKind, Unread<'a>>
     ensures holds { IfOk result (HoldsKind (view value.now)) }
-    ensures only { IfOk result (λ kind. HasOnly (keys_of_kind kind) (view value.now)) }
+    ensures only { IfOk result (λ kind. HasOnly (keys_by kind (map (λ k. k.now) keys.now) (map (λ k. k.now) flicker_keys.now)) (view value.now)) }
 {
     let word = read_text(place, value, "kind")?;
     if word == "flicker" {
-        has_only(place, value, &["name", "address", "kind", "spn", "fmi"])?;
+        has_only(place, value, flicker_keys)?;
         let spn = read_number(place, value, "spn", 0, GREATEST_SPN)?;
         let fmi = read_number(place, value, "fmi", 0, u32::from(GREATEST_FMI))? as u8;
         return Ok(UnitKind::Flicker { spn, fmi });
     }
-    has_only(place, value, &["name", "address", "kind"])?;
+    has_only(place, value, keys)?;
     if word == "plain" {
         Ok(UnitKind::Plain)
     } else if word == "guarded" {
@@ -180,7 +191,7 @@ fn read_kind(place: Place, value: &Value) -> Result<UnitKind, Unread<'_>>
     }
 }
 
-fn read_name(place: Place, value: &Value) -> Result<Name, Unread<'_>>
+pub(crate) fn read_name(place: Place, value: &Value) -> Result<Name, Unread<'_>>
     ensures { IfOk result (HasName (view value.now)) }
 {
     let word = read_text(place, value, "name")?;
@@ -196,7 +207,7 @@ fn read_name(place: Place, value: &Value) -> Result<Name, Unread<'_>>
     }
 }
 
-fn read_address(place: Place, value: &Value) -> Result<u8, Unread<'_>>
+pub(crate) fn read_address(place: Place, value: &Value) -> Result<u8, Unread<'_>>
     ensures { IfOk result (λ a. HasNumber (view value.now) (codes "address") a 0 GREATEST_ADDRESS) }
 {
     Ok(read_number(place, value, "address", 0, u32::from(GREATEST_ADDRESS))? as u8)
@@ -214,7 +225,11 @@ fn read_grant(place: Place, value: &Value) -> Result<u8, Unread<'_>>
     Ok(read_number(place, value, "grant", 1, MOST_GRANTED)? as u8)
 }
 
-fn read_text<'a>(place: Place, value: &'a Value, key: &'a str) -> Result<&'a str, Unread<'a>>
+pub(crate) fn read_text<'a>(
+    place: Place,
+    value: &'a Value,
+    key: &'a str,
+) -> Result<&'a str, Unread<'a>>
     ensures { IfOk result (λ t. text_at key.now (view value.now) ≡ Some t.now) }
 {
     match value.get(key) {
@@ -226,7 +241,7 @@ fn read_text<'a>(place: Place, value: &'a Value, key: &'a str) -> Result<&'a str
     }
 }
 
-fn read_number<'a>(
+pub(crate) fn read_number<'a>(
     place: Place,
     value: &Value,
     key: &'a str,
@@ -246,16 +261,24 @@ fn read_number<'a>(
 }
 
 /// Accepts a table with these keys alone, or some of them.
-fn has_only<'a>(place: Place, value: &'a Value, keys: &[&str]) -> Result<(), Unread<'a>>
+pub(crate) fn has_only<'a>(place: Place, value: &'a Value, keys: &[&str]) -> Result<(), Unread<'a>>
     ensures { IfOk result (λ _. HasOnly (map (λ k. k.now) keys.now) (view value.now)) }
 {
     let table: &Table = value.as_table().ok_or(Unread::of_type(place, "table"))?;
     for (key, _) in table.iter() {
         if !is_among(key.as_str(), keys) {
-            return Err(Unread::at(place, key.as_str(), Wrong::NotKnown));
+            return Err(Unread::at(place, key.as_str(), why_not(place, key.as_str())));
         }
     }
     Ok(())
+}
+
+/// Why a key may not stand in a table.
+fn why_not<'a>(place: Place, key: &str) -> Wrong<'a> {
+    match (place, key) {
+        (Place::Unit(_), "lamps" | "active" | "previous" | "pending" | "sends") => Wrong::OfLive,
+        _ => Wrong::NotKnown,
+    }
 }
 
 /// Whether a key is one of these.

@@ -1,4 +1,4 @@
-use Rattle.std.proofs.Common.{◌≡◌, ◌∙◌, ap, subst, IfOk}
+use Rattle.std.proofs.Common.{◌∙◌, ap, subst, IfOk}
 use Rattle.node_core.specs.Asking.{IsAsked}
 use Rattle.node_core.specs.Reaction.{Reacts, question}
 use Rattle.live_unit.proofs.Lent.{given_back_on_err, lent_if_ok}

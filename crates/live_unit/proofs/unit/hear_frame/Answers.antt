@@ -1,7 +1,6 @@
-use Rattle.std.proofs.Common.{ℕ, ◌≡◌, ◌⊎◌, inl, inr, ◌∙◌, ap, sym, subst}
+use Rattle.std.proofs.Common.{ℕ, inl, inr, ◌∙◌, ap, sym, subst}
 use Rattle.std.specs.List.{All}
 use Rattle.address_claim.specs.Frames.{claim_source}
-use Rattle.node_core.specs.declared.heard.Withdraw.TheVariants as withdraw
 use Rattle.live_unit.specs.Queue.{IsSentFrom, QueueValue}
 use Rattle.live_unit.proofs.Sources.{can_hold, heard_kept, heard_room, heard_source}
 use Rattle.live_unit.proofs.Queues.{source_queued}

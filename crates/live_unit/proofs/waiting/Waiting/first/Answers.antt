@@ -1,4 +1,4 @@
-use Rattle.std.proofs.Common.{slice_get, refl, sym, ap, ◌∙◌, arith}
+use Rattle.std.proofs.Common.{slice_get, refl, ap, ◌∙◌, arith}
 use Rattle.live_unit.specs.Queue.{LaneValue}
 use Rattle.live_unit.proofs.Lanes.{first_waiting}
 use Rattle.live_unit.proofs.waiting.Waiting.first.Goals as goal

@@ -1,0 +1,258 @@
+//! The run as a whole, and the thread that writes.
+
+use crate::playing::play;
+use crate::shared::{Listens, Shared, State, date, failure_of, now, tell};
+use crate::words::Ways;
+use can_frame::{Frame, GREATEST_ADDRESS};
+use candump_line::{Time, write_line};
+use command_words::LiveWords;
+use fault_memory::FaultError;
+use live_lines::{Ear, Fleet, Playback, Unheld, begin_with};
+use log_lines::LogFault;
+use program_io::{Failure, Fault};
+use simulated_unit::Simulated;
+use std::alloc::Global;
+use std::io::{Read, Write};
+use std::sync::{Arc, Condvar, Mutex, Wait};
+use std::thread;
+use std::thread::{Builder, Threads};
+use std::time::{Clock, Duration};
+use unit_trait::Unit;
+use vehicle::{LiveLine, SendLine, UnitLine};
+
+/// The longest that the thread which writes waits before it looks again, in microseconds.
+const LONGEST_WAIT: u64 = 1_000_000;
+
+/// What the thread that writes does next.
+#[derive(Drop)]
+enum Next {
+    /// It writes a frame.
+    Frame(Frame),
+    /// It tells what is to be told.
+    Notes(Vec<u8>),
+    /// All lines were read, and nothing is due.
+    End(Result<bool, LogFault>),
+    /// It looks again: something may have changed.
+    Again,
+}
+
+/// Runs units on the bus whose lines `reader` gives, writes their frames as lines, and ends with those lines. What is asked of the units
+/// meanwhile is read from `orders`, where there are any.
+///
+/// # Errors
+/// - `CommandLine`: the words are none of it; nothing is read.
+/// - `Vehicle`: no fault memory holds the codes of a unit, and it is told of which; nothing is read.
+/// - `Read`, `Write`, `Memory`: what happened.
+/// - `BadLines`: lines were bad, or none was a frame; it was told.
+pub fn live<
+    R: Threads + Wait + Clock + Sync + Send + Clone + Drop + 'static,
+    I: Read + Send + Drop + 'static,
+    O: Read + Send + Drop + 'static,
+    W: Write,
+    E: Write,
+>(
+    rt: &R,
+    alloc: Global,
+    words: &LiveWords<'_>,
+    units: Vec<LiveLine>,
+    reader: I,
+    orders: Option<O>,
+    writer: &mut W,
+    errors: &mut E,
+) -> Result<(), Failure> {
+    let ways = match Ways::of(words) {
+        Ok(ways) => ways,
+        Err(_) => return Err(Failure::from(Fault::CommandLine)),
+    };
+    let mut fleet = Fleet::new(alloc);
+    for line in units {
+        let begun = begun(alloc, fleet.len(), &line)?;
+        let (address, sends) = parts_of(line);
+        if address > GREATEST_ADDRESS {
+            return Err(Failure::from(Fault::Vehicle));
+        }
+        // Only here, where the fleet is owned, may a unit of a kind become one of any kind.
+        let unit: Box<dyn Unit> = Box::new(alloc, begun)?;
+        fleet.add(alloc, unit, address, ways.settings, sends)?;
+    }
+    let ear = Ear::new(alloc, ways.bus)?;
+    if ways.by_lines {
+        let playback = Playback::new(fleet, ear);
+        return play(alloc, playback, ways.strict, reader, writer, errors);
+    }
+    run(rt, alloc, fleet, ear, &ways, reader, orders, writer, errors)
+}
+
+/// Runs units on the bus.
+fn run<
+    R: Threads + Wait + Clock + Sync + Send + Clone + Drop + 'static,
+    I: Read + Send + Drop + 'static,
+    O: Read + Send + Drop + 'static,
+    W: Write,
+    E: Write,
+>(
+    rt: &R,
+    alloc: Global,
+    fleet: Fleet,
+    ear: Ear,
+    ways: &Ways<'_>,
+    reader: I,
+    orders: Option<O>,
+    writer: &mut W,
+    errors: &mut E,
+) -> Result<(), Failure> {
+    let shared = Arc::new(
+        alloc,
+        Shared {
+            state: Mutex::new(State {
+                fleet,
+                ear,
+                notes: Vec::new(alloc),
+                end: None,
+            }),
+            woken: Condvar::new(),
+            alloc,
+            strict: ways.strict,
+        },
+    )?;
+    start_bus(rt, &shared, reader)?;
+    if let Some(orders) = orders {
+        start_orders(rt, &shared, orders)?;
+    }
+    write_frames(rt, &shared, ways, writer, errors)
+}
+
+/// The unit of a line, the one at this place, with its fault memory.
+fn begun(alloc: Global, place: usize, line: &LiveLine) -> Result<Simulated, Failure> {
+    let mut unit = Simulated::new(alloc, line.unit.name, line.unit.kind);
+    match begin_with(&mut unit, line) {
+        Ok(()) => Ok(unit),
+        Err(Unheld::Refused(FaultError::OutOfMemory)) => Err(Failure::from(Fault::Memory)),
+        Err(error) => Err(Failure::told(
+            Fault::Vehicle,
+            format!(in alloc; "unit {place}: {error}\n"),
+        )),
+    }
+}
+
+/// The address of a line, and what its unit sends.
+fn parts_of(line: LiveLine) -> (u8, Vec<SendLine>) {
+    let LiveLine {
+        unit: UnitLine { address, .. },
+        sends,
+        ..
+    } = line;
+    (address, sends)
+}
+
+/// Starts the thread that reads the bus. It is not joined: on a quiet bus it would keep a run from ending whose output is gone.
+fn start_bus<
+    R: Threads + Wait + Clock + Sync + Send + Clone + Drop + 'static,
+    S: Listens + Sync + Send + Drop + 'static,
+    I: Read + Send + Drop + 'static,
+>(rt: &R, shared: &Arc<S, Global>, reader: I) -> Result<(), Failure> {
+    let theirs = Arc::try_clone(shared)?;
+    let handle = rt.clone()?;
+    let read = Builder::new().spawn(rt, move || {
+        theirs.read_bus(&handle, reader);
+    });
+    match read {
+        Ok(_) => Ok(()),
+        Err(_) => Err(Failure::from(Fault::Memory)),
+    }
+}
+
+/// Starts the thread that reads what is asked of the units. It is not joined either.
+fn start_orders<
+    R: Threads + Wait + Sync + Send + Clone + Drop + 'static,
+    S: Listens + Sync + Send + Drop + 'static,
+    O: Read + Send + Drop + 'static,
+>(rt: &R, shared: &Arc<S, Global>, orders: O) -> Result<(), Failure> {
+    let theirs = Arc::try_clone(shared)?;
+    let handle = rt.clone()?;
+    let read = Builder::new().spawn(rt, move || {
+        theirs.read_orders(&handle, orders);
+    });
+    match read {
+        Ok(_) => Ok(()),
+        Err(_) => Err(Failure::from(Fault::Memory)),
+    }
+}
+
+/// Writes the units' frames when they are due, until all lines are read and nothing is due.
+fn write_frames<R: Wait + Clock, W: Write, E: Write>(
+    rt: &R,
+    shared: &Shared,
+    ways: &Ways<'_>,
+    writer: &mut W,
+    errors: &mut E,
+) -> Result<(), Failure> {
+    for _ in rt.forever() {
+        match look(rt, shared) {
+            Next::Frame(frame) => {
+                write_frame(rt, writer, ways.bus, &frame)?;
+                thread::sleep(rt, Duration::from_micros(ways.pace));
+            }
+            Next::Notes(notes) => {
+                let _ = tell(errors, notes.as_slice());
+            }
+            Next::End(end) => return finish(rt, shared, errors, end),
+            Next::Again => {}
+        }
+    }
+    unreachable!()
+}
+
+/// Looks what is next. Where that is nothing it waits until a frame is due, or something has changed: the lock is held from the look to the wait,
+/// so no change comes between.
+fn look<R: Wait + Clock>(rt: &R, shared: &Shared) -> Next {
+    let alloc = shared.alloc;
+    let time = now(rt);
+    let mut state = shared.state.lock(rt);
+    if !state.notes.is_empty() {
+        let mut notes = Vec::new(alloc);
+        std::mem::swap(&mut notes, &mut state.notes);
+        return Next::Notes(notes);
+    }
+    let (frame, _refused) = state.fleet.step(alloc, time);
+    if let Some(frame) = frame {
+        return Next::Frame(frame);
+    }
+    if let Some(end) = state.end {
+        return Next::End(end);
+    }
+    let micros = state.fleet.next(time).saturating_sub(time);
+    let longest = Duration::from_micros(micros.min(LONGEST_WAIT).max(1));
+    let _ = shared.woken.wait_timeout(rt, state, longest);
+    Next::Again
+}
+
+/// Writes a frame as a line, at once.
+fn write_frame<R: Clock, W: Write>(
+    rt: &R,
+    writer: &mut W,
+    bus: &str,
+    frame: &Frame,
+) -> Result<(), Fault> {
+    let Some(time) = Time::from_micros(date(rt)) else {
+        return Err(Fault::Write);
+    };
+    if write_line(writer, time, bus, frame).is_err() || writer.flush().is_err() {
+        return Err(Fault::Write);
+    }
+    Ok(())
+}
+
+/// Tells what is left to be told, and a line for each unit; answers how the run ended.
+fn finish<R: Wait, E: Write>(
+    rt: &R,
+    shared: &Shared,
+    errors: &mut E,
+    end: Result<bool, LogFault>,
+) -> Result<(), Failure> {
+    let state = shared.state.lock(rt);
+    let ended = state.ear.ended(errors, end);
+    let _ = state.fleet.write_summary(errors);
+    let _ = errors.flush();
+    failure_of(ended)
+}

@@ -1,0 +1,46 @@
+//! What a unit sends again and again.
+ghost use Rattle.std.specs.Prelude.{◌≡◌, ◌≤◌, IfSome};
+ghost use Rattle.can_frame.specs.Fields.{source_of};
+
+use can_frame::Frame;
+use vehicle::SendLine;
+
+/// A group that a unit sends again and again, and when next.
+#[derive(Drop)]
+pub(crate) struct Cyclic {
+    group: SendLine,
+    from: u64,
+}
+
+impl Cyclic {
+    /// A group that goes for the first time as soon as its unit may send it.
+    pub(crate) fn new(group: SendLine) -> Cyclic {
+        Cyclic { group, from: 0 }
+    }
+
+    /// From when on it goes.
+    pub(crate) fn from(&self) -> u64
+        ensures { result ≡ self.now.from }
+    {
+        self.from
+    }
+
+    /// Its frame from this address, if it goes at this time. It goes again a period after it was due, or after this time where that is over:
+    /// what was missed is not made up for.
+    pub(crate) fn due(&mut self, source: u8, now: u64) -> Option<Frame>
+        ensures source { IfSome result (λ f. source_of f.id ≡ source) }
+        ensures waited { IfSome result (λ _. self.old.from ≤ now) }
+    {
+        if now < self.from {
+            return None;
+        }
+        let period = 1000 * u64::from(self.group.period);
+        let next = self.from.saturating_add(period);
+        self.from = if next > now {
+            next
+        } else {
+            now.saturating_add(period)
+        };
+        Some(self.group.frame(source))
+    }
+}

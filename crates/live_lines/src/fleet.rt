@@ -1,0 +1,318 @@
+ghost use Rattle.std.specs.Prelude.{◌≡◌, ◌≤◌, IfSome};
+ghost use Rattle.can_frame.specs.Fields.{source_of};
+ghost use Rattle.can_frame.specs.declared.address.TheConstants.{GREATEST_ADDRESS};
+ghost use Rattle.address_claim.specs.Frames.{claim_source};
+
+use crate::cyclic::Cyclic;
+use can_frame::Frame;
+use dm_messages::Kind;
+use fault_memory::{FaultChange, FaultError};
+use live_unit::{Act, Counts, LiveError, LiveUnit, Settings};
+use std::alloc::{AllocError, Global};
+use std::io;
+use std::io::Write;
+use unit_trait::Unit;
+use vehicle::SendLine;
+
+/// How long a unit that was refused memory waits before it tries again, in microseconds.
+const RETRY: u64 = 100_000;
+
+/// The most things that one unit does of its own accord before a frame of it is asked for.
+const MOST_ACTS: u32 = 8;
+
+/// A unit, and what became of it.
+#[derive(Drop)]
+struct Member {
+    unit: LiveUnit,
+    /// What it sends again and again, and how many frames of these it wrote.
+    cyclic: Vec<Cyclic>,
+    sent: u64,
+    /// Whether it has left the bus.
+    has_left: bool,
+    /// How many frames it heard, and how many it could not hear.
+    heard: u64,
+    unheard: u64,
+    /// When it may try again what it was refused memory for.
+    retry_from: u64,
+}
+
+/// Units that take part in one bus, in the order in which they came.
+#[derive(Drop)]
+pub struct Fleet {
+    members: Vec<Member>,
+    /// Whose frame is asked for first.
+    turn: usize,
+}
+
+impl Fleet {
+    /// No unit yet. Takes no memory.
+    pub fn new(alloc: Global) -> Fleet {
+        Fleet {
+            members: Vec::new(alloc),
+            turn: 0,
+        }
+    }
+
+    /// A unit more, which wants this address, 0 to 253, and sends these groups again and again. Its claim waits to be written.
+    ///
+    /// Where memory is refused no unit is added.
+    pub fn add(
+        &mut self,
+        alloc: Global,
+        unit: Box<dyn Unit>,
+        address: u8,
+        settings: Settings,
+        sends: Vec<SendLine>,
+    ) -> Result<(), AllocError>
+        requires { address ≤ GREATEST_ADDRESS }
+    {
+        let mut cyclic = Vec::new(alloc);
+        for group in sends {
+            cyclic.push(Cyclic::new(group))?;
+        }
+        self.members.push(Member {
+            unit: LiveUnit::new(alloc, unit, address, settings)?,
+            cyclic,
+            sent: 0,
+            has_left: false,
+            heard: 0,
+            unheard: 0,
+            retry_from: 0,
+        })?;
+        Ok(())
+    }
+
+    /// Has each unit on the bus hear a frame. Answers how many could not, for want of room or of memory: they are as they were.
+    pub fn hear(&mut self, alloc: Global, frame: &Frame, now: u64) -> u32
+        requires { Unit {0} }
+    {
+        let mut unheard = 0u32;
+        for member in self.members.iter_mut() {
+            if member.has_left {
+                continue;
+            }
+            match member.unit.hear(alloc, frame, now) {
+                Ok(_) => member.heard = member.heard.saturating_add(1),
+                Err(_) => {
+                    member.unheard = member.unheard.saturating_add(1);
+                    unheard = unheard.saturating_add(1);
+                }
+            }
+        }
+        unheard
+    }
+
+    /// The frame that goes at this time, if one does: that of the first unit, from the one whose turn it is on, that has one. Units do first
+    /// of their own accord what is due. Answers also how many were refused memory for it.
+    pub fn step(&mut self, alloc: Global, now: u64) -> (Option<Frame>, u32)
+        requires { Unit {0} }
+    {
+        let mut refused = 0u32;
+        let count = self.members.len();
+        for offset in 0..count {
+            let place = place_after(self.turn, offset, count);
+            let Some(member) = self.members.get_mut(place) else {
+                continue;
+            };
+            refused = refused.saturating_add(member.act(alloc, now));
+            if let Some(frame) = member.due(now) {
+                self.turn = place_after(place, 1, count);
+                return (Some(frame), refused);
+            }
+        }
+        (None, refused)
+    }
+
+    /// When to look again, at this time or later.
+    pub fn next(&self, now: u64) -> u64 {
+        let mut next = u64::MAX;
+        for member in self.members.iter() {
+            next = next.min(member.next(now));
+        }
+        next
+    }
+
+    /// How many units there are, those that have left among them.
+    pub fn len(&self) -> usize {
+        self.members.len()
+    }
+
+    /// Whether there is no unit.
+    pub fn is_empty(&self) -> bool {
+        self.members.is_empty()
+    }
+
+    /// The unit at a place, from 0 on, that is on the bus.
+    fn unit_at(&mut self, place: u32) -> Option<&mut Member>
+        requires { Unit {0} }
+    {
+        match self.members.get_mut(place as usize) {
+            Some(member) if !member.has_left => Some(member),
+            _ => None,
+        }
+    }
+
+    /// Tells a unit of a change of its fault memory. None where no unit at that place is on the bus.
+    pub fn change(&mut self, place: u32, change: FaultChange) -> Option<Result<(), FaultError>>
+        requires { Unit {0} }
+    {
+        let member = self.unit_at(place)?;
+        Some(member.unit.change(change))
+    }
+
+    /// Has a unit begin a message of this kind to all. None where no unit at that place is on the bus.
+    pub fn begin(
+        &mut self,
+        alloc: Global,
+        place: u32,
+        kind: Kind,
+    ) -> Option<Result<bool, LiveError>>
+        requires { Unit {0} }
+    {
+        let member = self.unit_at(place)?;
+        Some(member.unit.begin(alloc, kind))
+    }
+
+    /// Takes a unit off the bus: it hears nothing more, and writes nothing. None where no unit at that place is on it.
+    pub fn leave(&mut self, place: u32) -> Option<()>
+        requires { Unit {0} }
+    {
+        let member = self.unit_at(place)?;
+        member.has_left = true;
+        Some(())
+    }
+
+    /// What became of the frames of a unit, one that has left too.
+    pub fn counts(&self, place: u32) -> Option<Counts> {
+        Some(self.members.get(place as usize)?.unit.counts())
+    }
+
+    /// Writes a line for each unit: its place, its NAME, the address that it holds, and counts.
+    ///
+    /// # Errors
+    /// That could not be written.
+    pub fn write_summary<W: Write>(&self, writer: &mut W) -> io::Result<()> {
+        for (place, member) in self.members.iter().enumerate() {
+            member.write_line(writer, place)?;
+        }
+        Ok(())
+    }
+}
+
+impl Member {
+    /// Does of its own accord what is due. Answers 1 where it was refused memory for it, which it tries again later.
+    fn act(&mut self, alloc: Global, now: u64) -> u32
+        requires { Unit {0} }
+    {
+        if self.has_left || now < self.retry_from {
+            return 0;
+        }
+        for _ in 0..MOST_ACTS {
+            match self.unit.act(alloc, now) {
+                Ok(Act::Nothing) => return 0,
+                Ok(_) => {}
+                Err(_) => {
+                    self.retry_from = now.saturating_add(RETRY);
+                    return 1;
+                }
+            }
+        }
+        0
+    }
+
+    /// The frame of it that goes at this time: one that waits, or else one that it sends again and again.
+    fn due(&mut self, now: u64) -> Option<Frame>
+        requires { Unit {0} }
+        ensures source { IfSome result (λ f. source_of f.id ≡ claim_source self.old.unit.node.claimer.held) }
+    {
+        if self.has_left {
+            return None;
+        }
+        if let Some(frame) = self.unit.due(now) {
+            return Some(frame);
+        }
+        let source = self.unit.held()?;
+        let from = self.unit.free_from()?;
+        if from > now {
+            return None;
+        }
+        let frame = cyclic_due(self.cyclic.as_mut_slice(), source, now)?;
+        self.sent = self.sent.saturating_add(1);
+        Some(frame)
+    }
+
+    /// When to look again.
+    fn next(&self, now: u64) -> u64 {
+        if self.has_left {
+            return u64::MAX;
+        }
+        let next = self.unit.next(now);
+        let next = if now < self.retry_from && next < self.retry_from {
+            self.retry_from
+        } else {
+            next
+        };
+        match self.unit.free_from() {
+            Some(from) => next.min(cyclic_from(self.cyclic.as_slice()).max(from)),
+            None => next,
+        }
+    }
+
+    fn write_line<W: Write>(&self, writer: &mut W, place: usize) -> io::Result<()> {
+        let name = self.unit.name();
+        let counts = self.unit.counts();
+        write!(writer, "unit {place} {name} ")?;
+        match self.unit.held() {
+            _ if self.has_left => write!(writer, "left")?,
+            Some(address) => write!(writer, "at {address}")?,
+            None => write!(writer, "without address")?,
+        }
+        write!(writer, " heard {}", self.heard)?;
+        if self.unheard > 0 {
+            write!(writer, " unheard {}", self.unheard)?;
+        }
+        let Counts {
+            written,
+            withdrawn,
+            waiting,
+            ..
+        } = counts;
+        write!(
+            writer,
+            " written {written} withdrawn {withdrawn} waiting {waiting}"
+        )?;
+        if !self.cyclic.is_empty() {
+            write!(writer, " cyclic {}", self.sent)?;
+        }
+        writeln!(writer)
+    }
+}
+
+/// The first frame that goes at this time of those that are sent again and again, from this address.
+fn cyclic_due(all: &mut [Cyclic], source: u8, now: u64) -> Option<Frame>
+    ensures { IfSome result (λ f. source_of f.id ≡ source) }
+{
+    for cyclic in all.iter_mut() {
+        if let Some(frame) = cyclic.due(source, now) {
+            return Some(frame);
+        }
+    }
+    None
+}
+
+/// When the first of those that are sent again and again goes.
+fn cyclic_from(all: &[Cyclic]) -> u64 {
+    let mut first = u64::MAX;
+    for cyclic in all {
+        first = first.min(cyclic.from());
+    }
+    first
+}
+
+/// The place so many after another, in a ring of `count`.
+fn place_after(place: usize, offset: usize, count: usize) -> usize {
+    if count == 0 {
+        return 0;
+    }
+    place.saturating_add(offset) % count
+}

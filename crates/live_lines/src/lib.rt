@@ -1,0 +1,17 @@
+//! The units of a vehicle on a real bus: a line in, lines out.
+//!
+//! Nothing here has a clock or a thread: times are handed in, in microseconds.
+#![tactic(auto)]
+
+mod beginning;
+mod cyclic;
+mod ear;
+mod fleet;
+mod orders;
+mod playback;
+
+pub use beginning::{Unheld, begin_with};
+pub use ear::Ear;
+pub use fleet::Fleet;
+pub use orders::{Order, Reply};
+pub use playback::Playback;

@@ -1,0 +1,148 @@
+//! What is asked of the units while the bus runs: some of the commands of a script, with a unit's place in the place of a seat.
+
+use crate::fleet::Fleet;
+use dm_messages::Kind;
+use fault_memory::{FaultChange, FaultError};
+use live_unit::{Counts, LiveError};
+use script_line::{CodeChange, Command};
+use std::alloc::Global;
+use std::fmt;
+
+/// What is asked of a unit.
+#[derive(Clone, Copy, Debug, PartialEq, Eq)]
+pub struct Order {
+    command: Command,
+}
+
+/// What came of it. `Display` writes the answer's line without its end, in the words of a script's answers.
+#[derive(Clone, Copy, Debug, PartialEq, Eq)]
+pub enum Reply {
+    /// It is done.
+    Done,
+    /// A message was begun.
+    Begun,
+    /// A session of that kind is open: no message was begun.
+    Held,
+    /// A unit's counts.
+    Counts(Counts),
+    /// The line is no order.
+    BadLine,
+    /// No unit at that place is on the bus.
+    NoUnit,
+    /// A fault memory refused a change.
+    Fault(FaultError),
+    /// A unit refused.
+    Unit(LiveError),
+}
+
+impl Order {
+    /// The order of a line; none where it is none, and where it is silent: empty, or behind a `#`.
+    pub fn read(line: &str) -> Option<Order> {
+        let line = script_line::read_line(line)?;
+        match line.command {
+            Command::Change { .. }
+            | Command::Lamps { .. }
+            | Command::Dm1 { .. }
+            | Command::Leave { .. }
+            | Command::Counts { .. } => Some(Order {
+                command: line.command,
+            }),
+            _ => None,
+        }
+    }
+
+    /// Carries the order out.
+    pub fn give(&self, alloc: Global, fleet: &mut Fleet) -> Reply
+        requires { Unit {0} }
+    {
+        match self.command {
+            Command::Change {
+                seat,
+                change,
+                spn,
+                fmi,
+                count,
+            } => change_codes(fleet, seat, change, spn, fmi, count),
+            Command::Lamps { seat, lamps } => {
+                changed(fleet.change(seat, FaultChange::Lamp { lamps }))
+            }
+            Command::Dm1 { seat } => begun(fleet.begin(alloc, seat, Kind::Dm1)),
+            Command::Leave { seat } => match fleet.leave(seat) {
+                Some(()) => Reply::Done,
+                None => Reply::NoUnit,
+            },
+            Command::Counts { seat } => match fleet.counts(seat) {
+                Some(counts) => Reply::Counts(counts),
+                None => Reply::NoUnit,
+            },
+            _ => Reply::BadLine,
+        }
+    }
+}
+
+/// Changes codes of one FMI, from an SPN on; ends at the first that is refused.
+fn change_codes(
+    fleet: &mut Fleet,
+    place: u32,
+    change: CodeChange,
+    spn: u32,
+    fmi: u8,
+    count: u32,
+) -> Reply
+    requires { Unit {0} }
+{
+    for offset in 0..count {
+        let spn = spn.saturating_add(offset);
+        let change = match change {
+            CodeChange::Set => FaultChange::Set { spn, fmi },
+            CodeChange::Heal => FaultChange::Heal { spn, fmi },
+            CodeChange::Pend => FaultChange::Pend { spn, fmi },
+            CodeChange::Unpend => FaultChange::Unpend { spn, fmi },
+        };
+        let reply = changed(fleet.change(place, change));
+        if reply != Reply::Done {
+            return reply;
+        }
+    }
+    Reply::Done
+}
+
+fn changed(made: Option<Result<(), FaultError>>) -> Reply {
+    match made {
+        Some(Ok(())) => Reply::Done,
+        Some(Err(error)) => Reply::Fault(error),
+        None => Reply::NoUnit,
+    }
+}
+
+fn begun(made: Option<Result<bool, LiveError>>) -> Reply {
+    match made {
+        Some(Ok(true)) => Reply::Begun,
+        Some(Ok(false)) => Reply::Held,
+        Some(Err(error)) => Reply::Unit(error),
+        None => Reply::NoUnit,
+    }
+}
+
+impl fmt::Display for Reply {
+    fn fmt<W: fmt::Write>(&self, f: &mut fmt::Formatter<W>) -> fmt::Result {
+        match self {
+            Reply::Done => write!(f, "ok"),
+            Reply::Begun => write!(f, "begun"),
+            Reply::Held => write!(f, "held"),
+            Reply::Counts(counts) => {
+                let Counts {
+                    put,
+                    written,
+                    withdrawn,
+                    waiting,
+                } = *counts;
+                write!(f, "counts {put} {written} {withdrawn} {waiting}")
+            }
+            Reply::BadLine => write!(f, "bad line"),
+            Reply::NoUnit => write!(f, "no unit"),
+            Reply::Fault(error) => write!(f, "refused {} {error}", error.number()),
+            Reply::Unit(error) => write!(f, "refused {error}"),
+        }
+    }
+}

@@ -1,0 +1,120 @@
+//! Units whose clock is the times of the lines that they hear: nothing waits, and what they write is the same each time.
+
+use crate::ear::{Ear, Said};
+use crate::fleet::Fleet;
+use can_frame::Frame;
+use candump_line::{Time, write_line};
+use log_lines::{Ended, LogFault};
+use std::alloc::Global;
+use std::io::Write;
+
+/// Units, and the lines that they hear at the times of these.
+#[derive(Drop)]
+pub struct Playback {
+    fleet: Fleet,
+    ear: Ear,
+    /// The greatest time of a line so far, in microseconds.
+    clock: Option<u64>,
+}
+
+impl Playback {
+    /// Units that have heard no line.
+    pub fn new(fleet: Fleet, ear: Ear) -> Playback {
+        Playback {
+            fleet,
+            ear,
+            clock: None,
+        }
+    }
+
+    /// Takes a line, with its end. What is due before its time, or at it, is written first, each frame as a line with the time at which it is due,
+    /// and heard by the other units; then the units hear the frame of the line. A line without a time, or with an earlier one than the line
+    /// before, is heard at the time of that. A bad line is told on `errors`. Answers whether the line is bad.
+    ///
+    /// # Errors
+    /// `Write`: a line could not be written.
+    pub fn take<W: Write, E: Write>(
+        &mut self,
+        alloc: Global,
+        line: &[u8],
+        writer: &mut W,
+        errors: &mut E,
+    ) -> Result<bool, LogFault>
+        requires { Unit {0} }
+    {
+        let Said { frame, is_bad } = self.ear.read(line, errors)?;
+        let Some((time, frame)) = frame else {
+            return Ok(is_bad);
+        };
+        let now = self.time_of(time);
+        self.write_until(alloc, now, writer)?;
+        let _unheard = self.fleet.hear(alloc, &frame, now);
+        Ok(is_bad)
+    }
+
+    /// Writes what is due at the time of the last line.
+    ///
+    /// # Errors
+    /// `Write`: a line could not be written.
+    pub fn finish<W: Write>(&mut self, alloc: Global, writer: &mut W) -> Result<(), LogFault>
+        requires { Unit {0} }
+    {
+        match self.clock {
+            Some(now) => self.write_until(alloc, now, writer),
+            None => Ok(()),
+        }
+    }
+
+    /// How the lines ended, at the end of the input or not. Tells a line for each unit.
+    pub fn ended<E: Write>(&self, errors: &mut E, end: Result<bool, LogFault>) -> Ended {
+        let ended = self.ear.ended(errors, end);
+        let _ = self.fleet.write_summary(errors);
+        ended
+    }
+
+    /// The time at which a line is heard.
+    fn time_of(&self, time: Option<Time>) -> u64 {
+        let before = self.clock.unwrap_or(0);
+        match time {
+            Some(time) => time.micros().max(before),
+            None => before,
+        }
+    }
+
+    /// Has the units write what is due up to a time, each frame when it is due.
+    fn write_until<W: Write>(
+        &mut self,
+        alloc: Global,
+        until: u64,
+        writer: &mut W,
+    ) -> Result<(), LogFault>
+        requires { Unit {0} }
+    {
+        let mut now = self.clock.unwrap_or(until);
+        for _ in 0..u64::MAX {
+            let (frame, _refused) = self.fleet.step(alloc, now);
+            if let Some(frame) = frame {
+                self.write(now, &frame, writer)?;
+                let _unheard = self.fleet.hear(alloc, &frame, now);
+                continue;
+            }
+            let next = self.fleet.next(now).max(now.saturating_add(1));
+            if next > until {
+                break;
+            }
+            now = next;
+        }
+        self.clock = Some(until);
+        Ok(())
+    }
+
+    fn write<W: Write>(&self, now: u64, frame: &Frame, writer: &mut W) -> Result<(), LogFault> {
+        let Some(time) = Time::from_micros(now) else {
+            return Err(LogFault::Write);
+        };
+        match write_line(writer, time, self.ear.bus(), frame) {
+            Ok(()) => Ok(()),
+            Err(error) => Err(LogFault::of_write(error)),
+        }
+    }
+}

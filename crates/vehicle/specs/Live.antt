@@ -1,0 +1,106 @@
+-- Which units a TOML document describes, as they take part in a real bus.
+use Rattle.std.specs.Prelude.{ℕ, ◌≡◌, ◌⊎◌, ◌/◌, ◌%◌, ◌≤◌, true, List, [], ◌∷◌, ◌++◌, Option, Some, None, codes}
+use Rattle.can_frame.specs.declared.address.TheConstants.{GREATEST_ADDRESS}
+use Rattle.hex_text.specs.Hex.{IsHexText, hex_value}
+use Rattle.toml.specs.Data.{Data, get, as_str, as_array, Items}
+use Rattle.script_line.specs.Numbers.{IsNumberBelow, SpellsNumber, decimal_value}
+use Rattle.script_line.specs.declared.command.UnitKind.{UnitKind}
+use Rattle.trouble_code.specs.Code.{Code, IsCode}
+use Rattle.trouble_code.specs.LampBytes.{LampsValue, lamps_off, lamps_value}
+use Rattle.vehicle.specs.Sending.{SpellsBytes, is_free_group}
+use Rattle.vehicle.specs.Holding.{EachHolds, HasName, HasNumber, HasOnly, HoldsKind, keys_by, text_at}
+use Rattle.vehicle.specs.declared.sends.TheConstants.{LEAST_PERIOD, MOST_PERIOD, USUAL_PRIORITY}
+use Rattle.vehicle.specs.declared.send_line.TheConstants.{GREATEST_PGN, LOWEST_PRIORITY}
+use Rattle.vehicle.specs.declared.codes.TheConstants.{MOST_OCCURRENCES}
+use Rattle.vehicle.specs.declared.send_line.SendLine.{SendLine}
+use Rattle.vehicle.specs.declared.live.LiveLine.{LiveLine}
+
+-- ---- lamps and codes
+
+-- the lamps at the key "lamps", four digits; off where there is no such key
+abbrev pub HoldsLampsAt : Option Data → LampsValue → Type 0
+HoldsLampsAt None lamps = lamps ≡ lamps_off
+HoldsLampsAt (Some d) lamps = (text : List ℕ) × (as_str d ≡ Some text) × IsHexText 4 text × (lamps ≡ lamps_value (hex_value text / 256) (hex_value text % 256))
+
+-- a text spells a number below 256
+abbrev pub SpellsSmall : List ℕ → ℕ → Type 0
+SpellsSmall text n = IsNumberBelow 256 text × (n ≡ decimal_value text)
+
+-- FMI, which has occurred once, or FMI/COUNT (47 is the slash)
+abbrev pub SpellsMode : List ℕ → ℕ → ℕ → Type 0
+SpellsMode text fmi count =
+    (SpellsSmall text fmi × (count ≡ 1))
+    ⊎ ((first : List ℕ) × (second : List ℕ) × (text ≡ first ++ 47 ∷ second) × SpellsSmall first fmi × SpellsSmall second count)
+
+-- SPN/FMI or SPN/FMI/COUNT, which is a code that has occurred 1 to 126 times
+pub record SpellsCode (text : List ℕ) (c : Code) : Type 0 where
+  pub spn_text : List ℕ
+  pub mode_text : List ℕ
+  pub text_is : text ≡ spn_text ++ 47 ∷ mode_text
+  pub spn : SpellsNumber spn_text c.spn
+  pub mode : SpellsMode mode_text c.fmi c.count
+  pub lawful : IsCode c
+  pub some : 1 ≤ c.count
+  pub most : c.count ≤ MOST_OCCURRENCES
+
+-- a text that spells the code
+abbrev pub HoldsCode : Data → Code → Type 0
+HoldsCode d c = (text : List ℕ) × (as_str d ≡ Some text) × SpellsCode text c
+
+-- a code for each text of an array, in order; none where there is no such key
+abbrev pub HoldsCodesAt : Option Data → List Code → Type 0
+HoldsCodesAt None cs = cs ≡ []
+HoldsCodesAt (Some d) cs = (ds : Items) × (as_array d ≡ Some ds) × EachHolds HoldsCode ds cs
+
+-- ---- what is sent again and again
+
+-- the priority at the key "priority"; the usual one where there is no such key
+abbrev pub HoldsPriorityAt : Data → ℕ → Type 0
+HoldsPriorityAt d priority =
+    ((get (codes "priority") d ≡ None) × (priority ≡ USUAL_PRIORITY)) ⊎ HasNumber d (codes "priority") priority 0 LOWEST_PRIORITY
+
+abbrev pub HasBytes : Data → List ℕ → Type 0
+HasBytes d bytes = (text : List ℕ) × (text_at (codes "bytes") d ≡ Some text) × SpellsBytes text bytes
+
+-- a group, its priority, its period in milliseconds and its bytes; nothing else
+pub record HoldsSend (d : Data) (s : SendLine) : Type 0 where
+  pub only : HasOnly (codes "pgn" ∷ codes "priority" ∷ codes "period" ∷ codes "bytes" ∷ []) d
+  pub pgn : HasNumber d (codes "pgn") s.pgn 0 GREATEST_PGN
+  pub free : is_free_group s.pgn ≡ true
+  pub priority : HoldsPriorityAt d s.priority
+  pub period : HasNumber d (codes "period") s.period LEAST_PERIOD MOST_PERIOD
+  pub bytes : HasBytes d s.bytes.items
+
+-- one for each table, in order; none where there is no such key
+abbrev pub HoldsSendsAt : Option Data → List SendLine → Type 0
+HoldsSendsAt None ss = ss ≡ []
+HoldsSendsAt (Some d) ss = (ds : Items) × (as_array d ≡ Some ds) × EachHolds HoldsSend ds ss
+
+-- ---- units
+
+-- the keys of a unit of a kind
+abbrev pub live_keys_of_kind : UnitKind → List (List ℕ)
+live_keys_of_kind kind = keys_by kind
+    (codes "name" ∷ codes "address" ∷ codes "kind" ∷ codes "lamps" ∷ codes "active" ∷ codes "previous" ∷ codes "pending" ∷ codes "sends" ∷ [])
+    (codes "name" ∷ codes "address" ∷ codes "kind" ∷ codes "spn" ∷ codes "fmi" ∷ codes "lamps" ∷ codes "active" ∷ codes "previous" ∷ codes "pending" ∷ codes "sends" ∷ [])
+
+-- what a unit is, how it begins and what it sends; nothing else
+pub record HoldsLiveUnit (d : Data) (u : LiveLine) : Type 0 where
+  pub only : HasOnly (live_keys_of_kind u.unit.kind) d
+  pub name : HasName d u.unit.name
+  pub address : HasNumber d (codes "address") u.unit.address 0 GREATEST_ADDRESS
+  pub kind : HoldsKind d u.unit.kind
+  pub lamps : HoldsLampsAt (get (codes "lamps") d) u.lamps
+  pub active : HoldsCodesAt (get (codes "active") d) u.active.items
+  pub previous : HoldsCodesAt (get (codes "previous") d) u.previous.items
+  pub pending : HoldsCodesAt (get (codes "pending") d) u.pending.items
+  pub sends : HoldsSendsAt (get (codes "sends") d) u.sends.items
+
+-- the units at the key "unit", none where there is no such key; beside it stands no other key than those of the stations
+abbrev pub HoldsLiveUnitsAt : Option Data → List LiveLine → Type 0
+HoldsLiveUnitsAt None us = us ≡ []
+HoldsLiveUnitsAt (Some d) us = (ds : Items) × (as_array d ≡ Some ds) × EachHolds HoldsLiveUnit ds us
+
+pub record HoldsLiveUnits (d : Data) (us : List LiveLine) : Type 0 where
+  pub only : HasOnly (codes "station" ∷ codes "second" ∷ codes "unit" ∷ []) d
+  pub units : HoldsLiveUnitsAt (get (codes "unit") d) us

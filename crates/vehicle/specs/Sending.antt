@@ -1,0 +1,30 @@
+-- What a unit may send again and again.
+use Rattle.std.specs.Prelude.{ℕ, ◌≡◌, ◌-◌, ◌*◌, ◌≤◌, ◌==◌, ◌&&◌, ◌||◌, Bool, true, not, nat_le, List, drop, length}
+use Rattle.std.specs.Int.{to_be_bytes, w64}
+use Rattle.can_frame.specs.Fields.{pdu_format_of_pgn}
+use Rattle.can_frame.specs.declared.group_numbers.TheConstants.{DM1, DM2, DM3, DM6, DM11, COMMANDED_ADDRESS}
+use Rattle.hex_text.specs.Hex.{IsHexText, hex_value}
+use Rattle.vehicle.specs.declared.send_line.TheConstants.{GREATEST_PGN, LOWEST_PRIORITY}
+
+-- a group of diagnostics or of the protocol, of those that go to all: by the rules a unit sends it, or obeys it
+abbrev pub is_ruled_group : ℕ → Bool
+is_ruled_group pgn = (pgn == DM1) || (pgn == DM2) || (pgn == DM3) || (pgn == DM6) || (pgn == DM11) || (pgn == COMMANDED_ADDRESS)
+
+-- a group that goes to all, and none of these
+abbrev pub is_free_group : ℕ → Bool
+is_free_group pgn = nat_le 240 (pdu_format_of_pgn pgn) && not (is_ruled_group pgn)
+
+-- what goes into one frame to all
+pub record FitsFrame (pgn first : ℕ) (bytes : List ℕ) : Type 0 where
+  pub group : pgn ≤ GREATEST_PGN
+  pub free : is_free_group pgn ≡ true
+  pub priority : first ≤ LOWEST_PRIORITY
+  pub some : 1 ≤ length bytes
+  pub most : length bytes ≤ 8
+
+-- two digits for each byte: they are the last of the eight bytes of the number that the digits spell
+pub record SpellsBytes (text bytes : List ℕ) : Type 0 where
+  pub some : 1 ≤ length bytes
+  pub most : length bytes ≤ 8
+  pub digits : IsHexText (2 * length bytes) text
+  pub are : bytes ≡ drop (8 - length bytes) (to_be_bytes w64 (hex_value text))

@@ -1,0 +1,119 @@
+//! Trouble codes and lamps with which a unit begins.
+ghost use Rattle.std.specs.Prelude.{◌≡◌, ◌++◌, ◌∷◌, IfOk, IfSome, codes};
+ghost use Rattle.toml.specs.Data.{get};
+ghost use Rattle.toml.specs.View.{view, items_view};
+ghost use Rattle.vehicle.specs.Holding.{EachHolds};
+ghost use Rattle.vehicle.specs.Live.{HoldsCode, HoldsCodesAt, HoldsLampsAt, SpellsCode, SpellsMode};
+
+use crate::misfit::{Place, Unread, Wrong};
+use script_line::{read_lamps, read_number, read_small_number};
+use std::alloc::Global;
+use toml::Value;
+use trouble_code::{Dtc, Lamps};
+
+/// The most often that a code of a fault memory has occurred.
+const MOST_OCCURRENCES: u8 = 126;
+
+/// The lamps of a unit; off where it has no such key.
+pub(crate) fn read_lamps_of(place: Place, value: &Value) -> Result<Lamps, Unread<'_>>
+    ensures { IfOk result (HoldsLampsAt (get (codes "lamps") (view value.now))) }
+{
+    let Some(found) = value.get("lamps") else {
+        return Ok(Lamps::off());
+    };
+    let Some(text) = found.as_str() else {
+        return Err(Unread::at(place, "lamps", Wrong::NoSuch("text")));
+    };
+    match read_lamps(text) {
+        Some(lamps) => Ok(lamps),
+        None => {
+            let wrong = Wrong::NotOne {
+                found: text,
+                wanted: "4 hexadecimal digits",
+            };
+            Err(Unread::at(place, "lamps", wrong))
+        }
+    }
+}
+
+/// The codes at a key of a unit; none where it has no such key.
+pub(crate) fn read_codes<'a>(
+    alloc: Global,
+    place: Place,
+    value: &'a Value,
+    key: &'a str,
+) -> Result<Vec<Dtc>, Unread<'a>>
+    ensures { IfOk result (λ codes. HoldsCodesAt (get key.now (view value.now)) codes.items) }
+{
+    let Some(found) = value.get(key) else {
+        return Ok(Vec::new(alloc));
+    };
+    match found.as_array() {
+        Some(items) => codes_of(alloc, place, key, items.as_slice()),
+        None => Err(Unread::at(place, key, Wrong::NoSuch("array of texts"))),
+    }
+}
+
+/// The code of each text.
+fn codes_of<'a>(
+    alloc: Global,
+    place: Place,
+    key: &'a str,
+    items: &'a [Value],
+) -> Result<Vec<Dtc>, Unread<'a>>
+    ensures { IfOk result (λ codes. EachHolds HoldsCode (items_view items.now) codes.items) }
+{
+    let mut codes = Vec::new(alloc);
+    for item in items {
+        codes.push(code_of(place, key, item)?)?;
+    }
+    Ok(codes)
+}
+
+fn code_of<'a>(place: Place, key: &'a str, value: &'a Value) -> Result<Dtc, Unread<'a>>
+    ensures { IfOk result (HoldsCode (view value.now)) }
+{
+    let Some(text) = value.as_str() else {
+        return Err(Unread::at(place, key, Wrong::NoSuch("array of texts")));
+    };
+    match read_code(text) {
+        Some(code) => Ok(code),
+        None => {
+            let wrong = Wrong::NotOne {
+                found: text,
+                wanted: "SPN/FMI or SPN/FMI/COUNT",
+            };
+            Err(Unread::at(place, key, wrong))
+        }
+    }
+}
+
+/// The code that a text spells: `SPN/FMI`, which has occurred once, or `SPN/FMI/COUNT`, which has occurred 1 to 126 times.
+fn read_code(text: &str) -> Option<Dtc>
+    ensures { IfSome result (SpellsCode text.now) }
+{
+    let (spn, rest) = split_at_slash(text)?;
+    let spn = read_number(spn)?;
+    let (fmi, count) = read_mode(rest)?;
+    if count == 0 || count > MOST_OCCURRENCES {
+        return None;
+    }
+    Dtc::new(spn, fmi, count).ok()
+}
+
+/// The FMI that a text spells, and the count: `FMI` or `FMI/COUNT`.
+fn read_mode(text: &str) -> Option<(u8, u8)>
+    ensures { IfSome result (λ r. SpellsMode text.now r.0 r.1) }
+{
+    match split_at_slash(text) {
+        Some((fmi, count)) => Some((read_small_number(fmi)?, read_small_number(count)?)),
+        None => Some((read_small_number(text)?, 1)),
+    }
+}
+
+/// What stands before a slash of a text, and behind it.
+fn split_at_slash(text: &str) -> Option<(&str, &str)>
+    ensures { IfSome result (λ x. text.now ≡ x.0.now ++ 47 ∷ x.1.now) }
+{
+    text.split_once('/')
+}

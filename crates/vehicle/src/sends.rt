@@ -1,0 +1,142 @@
+//! Groups that a unit sends again and again.
+ghost use Rattle.std.specs.Prelude.{◌≡◌, ◌≤◌, ◌<◌, ◌↔◌, IfOk, IfSome, IsTrue, codes, length, true};
+ghost use Rattle.toml.specs.Data.{get};
+ghost use Rattle.toml.specs.View.{view, items_view};
+ghost use Rattle.vehicle.specs.Holding.{EachHolds, HasNumber};
+ghost use Rattle.vehicle.specs.Live.{HasBytes, HoldsPriorityAt, HoldsSend, HoldsSendsAt};
+ghost use Rattle.vehicle.specs.Sending.{SpellsBytes};
+ghost use Rattle.vehicle.specs.Sending as sending;
+
+use crate::misfit::{Place, Unread, Wrong};
+use crate::read::{has_only, read_number, read_text};
+use crate::send_line::{GREATEST_PGN, LOWEST_PRIORITY, SendLine};
+use can_frame::Pgn;
+use hex_text::read_hex;
+use std::alloc::{AllocError, Global};
+use toml::Value;
+
+/// The shortest and the longest period, in milliseconds.
+const LEAST_PERIOD: u32 = 10;
+
+const MOST_PERIOD: u32 = 60_000;
+
+/// The priority of a group that tells none (SAE J1939-21: that of all but control).
+const USUAL_PRIORITY: u32 = 6;
+
+/// The groups that a unit sends; none where it has no such key.
+pub(crate) fn read_sends(
+    alloc: Global,
+    unit: usize,
+    value: &Value,
+) -> Result<Vec<SendLine>, Unread<'_>>
+    ensures { IfOk result (λ sends. HoldsSendsAt (get (codes "sends") (view value.now)) sends.items) }
+{
+    let Some(found) = value.get("sends") else {
+        return Ok(Vec::new(alloc));
+    };
+    match found.as_array() {
+        Some(items) => sends_of(alloc, unit, items.as_slice()),
+        None => Err(Unread::at(Place::Unit(unit), "sends", Wrong::NoSuch("array of tables"))),
+    }
+}
+
+fn sends_of(alloc: Global, unit: usize, items: &[Value]) -> Result<Vec<SendLine>, Unread<'_>>
+    ensures { IfOk result (λ sends. EachHolds HoldsSend (items_view items.now) sends.items) }
+{
+    let mut sends = Vec::new(alloc);
+    for item in items {
+        let place = Place::Send {
+            unit,
+            number: sends.len(),
+        };
+        sends.push(read_send(alloc, place, item)?)?;
+    }
+    Ok(sends)
+}
+
+fn read_send(alloc: Global, place: Place, value: &Value) -> Result<SendLine, Unread<'_>>
+    ensures { IfOk result (HoldsSend (view value.now)) }
+{
+    has_only(place, value, &["pgn", "priority", "period", "bytes"])?;
+    let pgn = read_pgn(place, value)?;
+    let priority = read_priority(place, value)?;
+    let period = read_number(place, value, "period", LEAST_PERIOD, MOST_PERIOD)?;
+    let bytes = read_bytes(alloc, place, value)?;
+    Ok(SendLine {
+        pgn,
+        priority,
+        period,
+        bytes,
+    })
+}
+
+fn read_pgn(place: Place, value: &Value) -> Result<u32, Unread<'_>>
+    ensures number { IfOk result (λ n. HasNumber (view value.now) (codes "pgn") n 0 GREATEST_PGN) }
+    ensures free { IfOk result (λ n. sending.is_free_group n ≡ true) }
+{
+    let number = read_number(place, value, "pgn", 0, GREATEST_PGN)?;
+    if is_free_group(number) {
+        Ok(number)
+    } else {
+        Err(Unread::at(place, "pgn", Wrong::NotFree(number)))
+    }
+}
+
+/// Whether a unit may send the group as it likes: it goes to all, and is none of the protocol's or of diagnostics.
+fn is_free_group(number: u32) -> bool
+    ensures { result ≡ sending.is_free_group number }
+{
+    number / 256 % 256 >= 240 && !is_ruled_group(number)
+}
+
+/// Whether the group is one of diagnostics or of the protocol, of those that go to all.
+fn is_ruled_group(number: u32) -> bool
+    ensures { result ≡ sending.is_ruled_group number }
+{
+    number == Pgn::DM1.number()
+        || number == Pgn::DM2.number()
+        || number == Pgn::DM3.number()
+        || number == Pgn::DM6.number()
+        || number == Pgn::DM11.number()
+        || number == Pgn::COMMANDED_ADDRESS.number()
+}
+
+fn read_priority(place: Place, value: &Value) -> Result<u8, Unread<'_>>
+    ensures { IfOk result (HoldsPriorityAt (view value.now)) }
+{
+    match value.get("priority") {
+        Some(_) => Ok(read_number(place, value, "priority", 0, LOWEST_PRIORITY)? as u8),
+        None => Ok(USUAL_PRIORITY as u8),
+    }
+}
+
+fn read_bytes(alloc: Global, place: Place, value: &Value) -> Result<Vec<u8>, Unread<'_>>
+    ensures { IfOk result (λ bytes. HasBytes (view value.now) bytes.items) }
+{
+    let text = read_text(place, value, "bytes")?;
+    match bytes_of(alloc, text)? {
+        Some(bytes) => Ok(bytes),
+        None => {
+            let wrong = Wrong::NotOne {
+                found: text,
+                wanted: "1 to 8 bytes of two hexadecimal digits each",
+            };
+            Err(Unread::at(place, "bytes", wrong))
+        }
+    }
+}
+
+/// The bytes that a text spells, two digits each.
+fn bytes_of(alloc: Global, text: &str) -> Result<Option<Vec<u8>>, AllocError>
+    ensures { IfOk result (λ found. IfSome found (λ bytes. SpellsBytes text.now bytes.items)) }
+{
+    let digits = text.len();
+    if digits == 0 || digits > 16 || digits % 2 == 1 {
+        return Ok(None);
+    }
+    let Some(number) = read_hex(text, digits) else {
+        return Ok(None);
+    };
+    let all = number.to_be_bytes();
+    Ok(Some(Vec::from_slice(alloc, &all[8 - digits / 2..])?))
+}

@@ -1,0 +1,263 @@
+"""Units on a real bus, by the times of the lines that they hear: what each writes, and when.
+
+Written from docs/LIVE.md and docs/DECISIONS.md ("Times on a real bus" and those beside it). Times are microseconds. What a unit owes to a frame is
+`model.unit`'s; here stand the lanes in which it waits, and the times.
+"""
+
+from .frames import (ABORT, CLAIM, CONTROL, CTS, DM1, GLOBAL, PACKET, RTS, TITLES, broadcast, claimed_name, control_of, control_pgn,
+                     requested, three, to_all, to_one)
+from .memory import Code
+from .unit import ALL, Unit
+
+LANES = ("claims", "singles", "session", "messages")
+ROOM = 64
+ANSWER_WITHIN, HELD_FOR, DM1_PERIOD = 1_250_000, 1_050_000, 1_000_000
+
+
+def parting(session, source):
+    """An abort for want of an answer, reason 3 (J1939-21, 5.10.3)."""
+    return to_one(7, CONTROL, session.dest, source, bytes([ABORT, 3, 255, 255, 255]) + three(session.kind))
+
+
+class Wire(list):
+    """The frames of the bus; those of them that tell something to one who looks back; and the NAME in the last claim of each address."""
+
+    def __init__(self):
+        super().__init__()
+        self.telling, self.names = [], {}
+
+    def take(self, frame):
+        self.append((None, frame))
+        if frame.pgn in (CLAIM, CONTROL, PACKET):
+            self.telling.append((len(self) - 1, frame))
+        if claimed_name(frame) is not None:
+            self.names[frame.source] = claimed_name(frame)
+
+
+class Cyclic:
+    """A group that goes again and again."""
+
+    def __init__(self, pgn, priority, data, period):
+        self.pgn, self.priority, self.data, self.period, self.at = pgn, priority, data, 1000 * period, 0
+
+
+class LiveUnit(Unit):
+    """A unit with its lanes and its times. All frames of the bus are heard, its own too."""
+
+    def __init__(self, name, address, kind, wire, gap, settle, always, cyclic=()):
+        self.lanes = {lane: [] for lane in LANES}
+        self.counted = self.written = self.heard = self.unheard = self.sent = 0
+        self.gap, self.settle, self.always = gap, settle, always
+        self.claim_at = self.settled_at = self.packet_at = self.alone_at = self.dm1_at = 0
+        self.told = False
+        self.cyclic = list(cyclic)
+        super().__init__(name, address, kind, wire, seat=-1)
+
+    # What `model.unit` calls.
+
+    def heard_before(self, place):
+        """As there, but for frames that tell nothing to one who looks back: neither claims nor anything of messages of several packets."""
+        for at, frame in reversed(self.wire.telling):
+            if at < place:
+                yield at, frame
+
+    def noted(self, address, place):
+        """As there."""
+        return self.wire.names.get(address) if place >= len(self.wire) else super().noted(address, place)
+
+    def put(self, *frames, session=False):
+        if not frames:
+            return
+        first = frames[0]
+        if session:
+            lane = "session"
+        elif first.pgn == CLAIM:
+            lane = "claims"
+        elif first.pgn in TITLES or first.pgn in (CONTROL, PACKET) and first.dest == GLOBAL:
+            lane = "messages"
+        else:
+            lane = "singles"
+        self.lanes[lane].append([(frame, place) for place, frame in enumerate(frames)])
+        self.counted += len(frames)
+
+    def withdraw(self, which):
+        for lane in LANES if which == ALL else ("session",):
+            self.withdrawn += sum(len(piece) for piece in self.lanes[lane])
+            self.lanes[lane] = []
+
+    @property
+    def queue(self):
+        return [(frame, lane == "session") for lane in LANES for piece in self.lanes[lane] for frame, _ in piece]
+
+    @queue.setter
+    def queue(self, _):
+        pass
+
+    def waiting(self):
+        return sum(len(piece) for lane in LANES for piece in self.lanes[lane])
+
+    def has_room(self):
+        return all(len(self.lanes[lane]) < ROOM for lane in LANES)
+
+    # Hearing.
+
+    def listen(self, place, now):
+        frame = self.wire[place][1]
+        may_put = requested(frame) is not None or frame.pgn == CONTROL and control_of(frame) in (RTS, CTS)
+        if may_put and not self.has_room():
+            self.unheard += 1
+            return
+        self.heard += 1
+        session, before = self.session, self.held
+        held_open = (
+            session is not None and frame.pgn == CONTROL and control_of(frame) == CTS and frame.data[1] == 0
+            and frame.dest == before and before is not None and frame.source == session.dest and control_pgn(frame) == session.kind
+        )
+        self.hear(place)
+        if held_open:
+            self.alone_at = now + HELD_FOR
+        if before is not None and self.held is None:
+            self.claim_at = now + 1000 * (self.name % (1 << 21) % 154)
+
+    # What it does of its own accord.
+
+    def has_to_tell(self):
+        return bool(self.memory.active) or self.memory.lamps[0] != 0
+
+    def act(self, now):
+        for _ in range(8):
+            if not self.has_room():
+                return
+            if self.session and not self.lanes["session"] and self.alone_at <= now:
+                session = self.session
+                self.end_session()
+                self.put(parting(session, self.held))
+            elif self.is_dm1_due(now):
+                payload = self.memory.payload(DM1)
+                if len(payload) == 8:
+                    self.put(to_all(6, DM1, self.held, payload))
+                else:
+                    self.put(*broadcast(payload, DM1, self.held))
+                self.dm1_at, self.told = now + DM1_PERIOD, self.has_to_tell()
+            else:
+                return
+
+    def is_dm1_due(self, now):
+        return (
+            self.obeys() and self.dm1_at <= now and (self.always or self.told or self.has_to_tell()) and self.held is not None
+            and self.settled_at <= now and not self.lanes["claims"] and not self.lanes["messages"]
+            and not (self.session and self.session.kind == DM1)
+        )
+
+    # Writing.
+
+    def due(self, now):
+        """The frame that goes at this time."""
+        if self.lanes["claims"]:
+            if self.claim_at > now:
+                return None
+            self.settled_at = now + self.settle
+            return self.take("claims")
+        if self.settled_at <= now:
+            if self.lanes["singles"]:
+                return self.take("singles")
+            if self.lanes["session"]:
+                self.alone_at = now + ANSWER_WITHIN
+                return self.take("session")
+            if self.lanes["messages"] and (self.lanes["messages"][0][0][1] == 0 or self.packet_at <= now):
+                self.packet_at = now + self.gap
+                return self.take("messages")
+            if self.held is not None:
+                return self.cyclic_due(now)
+        return None
+
+    def take(self, lane):
+        piece = self.lanes[lane][0]
+        frame = piece.pop(0)[0]
+        if not piece:
+            self.lanes[lane].pop(0)
+        self.written += 1
+        return frame
+
+    def cyclic_due(self, now):
+        for it in self.cyclic:
+            if it.at <= now:
+                it.at = it.at + it.period if it.at + it.period > now else now + it.period
+                self.sent += 1
+                return to_all(it.priority, it.pgn, self.held, it.data)
+        return None
+
+    def times(self):
+        """The times at which something may change by itself."""
+        return [self.claim_at, self.settled_at, self.packet_at, self.alone_at, self.dm1_at] + [it.at for it in self.cyclic]
+
+
+class Playback:
+    """Units, and the lines that they hear at the times of these. `out` has what was written: pairs of a time and a frame."""
+
+    def __init__(self):
+        self.units, self.turn, self.wire, self.out, self.clock = [], 0, Wire(), [], None
+
+    def hear(self, frame, now):
+        self.wire.take(frame)
+        for unit in self.units:
+            unit.listen(len(self.wire) - 1, now)
+
+    def step(self, now):
+        count = len(self.units)
+        for offset in range(count):
+            place = (self.turn + offset) % count
+            unit = self.units[place]
+            unit.act(now)
+            frame = unit.due(now)
+            if frame:
+                self.turn = (place + 1) % count
+                return frame
+        return None
+
+    def write_until(self, until):
+        now = until if self.clock is None else self.clock
+        while True:
+            frame = self.step(now)
+            while frame:
+                self.out.append((now, frame))
+                self.hear(frame, now)
+                frame = self.step(now)
+            later = [time for unit in self.units for time in unit.times() if now < time <= until]
+            if not later:
+                break
+            now = min(later)
+        self.clock = until
+
+    def take(self, frame, time):
+        before = 0 if self.clock is None else self.clock
+        now = before if time is None else max(time, before)
+        self.write_until(now)
+        self.hear(frame, now)
+
+    def finish(self):
+        if self.clock is not None:
+            self.write_until(self.clock)
+
+    def summary(self):
+        lines = []
+        for place, unit in enumerate(self.units):
+            at = "without address" if unit.held is None else f"at {unit.held}"
+            unheard = f" unheard {unit.unheard}" if unit.unheard else ""
+            cyclic = f" cyclic {unit.sent}" if unit.cyclic else ""
+            lines.append(f"unit {place} {unit.name:016X} {at} heard {unit.heard}{unheard} written {unit.written} withdrawn {unit.withdrawn}"
+                         f" waiting {unit.waiting()}{cyclic}\n")
+        return "".join(lines)
+
+
+def remember(unit, lamps, active, previous, pending):
+    """The fault memory with which a unit begins: lists of (spn, fmi, count)."""
+    unit.memory.lamps = lamps
+    unit.memory.active = [Code(*it) for it in active]
+    unit.memory.previous = [Code(*it) for it in previous]
+    unit.memory.pending = [Code(*it) for it in pending]
+
+
+def line(time, frame):
+    """As candump writes it."""
+    return f"({time // 1_000_000}.{time % 1_000_000:06d}) can0 {frame.number:08X}#{frame.data.hex().upper()}\n"

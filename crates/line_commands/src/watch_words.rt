@@ -1,6 +1,6 @@
 //! What the words behind `watch` mean.
 
-ghost use Rattle.std.specs.Prelude.{◌≡◌, ◌≤◌, ℕ, IfOk, IfSome, Some, None, Ok, true, false};
+ghost use Rattle.std.specs.Prelude.{◌≡◌, ◌≤◌, ◌↔◌, ℕ, IfOk, IfSome, IsSomeAnd, Some, None, Ok, true, false, codes};
 ghost use Rattle.can_frame.specs.declared.address.TheConstants.{GREATEST_ADDRESS};
 
 use crate::shop::ShopTexts;
@@ -82,7 +82,10 @@ fn limits_of(words: &WatchWords<'_>) -> Result<Limits, Fault> {
 }
 
 /// Of how many NAMEs is known at once: more than can hold an address.
-pub(crate) fn most_of(word: Option<&str>) -> Result<u64, Fault> {
+pub(crate) fn most_of(word: Option<&str>) -> Result<u64, Fault>
+    ensures default { word.entry ≡ None → result ≡ Ok 65536 }
+    ensures range { IfOk result (λ most. (256 ≤ most) × (most ≤ 1000000)) }
+{
     match word {
         Some(word) => number_of(word, 256, 1_000_000),
         None => Ok(MOST),
@@ -90,7 +93,10 @@ pub(crate) fn most_of(word: Option<&str>) -> Result<u64, Fault> {
 }
 
 /// How many runs are kept at once.
-pub(crate) fn keep_of(word: Option<&str>) -> Result<u64, Fault> {
+pub(crate) fn keep_of(word: Option<&str>) -> Result<u64, Fault>
+    ensures default { word.entry ≡ None → result ≡ Ok 1000000 }
+    ensures range { IfOk result (λ keep. (1 ≤ keep) × (keep ≤ 100000000)) }
+{
     match word {
         Some(word) => number_of(word, 1, 100_000_000),
         None => Ok(KEEP),
@@ -98,7 +104,9 @@ pub(crate) fn keep_of(word: Option<&str>) -> Result<u64, Fault> {
 }
 
 /// A number from the first to the last.
-fn number_of(word: &str, first: u64, last: u64) -> Result<u64, Fault> {
+fn number_of(word: &str, first: u64, last: u64) -> Result<u64, Fault>
+    ensures { IfOk result (λ number. (first ≤ number) × (number ≤ last)) }
+{
     match word.parse::<u64>() {
         Ok(number) if number >= first && number <= last => Ok(number),
         Ok(_) | Err(_) => Err(Fault::CommandLine),
@@ -151,7 +159,8 @@ const EACH_BUS: &str = "all";
 
 /// Which buses are watched: the first that a line names where that is not said.
 pub(crate) fn bus_of(word: Option<&str>) -> Result<BusShown<'_>, Fault>
-    ensures default { word.entry ≡ None → result ≡ Ok BusShown.First }
+    ensures default { (result ≡ Ok BusShown.First) ↔ (word.entry ≡ None) }
+    ensures each { (result ≡ Ok BusShown.Each) ↔ IsSomeAnd word.entry (λ w. w.now ≡ codes "all") }
 {
     match word {
         None => Ok(BusShown::First),
@@ -202,6 +211,7 @@ fn whole_seconds(word: &str) -> Option<Time> {
 /// Whether bad lines are passed over.
 pub(crate) fn skips_bad(word: Option<&str>) -> Result<bool, Fault>
     ensures default { word.entry ≡ None → result ≡ Ok false }
+    ensures skip { (result ≡ Ok true) ↔ IsSomeAnd word.entry (λ w. w.now ≡ codes "skip") }
 {
     match word {
         None | Some("missed") => Ok(false),
@@ -213,6 +223,7 @@ pub(crate) fn skips_bad(word: Option<&str>) -> Result<bool, Fault>
 /// Whether messages of addresses that nobody has claimed are shown.
 pub(crate) fn shows_unclaimed(word: Option<&str>) -> Result<bool, Fault>
     ensures default { word.entry ≡ None → result ≡ Ok true }
+    ensures hide { (result ≡ Ok false) ↔ IsSomeAnd word.entry (λ w. w.now ≡ codes "hide") }
 {
     match word {
         None | Some("show") => Ok(true),
@@ -239,6 +250,8 @@ pub(crate) fn silence_of(word: Option<&str>) -> Result<Option<u64>, Fault>
 /// How changes and report are written: for people where that is not said.
 pub(crate) fn form_of(word: Option<&str>) -> Result<Form, Fault>
     ensures default { word.entry ≡ None → result ≡ Ok Form.Text }
+    ensures json { (result ≡ Ok Form.Json) ↔ IsSomeAnd word.entry (λ w. w.now ≡ codes "json") }
+    ensures csv { (result ≡ Ok Form.Csv) ↔ IsSomeAnd word.entry (λ w. w.now ≡ codes "csv") }
 {
     match word {
         None | Some("text") => Ok(Form::Text),

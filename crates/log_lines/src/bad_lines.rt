@@ -1,5 +1,5 @@
 //! Bad lines: the first of each kind are told each, the rest are counted.
-ghost use Rattle.std.specs.Prelude.{◌≡◌, ◌+◌, ◌-◌, ◌<◌, ◌^◌, min, nat_lt, replicate, slice_index, slice_set};
+ghost use Rattle.std.specs.Prelude.{◌≡◌, ◌+◌, ◌-◌, ◌<◌, ◌^◌, min, nat_lt, replicate, slice_index, slice_set, sum, sum_by};
 
 use candump_line::{REASON_KINDS, Reason};
 use std::io;
@@ -47,19 +47,23 @@ impl BadLines {
     }
 
     /// How many lines were bad.
-    pub(crate) fn total(&self) -> u64 {
+    pub(crate) fn total(&self) -> u64
+        ensures { result ≡ min (sum self.now.counts) (2 ^ 64 - 1) }
+    {
         let mut total = 0u64;
-        for count in self.counts {
-            total = total.saturating_add(count);
+        for count in &self.counts {
+            total = total.saturating_add(*count);
         }
         total
     }
 
     /// How many bad lines were not told.
-    fn untold(&self) -> u64 {
+    fn untold(&self) -> u64
+        ensures { result ≡ min (sum_by (λ count. count - 10) self.now.counts) (2 ^ 64 - 1) }
+    {
         let mut total = 0u64;
-        for count in self.counts {
-            total = total.saturating_add(untold_of(count));
+        for count in &self.counts {
+            total = total.saturating_add(untold_of(*count));
         }
         total
     }

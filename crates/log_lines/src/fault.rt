@@ -1,5 +1,9 @@
+ghost use Rattle.std.specs.Prelude.{◌≡◌, ◌≢◌};
+ghost use Rattle.std.specs.IoError.{error_kind};
+
 use std::alloc::{AllocError, AllocFailed};
 use std::io;
+use std::io::ErrorKind;
 
 /// Why a run ends early.
 #[derive(Clone, Copy, Debug, PartialEq, Eq)]
@@ -26,17 +30,23 @@ impl<T: Drop> From<AllocFailed<T>> for LogFault {
 
 impl LogFault {
     /// What a failed read is.
-    pub fn of_read(error: io::Error) -> LogFault {
+    pub fn of_read(error: io::Error) -> LogFault
+        ensures memory { error_kind error ≡ ErrorKind.OutOfMemory → result ≡ LogFault.Memory }
+        ensures other { error_kind error ≢ ErrorKind.OutOfMemory → result ≡ LogFault.Read }
+    {
         match error.kind() {
-            io::ErrorKind::OutOfMemory => LogFault::Memory,
+            ErrorKind::OutOfMemory => LogFault::Memory,
             _ => LogFault::Read,
         }
     }
 
     /// What a failed write is.
-    pub fn of_write(error: io::Error) -> LogFault {
+    pub fn of_write(error: io::Error) -> LogFault
+        ensures memory { error_kind error ≡ ErrorKind.OutOfMemory → result ≡ LogFault.Memory }
+        ensures other { error_kind error ≢ ErrorKind.OutOfMemory → result ≡ LogFault.Write }
+    {
         match error.kind() {
-            io::ErrorKind::OutOfMemory => LogFault::Memory,
+            ErrorKind::OutOfMemory => LogFault::Memory,
             _ => LogFault::Write,
         }
     }

@@ -1,14 +1,13 @@
 -- A unit in a box that hears: what is said of it, with its count of events, at the vtable that it was handed over with.
-use Rattle.std.proofs.Common.{◌≡◌, ℕ, zero, suc, ◌+◌, Bool, Option, Result, Ok, IfOk, refl, sym, ap, ◌∙◌, subst}
+use Rattle.std.proofs.Common.{◌≡◌, ℕ, ◌+◌, Bool, Result, Ok, IfOk, refl, sym, ap, ◌∙◌, subst}
 use Rattle.std.specs.declared.alloc.Global.{Global}
 use Rattle.std.specs.declared.dyn_box.DynBox.{DynBox}
-use Rattle.can_frame.specs.FrameValue.{FrameValue}
 use Rattle.fault_memory.specs.Memory.{MemoryValue}
 use Rattle.unit_trait.specs.declared.question.Question.{Question}
 use Rattle.journal.specs.Journal.{Adds, GarageValue, with_event}
 use Rattle.journal.specs.declared.event.Event.TheVariants.{Turned}
 use Rattle.garage.specs.Answers.{Hears, counted_hearing}
-use Rattle.garage.specs.Hearing.{HasHeardAll, HearsFrame, HearsMany}
+use Rattle.garage.specs.Hearing.{HasHeardAll, HearsMany}
 use Rattle.garage.specs.declared.hearing.HeardOne.{HeardOne}
 use Rattle.garage.specs.declared.hearing.HeardOne.TheVariants as heard
 use Rattle.garage.proofs.HearLemmas.{many_more, many_none, many_same}

@@ -1,7 +1,9 @@
 -- An end compared with the journal.
-use Rattle.std.proofs.Common.{◌≡◌, ◌⊎◌, ℕ, ◌+◌, ◌<◌, ◌≤◌, List, ◌++◌, Option, Some, None, take, drop, length, arith, refl, sym, subst, ◌∙◌}
+use Rattle.std.proofs.Common.{◌≡◌, ◌⊎◌, ℕ, ◌≢◌, inl, inr, ◌+◌, ◌<◌, ◌≤◌, List, ◌++◌, Option, Some, None, take, drop, length, arith, refl, sym, subst, ◌∙◌}
 use Rattle.std.proofs.Math.Seq.{take-length}
-use Rattle.std.proofs.lemmas.List.{take-append-le}
+use Rattle.std.proofs.lemmas.Bool.{cases_eq}
+use Rattle.std.proofs.lemmas.List.{take-append-le, get_or-set_same, get_or-set_other}
+use Rattle.std.specs.Prelude.{slice_set}
 use Rattle.std.specs.List.{All}
 use Rattle.journal.specs.Journal.{GarageValue, joins, tally_of}
 use Rattle.journal.specs.declared.tally.Tally.{Tally}
@@ -10,7 +12,7 @@ use Rattle.garage.specs.declared.error.GarageError.TheVariants.{Stranger}
 use Rattle.unit_threads.specs.declared.ended.Ended.{Ended}
 use Rattle.unit_threads.specs.declared.ended.EndReason.{EndReason}
 use Rattle.unit_threads.specs.declared.ended.EndReason.TheVariants as reason
-use Rattle.unit_threads.specs.Ends.{Agrees, AgreesAt, HaveOwnSeats, IsUnseated}
+use Rattle.unit_threads.specs.Ends.{Agrees, AgreesAt, HaveOwnSeats, HaveOwnSeatsTo, IsCounted, IsSeatless, IsUnseated, end_at, nothing}
 
 -- with a seat
 pub agrees_seated : (turns : ℕ) (g : GarageValue) (k : ℕ) (t : Tally) (refusal : Option EndReason)
@@ -37,3 +39,24 @@ all_agree turns g xs ys n e h = let P : List Ended → Type 0 = λ l. All (Agree
 
 pub all_apart : (xs ys : List Ended) (n : ℕ) → n ≡ length xs → HaveOwnSeats xs → HaveOwnSeats (take n (xs ++ drop (length xs) ys))
 all_apart xs ys n e h = let P : List Ended → Type 0 = λ l. HaveOwnSeats l in subst P (sym (same_slice xs ys n e)) h
+
+-- a property of each end before the index and of the new one is one of each end up to there
+more : (P : ℕ → Ended → Type 0) (es : List Ended) (i : ℕ) (e : Ended) → i < length es → ((k : ℕ) → k < i → P k (end_at es k)) → P i e → (k : ℕ) → k < i + 1 → P k (end_at (slice_set es i e) k)
+more P es i e lt before new k b = go (cases_eq k i)
+  where
+    go : (k ≡ i) ⊎ (k ≢ i) → P k (end_at (slice_set es i e) k)
+    go (inl same) = subst (λ (q : ℕ). P q (end_at (slice_set es i e) q)) (sym same) (subst (λ (x : Ended). P i x) (sym (get_or-set_same es i e nothing lt)) new)
+    go (inr apart) = subst (λ (x : Ended). P k x) (sym (get_or-set_other es i k e nothing apart)) (before k (omega arith))
+
+pub seatless_more : (xs es : List Ended) (i : ℕ) (e : Ended) → i < length es → ((k : ℕ) → k < i → IsSeatless (end_at xs k) → IsSeatless (end_at es k)) → (IsSeatless (end_at xs i) → IsSeatless e)
+    → (k : ℕ) → k < i + 1 → IsSeatless (end_at xs k) → IsSeatless (end_at (slice_set es i e) k)
+seatless_more xs es i e lt before new k b = more (λ q x. IsSeatless (end_at xs q) → IsSeatless x) es i e lt before new k b
+
+-- that each end is apart from those before it, too
+pub apart_more : (es : List Ended) (i : ℕ) (e : Ended) → i < length es → HaveOwnSeatsTo i es → (IsCounted e → (j : ℕ) → j < i → (end_at es j).seat ≢ e.seat) → HaveOwnSeatsTo (i + 1) (slice_set es i e)
+apart_more es i e lt before new k j b c =
+    subst (λ (x : Ended). IsCounted (end_at (slice_set es i e) k) → x.seat ≢ (end_at (slice_set es i e) k).seat) (sym (get_or-set_other es i j e nothing (λ s. apart_of s)))
+    (more (λ q x. j < q → IsCounted x → (end_at es j).seat ≢ x.seat) es i e lt (λ q l d. before q j l d) (λ d n. new n j d) k b c)
+  where
+    apart_of : j ≡ i → ⊥
+    apart_of s = omega arith

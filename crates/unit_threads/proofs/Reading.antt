@@ -1,5 +1,5 @@
 -- The stations read in turn, event by event.
-use Rattle.std.proofs.Common.{◌≡◌, ◌≢◌, Result, Ok, Err, IfErr, inl, inr, ℕ, suc, zero, ◌+◌, ◌<◌, Bool, true, false, List, [], ◌∷◌, map, length, arith, refl, sym, ap, subst, ◌∙◌}
+use Rattle.std.proofs.Common.{◌≡◌, Result, Ok, Err, IfErr, inl, inr, ℕ, suc, ◌+◌, ◌<◌, length, arith, refl, sym, ap, subst, ◌∙◌}
 use Rattle.can_frame.specs.declared.reading.Reading.{Reading}
 use Rattle.can_frame.specs.declared.reading.Reading.TheVariants as reading
 use Rattle.bus_ledger.proofs.Numbers.{same_or_not}

@@ -6,7 +6,7 @@ use Rattle.garage.specs.Calls.{IsWant}
 use Rattle.garage.specs.Opening.{no_events}
 use Rattle.garage.specs.Refusals.{IsJoinRefusal, garage_error_number}
 use Rattle.garage.specs.declared.error.GarageError.{GarageError}
-use Rattle.garage.specs.declared.error.GarageError.TheVariants.{NotAnAddress, Stranger}
+use Rattle.garage.specs.declared.error.GarageError.TheVariants.{NotAnAddress, Stranger, TooManySeats}
 use Rattle.unit_threads.specs.declared.ended.Ended.{Ended}
 use Rattle.unit_threads.specs.declared.ended.EndReason.{EndReason}
 use Rattle.unit_threads.specs.declared.ended.EndReason.TheVariants as reason
@@ -50,6 +50,10 @@ abbrev pub AgreesWith : ℕ → GarageValue → Option ℕ → ℕ → Option En
 AgreesWith turns g (Some k) events refusal = (t : Tally) × IsToldOf k g t × AgreesAt turns t events refusal
 AgreesWith turns g None events refusal = (events ≡ 0) × IsUnseated refusal
 
+-- the end of a unit for which no seat was left
+abbrev pub IsSeatless : Ended → Type 0
+IsSeatless e = (e.seat ≡ None) × (e.refusal ≡ Some (reason.Garage TooManySeats))
+
 -- what is told of an end is what the journal of the garage says
 pub record Agrees (turns : ℕ) (g : GarageValue) (e : Ended) : Type 0 where
   pub agrees : AgreesWith turns g e.seat e.events e.refusal
@@ -63,6 +67,14 @@ nothing = record { seat = None; events = 0; refusal = None }
 
 abbrev pub end_at : List Ended → ℕ → Ended
 end_at es i = slice_index_or es i nothing
+
+-- from this place on, each end is one for which no seat was left
+abbrev pub AreSeatlessFrom : ℕ → List Ended → Type 0
+AreSeatlessFrom n es = (i : ℕ) → n ≤ i → i < length es → IsSeatless (end_at es i)
+
+-- those that were so still are
+abbrev pub StaySeatless : List Ended → List Ended → Type 0
+StaySeatless before after = (i : ℕ) → i < length before → IsSeatless (end_at before i) → IsSeatless (end_at after i)
 
 -- an end with a seat that the comparison did not refuse
 abbrev pub IsCounted : Ended → Type 0

@@ -1,6 +1,5 @@
 -- What a turn and a reading add to the journal of a garage.
-use Rattle.std.specs.Prelude.{ℕ, suc, zero, ◌≡◌, ◌≢◌, ◌⊎◌, ◌<◌, ◌≤◌, ◌&&◌, Bool, not, List, ◌++◌, Option, None, All, is_some, length, if◌then◌else◌}
-use Rattle.can_frame.specs.declared.reading.Reading.TheVariants.{Empty}
+use Rattle.std.specs.Prelude.{ℕ, suc, zero, ◌≡◌, ◌≢◌, ◌⊎◌, ◌<◌, ◌≤◌, ◌&&◌, Bool, not, List, ◌++◌, Option, All, is_some, length, if◌then◌else◌}
 use Rattle.std.specs.declared.alloc.Global.{Global}
 use Rattle.std.specs.declared.dyn_box.DynBox.{DynBox}
 use Rattle.fault_memory.specs.Memory.{MemoryValue}
@@ -9,14 +8,13 @@ use Rattle.node_core.specs.Asking.{IsAsked}
 use Rattle.node_core.specs.declared.heard.Answer.{Answer as UnitAnswer}
 use Rattle.bus_ledger.specs.Carrying.{IsIdle, IsWaiting}
 use Rattle.bus_ledger.specs.Reception.{next_reading}
-use Rattle.journal.specs.Steps.{next_for}
 use Rattle.journal.specs.Journal.{GarageValue, IsSeated, state_of, with_event}
 use Rattle.journal.specs.declared.event.Event.{Event}
-use Rattle.journal.specs.declared.event.Event.TheVariants.{Hear, Begin, Turned, Carry, Read, Leave}
+use Rattle.journal.specs.declared.event.Event.TheVariants.{Hear, Begin, Turned, Carry, Leave}
 use Rattle.garage.specs.Causes.{held_at, has_open_dm1}
 use Rattle.garage.specs.Crew.{Sitting}
 use Rattle.garage.specs.Hearing.{HasHeardAll, HearsMany}
-use Rattle.garage.specs.Rounds.{HasReadAll, HaveReadAll, IsReadOf}
+use Rattle.garage.specs.Rounds.{HaveReadAll, IsReadOf}
 
 -- these events more, the newest first
 abbrev pub with_events : List Event → GarageValue → GarageValue

@@ -1,7 +1,8 @@
-ghost use Rattle.std.specs.Prelude.{◌≡◌, ◌≢◌, false, true, Some, length, vec_len};
+ghost use Rattle.std.specs.Prelude.{◌≡◌, ◌≢◌, ◌≤◌, ◌↔◌, false, true, Some, None, length, vec_len};
+ghost use Rattle.garage.specs.declared.error.GarageError.{GarageError as AnyError};
 ghost use Rattle.std.specs.List.{All};
 ghost use Rattle.garage.specs.Calls.{IsWant};
-ghost use Rattle.unit_threads.specs.Ends.{Agrees, AgreesAt, HaveOwnSeats, IsMountRefusal, IsStrangerAt, IsUnseated};
+ghost use Rattle.unit_threads.specs.Ends.{Agrees, AgreesAt, HaveOwnSeats, IsCounted, IsCutShort, IsMountRefusal, IsSeatless, IsStrangerAt, IsUnseated, IsWhole, StaySeatless};
 
 use crate::ended::{EndReason, Ended};
 use garage::{Garage, GarageError};
@@ -14,6 +15,7 @@ pub(crate) fn compared_ends(garage: &Garage, turns: u32, mut ended: Vec<Ended>) 
     ensures len { vec_len result ≡ vec_len ended }
     ensures agree { All (Agrees turns garage.now) result.items }
     ensures apart { HaveOwnSeats result.items }
+    ensures seatless { StaySeatless ended.items result.items }
 {
     check_all(garage, turns, ended.as_mut_slice());
     ended
@@ -24,22 +26,32 @@ fn check_all(garage: &Garage, turns: u32, ended: &mut [Ended])
     ensures len { length ended.new ≡ length ended.old }
     ensures agree { All (Agrees turns garage.now) ended.new }
     ensures apart { HaveOwnSeats ended.new }
+    ensures seatless { StaySeatless ended.old ended.new }
 {
     for i in 0..ended.len() {
-        let mut end = checked(garage, turns, ended[i]);
-        if let Some(seat) = end.seat {
-            if is_named(&ended[..i], seat) {
-                end = stranger(garage, turns, seat);
-            }
-        }
-        ended[i] = end;
+        let end = ended[i];
+        ended[i] = checked_behind(garage, turns, &ended[..i], end);
+    }
+}
+
+/// What is told of an end behind these: that of a seat which one of them names is a stranger's.
+fn checked_behind(garage: &Garage, turns: u32, before: &[Ended], end: Ended) -> Ended
+    ensures agrees { Agrees turns garage.now result }
+    ensures seatless { IsSeatless end → IsSeatless result }
+    ensures apart { IsCounted result → All (λ e. e.seat ≢ result.seat) before.now }
+{
+    let end = checked(garage, turns, end);
+    match end.seat {
+        Some(seat) if is_named(before, seat) => stranger(garage, turns, seat),
+        _ => end,
     }
 }
 
 /// What is told of an end, once its seat is compared with the journal.
 #[tactic(auto, using(crate::proofs::Comparing::agrees_seated, crate::proofs::Comparing::agrees_unseated))]
 fn checked(garage: &Garage, turns: u32, end: Ended) -> Ended
-    ensures { Agrees turns garage.now result }
+    ensures agrees { Agrees turns garage.now result }
+    ensures seatless { IsSeatless end → IsSeatless result }
 {
     let Some(seat) = end.seat else {
         return Ended {
@@ -71,7 +83,8 @@ fn stranger(garage: &Garage, turns: u32, seat: u32) -> Ended
 
 /// Why a unit never joined.
 fn unseated(refusal: Option<EndReason>) -> EndReason
-    ensures { IsUnseated (Some result) }
+    ensures unseated { IsUnseated (Some result) }
+    ensures told { (e : AnyError) → refusal ≡ Some (EndReason.Garage e) → IsMountRefusal e → result ≡ EndReason.Garage e }
 {
     match refusal {
         Some(EndReason::Garage(error)) if is_mount_refusal(error) => EndReason::Garage(error),
@@ -81,7 +94,7 @@ fn unseated(refusal: Option<EndReason>) -> EndReason
 
 /// Whether a mount can be refused with this.
 fn is_mount_refusal(error: GarageError) -> bool
-    ensures { result ≡ true → IsMountRefusal error }
+    ensures { (result ≡ true) ↔ IsMountRefusal error }
 {
     matches!(
         error,
@@ -95,7 +108,9 @@ fn is_mount_refusal(error: GarageError) -> bool
 
 /// The refusal of an end with a seat, where that agrees with the seat's counts; else it is a stranger's.
 fn compared(turns: u32, tally: Tally, end: Ended) -> Option<EndReason>
-    ensures { AgreesAt turns tally tally.events result }
+    ensures agrees { AgreesAt turns tally tally.events result }
+    ensures whole { end.refusal ≡ None → IsWhole turns tally end.events → result ≡ None }
+    ensures cut { (e : AnyError) → end.refusal ≡ Some (EndReason.Garage e) → IsWant e → IsCutShort turns tally tally.events → result ≡ end.refusal }
 {
     let left = tally.joined == 1 && tally.left == 1;
     match end.refusal {
@@ -109,7 +124,7 @@ fn compared(turns: u32, tally: Tally, end: Ended) -> Option<EndReason>
 
 /// Whether a step of a seated unit can be refused with this.
 fn is_want(error: GarageError) -> bool
-    ensures { result ≡ true → IsWant error }
+    ensures { (result ≡ true) ↔ IsWant error }
 {
     matches!(error, GarageError::BookFull | GarageError::OutOfMemory)
 }

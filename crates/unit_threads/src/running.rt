@@ -1,7 +1,7 @@
-ghost use Rattle.std.specs.Prelude.{◌≡◌, ◌+◌, ◌≤◌, min, IfErr, IfOk, IfSome, vec_capacity, vec_len};
+ghost use Rattle.std.specs.Prelude.{◌≡◌, ◌+◌, ◌≤◌, min, Some, None, IfErr, IfOk, IfSome, vec_capacity, vec_len};
 ghost use Rattle.std.specs.List.{All};
 ghost use Rattle.garage.specs.Calls.{IsWant};
-ghost use Rattle.unit_threads.specs.Ends.{Agrees, HaveOwnSeats};
+ghost use Rattle.unit_threads.specs.Ends.{Agrees, AreSeatlessFrom, HaveOwnSeats, IsSeatless};
 
 use crate::compare::compared_ends;
 use crate::ended::{EndReason, Ended};
@@ -58,6 +58,7 @@ pub fn run<R: Threads + Wait + Sync, G: Gate>(
     ensures all { IfOk result.1 (λ r. vec_len r.ended ≡ vec_len units) }
     ensures agree { IfOk result.1 (λ r. All (Agrees turns result.0) r.ended.items) }
     ensures apart { IfOk result.1 (λ r. HaveOwnSeats r.ended.items) }
+    ensures seatless { IfOk result.1 (λ r. AreSeatlessFrom MOST_UNITS r.ended.items) }
     ensures station { IfOk result.1 (λ r. IfSome r.station IsWant) }
 {
     let ended: Vec<Ended> = match Vec::with_capacity(alloc, units.len()) {
@@ -77,7 +78,7 @@ pub fn run<R: Threads + Wait + Sync, G: Gate>(
             requires none { (vec_len ended ≡ 0) × (vec_len threads ≡ 0) }
             requires room { vec_len units ≤ vec_capacity ended }
             requires seats { min (vec_len units) MOST_UNITS ≤ vec_capacity threads }
-            ensures { (vec_len result.0 ≡ vec_len units) × IfSome result.1 IsWant }
+            ensures { (vec_len result.0 ≡ vec_len units) × IfSome result.1 IsWant × AreSeatlessFrom MOST_UNITS result.0.items }
         {
             run_all(
                 scope, rt, alloc, lock, gate, units, turns, reads, threads, ended,
@@ -108,6 +109,7 @@ fn run_all<'s, 'e, R: Threads + Wait + Sync, G: Gate>(
     requires seats { min (vec_len units) MOST_UNITS ≤ vec_capacity threads }
     ensures len { vec_len result.0 ≡ vec_len units }
     ensures station { IfSome result.1 IsWant }
+    ensures seatless { AreSeatlessFrom MOST_UNITS result.0.items }
 {
     let seatless = units.len().saturating_sub(MOST_UNITS);
     units.truncate(MOST_UNITS);
@@ -159,10 +161,11 @@ fn join_each<R: Threads>(rt: &R, mut threads: Vec<Started>, mut ended: Vec<Ended
 /// The ends of so many units more, for which no seat was left.
 fn with_seatless(seatless: usize, mut ended: Vec<Ended>) -> Vec<Ended>
     requires room { vec_len ended + seatless ≤ vec_capacity ended }
-    ensures { vec_len result ≡ vec_len ended + seatless }
+    ensures len { vec_len result ≡ vec_len ended + seatless }
+    ensures seatless { AreSeatlessFrom (vec_len ended) result.items }
 {
     for _ in 0..seatless {
-        ended.push_reserved(never_joined(EndReason::Garage(GarageError::TooManySeats)));
+        ended.push_reserved(no_seat_left());
     }
     ended
 }
@@ -208,8 +211,17 @@ fn drive<R: Wait, G: Gate>(
     }
 }
 
+/// The end of a unit for which no seat was left.
+fn no_seat_left() -> Ended
+    ensures { IsSeatless result }
+{
+    never_joined(EndReason::Garage(GarageError::TooManySeats))
+}
+
 /// The end of a unit that never joined.
-fn never_joined(refusal: EndReason) -> Ended {
+fn never_joined(refusal: EndReason) -> Ended
+    ensures { result ≡ record { seat = None; events = 0; refusal = Some refusal } }
+{
     Ended {
         seat: None,
         events: 0,

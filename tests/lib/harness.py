@@ -1,6 +1,6 @@
 """What each runner of tests/ stands on: where things are, which program is tried, and a tally with its last line.
 
-    sys.path.append(sys.path[0] + "/../lib")
+    sys.path.insert(1, sys.path[0] + "/../lib")
     from harness import PROGRAM, TOP, Tally
 
 The program is crates/bench/out/bench, or what the environment's J1939BENCH names. A runner tells a tally of each try, and ends with
@@ -19,7 +19,7 @@ NAME = pathlib.Path(sys.argv[0]).name
 NAMED = os.environ.get("J1939BENCH", str(TOP / "crates/bench/out/bench"))
 SUMS = re.compile(r"(?:\A|\n)(?:.*: )?(\d+) passed, (\d+) failed\n\Z")
 # (for the model)
-sys.path.append(str(TOP / "tests"))
+sys.path.insert(1, str(TOP / "tests"))
 
 
 def __getattr__(name):

@@ -1,3 +1,4 @@
+# shellcheck shell=sh disable=SC2034
 # What ./verify, tests/check_all and other runners in shell share: to run a part, to add up what it counted, and the last line.
 #
 # A part ends with status 0 and a last line `NAME: N passed, M failed`; the name may be left out.

@@ -63,10 +63,10 @@ class Tally:
         if int(sums[2]):
             print(f"{what}: {out[-most:]}")
 
-    def end(self):
-        """Prints the last line. The status: 1 where something failed, or nothing passed."""
-        print(f"{NAME}: {self.passed} passed, {self.failed} failed")
-        return 1 if self.failed or not self.passed else 0
+    def end(self, may_be_none=False):
+        """Prints the last line. The status: 1 where something failed, or nothing passed and that may not be."""
+        print(f"{NAME}: {self.passed} passed, {self.failed} failed", flush=True)
+        return 1 if self.failed or not (self.passed or may_be_none) else 0
 
 
 def skipped(why):
@@ -77,10 +77,9 @@ def skipped(why):
 def all_skipped(why):
     """Ends a runner that cannot try anything here, which is no failure: its last line, and its status."""
     skipped(why)
-    Tally().end()
-    return 0
+    return Tally().end(may_be_none=True)
 
 
 def took(seconds, what):
-    """Tells how long something took, for the list at the end of ./verify."""
-    print(f"took {seconds:.0f} s: {what}", flush=True)
+    """The line that tells how long something took. ./verify lists the longest at its end."""
+    return f"took {seconds:.0f} s: {what}"

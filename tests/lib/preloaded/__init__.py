@@ -5,6 +5,8 @@ import shutil
 import subprocess
 import sys
 
+from harness import Tally
+
 HERE = pathlib.Path(__file__).resolve().parent
 
 # A vehicle of two units, for runs in threads.
@@ -32,8 +34,7 @@ def built(name, folder):
     compiler = shutil.which("cc")
     if compiler is None:
         print("there is no C compiler `cc`, which these tests need: FAILED")
-        print("0 passed, 1 failed")
-        sys.exit(1)
+        sys.exit(Tally(failed=1).end())
     library = pathlib.Path(folder) / (name + ".so")
     subprocess.run([compiler, "-shared", "-fPIC", "-O2", "-Wall", "-Werror", "-o", library, HERE / (name + ".c")], check=True)
     return library

@@ -47,7 +47,7 @@ class Tally:
 
     def holds(self, what, fact, told="it does not hold"):
         """Counts one try of a fact."""
-        return self.tried(what, None if fact else told)
+        return self.tried(what, None if fact else told or "it does not hold")
 
     def add(self, passed, failed):
         """Counts tries that were told of elsewhere."""

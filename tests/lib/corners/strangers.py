@@ -1,11 +1,11 @@
 """Frames from outside for random scripts: of every kind, aimed at what is under way."""
 
+from corners.values import MANY
 from model.frames import (ABORT, ACKNOWLEDGMENT, BAM, CLAIM, COMMANDED_ADDRESS, CONTROL, CTS, DM1, DM3, DM11, END_OF_MESSAGE, GLOBAL,
                           NULL, PACKET, REQUEST, RTS, TITLES, Frame, acknowledgment, broadcast, claim, packet, packets_of, request,
                           rts, to_all, to_one)
 
 GROUPS = [CLAIM, REQUEST, ACKNOWLEDGMENT, CONTROL, PACKET, *TITLES, DM3, DM11, COMMANDED_ADDRESS, 65259, 0]
-MANY = "4294967295"
 NOBODYS = [NULL, GLOBAL]
 UNREADABLE = ["20 08 00 02 FF CA FE 00", "20 0A 00 03 FF CA FE 00", "12 00 00 00 00 CA FE 00", "20 16 00 04 FF CA FE",
               "10 16 00 04 FF CA FE", "10 00 00 00 FF CA FE 00", "13 FF FF FF FF CA FE 00", ""]

@@ -1,8 +1,8 @@
 """What random scripts do where there are two stations: whom to aim at, and contests, gaps and requests between the two."""
 
+from corners.values import MANY
 from model.script import AT_A_STATION
 
-MANY = "4294967295"
 ONE, TWO = "0000000000000001 249 4 16", "0000000000000002 250 4 16"
 FITTING = [ONE, TWO, "100000"]
 # What is refused or is no line: the place of the three, and what stands there instead.

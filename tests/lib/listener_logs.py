@@ -57,7 +57,7 @@ def differences(name, report, same):
 
 def tries(run, same):
     """A name, and what says how a log differs, for each log that the model or the program has what it needs. `run` and `same` are those of
-    tests/run/logs."""
+    tests/lib/logs/common.py."""
     for name in sorted(lists.name.removesuffix(".lists.json") for lists in FOLDER.glob("*.lists.json")):
         if wanted(name)["needs"] in MODEL_HAS:
             yield f"{name} by the model", lambda name=name: differences(name, by_model(name), same)

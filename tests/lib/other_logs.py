@@ -85,7 +85,7 @@ def bad_lines_of_each_kind(run, same):
 
 
 def tries(run, same):
-    """A name, and what says how a file differs. `run` and `same` are those of tests/run/logs."""
+    """A name, and what says how a file differs. `run` and `same` are those of tests/lib/logs/common.py."""
     for name, by_watch, by_decode, status in TOLD:
         told = [many_bad_lines() if it is None else it for it in (by_watch, by_decode)]
         yield f"told of {name}", lambda name=name, told=told, status=status: differences(name, *told, status, run, same)

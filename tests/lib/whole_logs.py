@@ -68,7 +68,7 @@ def changes_differ(file, same):
 
 def differences(name, run, same):
     """What of a log's stored bytes the program or the model does not write, which has a station and a listener. `run` and `same` are those of
-    tests/run/logs."""
+    tests/lib/logs/common.py."""
     found, log = [], stored(name, "log")
     for listens, more, file in WAYS:
         for (words, wanted_of_it), models in zip(wanted(name, more, file), by_model(name, listens, more), strict=True):

@@ -41,7 +41,7 @@ class Tally:
     def tried(self, what, faults=None):
         """Counts one try, and prints its faults: a text, or a list of them. Whether there are none."""
         self.add(not faults, bool(faults))
-        for text in [faults] if isinstance(faults, str) else faults or []:
+        for text in [faults] if isinstance(faults, str) and faults else faults or []:
             print(f"{what}: {text}", flush=True)
         return not faults
 

@@ -1,6 +1,7 @@
 -- Units that pass over the last frame of the wire one after another, at the fields of a garage.
-use Rattle.std.proofs.Common.{ℕ, ◌≡◌, ◌≢◌, inl, inr, ◌-◌, ◌+◌, ◌≤◌, List, [], ◌∷◌, ◌++◌, Option, None, Some, length, set, get_or, slice_get, arith, refl, sym, ap, ◌∙◌, subst}
-use Rattle.std.proofs.lemmas.List.{length-append}
+use Rattle.std.proofs.Common.{rules, ℕ, ◌≡◌, ◌≢◌, inl, inr, ◌-◌, ◌+◌, ◌<◌, ◌≤◌, List, [], ◌∷◌, ◌++◌, Option, None, Some, length, map, reverse, set, get_or, slice_get, arith, refl, sym, ap, ◌∙◌, subst}
+use Rattle.std.proofs.lemmas.List.{length-append, set-get_or}
+use Rattle.std.specs.Vec.{with_item}
 use Rattle.can_frame.specs.FrameValue.{FrameValue}
 use Rattle.bus_ledger.proofs.Numbers.{same_or_not}
 use Rattle.bus_ledger.specs.BusValue.{IsUnit, Traffic, seat_at}
@@ -13,14 +14,14 @@ use Rattle.node_core.specs.Reaction.{memory_after}
 use Rattle.node_core.specs.declared.heard.Answer.{Answer as UnitAnswer}
 use Rattle.node_core.specs.declared.heard.Answer.TheVariants.{NotAsked}
 use Rattle.node_core.specs.declared.sifted.Sifted.{Sifted}
-use Rattle.journal.specs.Journal.{GarageValue, IsSeated, memory_told, one_more, state_of}
+use Rattle.journal.specs.Journal.{GarageValue, IsSeated, memory_told, one_more, state_of, tally_of}
 use Rattle.journal.specs.State.{Settings, unit_at}
 use Rattle.journal.specs.Steps.{next_for}
 use Rattle.journal.specs.declared.event.Event.TheVariants.{Hear}
 use Rattle.garage.specs.Answers.{Passes}
 use Rattle.garage.specs.Crew.{IsCrew, IsTold, Sitting}
 use Rattle.garage.specs.Hearing.{HearsFrame, HearsOut, IsLast}
-use Rattle.garage.specs.Inside.{settings_of, garage_value_of, Stands}
+use Rattle.garage.specs.Inside.{no_tally, place_at, settings_of, garage_value_of, unit_of, Stands}
 use Rattle.garage.specs.Rounds.{HearOnward, HearsAt}
 use Rattle.garage.specs.declared.garage.Garage.TheInside.{Inside}
 use Rattle.garage.specs.declared.garage.Place.{Place}
@@ -131,3 +132,14 @@ crew_looked {P} sitting g us recorded recorded' i p crew at others this = record
 
 pub told_same : {P : Type 0} (sitting : P → Sitting) (g : GarageValue) (us : List P) (i : ℕ) (p q : P) → slice_get us i ≡ Some q → slice_get us i ≡ Some p → IsTold g (sitting q) → IsTold g (sitting p)
 told_same {P} sitting g us i p q one two told = (let is : q ≡ p = (let same = sym one ∙ two in cc) in subst (λ (x : P). IsTold g (sitting x)) is told)
+
+-- a place that is written as it was
+pub stands_written : (a : Inside) (k : ℕ) (x y : Place) → Stands a → x ≡ get_or a.places.items k x → y ≡ x → Stands (record a { places = with_item a.places k y })
+stands_written a k x y stands value same =
+    let items : a.places.items ≡ set a.places.items k y = sym (ap (λ (z : Place). set a.places.items k z) (same ∙ value) ∙ set-get_or a.places.items k x) in
+    let units : map unit_of (set a.places.items k y) ≡ (state a).units = subst (λ (l : List Place). map unit_of l ≡ (state a).units) items stands.units in
+    let tallies : (j : ℕ) → j < length (set a.places.items k y) → (place_at (set a.places.items k y) j).tally ≡ tally_of (a.stations + j) (reverse a.journal.items)
+    = subst (λ (l : List Place). (j : ℕ) → j < length l → (place_at l j).tally ≡ tally_of (a.stations + j) (reverse a.journal.items)) items stands.tallies in
+    let fresh : (j : ℕ) → a.stations + length (set a.places.items k y) ≤ j → tally_of j (reverse a.journal.items) ≡ no_tally
+    = subst (λ (l : List Place). (j : ℕ) → a.stations + length l ≤ j → tally_of j (reverse a.journal.items) ≡ no_tally) items stands.fresh in
+    search (rules, units, tallies, fresh)

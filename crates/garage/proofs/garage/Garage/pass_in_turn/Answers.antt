@@ -3,6 +3,7 @@ use Rattle.std.proofs.lemmas.List.{length-set}
 use Rattle.std.proofs.lemmas.Option.{slice_get-get_or}
 use Rattle.std.specs.Vec.{with_item}
 use Rattle.node_core.specs.Asking.{IsAsked}
+use Rattle.node_core.specs.NodeValue.{NodeValue}
 use Rattle.journal.specs.Journal.{GarageValue, one_more}
 use Rattle.garage.specs.Crew.{IsCrew}
 use Rattle.garage.specs.Hearing.{IsLast}
@@ -10,12 +11,15 @@ use Rattle.garage.specs.Inside.{garage_value_of}
 use Rattle.garage.specs.Rounds.{HearOnward}
 use Rattle.garage.specs.declared.garage.Garage.TheInside.{Inside}
 use Rattle.garage.specs.declared.garage.Place.{Place}
-use Rattle.garage.proofs.InTurn.{InTurn, crew_looked, told_same, turn_passed, turn_still}
+use Rattle.garage.proofs.InTurn.{InTurn, crew_looked, stands_written, told_same, turn_passed, turn_still}
 use Rattle.garage.proofs.Standing.{seat_low, bus_unit, place_few, place_within}
 use Rattle.garage.proofs.garage.Garage.pass_in_turn.Goals as goal
 
 pub returns-then-not-has_room-clause-heard : goal.returns-then-not-has_room-clause-heard
 returns-then-not-has_room-clause-heard g c = λ v vs h. h
+
+pub returns-then-first-count-clause-heard : goal.returns-then-first-count-clause-heard
+returns-then-first-count-clause-heard g c = λ v vs h. h
 
 pub loop-i-init : goal.loop-i-init
 loop-i-init g c =
@@ -114,13 +118,18 @@ loop-i-preserved g c =
       c.loop-i.invariant.1,
     )
 
-pub is_recorded-requires : goal.is_recorded-requires
-is_recorded-requires g c = λ t. c.loop-i.invariant.0.crew.told c.loop-i.i (get_or c.loop-i.units c.loop-i.i c.index-units-i-else-behind-ne1.result) (slice_get-get_or c.loop-i.units c.loop-i.i c.index-units-i-else-behind-ne1.result (let e = c.loop-i.auto.units in let t = c.loop-i-test.true in omega arith)) t
+pub is_recorded-requires-clause-known : goal.is_recorded-requires-clause-known
+is_recorded-requires-clause-known g c = λ t. c.loop-i.invariant.0.crew.told c.loop-i.i (get_or c.loop-i.units c.loop-i.i c.index-units-i-else-behind-ne1.result) (slice_get-get_or c.loop-i.units c.loop-i.i c.index-units-i-else-behind-ne1.result (let e = c.loop-i.auto.units in let t = c.loop-i-test.true in omega arith)) t
 
 pub returns-then-not-settle-clause-crew : goal.returns-then-not-settle-clause-crew
 returns-then-not-settle-clause-crew g c = crew_looked (λ p. record { seat = p.seat; name = (goal.Unit-dyn g (p.unit.vtable, p.unit.value)).name_of p.unit.value; events = p.events; memory = (goal.Unit-dyn g (p.unit.vtable, p.unit.value)).memory_of p.unit.value }) (garage_value_of c.loop-i.self-inside) c.loop-i.units c.loop-i.recorded c.is_recorded.new.recorded c.loop-i.i (get_or c.loop-i.units c.loop-i.i c.index-units-i-else-behind-ne1.result) c.loop-i.invariant.0.crew (slice_get-get_or c.loop-i.units c.loop-i.i c.index-units-i-else-behind-ne1.result (let e = c.loop-i.auto.units in let t = c.loop-i-test.true in omega arith)) c.is_recorded.ensures.others c.is_recorded.ensures.this
 
 pub returns-clause-heard : goal.returns-clause-heard
 returns-clause-heard g c =
-    let end : c.loop-i.i ≡ length c.loop-i.units = (let past = c.loop-i-test.false in let few = c.loop-i.auto.i-end in let e = c.loop-i.auto.units in omega arith) in
+    let end : c.loop-i.i ≡ c.min-count.result = (let past = c.loop-i-test.false in let few = c.loop-i.auto.i-end (let within = c.if-first-count.false in omega arith) in omega arith) in
     subst (λ (n : ℕ). HearOnward (λ p. record { seat = p.seat; name = (goal.Unit-dyn g (p.unit.vtable, p.unit.value)).name_of p.unit.value; events = p.events; memory = (goal.Unit-dyn g (p.unit.vtable, p.unit.value)).memory_of p.unit.value }) (λ p q o a. (u : _) × (q.unit ≡ record p.unit { value = u }) × IsAsked ((goal.Unit-dyn g (p.unit.vtable, p.unit.value)).Answers p.unit.value) o a p.unit.value u) c.args.first n c.args.self.now c.args.units.now (garage_value_of c.loop-i.self-inside) c.loop-i.units) end c.loop-i.invariant.0.heard
+
+pub invariant_of-self-then-not-settle : goal.invariant_of-self-then-not-settle
+invariant_of-self-then-not-settle g c =
+    let x = c.index_mut-place.result.now in
+    stands_written c.loop-i.self-inside _ x _ c.loop-i.invariant.0.stands c.index_mut-place.ensures.value (ap (λ (n : NodeValue). record x { node = n }) (c.settle.ensures.left c.if-not-settle.true))

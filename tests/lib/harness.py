@@ -1,0 +1,85 @@
+"""What each runner of tests/ stands on: where things are, which program is tried, and a tally with its last line.
+
+    sys.path.insert(1, sys.path[0] + "/../lib")
+    from harness import PROGRAM, TOP, Tally
+
+The program is crates/bench/out/bench, or what the environment's J1939BENCH names. A runner tells a tally of each try, and ends with
+`sys.exit(tally.end())`, which prints the last line `NAME: N passed, M failed`. tests/lib/sums.sh reads that line.
+"""
+
+import os
+import pathlib
+import re
+import shutil
+import sys
+
+sys.dont_write_bytecode = True
+TOP = pathlib.Path(__file__).resolve().parents[2]
+NAME = pathlib.Path(sys.argv[0]).name
+NAMED = os.environ.get("J1939BENCH", str(TOP / "crates/bench/out/bench"))
+SUMS = re.compile(r"(?:\A|\n)(?:.*: )?(\d+) passed, (\d+) failed\n\Z")
+# (for the model)
+sys.path.insert(1, str(TOP / "tests"))
+
+
+def __getattr__(name):
+    """PROGRAM. It is looked for here, so a runner without it needs no program."""
+    if name != "PROGRAM":
+        raise AttributeError(name)
+    if shutil.which(NAMED) is None:
+        print(f"{NAME}: there is no program {NAMED}; ./j1939bench builds it, and J1939BENCH may name another one")
+        sys.exit(Tally(failed=1).end())
+    return os.path.abspath(NAMED) if os.path.exists(NAMED) else NAMED
+
+
+class Tally:
+    """How many tries passed, and how many failed."""
+
+    def __init__(self, passed=0, failed=0):
+        self.passed, self.failed = passed, failed
+
+    def tried(self, what, faults=None):
+        """Counts one try, and prints its faults: a text, or a list of them. Whether there are none."""
+        self.add(not faults, bool(faults))
+        for text in [faults] if isinstance(faults, str) and faults else faults or []:
+            print(f"{what}: {text}", flush=True)
+        return not faults
+
+    def holds(self, what, fact, told="it does not hold"):
+        """Counts one try of a fact."""
+        return self.tried(what, None if fact else told or "it does not hold")
+
+    def add(self, passed, failed):
+        """Counts tries that were told of elsewhere."""
+        self.passed, self.failed = self.passed + passed, self.failed + failed
+
+    def add_program(self, what, status, out, said, most=900):
+        """Adds the sums in the last line of a program's output. Without them, or with more on standard error, it is one failure."""
+        sums = SUMS.search(out)
+        if not sums or said or status != (int(sums[2]) != 0) or not int(sums[1]):
+            self.tried(what, f"status {status}: {out[-most:]} {said[-most:]}")
+            return
+        self.add(int(sums[1]), int(sums[2]))
+        if int(sums[2]):
+            print(f"{what}: {out[-most:]}")
+
+    def end(self, may_be_none=False):
+        """Prints the last line. The status: 1 where something failed, or nothing passed and that may not be."""
+        print(f"{NAME}: {self.passed} passed, {self.failed} failed", flush=True)
+        return 1 if self.failed or not (self.passed or may_be_none) else 0
+
+
+def skipped(why):
+    """Tells what is not tried, and why."""
+    print(f"{NAME}: not tried: {why}")
+
+
+def all_skipped(why):
+    """Ends a runner that cannot try anything here, which is no failure: its last line, and its status."""
+    skipped(why)
+    return Tally().end(may_be_none=True)
+
+
+def took(seconds, what):
+    """The line that tells how long something took. ./verify lists the longest at its end."""
+    return f"took {seconds:.0f} s: {what}"

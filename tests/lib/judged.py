@@ -1,0 +1,67 @@
+"""Which edits were refused, and of what files: the lines of tests/judged, one for each edit.
+
+A line has the edit and a sum of what its verdict rests on: the edit, its crate's own files, and the definitions of the crates below. (What
+else a crate below is made of can make this one fail its proof, and not an edit of it pass.)
+"""
+import hashlib
+import os
+
+from harness import TOP
+
+RECORD = f"{TOP}/tests/judged"
+OWN = ("src", "specs", "proofs")
+HEAD = """\
+# The edits that the prover refused, each with a sum of the files that this rests on. tests/judge_edits --record writes it.
+"""
+
+
+def files_below(folder):
+    return sorted(f"{at}/{it}" for at, _, files in os.walk(folder) for it in files)
+
+
+def sums_of(crate, below):
+    """Of each edit of a crate the sum of itself, of the crate's files, and of the definitions of the crates below it."""
+    folders = [f"crates/{crate}/{part}" for part in OWN] + [f"crates/{it}/specs" for it in sorted(below)]
+    made = hashlib.sha256()
+    for path in [path for folder in folders for path in files_below(f"{TOP}/{folder}")]:
+        add(made, path)
+    found = {}
+    for path in files_below(f"{TOP}/crates/{crate}/edits"):
+        one = made.copy()
+        add(one, path)
+        found[f"{crate}/{os.path.basename(path).removesuffix('.edit')}"] = one.hexdigest()[:16]
+    return found
+
+
+def add(made, path):
+    with open(path, "rb") as it:
+        content = it.read()
+    made.update(f"{os.path.relpath(path, TOP)} {len(content)}\n".encode() + content)
+
+
+def read():
+    """The sum of each edit on record."""
+    try:
+        with open(RECORD, encoding="utf-8") as it:
+            return dict(line.split() for line in it if not line.startswith("#"))
+    except FileNotFoundError:
+        return {}
+
+
+def is_there(edit):
+    crate, _, name = edit.partition("/")
+    return os.path.exists(f"{TOP}/crates/{crate}/edits/{name}.edit")
+
+
+def write(found):
+    """Notes edits with their sums. The lines of edits that are not there any more go."""
+    rows = {**read(), **found}
+    with open(f"{RECORD}.new", "w", encoding="utf-8") as it:
+        it.writelines([HEAD, *[f"{edit} {rows[edit]}\n" for edit in sorted(rows) if is_there(edit)]])
+    os.replace(f"{RECORD}.new", RECORD)
+
+
+def in_turn(sums):
+    """One of some edits, another one whenever a file changes that their verdicts rest on."""
+    turn = hashlib.sha256("\n".join(sums.values()).encode()).digest()
+    return sorted(sums)[int.from_bytes(turn, "big") % len(sums)]

@@ -1,0 +1,1 @@
+"""The tries of tests/run/logs, by theme."""

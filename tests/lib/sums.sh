@@ -1,0 +1,39 @@
+# shellcheck shell=sh disable=SC2034
+# What ./verify, tests/check_all and other runners in shell share: to run a part, to add up what it counted, and the last line.
+#
+# A part ends with status 0 and a last line `NAME: N passed, M failed`; the name may be left out.
+
+passed=0
+failed=0
+
+# Runs a part, and adds its sums. Its output is shown and kept in a file.
+#
+#     run_part FILE COMMAND ..     sets well, wrong and seconds
+run_part() {
+    said=$1
+    shift
+    begun=$(date +%s)
+    rm -f "$said.well"
+    { "$@" && : >"$said.well"; } 2>&1 | tee "$said"
+    seconds=$(($(date +%s) - begun))
+    sums=$(tail -n 1 "$said" | sed -n 's/^\(.*: \)\{0,1\}\([0-9][0-9]*\) passed, \([0-9][0-9]*\) failed$/\2 \3/p')
+    well=${sums% *}
+    wrong=${sums#* }
+    # a part that fails without a count, or beside a count of none, is one failure
+    if [ -z "$sums" ]; then
+        echo "$1: no count of what passed"
+        well=0 wrong=1
+    elif [ ! -e "$said.well" ] && [ "$wrong" -eq 0 ]; then
+        echo "$1: it failed, and counted no failure"
+        wrong=1
+    fi
+    rm -f "$said.well"
+    passed=$((passed + well))
+    failed=$((failed + wrong))
+}
+
+# Prints the last line, under a name where one is given. Its status is that of the runner.
+last_line() {
+    echo "${1:+$1: }$passed passed, $failed failed"
+    [ "$failed" -eq 0 ] && [ "$passed" -gt 0 ]
+}

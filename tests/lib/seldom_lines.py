@@ -83,7 +83,8 @@ def names_of_buses(run, same):
     data = "".join(f"(1.000000) {bus} 18EEFF00#A000000000000000\n(1.000000) {bus} 18FECA00#04FF64000101FFFF\n" for bus in BUSES).encode()
     status, out, err = run(["watch", "--bus", "all", "--format", "csv"], data)
     rows = list(csv.reader(io.StringIO(out)))
-    found = same((status, err, [row[-1] for row in rows], {len(row) for row in rows}), (0, "", ["bus", *BUSES], {13}), "csv")
+    place = rows[0].index("bus")
+    found = same((status, err, [row[place] for row in rows], {len(row) for row in rows}), (0, "", ["bus", *BUSES], {len(rows[0])}), "csv")
     *changes, report = [json.loads(line) for line in run(["watch", "--bus", "all", "--format", "json"], data)[1].splitlines()]
     found += same([it["bus"] for it in changes], [bus for bus in BUSES for _ in range(2)], "changes")
     found += same([[it["bus"] for it in report[key]] for key in ("rows", "buses")], [BUSES, BUSES], "the report")

@@ -1,23 +1,24 @@
-/* The proved diagnostic station for SAE J1939, for programs in C11 and C++: version 2.2.
+/* The proved diagnostic station and simulated control units for SAE J1939, for programs in C11 and C++: version 2.3.
  *
  * A program hands over the frames that it reads of one bus, in their order, sends what the station replies, is told what each frame
- * changed, and asks for the lists by NAME. What each call does is proved of the library (crate station_c), as long as the C side does its part:
+ * changed, and asks for the lists by NAME. Or it has simulated units hear those frames, and writes the frames that it asks them for, each when
+ * it is due. What each call does is proved of the library (crate station_c), as long as the C side does its part:
  *
  *  - A station is held in a `hidzgula_station`, which begins as HIDZGULA_EMPTY (all its bytes 0). Its members are the library's:
  *    nobody else reads or writes them, and it is never copied or moved, from `hidzgula_open` or `hidzgula_open_listening` to
- *    `hidzgula_close`.
- *  - A station is given to one call at a time, from whichever thread: two calls on one station are ordered by a lock, by a thread's start or
- *    join, or by an atomic of the default order. Nothing in the library is tied to a thread. Several stations are independent.
+ *    `hidzgula_close`. A unit likewise in a `hidzgula_unit`, from `hidzgula_unit_open` to `hidzgula_unit_close`.
+ *  - A station, or a unit, is given to one call at a time, from whichever thread: two calls on one are ordered by a lock, by a thread's start
+ *    or join, or by an atomic of the default order. Nothing in the library is tied to a thread. Several stations and units are independent.
  *  - Each pointer points to what its type says: aligned, large enough, not NULL, and no two of one call overlap. Only `change` may be
  *    NULL, and each array (`bytes`, `frames`, `changes`, `text`, `bus`, `logged`) anything aligned that is not NULL where it has no elements.
  *    What is written to need not have been set.
  *  - `malloc`, `realloc` and `free` are of one allocator, which aligns a block to each power of two up to 16 that divides its size, as
- *    the C library's does, and nobody else frees what it gave to a station.
+ *    the C library's does, and nobody else frees what it gave to a station or a unit.
  *  - No call comes from a signal handler, or from the forked child of a process with threads.
  *  - A call has 64 KB of stack.
  *
- * Whatever the state of its station and whatever the numbers that it is given, each call then returns. It answers HIDZGULA_DONE, or
- * why it was refused; refused, it has changed nothing: neither the station nor what the other pointers point to. Where two reasons
+ * Whatever the state of its station or unit and whatever the numbers that it is given, each call then returns. It answers HIDZGULA_DONE, or
+ * why it was refused; refused, it has changed nothing: neither station or unit nor what the other pointers point to. Where two reasons
  * hold, the one told is the first in the list at the call. `hidzgula_take_frames` alone may be refused midway, and says so.
  */
 #ifndef HIDZGULA_STATION_H
@@ -28,7 +29,7 @@
 #include <stdint.h>
 
 #define HIDZGULA_VERSION_MAJOR 2
-#define HIDZGULA_VERSION_MINOR 2
+#define HIDZGULA_VERSION_MINOR 3
 
 #ifdef __cplusplus
 extern "C" {
@@ -37,23 +38,34 @@ extern "C" {
 #define HIDZGULA_LAYOUT(holds) _Static_assert(holds, #holds)
 #endif
 
-/* What a call answers. 29 is NO_STATION and nothing else: the refusal of that number of a unit's fault memory, of a code that is not
- * pending, is none of a station. */
+/* What a call answers. 29 is NO_STATION and nothing else: the refusal of that number that a script's answers have, of a code that is not
+ * pending, is NOT_PENDING here. */
 enum {
     HIDZGULA_DONE = 0,
     HIDZGULA_ID_TOO_LARGE = 1,   /* an identifier of 2^29 or more */
     HIDZGULA_TOO_LONG = 2,       /* more than 8 bytes in a frame */
     HIDZGULA_NOT_AN_ADDRESS = 7, /* 254 or 255 where an address to hold is asked for */
     HIDZGULA_NO_ADDRESS = 22,    /* the station knows no address of that NAME */
-    HIDZGULA_NOT_HELD = 23,      /* the station holds no address of its own */
-    HIDZGULA_BAD_SETTING = 24,   /* an address above 253, or a grant of 0 */
+    HIDZGULA_NOT_HELD = 23,      /* the station, or the unit, holds no address of its own */
+    HIDZGULA_BAD_SETTING = 24,   /* an address above 253, a grant of 0, or a setting of a unit that is out of its range */
     HIDZGULA_PGN_TOO_LARGE = 28, /* a parameter group number of 2^24 or more */
     HIDZGULA_NO_STATION = 29,    /* the handle is empty: not opened, or closed */
     HIDZGULA_HAS_STATION = 30,   /* the handle has an open station */
     HIDZGULA_NO_PLACE = 31,      /* no row at that place; no such entry came, or it has no such code */
     HIDZGULA_NO_KIND = 32,       /* a kind that is none of HIDZGULA_DM1, HIDZGULA_DM2, HIDZGULA_DM6 */
     HIDZGULA_OUT_OF_MEMORY = 33, /* memory was refused */
-    HIDZGULA_NOT_KEPT = 34       /* the entry at that place came, and is none of the newest, which are kept */
+    HIDZGULA_NOT_KEPT = 34,      /* the entry at that place came, and is none of the newest, which are kept */
+
+    /* of units alone */
+    HIDZGULA_SPN_TOO_LARGE = 9,  /* an SPN above 524,287 */
+    HIDZGULA_FMI_TOO_LARGE = 10, /* an FMI above 31 */
+    HIDZGULA_MEMORY_FULL = 13,   /* a new code for a fault memory that has 445 already */
+    HIDZGULA_NOT_ACTIVE = 14,    /* the code to heal is not active */
+    HIDZGULA_NO_UNIT = 35,       /* the handle is empty: not opened, or closed */
+    HIDZGULA_HAS_UNIT = 36,      /* the handle has an open unit */
+    HIDZGULA_QUEUE_FULL = 37,    /* as much waits to be written as there is room for */
+    HIDZGULA_SESSION_OPEN = 38,  /* a session of that kind is open */
+    HIDZGULA_NOT_PENDING = 39    /* the code to go away is not pending */
 };
 
 /* The kinds of diagnostic messages, numbered as the messages are; any other number is refused, NO_KIND. */
@@ -199,6 +211,36 @@ typedef struct {
     uint8_t why;
 } hidzgula_read;
 
+/* Room for a simulated unit; it begins as HIDZGULA_EMPTY too. */
+typedef struct {
+    void *at;
+    bool full;
+} hidzgula_unit;
+
+/* What a unit keeps to; times are in microseconds.
+ *  - `gap`: how long it is at least from a packet of a broadcast to the next, 10,000 to 200,000 (J1939-21).
+ *  - `settle`: how long it is from a claim to anything but a claim, up to 1,000,000 (J1939-81: 250,000).
+ *  - `always`: where it is 0, the unit sends its DM1 each second while a code is active or a lamp is lit, and once after that; else always.
+ *  - `guarded`: where it is 0, the unit clears its codes and holds a commanded address when the bus asks it to, and sends DM1 of its own
+ *    accord; else it does none of these. */
+typedef struct {
+    uint64_t gap;
+    uint64_t settle;
+    uint8_t always;
+    uint8_t guarded;
+} hidzgula_unit_settings;
+
+#define HIDZGULA_USUAL_SETTINGS { 50000, 250000, 0, 0 }
+
+/* How many frames a unit put so far, and how many of these were written, which is that `hidzgula_unit_next` gave them, were withdrawn, and
+ * wait: `put` is the sum of the other three. */
+typedef struct {
+    uint64_t put;
+    uint64_t written;
+    uint64_t withdrawn;
+    uint64_t waiting;
+} hidzgula_unit_counts_out;
+
 HIDZGULA_LAYOUT(sizeof(size_t) == 8);
 HIDZGULA_LAYOUT(sizeof(bool) == 1);
 HIDZGULA_LAYOUT(sizeof(hidzgula_station) == 16);
@@ -240,6 +282,16 @@ HIDZGULA_LAYOUT(offsetof(hidzgula_read, lines) == 16);
 HIDZGULA_LAYOUT(offsetof(hidzgula_read, missed) == 24);
 HIDZGULA_LAYOUT(offsetof(hidzgula_read, what) == 28);
 HIDZGULA_LAYOUT(offsetof(hidzgula_read, why) == 29);
+HIDZGULA_LAYOUT(sizeof(hidzgula_unit) == 16);
+HIDZGULA_LAYOUT(offsetof(hidzgula_unit, full) == 8);
+HIDZGULA_LAYOUT(sizeof(hidzgula_unit_settings) == 24);
+HIDZGULA_LAYOUT(offsetof(hidzgula_unit_settings, settle) == 8);
+HIDZGULA_LAYOUT(offsetof(hidzgula_unit_settings, always) == 16);
+HIDZGULA_LAYOUT(offsetof(hidzgula_unit_settings, guarded) == 17);
+HIDZGULA_LAYOUT(sizeof(hidzgula_unit_counts_out) == 32);
+HIDZGULA_LAYOUT(offsetof(hidzgula_unit_counts_out, written) == 8);
+HIDZGULA_LAYOUT(offsetof(hidzgula_unit_counts_out, withdrawn) == 16);
+HIDZGULA_LAYOUT(offsetof(hidzgula_unit_counts_out, waiting) == 24);
 #undef HIDZGULA_LAYOUT
 
 /* Opens a station of this NAME, which holds `address`, 0 to 253, and lets a sender send at most `grant` packets at once, 1 to 255.
@@ -362,6 +414,76 @@ uint32_t hidzgula_code(hidzgula_station *station, uint64_t name, uint8_t kind, u
 /* How many frames were missed, and how many messages ended that could not be read; each up to the greatest 64-bit number.
  * NO_STATION. */
 uint32_t hidzgula_counts(hidzgula_station *station, uint64_t *missed, uint64_t *unread);
+
+/* ---- A simulated unit
+ *
+ * It hears each frame of the bus, and is asked again and again for the frame that goes now. It has no clock: `now` is the time in microseconds
+ * of any clock that does not go back, as CLOCK_MONOTONIC.
+ *
+ *     for (;;) {
+ *         while (hidzgula_unit_next(&unit, now(), &frame, &has) == HIDZGULA_DONE && has) write_frame(&frame);
+ *         hidzgula_unit_when(&unit, now(), &at);
+ *         if (read_frame_until(at, &frame)) hidzgula_unit_hear(&unit, frame.id, frame.bytes, frame.length, now());
+ *     }
+ *
+ * Its own frames may come back to it: it owes nothing for them. A frame that `next` gave counts as written, and cannot be taken back. */
+
+/* Opens a simulated unit of this NAME, which holds `address`, 0 to 253, and keeps to `settings`. It has no trouble code, its lamps are off, and its
+ * claim is the first frame that goes.
+ * BAD_SETTING, HAS_UNIT, OUT_OF_MEMORY. */
+uint32_t hidzgula_unit_open(hidzgula_unit *unit, uint64_t name, uint8_t address, const hidzgula_unit_settings *settings);
+
+/* Closes a unit and frees all its memory; does nothing where there is none. */
+void hidzgula_unit_close(hidzgula_unit *unit);
+
+/* The unit hears a frame that was read of the bus: its 29-bit identifier, and `length` bytes. It does what it owes for it: claims and defends its
+ * address or loses it, answers a request, serves a session, obeys or not a commanded address, clears its codes or not.
+ * ID_TOO_LARGE, TOO_LONG, NO_UNIT, QUEUE_FULL where as much waits as there is room for and the frame is a request, a request to send or a clear to
+ * send, OUT_OF_MEMORY. Refused, the frame was not heard, and may be handed over again. */
+uint32_t hidzgula_unit_hear(hidzgula_unit *unit, uint32_t id, const uint8_t *bytes, size_t length, uint64_t now);
+
+/* The frame that goes now: `has` is 1 and `frame` is it, to be written at once; or `has` is 0, and `frame` is as it was. Claims go first, then,
+ * once the unit has settled, single frames, those of a session, and messages to all, whose packets keep their gap. Where none is due the unit
+ * first does of its own accord what is due: it gives up a session that was left alone, or begins a DM1.
+ * NO_UNIT, OUT_OF_MEMORY. */
+uint32_t hidzgula_unit_next(hidzgula_unit *unit, uint64_t now, hidzgula_frame *frame, uint8_t *has);
+
+/* When to ask again: `at` is `now` or later, and before it nothing is due, unless a frame is heard, a fault changes or a message is begun. It is
+ * UINT64_MAX where nothing waits for its time.
+ * NO_UNIT. */
+uint32_t hidzgula_unit_when(hidzgula_unit *unit, uint64_t now, uint64_t *at);
+
+/* A fault is there: its code becomes active; one that is active stays as it is. SPN up to 524,287, FMI up to 31.
+ * NO_UNIT, SPN_TOO_LARGE, FMI_TOO_LARGE, MEMORY_FULL, OUT_OF_MEMORY. */
+uint32_t hidzgula_unit_set(hidzgula_unit *unit, uint32_t spn, uint8_t fmi);
+
+/* A fault has gone: its active code becomes a previously active one.
+ * NO_UNIT, SPN_TOO_LARGE, FMI_TOO_LARGE, NOT_ACTIVE, OUT_OF_MEMORY. */
+uint32_t hidzgula_unit_heal(hidzgula_unit *unit, uint32_t spn, uint8_t fmi);
+
+/* A fault was seen and is not confirmed yet: a new code becomes pending; one that the unit has stays as it is.
+ * NO_UNIT, SPN_TOO_LARGE, FMI_TOO_LARGE, MEMORY_FULL, OUT_OF_MEMORY. */
+uint32_t hidzgula_unit_pend(hidzgula_unit *unit, uint32_t spn, uint8_t fmi);
+
+/* A pending fault was not seen again: its code goes away.
+ * NO_UNIT, SPN_TOO_LARGE, FMI_TOO_LARGE, NOT_PENDING. */
+uint32_t hidzgula_unit_unpend(hidzgula_unit *unit, uint32_t spn, uint8_t fmi);
+
+/* All lamps are replaced: the first two bytes of a DM1, as in `hidzgula_entry_out`; 0x00 and 0xFF put all off.
+ * NO_UNIT. */
+uint32_t hidzgula_unit_lamps(hidzgula_unit *unit, uint8_t lamps, uint8_t flashes);
+
+/* Begins a message of a kind to all now, of the fault memory as it is.
+ * NO_KIND, NO_UNIT, QUEUE_FULL, NOT_HELD, SESSION_OPEN, OUT_OF_MEMORY. */
+uint32_t hidzgula_unit_begin(hidzgula_unit *unit, uint8_t kind);
+
+/* The unit's address: `has` is 1 and `address` is 0 to 253 where it holds one, else both are 0.
+ * NO_UNIT. */
+uint32_t hidzgula_unit_held(hidzgula_unit *unit, uint8_t *has, uint8_t *address);
+
+/* What became of the frames that the unit put.
+ * NO_UNIT. */
+uint32_t hidzgula_unit_counts(hidzgula_unit *unit, hidzgula_unit_counts_out *counts);
 
 #ifdef __cplusplus
 }

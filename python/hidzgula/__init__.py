@@ -1,7 +1,7 @@
-"""Hidzgula: a proved diagnostic station for SAE J1939, the CAN network of trucks, buses, farm machines and boats.
+"""Hidzgula: a proved diagnostic station and simulated units for SAE J1939, the CAN network of trucks, buses, farm machines and boats.
 
 A `Station` is handed the frames that are read of a bus, and lists under each NAME the diagnostic messages that came from it. `take_log`
-hands it a log of candump, and `hidzgula.can.Listener` what python-can reads. docs/PYTHON.md of the project tells what is proved of it.
+hands it a log of candump, and `hidzgula.can.Listener` what python-can reads. A `SimulatedUnit` takes part in a bus. docs/PYTHON.md of the project tells what is proved of it.
 """
 
 from .candump import Missed, read_log, take_log
@@ -21,12 +21,14 @@ from .records import (
     Taken,
     TakenFrames,
     Unit,
+    UnitCounts,
     What,
 )
 from .refusals import OutOfMemory, Refused
+from .simulated import SimulatedUnit
 from .station import KEEP_ALL, Station
 
-__version__ = "2.2.0"
+__version__ = "2.3.0"
 
 DM1, DM2, DM6 = Kind.DM1, Kind.DM2, Kind.DM6
 
@@ -69,10 +71,12 @@ __all__ = [
     "PGN_DM6",
     "Refused",
     "Reply",
+    "SimulatedUnit",
     "Station",
     "Taken",
     "TakenFrames",
     "Unit",
+    "UnitCounts",
     "What",
     "read_log",
     "take_log",

@@ -90,6 +90,24 @@ class ReadRecord(Structure):
     ]
 
 
+class UnitRecord(Structure):
+    """Room for a simulated unit: all bytes 0 at first. It is never copied or moved, and only the library reads or writes it."""
+
+    _fields_ = [("at", c_void_p), ("full", c_bool)]
+
+
+class UnitSettingsRecord(Structure):
+    """What a simulated unit keeps to."""
+
+    _fields_ = [("gap", c_uint64), ("settle", c_uint64), ("always", c_uint8), ("guarded", c_uint8)]
+
+
+class UnitCountsRecord(Structure):
+    """What became of the frames that a simulated unit put."""
+
+    _fields_ = [("put", c_uint64), ("written", c_uint64), ("withdrawn", c_uint64), ("waiting", c_uint64)]
+
+
 # The struct, its name in the header, and its size there.
 RECORDS = (
     (StationRecord, "hidzgula_station", 16),
@@ -101,6 +119,9 @@ RECORDS = (
     (CodeRecord, "hidzgula_code_out", 8),
     (LoggedRecord, "hidzgula_logged", 16),
     (ReadRecord, "hidzgula_read", 32),
+    (UnitRecord, "hidzgula_unit", 16),
+    (UnitSettingsRecord, "hidzgula_unit_settings", 24),
+    (UnitCountsRecord, "hidzgula_unit_counts_out", 32),
 )
 
 for record, called, size in RECORDS:
@@ -110,6 +131,7 @@ for record, called, size in RECORDS:
 _STATION = POINTER(StationRecord)
 _REPLY = POINTER(ReplyRecord)
 _CHANGE = POINTER(ChangeRecord)
+_UNIT = POINTER(UnitRecord)
 
 # Each call but those of `ANSWERS_NOTHING` answers a number: 0, or why it was refused.
 CALLS = {
@@ -131,9 +153,22 @@ CALLS = {
     "hidzgula_code": (_STATION, c_uint64, c_uint8, c_uint64, c_size_t, POINTER(CodeRecord)),
     "hidzgula_counts": (_STATION, POINTER(c_uint64), POINTER(c_uint64)),
     "hidzgula_read_log": (c_void_p, c_size_t, c_char_p, c_size_t, c_void_p, c_size_t, c_void_p, c_size_t, POINTER(ReadRecord)),
+    "hidzgula_unit_open": (_UNIT, c_uint64, c_uint8, POINTER(UnitSettingsRecord)),
+    "hidzgula_unit_close": (_UNIT,),
+    "hidzgula_unit_hear": (_UNIT, c_uint32, c_char_p, c_size_t, c_uint64),
+    "hidzgula_unit_next": (_UNIT, c_uint64, POINTER(FrameRecord), POINTER(c_uint8)),
+    "hidzgula_unit_when": (_UNIT, c_uint64, POINTER(c_uint64)),
+    "hidzgula_unit_set": (_UNIT, c_uint32, c_uint8),
+    "hidzgula_unit_heal": (_UNIT, c_uint32, c_uint8),
+    "hidzgula_unit_pend": (_UNIT, c_uint32, c_uint8),
+    "hidzgula_unit_unpend": (_UNIT, c_uint32, c_uint8),
+    "hidzgula_unit_lamps": (_UNIT, c_uint8, c_uint8),
+    "hidzgula_unit_begin": (_UNIT, c_uint8),
+    "hidzgula_unit_held": (_UNIT, POINTER(c_uint8), POINTER(c_uint8)),
+    "hidzgula_unit_counts": (_UNIT, POINTER(UnitCountsRecord)),
 }
 
-ANSWERS_NOTHING = {"hidzgula_close", "hidzgula_read_log"}
+ANSWERS_NOTHING = {"hidzgula_close", "hidzgula_read_log", "hidzgula_unit_close"}
 
 # The library in the wheel, or the one that the environment names.
 PATH = os.environ.get("HIDZGULA_LIBRARY") or str(pathlib.Path(__file__).with_name("libhidzgula_station.so"))

@@ -194,6 +194,16 @@ class Counts(NamedTuple):
     """Messages that ended and could not be read."""
 
 
+class UnitCounts(NamedTuple):
+    """What became of the frames that a simulated unit put: `put` is the sum of the other three."""
+
+    put: int
+    written: int
+    """Those that it was asked for and gave."""
+    withdrawn: int
+    waiting: int
+
+
 class Logged(NamedTuple):
     """Where in a log something stood."""
 

@@ -1,4 +1,4 @@
-"""Why a station refuses."""
+"""Why a station refuses, or a simulated unit."""
 
 from typing import Dict, NoReturn, Optional, Tuple
 
@@ -12,8 +12,8 @@ REFUSALS: Dict[int, Tuple[str, str]] = {
     2: ("TOO_LONG", "more than 8 bytes in a frame"),
     7: ("NOT_AN_ADDRESS", "254 or more where an address to hold is asked for"),
     22: ("NO_ADDRESS", "the station knows no address of that NAME"),
-    23: ("NOT_HELD", "the station holds no address of its own"),
-    24: ("BAD_SETTING", "an address above 253, or a grant of 0"),
+    23: ("NOT_HELD", "it holds no address of its own"),
+    24: ("BAD_SETTING", "an address above 253, a grant of 0, or a setting out of its range"),
     28: ("PGN_TOO_LARGE", "a parameter group number of 2^24 or more"),
     29: ("NO_STATION", "the station is closed"),
     30: ("HAS_STATION", "the handle has an open station"),
@@ -21,11 +21,20 @@ REFUSALS: Dict[int, Tuple[str, str]] = {
     32: ("NO_KIND", "a kind that is none of DM1, DM2 and DM6"),
     OUT_OF_MEMORY: ("OUT_OF_MEMORY", "memory was refused"),
     34: ("NOT_KEPT", "the message at that place came, and is kept no longer"),
+    9: ("SPN_TOO_LARGE", "an SPN above 524,287"),
+    10: ("FMI_TOO_LARGE", "an FMI above 31"),
+    13: ("MEMORY_FULL", "the fault memory has 445 codes already"),
+    14: ("NOT_ACTIVE", "the code to heal is not active"),
+    35: ("NO_UNIT", "the unit is closed"),
+    36: ("HAS_UNIT", "the handle has an open unit"),
+    37: ("QUEUE_FULL", "as much waits to be written as there is room for"),
+    38: ("SESSION_OPEN", "a session of that kind is open"),
+    39: ("NOT_PENDING", "the code to go away is not pending"),
 }
 
 
 class Refused(ValueError):
-    """A call that the station refused: it changed nothing, but that `Station.take_frames` has taken the frames before the one refused."""
+    """A call that a station or a unit refused: it changed nothing, but that `Station.take_frames` has taken the frames before the one refused."""
 
     number: int
     """The number of the refusal, as C has it."""
@@ -49,7 +58,7 @@ class OutOfMemory(MemoryError):
 
     def __init__(self, taken: Optional[TakenFrames] = None) -> None:
         self.taken = taken
-        super().__init__("the station was refused memory")
+        super().__init__("memory was refused")
 
 
 def refuse(number: int, taken: Optional[TakenFrames] = None) -> NoReturn:

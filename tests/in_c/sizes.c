@@ -1,4 +1,4 @@
-/* What a station takes: the stack of each call, seen on a thread's stack that was painted before, and the memory, by counting what
+/* What a station and a simulated unit take: the stack of each call, seen on a thread's stack that was painted before, and the memory, by counting what
  * malloc and realloc give. The candump log comes on standard input; the word that the program is given is how many entries of each list are
  * kept, all where there is none. A line for each figure. */
 #define _GNU_SOURCE
@@ -119,6 +119,78 @@ static void *close_it(void *unused)
     return unused;
 }
 
+static hidzgula_unit unit = HIDZGULA_EMPTY;
+
+static void *open_unit(void *unused)
+{
+    const hidzgula_unit_settings usual = HIDZGULA_USUAL_SETTINGS;
+    if (hidzgula_unit_open(&unit, 0x1000000001419907, 0, &usual) != HIDZGULA_DONE) abort();
+    return unused;
+}
+
+/* 445 codes, each set, and every other one healed */
+static void *fill_memory(void *unused)
+{
+    for (uint32_t spn = 0; spn < 445; spn++) hidzgula_unit_set(&unit, spn, 1);
+    for (uint32_t spn = 0; spn < 445; spn += 2) hidzgula_unit_heal(&unit, spn, 1);
+    hidzgula_unit_lamps(&unit, 4, 255);
+    return unused;
+}
+
+static uint64_t now;
+
+/* all that is due now */
+static void *ask_for_frames(void *unused)
+{
+    hidzgula_frame frame;
+    for (uint8_t has = 1; has; now += 50000)
+        if (hidzgula_unit_next(&unit, now, &frame, &has) != HIDZGULA_DONE) abort();
+    return unused;
+}
+
+/* the frames of the log, a millisecond apart, each with all that is due; and the requests for its messages, and the leave for their packets */
+static void *hear_all(void *unused)
+{
+    static const uint8_t asked[][3] = { { 0xCA, 0xFE, 0 }, { 0xCB, 0xFE, 0 }, { 0, 0xEE, 0 }, { 0xD3, 0xFE, 0 } };
+    static const uint8_t leave[] = { 17, 255, 1, 0xFF, 0xFF, 0xCA, 0xFE, 0 };
+    hidzgula_frame frame;
+    uint8_t has = 1;
+    for (size_t i = 0; i < 4; i++) {
+        hidzgula_unit_hear(&unit, 0x18EA00F9, asked[i], 3, now);
+        if (i == 0) hidzgula_unit_hear(&unit, 0x1CEC00F9, leave, 8, now);
+    }
+    for (size_t i = 0; i < frame_count; i++, now += 1000) {
+        hidzgula_unit_hear(&unit, frames[i].id, frames[i].bytes, frames[i].length, now);
+        while (hidzgula_unit_next(&unit, now, &frame, &has) == HIDZGULA_DONE && has) continue;
+    }
+    return unused;
+}
+
+static void *ask_unit(void *unused)
+{
+    hidzgula_unit_counts_out counts;
+    uint64_t at;
+    uint8_t has, address;
+    hidzgula_unit_counts(&unit, &counts);
+    hidzgula_unit_when(&unit, now, &at);
+    hidzgula_unit_held(&unit, &has, &address);
+    return unused;
+}
+
+static void *begin_all(void *unused)
+{
+    hidzgula_unit_begin(&unit, HIDZGULA_DM1);
+    hidzgula_unit_begin(&unit, HIDZGULA_DM2);
+    hidzgula_unit_begin(&unit, HIDZGULA_DM6);
+    return unused;
+}
+
+static void *close_unit(void *unused)
+{
+    hidzgula_unit_close(&unit);
+    return unused;
+}
+
 /* how many bytes of its stack a thread with this work touched */
 static size_t stack_of(void *(*work)(void *))
 {
@@ -142,7 +214,8 @@ int main(int argc, char **argv)
         const char *name;
         void *(*work)(void *);
     } works[] = { { "open", open_one }, { "take_frame", take_all }, { "queries", ask_for_lists }, { "orders", order }, { "take_gap", miss },
-        { "take_frames", take_rows }, { "read_log", read_lines }, { "close", close_it } };
+        { "take_frames", take_rows }, { "read_log", read_lines }, { "close", close_it }, { "unit_open", open_unit }, { "unit_set, heal, lamps", fill_memory },
+        { "unit_next", ask_for_frames }, { "unit_begin", begin_all }, { "unit_hear and next", hear_all }, { "unit queries", ask_unit }, { "unit_close", close_unit } };
     if (argc > 1) keep = (uint32_t)strtoul(argv[1], NULL, 10);
     read_frames();
     size_t base = stack_of(nothing);

@@ -5,7 +5,7 @@ import pickle
 import re
 
 import hidzgula
-from hidzgula import DM1, Frame, Refused, Station
+from hidzgula import DM1, Frame, Refused, SimulatedUnit, Station
 from hidzgula.refusals import OUT_OF_MEMORY, REFUSALS
 from tries import TOP, all_told, raised, same, sums
 
@@ -137,14 +137,48 @@ def closed():
     refused("left", "NO_STATION", left.counts)
 
 
+def of_units():
+    """What a simulated unit refuses."""
+    for words in ({"address": 254}, {"address": 2**70}, {"address": 0, "gap": 9_999}, {"address": 0, "gap": 2**70}, {"address": 0, "settle": 1_000_001}):
+        refused(f"a unit with {words}", "BAD_SETTING", SimulatedUnit, 1, **words)
+    with SimulatedUnit(1, 128) as unit:
+        before = unit.counts(), unit.address, unit.when(0)
+        refused("an identifier", "ID_TOO_LARGE", unit.hear, 2**29, DATA, 0)
+        refused("nine bytes", "TOO_LONG", unit.hear, 0x18FECA07, bytes(9), 0)
+        for call in (unit.set, unit.heal, unit.pend, unit.unpend):
+            refused("an SPN", "SPN_TOO_LARGE", call, 2**19, 32)
+            refused("an FMI", "FMI_TOO_LARGE", call, 2**19 - 1, 2**70)
+        refused("not active", "NOT_ACTIVE", unit.heal, 110, 0)
+        refused("not pending", "NOT_PENDING", unit.unpend, 110, 0)
+        refused("a kind", "NO_KIND", unit.begin, 3)
+        same("nothing is changed", (unit.counts(), unit.address, unit.when(0)), before)
+        for call, words in ((unit.next, (-1,)), (unit.when, (2**64,)), (unit.hear, (0, b"", 2**64)), (unit.lamps, (256,)), (unit.lamps, (0, 256))):
+            wrong(f"{call} {words}", call, *words)
+        for spn in range(445):
+            unit.set(spn, 1)
+        refused("one code more", "MEMORY_FULL", unit.set, 445, 1)
+        unit.hear(0x18EA80F9, bytes.fromhex("CAFE00"), 0)
+        refused("in a session", "SESSION_OPEN", unit.begin, hidzgula.DM1)
+        for _ in range(64):
+            raised(unit.begin, hidzgula.DM2)
+        refused("a full queue", "QUEUE_FULL", unit.begin, hidzgula.DM2)
+        unit.hear(0x18EEFF80, bytes(8), 0)
+        refused("without address", "NOT_HELD", unit.begin, hidzgula.DM2)
+        same("no copy", [type(raised(call, unit)) for call in (copy.copy, copy.deepcopy, pickle.dumps)], 3 * [TypeError])
+    for call, words in ((unit.hear, (0, b"", 0)), (unit.next, (0,)), (unit.when, (0,)), (unit.set, (1, 1)), (unit.heal, (1, 1)), (unit.pend, (1, 1)),
+                        (unit.unpend, (1, 1)), (unit.lamps, (0,)), (unit.begin, (1,)), (unit.counts, ()), (lambda: unit.address, ())):
+        refused(f"closed {call}", "NO_UNIT", call, *words)
+    unit.close()
+
+
 def numbers():
     """Each refusal of the header stands here, under its number."""
     header = (TOP / "c/hidzgula_station.h").read_text()
     answers = header[header.index("HIDZGULA_DONE = 0") : header.index("/* The kinds of diagnostic messages")]
     wanted = {int(number): name for name, number in re.findall(r"HIDZGULA_(\w+) = (\d+)", answers) if name != "DONE"}
     same("the numbers", {number: name for number, (name, _) in REFUSALS.items()}, wanted)
-    # HAS_STATION would be an open of a handle that a Station has open already, which no call does
-    same("each is seen", seen, set(wanted.values()) - {"OUT_OF_MEMORY", "HAS_STATION"})
+    # HAS_STATION would be an open of a handle that a Station has open already, which no call does; HAS_UNIT likewise
+    same("each is seen", seen, set(wanted.values()) - {"OUT_OF_MEMORY", "HAS_STATION", "HAS_UNIT"})
     same("of memory", (REFUSALS[OUT_OF_MEMORY][0], issubclass(hidzgula.OutOfMemory, MemoryError)), ("OUT_OF_MEMORY", True))
     same("an unknown one", Refused(99).name, "UNKNOWN")
 
@@ -158,5 +192,6 @@ with Station(1, 248, keep=3) as station:
 in_a_row()
 without_address()
 closed()
+of_units()
 numbers()
 sums()

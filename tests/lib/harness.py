@@ -3,7 +3,7 @@
     sys.path.insert(1, sys.path[0] + "/../lib")
     from harness import PROGRAM, TOP, Tally
 
-The program is crates/bench/out/bench, or what the environment's J1939BENCH names. A runner tells a tally of each try, and ends with
+The program is crates/j1939bench/out/j1939bench, or what the environment's J1939BENCH names. A runner tells a tally of each try, and ends with
 `sys.exit(tally.end())`, which prints the last line `NAME: N passed, M failed`. tests/lib/sums.sh reads that line.
 """
 
@@ -16,7 +16,7 @@ import sys
 sys.dont_write_bytecode = True
 TOP = pathlib.Path(__file__).resolve().parents[2]
 NAME = pathlib.Path(sys.argv[0]).name
-NAMED = os.environ.get("J1939BENCH", str(TOP / "crates/bench/out/bench"))
+NAMED = os.environ.get("J1939BENCH", str(TOP / "crates/j1939bench/out/j1939bench"))
 SUMS = re.compile(r"(?:\A|\n)(?:.*: )?(\d+) passed, (\d+) failed\n\Z")
 # (for the model)
 sys.path.insert(1, str(TOP / "tests"))

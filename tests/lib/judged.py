@@ -1,10 +1,12 @@
 """Which edits were refused, and of what files: the lines of tests/judged, one for each edit.
 
 A line has the edit and a sum of what its verdict rests on: the edit, its crate's own files, and the definitions of the crates below. (What
-else a crate below is made of can make this one fail its proof, and not an edit of it pass.)
+else a crate below is made of can make this one fail its proof, and not an edit of it pass.) Of these files a comment counts for nothing,
+and in one of Rattle neither does where a line ends: so words can be mended, and lines broken, without judging anything again.
 """
 import hashlib
 import os
+import re
 
 from harness import TOP
 
@@ -33,10 +35,23 @@ def sums_of(crate, below):
     return found
 
 
+# In Rattle: a text or a character; or what stands between words, comments among it.
+WORDS = re.compile(r'("(?:\\.|[^"\\])*"|\'(?:\\.|[^\'\\])\')|(?:\s|//[^\n]*)+', re.DOTALL)
+
+
+def meant(path, content):
+    """What of a file counts."""
+    if path.endswith(".rt"):
+        return WORDS.sub(lambda it: it[1] or " ", content)
+    if path.endswith(".antt"):
+        return "".join(f"{it}\n" for it in content.split("\n") if it.strip() and not it.lstrip().startswith("-- "))
+    return content
+
+
 def add(made, path):
-    with open(path, "rb") as it:
-        content = it.read()
-    made.update(f"{os.path.relpath(path, TOP)} {len(content)}\n".encode() + content)
+    with open(path, encoding="utf-8") as it:
+        content = meant(path, it.read())
+    made.update(f"{os.path.relpath(path, TOP)} {len(content)}\n{content}".encode())
 
 
 def read():

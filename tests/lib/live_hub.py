@@ -30,7 +30,8 @@ class Bus:
         program.told = []
         program.written = []
         threading.Thread(target=self.listen, args=(number, program, hears_only), daemon=True).start()
-        threading.Thread(target=self.keep, args=(program,), daemon=True).start()
+        program.keeper = threading.Thread(target=self.keep, args=(program,), daemon=True)
+        program.keeper.start()
         return number
 
     def listen(self, number, program, hears_only):
@@ -65,7 +66,7 @@ class Bus:
         time.sleep(wait)
 
     def end(self):
-        """Closes every input; answers each program's status."""
+        """Closes every input; answers each program's status, once all that it told is read."""
         self.coming.put((None, None))
         self.carrier.join()
         for program in self.programs:
@@ -73,4 +74,7 @@ class Bus:
                 program.stdin.close()
             except OSError:
                 pass
-        return [program.wait(timeout=20) for program in self.programs]
+        statuses = [program.wait(timeout=20) for program in self.programs]
+        for program in self.programs:
+            program.keeper.join(timeout=20)
+        return statuses

@@ -4,14 +4,19 @@ Written from docs/LIVE.md and docs/DECISIONS.md ("Times on a real bus" and those
 `model.unit`'s; here stand the lanes in which it waits, and the times.
 """
 
-from .frames import (ABORT, CLAIM, CONTROL, CTS, DM1, GLOBAL, PACKET, RTS, TITLES, broadcast, claimed_name, control_of, control_pgn,
+from .frames import (ABORT, CLAIM, CONTROL, CTS, DM1, GLOBAL, PACKET, REQUEST, RTS, TITLES, broadcast, claimed_name, control_of, control_pgn,
                      requested, three, to_all, to_one)
 from .memory import Code
 from .unit import ALL, Unit
 
 LANES = ("claims", "singles", "session", "messages")
 ROOM = 64
-ANSWER_WITHIN, HELD_FOR, DM1_PERIOD = 1_250_000, 1_050_000, 1_000_000
+ANSWER_WITHIN, HELD_FOR, DM1_PERIOD, DAY = 1_250_000, 1_050_000, 1_000_000, 86_400_000_000
+
+
+def needs_room(frame):
+    """Whether a frame may have a unit put something beside what waits: a request, a request to send, a clear to send."""
+    return frame.pgn == REQUEST and requested(frame) is not None or frame.pgn == CONTROL and control_of(frame) in (RTS, CTS)
 
 
 def parting(session, source):
@@ -97,42 +102,43 @@ class LiveUnit(Unit):
         return sum(len(piece) for lane in LANES for piece in self.lanes[lane])
 
     def has_room(self):
-        return all(len(self.lanes[lane]) < ROOM for lane in LANES)
+        return max(map(len, self.lanes.values())) < ROOM
 
     # Hearing.
 
     def listen(self, place, now):
         frame = self.wire[place][1]
-        may_put = requested(frame) is not None or frame.pgn == CONTROL and control_of(frame) in (RTS, CTS)
-        if may_put and not self.has_room():
+        if needs_room(frame) and not self.has_room():
             self.unheard += 1
             return
         self.heard += 1
-        session, before = self.session, self.held
-        held_open = (
-            session is not None and frame.pgn == CONTROL and control_of(frame) == CTS and frame.data[1] == 0
-            and frame.dest == before and before is not None and frame.source == session.dest and control_pgn(frame) == session.kind
-        )
+        before, held_open = self.held, self.is_held_open(frame)
         self.hear(place)
         if held_open:
             self.alone_at = now + HELD_FOR
         if before is not None and self.held is None:
             self.claim_at = now + 1000 * (self.name % (1 << 21) % 154)
 
+    def is_held_open(self, frame):
+        """Whether the receiver of the open session says that it can take no packet yet."""
+        session = self.session
+        return (
+            session is not None and frame.pgn == CONTROL and control_of(frame) == CTS and frame.data[1] == 0
+            and self.held is not None and frame.dest == self.held and frame.source == session.dest and control_pgn(frame) == session.kind
+        )
+
     # What it does of its own accord.
 
     def has_to_tell(self):
         return bool(self.memory.active) or self.memory.lamps[0] != 0
 
-    def act(self, now):
-        for _ in range(8):
-            if not self.has_room():
-                return
-            if self.session and not self.lanes["session"] and self.alone_at <= now:
+    def act(self, now, most=8):
+        for _ in range(most):
+            if self.is_left_alone(now) and self.has_room():
                 session = self.session
                 self.end_session()
                 self.put(parting(session, self.held))
-            elif self.is_dm1_due(now):
+            elif self.is_dm1_due(now) and self.has_room():
                 payload = self.memory.payload(DM1)
                 if len(payload) == 8:
                     self.put(to_all(6, DM1, self.held, payload))
@@ -141,6 +147,9 @@ class LiveUnit(Unit):
                 self.dm1_at, self.told = now + DM1_PERIOD, self.has_to_tell()
             else:
                 return
+
+    def is_left_alone(self, now):
+        return self.session is not None and not self.lanes["session"] and self.alone_at <= now
 
     def is_dm1_due(self, now):
         return (
@@ -196,7 +205,7 @@ class Playback:
     """Units, and the lines that they hear at the times of these. `out` has what was written: pairs of a time and a frame."""
 
     def __init__(self):
-        self.units, self.turn, self.wire, self.out, self.clock = [], 0, Wire(), [], None
+        self.units, self.turn, self.wire, self.out, self.clock, self.timed = [], 0, Wire(), [], None, False
 
     def hear(self, frame, now):
         self.wire.take(frame)
@@ -230,6 +239,9 @@ class Playback:
         self.clock = until
 
     def take(self, frame, time):
+        if time is not None and self.clock is not None and (not self.timed or time - self.clock > DAY):
+            self.clock = None
+        self.timed = self.timed or time is not None
         before = 0 if self.clock is None else self.clock
         now = before if time is None else max(time, before)
         self.write_until(now)

@@ -40,7 +40,8 @@ pub fn read_claim(frame: &Frame) -> Result<Claim, ClaimError>
     ensures accepted { IsOk result ↔ IsClaimFrame frame.now }
     ensures not_this { IsErrOf result ClaimError.NotThis ↔ (IsClaimFrame frame.now → ⊥) }
     ensures source { IfOk result (λ c. c.source ≤ NULL_ADDRESS) }
-    ensures reads_back { (name : ℕ) (address : Option ℕ) → name < 2 ^ 64 → IfSome address (λ a. a ≤ GREATEST_ADDRESS) → frame.now ≡ claim_frame_value name address → result ≡ Ok (record { source = claim_source address; name = name }) }
+    ensures reads_back { (name : ℕ) (address : Option ℕ) → name < 2 ^ 64 → IfSome address (λ a. a ≤ GREATEST_ADDRESS)
+        → frame.now ≡ claim_frame_value name address → result ≡ Ok (record { source = claim_source address; name = name }) }
 {
     let id = frame.id();
     let source = id.source();

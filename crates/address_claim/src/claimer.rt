@@ -121,8 +121,8 @@ impl Claimer {
         Ok(step)
     }
 
-    /// Notes a claim of an address, 0 to 253, of which one was noted before, and answers the NAME in that one; else nothing changes.
-    /// What is held stays as it is. Takes no memory.
+    /// Notes a claim of an address, 0 to 253, of which one was noted before, and answers the NAME in that one; else nothing
+    /// changes. What is held stays as it is. Takes no memory.
     pub fn renote(&mut self, source: u8, name: Name) -> Option<Name>
         requires { source ≤ GREATEST_ADDRESS }
         ensures last { result ≡ slice_index_or self.old.noted source None }

@@ -69,11 +69,11 @@ free_name a v name seats live is kept es el w =
     let w' : P a.seats.items a.live.items = subst (λ (s : List SeatBook). P s a.live.items) es (subst (λ (l : List ℕ). P seats l) el w) in
     ap (λ (b : BusValue). is_in_use name b.traffic) (sym is) ∙ not_in_use a name kept w'
 
-units_are : (a : Inside) (v : BusValue) → bus_value_of a ≡ v → IsKept a → live_units v.traffic ≡ length a.live.items - length a.taps.items
+units_are : (a : Inside) (v : BusValue) → bus_value_of a ≡ v → IsKept a → live_units v.traffic ≡ length a.live.items - length a.receive_windows.items
 units_are a v is kept = ap (λ (b : BusValue). live_units b.traffic) (sym is) ∙ (ap (λ (n : ℕ). n - length (traffic_of a).windows) (sym (live_count 0 a.seats.items) ∙ ap length (sym kept.live)) ∙ ap (λ (n : ℕ). length a.live.items - n) (stations_are a (bus_value_of a) refl))
 
 pub refused_many : (a : Inside) (v : BusValue) (name : ℕ) (seats : List SeatBook) (live : List ℕ) → bus_value_of a ≡ v → IsKept a → seats ≡ a.seats.items → live ≡ a.live.items
-    → ((i : ℕ) → i < length live → (book_at seats (get_or live i 0)).seat.name ≢ name) → length a.taps.items + 64 ≤ length live → Some TooManySeats ≡ join_refusal name v.traffic
+    → ((i : ℕ) → i < length live → (book_at seats (get_or live i 0)).seat.name ≢ name) → length a.receive_windows.items + 64 ≤ length live → Some TooManySeats ≡ join_refusal name v.traffic
 refused_many a v name seats live is kept es el w many =
     let free = free_name a v name seats live is kept es el w in
     let n : length live ≡ length a.live.items = ap length el in
@@ -82,7 +82,7 @@ refused_many a v name seats live is kept es el w many =
     rw (free, full) refl
 
 pub not_refused : (a : Inside) (v : BusValue) (name : ℕ) (seats : List SeatBook) (live : List ℕ) → bus_value_of a ≡ v → IsKept a → seats ≡ a.seats.items → live ≡ a.live.items
-    → ((i : ℕ) → i < length live → (book_at seats (get_or live i 0)).seat.name ≢ name) → length live < length a.taps.items + 64 → None ≡ join_refusal name v.traffic
+    → ((i : ℕ) → i < length live → (book_at seats (get_or live i 0)).seat.name ≢ name) → length live < length a.receive_windows.items + 64 → None ≡ join_refusal name v.traffic
 not_refused a v name seats live is kept es el w few =
     let free = free_name a v name seats live is kept es el w in
     let n : length live ≡ length a.live.items = ap length el in

@@ -35,7 +35,7 @@ opened_seats (b ∷ bs) (s ∷ ss) are =
     let rest = opened_seats bs ss (omega arith, λ y h. are.1 (suc y) (omega arith)) in
     ap (λ (x : SeatValue). x ∷ map seat_of bs) first ∙ ap (λ (l : List SeatValue). seat_of_station s ∷ l) rest
 
-opened_windows : (taps : List WindowValue) (stations : List StationSeat) → AreTapsOf taps stations (length stations) → map size_of taps ≡ map window_of_station stations
+opened_windows : (receive_windows : List WindowValue) (stations : List StationSeat) → AreTapsOf receive_windows stations (length stations) → map size_of receive_windows ≡ map window_of_station stations
 opened_windows [] [] are = refl
 opened_windows [] (s ∷ ss) are = absurd (let n = are.0 in omega arith)
 opened_windows (w ∷ ws) [] are = absurd (let n = are.0 in omega arith)
@@ -78,25 +78,25 @@ sound_opened stations some few windows =
 empty : (n : ℕ) → seen_through n [] ≡ window n [] 0
 empty n = let e : 0 - n ≡ 0 = omega arith in rw e refl
 
-pub opened_traffic : (b : Inside) (stations : List StationSeat) → b.wire.items ≡ [] → AreSeatsOf b.seats.items stations (length stations) → AreTapsOf b.taps.items stations (length stations) → traffic_of b ≡ new_traffic stations
-opened_traffic b stations wire seats taps =
+pub opened_traffic : (b : Inside) (stations : List StationSeat) → b.wire.items ≡ [] → AreSeatsOf b.seats.items stations (length stations) → AreTapsOf b.receive_windows.items stations (length stations) → traffic_of b ≡ new_traffic stations
+opened_traffic b stations wire seats receive_windows =
     let s = opened_seats b.seats.items stations seats in
-    let w = opened_windows b.taps.items stations taps in
+    let w = opened_windows b.receive_windows.items stations receive_windows in
     cc
 
 pub opened_kept : (b : Inside) (stations : List StationSeat) → 0 < length stations → length stations ≤ 8 → All (λ s. HasWindow s.window) stations → b.wire.items ≡ [] → AreSeatsOf b.seats.items stations (length stations)
-    → AreNumbers b.live.items (length stations) → AreTapsOf b.taps.items stations (length stations) → IsKept b
-opened_kept b stations some few windows wire seats numbers taps =
-    let t = opened_traffic b stations wire seats taps in
+    → AreNumbers b.live.items (length stations) → AreTapsOf b.receive_windows.items stations (length stations) → IsKept b
+opened_kept b stations some few windows wire seats numbers receive_windows =
+    let t = opened_traffic b stations wire seats receive_windows in
     let many = seats.0 in
     let as_many = numbers.0 in
-    let ring = taps.0 in
+    let ring = receive_windows.0 in
     record {
       sound = subst IsSound (sym t) (sound_opened stations some few windows);
-      taps = λ y h.
+      receive_windows = λ y h.
           let h' : y < length stations = omega arith in
           let unread : not_yet_read (new_traffic stations) y ≡ [] = drop_all (seat_at (new_traffic stations) y).heard [] (omega arith) in
-          taps.1 y h' ∙ (ap (λ (n : ℕ). window n [] 0) (sym (station_window stations y h'))
+          receive_windows.1 y h' ∙ (ap (λ (n : ℕ). window n [] 0) (sym (station_window stations y h'))
           ∙ (sym (ap (λ (us : List CarriedFrame). seen_through (window_at (new_traffic stations) y) (map frame_of us)) unread ∙ empty (window_at (new_traffic stations) y)) ∙ ap (λ (u : Traffic). window_of u y) (sym t)));
       live = opened_live 0 b.seats.items b.live.items (omega arith) (λ y h. ap (λ (s : SeatValue). s.live) (seats.1 y (omega arith)).0) (λ y h. let g = numbers.1 y (omega arith) in omega arith);
       few_seats = omega arith;

@@ -58,7 +58,7 @@ sound_set t k y s in' live balanced = record {
 
 -- a bus in whose list of seats one is replaced
 abbrev pub placed : Inside → ℕ → SeatBook → Inside
-placed a k y = record { wire = a.wire; seats = with_item a.seats k y; live = a.live; taps = a.taps }
+placed a k y = record { wire = a.wire; seats = with_item a.seats k y; live = a.live; receive_windows = a.receive_windows }
 
 pub within : (a : Inside) (v : BusValue) (k : ℕ) → bus_value_of a ≡ v → k < length v.traffic.seats → k < length a.seats.items
 within a v k is h =
@@ -78,7 +78,7 @@ spare_is a v k x is in' read =
 
 pub placed_traffic : (a : Inside) (v : BusValue) (k : ℕ) (y : SeatBook) (s : SeatValue) → bus_value_of a ≡ v → y.seat ≡ s → traffic_of (placed a k y) ≡ with_seat v.traffic k s
 placed_traffic a v k y s is e =
-    ap (λ (l : List SeatValue). let t : Traffic = record { wire = a.wire.items; seats = l; windows = map size_of a.taps.items } in t) (map-set seat_of a.seats.items k y)
+    ap (λ (l : List SeatValue). let t : Traffic = record { wire = a.wire.items; seats = l; windows = map size_of a.receive_windows.items } in t) (map-set seat_of a.seats.items k y)
     ∙ (ap (λ (z : SeatValue). with_seat (traffic_of a) k z) e ∙ ap (λ (b : BusValue). with_seat b.traffic k s) is)
 
 -- a seat replaced by itself
@@ -112,7 +112,7 @@ placed_sound : (a : Inside) (k : ℕ) (x y : SeatBook) → IsKept a → k < leng
 placed_sound a k x y kept in' read live balanced =
     let s = seat_is a (bus_value_of a) k x refl in' read in
     let in'' : k < length (map seat_of a.seats.items) = rw length-map in' in
-    subst (λ (l : List SeatValue). IsSound (record { wire = a.wire.items; seats = l; windows = map size_of a.taps.items })) (sym (map-set seat_of a.seats.items k y))
+    subst (λ (l : List SeatValue). IsSound (record { wire = a.wire.items; seats = l; windows = map size_of a.receive_windows.items })) (sym (map-set seat_of a.seats.items k y))
     (sound_set (traffic_of a) k y.seat kept.sound in''
     (λ station. live ∙ (ap (λ (b : SeatValue). b.live) s ∙ kept.sound.stations k station))
     (λ b. balanced (subst (λ (v : SeatValue). IsBalanced a.wire.items k v) (sym s) b)))
@@ -132,7 +132,7 @@ placed_kept a k x y kept in' read live heard balanced =
     λ i h z. heard (subst (IsStation (traffic_of a)) (sym z) h) ∙ (ap (λ (b : SeatValue). b.heard) s ∙ ap (λ (n : ℕ). (seat_at (traffic_of a) n).heard) z) in
     record {
       sound = placed_sound a k x y kept in' read live balanced;
-      taps = λ i h. kept.taps i h ∙ sym (ap (λ (t : Traffic). window_of t i) (placed_traffic a (bus_value_of a) k y y.seat refl refl) ∙ window_set i (traffic_of a) k y.seat in'' (same i (let n = stations_are a (bus_value_of a) refl in omega arith)));
+      receive_windows = λ i h. kept.receive_windows i h ∙ sym (ap (λ (t : Traffic). window_of t i) (placed_traffic a (bus_value_of a) k y y.seat refl refl) ∙ window_set i (traffic_of a) k y.seat in'' (same i (let n = stations_are a (bus_value_of a) refl in omega arith)));
       live = placed_live a k x y kept in' read live;
       few_seats = rw (length-set a.seats.items k y) kept.few_seats;
       few_frames = kept.few_frames;
@@ -274,17 +274,17 @@ passes_within t y s given =
 
 -- a bus of which a station has taken a reading
 abbrev pub tapped : Inside → ℕ → SeatBook → WindowValue → Inside
-tapped a s y w = record { wire = a.wire; seats = with_item a.seats s y; live = a.live; taps = with_item a.taps s w }
+tapped a s y w = record { wire = a.wire; seats = with_item a.seats s y; live = a.live; receive_windows = with_item a.receive_windows s w }
 
 -- the window that was read of
-pub read_tap : (a : Inside) (s : ℕ) (u : WindowValue) → s < length a.taps.items → u ≡ get_or a.taps.items s u → u ≡ tap_at a s
-read_tap a s u h read = get_or_read a.taps.items s u h read no_window
+pub read_tap : (a : Inside) (s : ℕ) (u : WindowValue) → s < length a.receive_windows.items → u ≡ get_or a.receive_windows.items s u → u ≡ tap_at a s
+read_tap a s u h read = get_or_read a.receive_windows.items s u h read no_window
 
-tapped_sizes : (a : Inside) (s : ℕ) (u w : WindowValue) → s < length a.taps.items → u ≡ get_or a.taps.items s u → w ≡ rest_of u → map size_of (set a.taps.items s w) ≡ map size_of a.taps.items
+tapped_sizes : (a : Inside) (s : ℕ) (u w : WindowValue) → s < length a.receive_windows.items → u ≡ get_or a.receive_windows.items s u → w ≡ rest_of u → map size_of (set a.receive_windows.items s w) ≡ map size_of a.receive_windows.items
 tapped_sizes a s u w h read rest =
-    set_sizes a.taps.items s w (ap (λ (z : WindowValue). z.size) rest ∙ (rest_size u ∙ ap (λ (z : WindowValue). z.size) (read_tap a s u h read)))
+    set_sizes a.receive_windows.items s w (ap (λ (z : WindowValue). z.size) rest ∙ (rest_size u ∙ ap (λ (z : WindowValue). z.size) (read_tap a s u h read)))
 
-pub tapped_traffic : (a : Inside) (v : BusValue) (s n : ℕ) (x y : SeatBook) (u w : WindowValue) → bus_value_of a ≡ v → IsKept a → IsStation v.traffic s → x ≡ get_or a.seats.items s x → u ≡ get_or a.taps.items s u → w ≡ rest_of u
+pub tapped_traffic : (a : Inside) (v : BusValue) (s n : ℕ) (x y : SeatBook) (u w : WindowValue) → bus_value_of a ≡ v → IsKept a → IsStation v.traffic s → x ≡ get_or a.seats.items s x → u ≡ get_or a.receive_windows.items s u → w ≡ rest_of u
     → y.seat ≡ hearing n x.seat → traffic_of (tapped a s y w) ≡ heard_more s n v.traffic
 tapped_traffic a v s n x y u w is kept st read first rest e =
     let sound : IsSound v.traffic = subst (λ (b : BusValue). IsSound b.traffic) is kept.sound in
@@ -293,7 +293,7 @@ tapped_traffic a v s n x y u w is kept st read first rest e =
     ∙ changed_traffic (hearing n) a v s x y is (station_given v.traffic s sound st) read e
 
 pub read_kept : (a : Inside) (v : BusValue) (s n : ℕ) (x y : SeatBook) (u w : WindowValue) → bus_value_of a ≡ v → IsKept a → IsStation v.traffic s → x ≡ get_or a.seats.items s x → n ≡ passes (next_reading v.traffic s)
-    → u ≡ get_or a.taps.items s u → w ≡ rest_of u → y.seat ≡ hearing n x.seat → IsKept (tapped a s y w)
+    → u ≡ get_or a.receive_windows.items s u → w ≡ rest_of u → y.seat ≡ hearing n x.seat → IsKept (tapped a s y w)
 read_kept a v s n x y u w is kept st read passed first rest e =
     let sound : IsSound v.traffic = subst (λ (b : BusValue). IsSound b.traffic) is kept.sound in
     let given = station_given v.traffic s sound st in
@@ -311,11 +311,11 @@ read_kept a v s n x y u w is kept st read passed first rest e =
     rest ∙ (ap rest_of (read_tap a s u here first ∙ tap_is a v s is kept st) ∙ (window_rest v.traffic s given ∙ ap (λ (m : ℕ). window_of (heard_more s m v.traffic) s) (sym passed))) in
     record {
       sound = subst (λ (m : List ℕ). IsSound (record { wire = a.wire.items; seats = map seat_of (set a.seats.items s y); windows = m })) (sym sizes) placed_is;
-      taps = λ i h.
-          let h' : i < length a.taps.items = (let l = length-set a.taps.items s w in omega arith) in
+      receive_windows = λ i h.
+          let h' : i < length a.receive_windows.items = (let l = length-set a.receive_windows.items s w in omega arith) in
           elim (same_or_not i s) [
-            | inl z ↦ ap (window_in (set a.taps.items s w)) z ∙ (get_or-set_same a.taps.items s w no_window here ∙ (own ∙ (ap (λ (t : Traffic). window_of t s) (sym now) ∙ ap (window_of (traffic_of (tapped a s y w))) (sym z))))
-            | inr z ↦ get_or-set_other a.taps.items s i w no_window z ∙ (kept.taps i h' ∙ (ap (λ (b : BusValue). window_of b.traffic i) is
+            | inl z ↦ ap (window_in (set a.receive_windows.items s w)) z ∙ (get_or-set_same a.receive_windows.items s w no_window here ∙ (own ∙ (ap (λ (t : Traffic). window_of t s) (sym now) ∙ ap (window_of (traffic_of (tapped a s y w))) (sym z))))
+            | inr z ↦ get_or-set_other a.receive_windows.items s i w no_window z ∙ (kept.receive_windows i h' ∙ (ap (λ (b : BusValue). window_of b.traffic i) is
                 ∙ (sym (window_set i v.traffic s (hearing n (seat_at v.traffic s)) given (λ c. absurd (z (sym c)))) ∙ ap (λ (t : Traffic). window_of t i) (sym now))))
           ];
       live = placed_live a s x y kept in' read live;
@@ -328,7 +328,7 @@ pub pass_seat : (a : Inside) (v : BusValue) (s : ℕ) → bus_value_of a ≡ v �
 pass_seat a v s is kept st = within a v s is (station_given v.traffic s (subst (λ (b : BusValue). IsSound b.traffic) is kept.sound) st)
 
 -- what its window and its seat say of the reading that is passed over
-pub pass_count : (a : Inside) (v : BusValue) (s n : ℕ) (u : WindowValue) → bus_value_of a ≡ v → IsKept a → IsStation v.traffic s → u ≡ get_or a.taps.items s u → n ≡ passes (reading_of u) → n ≡ passes (next_reading v.traffic s)
+pub pass_count : (a : Inside) (v : BusValue) (s n : ℕ) (u : WindowValue) → bus_value_of a ≡ v → IsKept a → IsStation v.traffic s → u ≡ get_or a.receive_windows.items s u → n ≡ passes (reading_of u) → n ≡ passes (next_reading v.traffic s)
 pass_count a v s n u is kept st first count =
     count ∙ ap passes (ap reading_of (read_tap a s u (station_within a v s is st) first ∙ tap_is a v s is kept st) ∙ window_reading v.traffic s)
 

@@ -20,18 +20,18 @@ same_sizes (w ∷ ws) (x ∷ xs) e h =
     ap (λ (n : ℕ). n ∷ map size_of ws) first ∙ ap (λ (l : List ℕ). x.size ∷ l) rest
 
 -- as many windows as stations
-pub stations_are : (a : Inside) (v : BusValue) → bus_value_of a ≡ v → length v.traffic.windows ≡ length a.taps.items
-stations_are a v is = ap (λ (b : BusValue). length b.traffic.windows) (sym is) ∙ length-map a.taps.items size_of
+pub stations_are : (a : Inside) (v : BusValue) → bus_value_of a ≡ v → length v.traffic.windows ≡ length a.receive_windows.items
+stations_are a v is = ap (λ (b : BusValue). length b.traffic.windows) (sym is) ∙ length-map a.receive_windows.items size_of
 
-pub station_within : (a : Inside) (v : BusValue) (y : ℕ) → bus_value_of a ≡ v → IsStation v.traffic y → y < length a.taps.items
+pub station_within : (a : Inside) (v : BusValue) (y : ℕ) → bus_value_of a ≡ v → IsStation v.traffic y → y < length a.receive_windows.items
 station_within a v y is h = let n = stations_are a v is in omega arith
 
 -- a station's window as callers see it
 pub tap_is : (a : Inside) (v : BusValue) (y : ℕ) → bus_value_of a ≡ v → IsKept a → IsStation v.traffic y → tap_at a y ≡ window_of v.traffic y
-tap_is a v y is kept h = kept.taps y (station_within a v y is h) ∙ ap (λ (b : BusValue). window_of b.traffic y) is
+tap_is a v y is kept h = kept.receive_windows y (station_within a v y is h) ∙ ap (λ (b : BusValue). window_of b.traffic y) is
 
 -- no more frames were missed than were carried
-pub may_miss : (a : Inside) (v : BusValue) → bus_value_of a ≡ v → IsKept a → length v.traffic.wire + 1 < 2 ^ 32 → AllMayMiss a.taps.items
+pub may_miss : (a : Inside) (v : BusValue) → bus_value_of a ≡ v → IsKept a → length v.traffic.wire + 1 < 2 ^ 32 → AllMayMiss a.receive_windows.items
 may_miss a v is kept few y h =
     let n = stations_are a v is in
     let t = ap (λ (w : WindowValue). w.missed) (tap_is a v y is kept (omega arith)) in

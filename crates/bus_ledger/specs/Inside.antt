@@ -14,10 +14,10 @@ abbrev pub spare_of : SeatBook → ℕ
 spare_of b = b.spare
 
 abbrev pub traffic_of : Inside → Traffic
-traffic_of b = record { wire = b.wire.items; seats = map seat_of b.seats.items; windows = map size_of b.taps.items }
+traffic_of b = record { wire = b.wire.items; seats = map seat_of b.seats.items; windows = map size_of b.receive_windows.items }
 
 abbrev pub tap_at : Inside → ℕ → WindowValue
-tap_at b y = window_in b.taps.items y
+tap_at b y = window_in b.receive_windows.items y
 
 abbrev pub bus_value_of : Inside → BusValue
 bus_value_of b = record { traffic = traffic_of b; spares = map spare_of b.seats.items }
@@ -29,7 +29,7 @@ live_numbers n (b ∷ bs) = cond b.seat.live (n ∷ live_numbers (suc n) bs) (li
 
 pub record IsKept (b : Inside) : Type 0 where
   pub sound : IsSound (traffic_of b)
-  pub taps : (y : ℕ) → y < length b.taps.items → tap_at b y ≡ window_of (traffic_of b) y
+  pub receive_windows : (y : ℕ) → y < length b.receive_windows.items → tap_at b y ≡ window_of (traffic_of b) y
   pub live : b.live.items ≡ live_numbers 0 b.seats.items
   pub few_seats : length b.seats.items < 2 ^ 32
   pub few_frames : length b.wire.items < 2 ^ 32

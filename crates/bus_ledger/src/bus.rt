@@ -3,8 +3,8 @@ ghost use Rattle.std.specs.List.{filter};
 
 use crate::error::BusError;
 use crate::offers::is_name_among;
+use crate::receive_window::ReceiveWindow;
 use crate::seat::Seat;
-use crate::tap::Tap;
 use crate::traffic::Counts;
 use crate::wire_frame::WireFrame;
 use can_frame::Frame;
@@ -33,7 +33,7 @@ pub struct Bus {
     // the numbers of the live seats, in order
     live: Vec<u32>,
     // for each station the unread frames of the other seats, as far as its window holds them
-    taps: Vec<Tap>,
+    receive_windows: Vec<ReceiveWindow>,
 }
 
 impl Model for Bus {
@@ -64,8 +64,10 @@ impl Bus {
     /// Refused, in this order, where a live seat has the NAME, where 64 units are live, and where there is no memory.
     pub fn join(&mut self, name: Name) -> Result<u32, BusError>
         requires { length self.old.traffic.seats + 1 < 2 ^ 32 }
-        ensures ok { IfOk result (λ k. (k ≡ length self.old.traffic.seats) × (join_refusal name self.old.traffic ≡ None) × (self.new.traffic ≡ with_newcomer name self.old.traffic)) }
-        ensures err { IfErr result (λ e. (join_refusal name self.old.traffic ≡ Some e) ⊎ ((join_refusal name self.old.traffic ≡ None) × (e ≡ BusError.OutOfMemory))) }
+        ensures ok { IfOk result (λ k. (k ≡ length self.old.traffic.seats) × (join_refusal name self.old.traffic ≡ None)
+            × (self.new.traffic ≡ with_newcomer name self.old.traffic)) }
+        ensures err { IfErr result (λ e. (join_refusal name self.old.traffic ≡ Some e)
+            ⊎ ((join_refusal name self.old.traffic ≡ None) × (e ≡ BusError.OutOfMemory))) }
         ensures same { OnErr result (self.new.traffic ≡ self.old.traffic) }
         ensures spares { KeepsSpares self.old self.new }
         ensures room { IfOk result (λ k. 1 ≤ spare_at self.new k) }
@@ -90,7 +92,7 @@ impl Bus {
         if is_name_among(self.seats.as_slice(), self.live.as_slice(), name) {
             return Err(BusError::NameInUse);
         }
-        if self.live.len() >= self.taps.len() + MOST_UNITS {
+        if self.live.len() >= self.receive_windows.len() + MOST_UNITS {
             return Err(BusError::TooManySeats);
         }
         Ok(())
@@ -101,7 +103,7 @@ impl Bus {
         ensures { SomeIff result (IsUnit self.now.traffic seat) (seat_at self.now.traffic seat).name }
     {
         let place = self.seats.get(seat as usize)?;
-        if (seat as usize) < self.taps.len() || !place.is_live() {
+        if (seat as usize) < self.receive_windows.len() || !place.is_live() {
             return None;
         }
         Some(place.name())
@@ -141,7 +143,7 @@ impl Bus {
         ensures count { result ≡ length self.now.traffic.windows }
         ensures sound { IsSound self.now.traffic }
     {
-        self.taps.len() as u32
+        self.receive_windows.len() as u32
     }
 
     /// How many frames were carried.

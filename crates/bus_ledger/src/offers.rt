@@ -182,7 +182,8 @@ fn is_one_of_two_below(seats: &[Seat], from: usize, lowest: u32, wire_len: u32) 
 /// Whether a live seat has a frame in its queue.
 pub(crate) fn is_any_waiting(seats: &[Seat], live: &[u32]) -> bool
     requires { IsInOrder seats.now live.now }
-    ensures { MatchBool result ((k : ℕ) × (0 < length (book_at seats.now k).seat.queue)) ((i : ℕ) → i < length live.now → (book_at seats.now (slice_index live.now i)).seat.queue ≡ []) }
+    ensures { MatchBool result ((k : ℕ) × (0 < length (book_at seats.now k).seat.queue))
+        ((i : ℕ) → i < length live.now → (book_at seats.now (slice_index live.now i)).seat.queue ≡ []) }
 {
     for number in live {
         if seats[*number as usize].is_waiting() {
@@ -195,7 +196,8 @@ pub(crate) fn is_any_waiting(seats: &[Seat], live: &[u32]) -> bool
 /// Whether a live seat has this NAME.
 pub(crate) fn is_name_among(seats: &[Seat], live: &[u32], name: Name) -> bool
     requires { IsInOrder seats.now live.now }
-    ensures { MatchBool result ((i : ℕ) × (i < length live.now) × ((book_at seats.now (slice_index live.now i)).seat.name ≡ name)) ((i : ℕ) → i < length live.now → (book_at seats.now (slice_index live.now i)).seat.name ≢ name) }
+    ensures { MatchBool result ((i : ℕ) × (i < length live.now) × ((book_at seats.now (slice_index live.now i)).seat.name ≡ name))
+        ((i : ℕ) → i < length live.now → (book_at seats.now (slice_index live.now i)).seat.name ≢ name) }
 {
     for number in live {
         if seats[*number as usize].name() == name {

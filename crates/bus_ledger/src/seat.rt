@@ -100,7 +100,8 @@ impl Seat {
 
     /// Whether it offers a frame whose identifier's number is lower than this one.
     pub(crate) fn offers_below(&self, lowest: u32, wire_len: u32) -> bool
-        ensures { MatchBool result (OffersBelow lowest (offered wire_len self.now.seat)) (OffersNoneBelow lowest (offered wire_len self.now.seat)) }
+        ensures { MatchBool result (OffersBelow lowest (offered wire_len self.now.seat))
+            (OffersNoneBelow lowest (offered wire_len self.now.seat)) }
     {
         self.front < lowest && self.heard == wire_len && self.live
     }
@@ -114,7 +115,8 @@ impl Seat {
 
     /// The place of its queue whose first frame it offers, once it has heard the whole wire.
     fn offering(&self, wire_len: u32) -> Option<&Queued>
-        ensures { MatchOption result (offered wire_len self.now.seat ≡ None) (λ p. offered wire_len self.now.seat ≡ slice_get (frames_at p.now) 0) }
+        ensures { MatchOption result (offered wire_len self.now.seat ≡ None)
+            (λ p. offered wire_len self.now.seat ≡ slice_get (frames_at p.now) 0) }
     {
         if self.live && self.heard == wire_len {
             let first = self.queue.front()?;

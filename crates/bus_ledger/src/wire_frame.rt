@@ -7,7 +7,7 @@ use std::marker::Model;
 
 /// Where a frame on the wire came from, and whether it is part of a message.
 #[derive(Drop)]
-pub(crate) enum Origin {
+pub(crate) enum FrameOrigin {
     /// From outside: from no seat, and no part of a message.
     Outside,
     /// From a seat, and no part of a message.
@@ -27,7 +27,7 @@ pub(crate) struct WireFrame {
     // the message and the part are 0 where it is part of none
     message: u32,
     part: u16,
-    origin: Origin,
+    origin: FrameOrigin,
 }
 
 impl Model for WireFrame {
@@ -51,14 +51,14 @@ impl WireFrame {
                 seat,
                 message: tag.message,
                 part: tag.part,
-                origin: Origin::of_part(tag.session),
+                origin: FrameOrigin::of_part(tag.session),
             },
             None => WireFrame {
                 frame,
                 seat,
                 message: 0,
                 part: 0,
-                origin: Origin::Plain,
+                origin: FrameOrigin::Plain,
             },
         }
     }
@@ -72,7 +72,7 @@ impl WireFrame {
             seat: 0,
             message: 0,
             part: 0,
-            origin: Origin::Outside,
+            origin: FrameOrigin::Outside,
         }
     }
 
@@ -85,17 +85,17 @@ impl WireFrame {
     }
 }
 
-impl Origin {
+impl FrameOrigin {
     ghost use Rattle.bus_ledger.specs.Origins.{part_origin};
 
     /// That of a part of a message, in a session or not.
-    fn of_part(session: bool) -> Origin
+    fn of_part(session: bool) -> FrameOrigin
         ensures { result ≡ part_origin session }
     {
         if session {
-            Origin::Session
+            FrameOrigin::Session
         } else {
-            Origin::Broadcast
+            FrameOrigin::Broadcast
         }
     }
 }

@@ -15,7 +15,7 @@ use Rattle.station_table.proofs.RowLemmas.{named}
 use Rattle.bus_watch.specs.Runs.{entries_in, lists_shown, newest_time, runs_under, units_in, units_shown, unrolled, who_of}
 use Rattle.bus_watch.specs.Told.{Beginning, StandsForAll, Told, all_said, readings_said}
 use Rattle.bus_watch.specs.WatchValue.{WatchValue}
-use Rattle.bus_watch.specs.declared.run.Run.{Run}
+use Rattle.bus_watch.specs.declared.run.EntryRun.{EntryRun}
 
 pub names_as_heard : (w : WatchValue) (b : Beginning) (ts : List Told) (n : ℕ) → n ≡ length w.listener.rows → StandsForAll b ts w → n ≡ length (names_heard (readings_said b ts))
 names_as_heard w b ts n e s = e ∙ (sym (length-map w.listener.rows named) ∙ ap (λ (l : List ℕ). length l) s.heard.listener.names)
@@ -36,7 +36,7 @@ pub unit_as_heard : (w : WatchValue) (b : Beginning) (ts : List Told) (place : �
     → o ≡ slice_get (units_in w.lists) place → StandsForAll b ts w → o ≡ slice_get (units_shown b.selection (all_said b ts).moments) place
 unit_as_heard w b ts place o e s = e ∙ ap (λ (l : List Who). slice_get l place) s.heard.units
 
-pub runs_as_heard : (w : WatchValue) (b : Beginning) (ts : List Told) (who : Who) (kind : Kind) (l : List Run) → l ≡ runs_under w.lists who kind → StandsForAll b ts w
+pub runs_as_heard : (w : WatchValue) (b : Beginning) (ts : List Told) (who : Who) (kind : Kind) (l : List EntryRun) → l ≡ runs_under w.lists who kind → StandsForAll b ts w
     → unrolled l ≡ lists_shown b.selection (all_said b ts).moments who kind
 runs_as_heard w b ts who kind l e s = ap unrolled e ∙ s.heard.lists who kind
 

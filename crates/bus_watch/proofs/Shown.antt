@@ -7,10 +7,10 @@ use Rattle.dm_messages.specs.declared.kind.Kind.{Kind}
 use Rattle.listener.specs.SentEntries.{with_entry_sent}
 use Rattle.listener.specs.declared.entry.SentEntry.{SentEntry}
 use Rattle.bus_watch.specs.Runs.{HasRuns, ListsValue, entries_in, has_begun, is_shown, runs_under, units_in, with_unit, with_unit_of}
-use Rattle.bus_watch.specs.declared.run.Run.{Run}
+use Rattle.bus_watch.specs.declared.run.EntryRun.{EntryRun}
 
 -- no run has begun where they are as they were
-none_begun : (runs : List Run) → has_begun runs runs ≡ false
+none_begun : (runs : List EntryRun) → has_begun runs runs ≡ false
 unfolding has_begun
 none_begun runs = grind arith
 

@@ -21,7 +21,7 @@ use Rattle.dm_messages.specs.declared.kind.Kind.TheVariants.{Dm1, Dm2, Dm6}
 use Rattle.bus_watch.specs.Runs.{HasOrder, UnitsValue, UnitValue, has_begun, key_of, no_runs, runs_in, runs_of, same_key, units_of, unrolled, who_of, with_unit}
 use Rattle.bus_watch.specs.contracts.key.KeyOrd.TheImpl.Laws as key_laws
 use Rattle.bus_watch.specs.declared.key.Key.{Key}
-use Rattle.bus_watch.specs.declared.run.Run.{Run}
+use Rattle.bus_watch.specs.declared.run.EntryRun.{EntryRun}
 use Rattle.bus_watch.specs.declared.key.Key.TheVariants as key
 
 key_equiv : IsEquivalence same_key
@@ -211,7 +211,7 @@ pub set_found : (runs : List (Key × UnitValue)) (q : Key) (unit new : UnitValue
 set_found runs q unit new there =
     found_set runs q unit new there q ∙ ap (λ (b : Bool). cond b (Some new) (lookup (same_key q) runs)) (key_equiv.refl q)
 
-pub begun_in : {E : Type 0} (result : Result Bool E) (before after was is : List Run) → before ≡ was → after ≡ is
+pub begun_in : {E : Type 0} (result : Result Bool E) (before after was is : List EntryRun) → before ≡ was → after ≡ is
     → IfOk result (λ b. b ≡ has_begun before after) → IfOk result (λ b. b ≡ has_begun was is)
 begun_in (Ok b) before after was is e f begun = begun ∙ (λ i. has_begun (e i) (f i))
 begun_in (Err x) before after was is e f begun = tt

@@ -1,16 +1,16 @@
 -- How lines are counted.
 use Rattle.std.specs.Prelude.{ℕ, ◌+◌, ◌-◌, ◌^◌, min}
 use Rattle.candump_line.specs.declared.line.Foreign.{Foreign as AnyForeign}
-use Rattle.candump_line.specs.declared.line.Foreign.TheVariants.{Short, Remote, Fd, Error}
-use Rattle.bus_watch.specs.declared.counts.Counts.{Counts}
+use Rattle.candump_line.specs.declared.line.Foreign.TheVariants.{StandardId, Remote, Fd, Error}
+use Rattle.bus_watch.specs.declared.counts.WatchCounts.{WatchCounts}
 
 -- one more, up to the greatest 64-bit number
 abbrev pub one_line_more : ℕ → ℕ
 one_line_more n = min (n + 1) (2 ^ 64 - 1)
 
 -- each sort of frames that are none of SAE J1939 has a count of its own
-abbrev pub with_foreign : AnyForeign → Counts → Counts
-with_foreign Short counts = record counts { short = one_line_more counts.short }
+abbrev pub with_foreign : AnyForeign → WatchCounts → WatchCounts
+with_foreign StandardId counts = record counts { short = one_line_more counts.short }
 with_foreign Remote counts = record counts { remote = one_line_more counts.remote }
 with_foreign Fd counts = record counts { fd = one_line_more counts.fd }
 with_foreign Error counts = record counts { error = one_line_more counts.error }

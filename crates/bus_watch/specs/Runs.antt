@@ -16,30 +16,30 @@ use Rattle.listener.specs.declared.entry.SentEntry.{SentEntry}
 use Rattle.bus_watch.specs.contracts.key.KeyOrd.TheImpl as key_order
 use Rattle.bus_watch.specs.declared.key.Key.{Key}
 use Rattle.bus_watch.specs.declared.key.Key.TheVariants as key
-use Rattle.bus_watch.specs.declared.run.Run.{Run}
+use Rattle.bus_watch.specs.declared.run.EntryRun.{EntryRun}
 use Rattle.bus_watch.specs.declared.selection.Selection.{Selection}
 use Rattle.bus_watch.specs.declared.selection.UnitShown.{UnitShown}
 use Rattle.bus_watch.specs.declared.selection.UnitShown.TheVariants.{Name, Address}
 
 -- the entries of some runs, one run after another
-abbrev pub unrolled : List Run → List EntrySent
+abbrev pub unrolled : List EntryRun → List EntrySent
 unrolled [] = []
 unrolled (r ∷ later) = replicate r.times (record { to = r.to; shown = r.shown }) ++ unrolled later
 
 -- whether there are more runs than before: one has begun
-unfoldable pub has_begun : List Run → List Run → Bool
+unfoldable pub has_begun : List EntryRun → List EntryRun → Bool
 has_begun before after = nat_lt (length before) (length after)
 
 -- the runs of a unit, of each kind
 pub record UnitValue : Type 0 where
-  pub dm1 : List Run
-  pub dm2 : List Run
-  pub dm6 : List Run
+  pub dm1 : List EntryRun
+  pub dm2 : List EntryRun
+  pub dm6 : List EntryRun
 
 abbrev pub no_runs : UnitValue
 no_runs = record { dm1 = []; dm2 = []; dm6 = [] }
 
-abbrev pub runs_of : UnitValue → Kind → List Run
+abbrev pub runs_of : UnitValue → Kind → List EntryRun
 runs_of u Dm1 = u.dm1
 runs_of u Dm2 = u.dm2
 runs_of u Dm6 = u.dm6
@@ -69,7 +69,7 @@ abbrev pub HasOrder : UnitsValue → Type 0
 HasOrder units = (q : Key) → list_any (same_key q) units.order ≡ is_some (lookup (same_key q) units.runs)
 
 -- the runs of a unit and kind, none where it has none
-abbrev pub runs_in : UnitsValue → Who → Kind → List Run
+abbrev pub runs_in : UnitsValue → Who → Kind → List EntryRun
 runs_in units w k = option_map_or (λ u. runs_of u k) (lookup (same_key (key_of w)) units.runs) []
 
 -- the units that have some
@@ -89,7 +89,7 @@ abbrev pub none_listed : Selection → ListsValue
 none_listed selection = record { units = no_units; began = false; selection = selection; time = None }
 
 -- the runs of a unit and kind
-abbrev pub runs_under : ListsValue → Who → Kind → List Run
+abbrev pub runs_under : ListsValue → Who → Kind → List EntryRun
 runs_under lists w k = runs_in lists.units w k
 
 -- and their entries

@@ -8,8 +8,8 @@ use Rattle.bus_model.specs.declared.who.Who.{Who}
 use Rattle.bus_model.specs.declared.who.Who.TheVariants.{Named, Unclaimed}
 use Rattle.dm_messages.specs.declared.kind.Kind.{Kind}
 use Rattle.bus_watch.specs.Runs.{ListsValue, Moment, is_of_unit, is_shown_at, is_shown_of, readings_in, run_begun_by}
-use Rattle.bus_watch.specs.declared.change.Change.{Change}
-use Rattle.bus_watch.specs.declared.change.Change.TheVariants.{At, NoAddress, Entry, Missed, Unowned, Ack, Unread}
+use Rattle.bus_watch.specs.declared.change.WatchChange.{WatchChange}
+use Rattle.bus_watch.specs.declared.change.WatchChange.TheVariants.{At, NoAddress, Entry, Missed, Unowned, Ack, Unread}
 use Rattle.bus_watch.specs.declared.change.Changes.{Changes}
 use Rattle.bus_watch.specs.declared.selection.Selection.{Selection}
 use Rattle.bus_watch.specs.declared.selection.UnitShown.{UnitShown}
@@ -23,11 +23,11 @@ who_lost (Some d) = if d.lost then Some d.name else None
 abbrev pub nothing_told : Changes
 nothing_told = record { lost = None; change = None }
 
-abbrev pub one_told : Change → Changes
+abbrev pub one_told : WatchChange → Changes
 one_told c = record { lost = None; change = Some c }
 
 -- an entry of a unit; or, where those of addresses that nobody has claimed are not shown, that a message came from such a one
-abbrev pub entry_of_who : Bool → Who → Kind → ℕ → Change
+abbrev pub entry_of_who : Bool → Who → Kind → ℕ → WatchChange
 entry_of_who unclaimed who kind source = if is_shown_of unclaimed who then Entry who kind else Unowned source
 
 -- what is told of a change, where entries of addresses that nobody has claimed are shown or not

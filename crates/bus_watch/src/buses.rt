@@ -1,8 +1,8 @@
 ghost use Rattle.std.specs.Prelude.{◌≡◌, IfOk, OnErr, true, false};
 ghost use Rattle.bus_watch.specs.Hearing as hearing;
 
-use crate::counts::Counts;
-use crate::watch::{Settings, Watch};
+use crate::counts::WatchCounts;
+use crate::watch::{Watch, WatchSettings};
 use candump_line::Line;
 use std::alloc::{AllocError, Global};
 use std::marker::Model;
@@ -44,14 +44,14 @@ pub enum Hearers {
 
 /// The buses that are watched: one, or each that a line names.
 ///
-/// Each of them has a watch of its own, which hears the lines that name it, from the first on, and those that tell of missed frames of
-/// whatever bus.
+/// Each of them has a watch of its own, which hears the lines that name it, from the first on, and those that tell of missed frames
+/// of whatever bus.
 #[derive(Drop)]
 pub struct Buses {
-    settings: Settings,
+    settings: WatchSettings,
     each: bool,
     watches: Vec<BusWatch>,
-    counts: Counts,
+    counts: WatchCounts,
 }
 
 /// Seen as whether each bus is watched, and the watches.
@@ -70,14 +70,14 @@ impl Buses {
     /// Memory was refused.
     pub fn new(
         alloc: Global,
-        settings: Settings,
+        settings: WatchSettings,
         shown: BusShown<'_>,
     ) -> Result<Buses, AllocError> {
         let mut buses = Buses {
             settings,
             each: false,
             watches: Vec::new(alloc),
-            counts: Counts::default(),
+            counts: WatchCounts::default(),
         };
         match shown {
             BusShown::First => buses.open(alloc, None, None)?,
@@ -87,8 +87,8 @@ impl Buses {
         Ok(buses)
     }
 
-    /// Begins to watch one more bus, the first that a line names where none is given; where each is watched, it has a name. (A watch has some
-    /// kilobytes, which stand on the stack of this call alone.)
+    /// Begins to watch one more bus, the first that a line names where none is given; where each is watched, it has a name. (A
+    /// watch has some kilobytes, which stand on the stack of this call alone.)
     #[inline(never)]
     fn open(
         &mut self,
@@ -123,7 +123,7 @@ impl Buses {
     }
 
     /// How many lines there were of each sort, on all buses that are watched.
-    pub fn counts(&self) -> Counts {
+    pub fn counts(&self) -> WatchCounts {
         let mut counts = self.counts;
         for one in self.watches.iter() {
             counts = counts.with_watch(one.watch.counts(), self.each);

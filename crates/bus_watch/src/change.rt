@@ -9,7 +9,7 @@ use name_field::Name;
 
 /// What a line changed, as far as it is told. `Watch` has the rest.
 #[derive(Clone, Copy, Debug, PartialEq, Eq)]
-pub enum Change {
+pub enum WatchChange {
     /// The NAME holds this address, 0 to 253.
     At {
         name: Name,
@@ -41,8 +41,8 @@ pub enum Change {
         pgn: Pgn,
         requester: u8,
     },
-    /// A message of the unit, of this kind, could not be read, for this reason, which is never `OutOfMemory`. It went to this address, 255
-    /// for all.
+    /// A message of the unit, of this kind, could not be read, for this reason, which is never `OutOfMemory`. It went to this
+    /// address, 255 for all.
     Unread {
         who: Who,
         kind: Kind,
@@ -57,11 +57,12 @@ pub struct Changes {
     /// The NAME that has no address any more, since another one claimed it. It is told first.
     pub lost: Option<Name>,
     /// What else changed.
-    pub change: Option<Change>,
+    pub change: Option<WatchChange>,
 }
 
 impl Changes {
-    /// What is told of what the listener heard, where that is news, and entries are shown of addresses that nobody has claimed, or not.
+    /// What is told of what the listener heard, where that is news, and entries are shown of addresses that nobody has claimed, or
+    /// not.
     pub(crate) fn of(heard: &Overheard, selection: Selection, is_news: bool) -> Changes
         ensures { result ≡ tellings.told_of selection.unclaimed is_news heard.now }
     {
@@ -76,16 +77,16 @@ impl Changes {
                 displaced,
             } => Changes {
                 lost: who_lost(displaced),
-                change: Some(Change::At { name, address }),
+                change: Some(WatchChange::At { name, address }),
             },
-            Overheard::GaveUp { name } => one(Change::NoAddress { name }),
+            Overheard::GaveUp { name } => one(WatchChange::NoAddress { name }),
             Overheard::Acknowledged {
                 name,
                 control,
                 pgn,
                 requester,
                 ..
-            } => one(Change::Ack {
+            } => one(WatchChange::Ack {
                 name,
                 control,
                 pgn,
@@ -103,21 +104,21 @@ impl Changes {
                 to,
                 why,
                 ..
-            } => one(Change::Unread { who, kind, to, why }),
-            Overheard::Unowned { source, .. } => one(Change::Unowned { source }),
-            Overheard::Missed { count } => one(Change::Missed { count }),
+            } => one(WatchChange::Unread { who, kind, to, why }),
+            Overheard::Unowned { source, .. } => one(WatchChange::Unowned { source }),
+            Overheard::Missed { count } => one(WatchChange::Missed { count }),
         }
     }
 }
 
 /// An entry of a unit; or, where those of addresses that nobody has claimed are not shown, that a message came from such a one.
-fn entry_of(selection: Selection, who: Who, kind: Kind, source: u8) -> Change
+fn entry_of(selection: Selection, who: Who, kind: Kind, source: u8) -> WatchChange
     ensures { result ≡ tellings.entry_of_who selection.unclaimed who kind source }
 {
     if selection.shows_of(&who) {
-        Change::Entry { who, kind }
+        WatchChange::Entry { who, kind }
     } else {
-        Change::Unowned { source }
+        WatchChange::Unowned { source }
     }
 }
 
@@ -131,7 +132,7 @@ pub(crate) fn nothing() -> Changes
     }
 }
 
-fn one(change: Change) -> Changes
+fn one(change: WatchChange) -> Changes
     ensures { result ≡ tellings.one_told change }
 {
     Changes {

@@ -5,7 +5,7 @@ use candump_line::{Foreign, Line};
 
 /// How many lines there were of each sort.
 #[derive(Clone, Copy, Debug, Default, PartialEq, Eq)]
-pub struct Counts {
+pub struct WatchCounts {
     /// All lines.
     pub lines: u64,
     /// Data frames with a 29-bit identifier, on the watched bus.
@@ -32,13 +32,13 @@ pub struct Counts {
     pub not_attributed: u64,
 }
 
-impl Counts {
+impl WatchCounts {
     /// Counts a frame that is none of SAE J1939.
     pub(crate) fn add_foreign(&mut self, what: Foreign)
         ensures { self.new ≡ with_foreign what self.old }
     {
         match what {
-            Foreign::Short => self.short = self.short.saturating_add(1),
+            Foreign::StandardId => self.short = self.short.saturating_add(1),
             Foreign::Remote => self.remote = self.remote.saturating_add(1),
             Foreign::Fd => self.fd = self.fd.saturating_add(1),
             Foreign::Error => self.error = self.error.saturating_add(1),
@@ -64,11 +64,11 @@ impl Counts {
     }
 
     /// These with those of a watch: all, or where lines are counted for each bus together, those of its messages alone.
-    pub(crate) fn with_watch(self, watch: Counts, is_one_of_many: bool) -> Counts {
+    pub(crate) fn with_watch(self, watch: WatchCounts, is_one_of_many: bool) -> WatchCounts {
         if !is_one_of_many {
             return watch;
         }
-        Counts {
+        WatchCounts {
             withheld: self.withheld.saturating_add(watch.withheld),
             not_attributed: self.not_attributed.saturating_add(watch.not_attributed),
             ..self

@@ -1,8 +1,8 @@
 //! A diagnostic reader over the lines of a log or of a live bus: a listener reads them, and what changes is told.
 //!
-//! Each line is at most one reading of the listener: its frame, or frames that were missed. What a reading lists under a NAME, or under an
-//! address that nobody has claimed, goes to lists of runs of equal entries (`listener`), so memory grows by what changes. After every line
-//! each list is what was heard of the readings of the lines so far.
+//! Each line is at most one reading of the listener: its frame, or frames that were missed. What a reading lists under a NAME, or
+//! under an address that nobody has claimed, goes to lists of runs of equal entries (`listener`), so memory grows by what changes.
+//! After every line each list is what was heard of the readings of the lines so far.
 #![tactic(auto)]
 
 mod buses;
@@ -23,10 +23,10 @@ mod unowned;
 mod watch;
 
 pub use buses::{BusShown, BusWatch, Buses, Hearers, MOST_BUSES};
-pub use change::{Change, Changes};
-pub use counts::Counts;
+pub use change::{Changes, WatchChange};
+pub use counts::WatchCounts;
 pub use laws::shown_lists_are_what_was_overheard;
 pub use listener::Who;
-pub use run::Run;
+pub use run::EntryRun;
 pub use selection::{Selection, UnitShown};
-pub use watch::{Limits, Settings, Watch};
+pub use watch::{Limits, Watch, WatchSettings};

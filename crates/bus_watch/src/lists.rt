@@ -5,7 +5,7 @@ ghost use Rattle.bus_watch.specs.Runs as runs;
 ghost use Rattle.bus_watch.specs.Tellings.{is_told};
 
 use crate::contests::Contests;
-use crate::run::Run;
+use crate::run::EntryRun;
 use crate::run_table::RunTable;
 use crate::selection::Selection;
 use candump_line::Time;
@@ -18,7 +18,7 @@ use std::marker::Model;
 ///
 /// It keeps what is shown. It knows beside an entry the time of the line that is read, and which addresses are contested.
 #[derive(Drop)]
-pub(crate) struct Lists {
+pub(crate) struct WatchLists {
     units: RunTable,
     began: bool,
     selection: Selection,
@@ -27,7 +27,7 @@ pub(crate) struct Lists {
 }
 
 /// Seen as the runs by unit, whether the newest entry began a run, what is shown, and the time.
-impl Model for Lists {
+impl Model for WatchLists {
     ghost use Rattle.bus_watch.specs.Runs.{ListsValue};
 
     ghost Value = { ListsValue };
@@ -35,12 +35,12 @@ impl Model for Lists {
     ghost view = { λ l. record { units = l.units; began = l.began; selection = l.selection; time = l.newest } };
 }
 
-impl Lists {
+impl WatchLists {
     /// No entries of any unit. Those that are selected will be kept.
-    pub(crate) fn new(alloc: Global, selection: Selection) -> Lists
+    pub(crate) fn new(alloc: Global, selection: Selection) -> WatchLists
         ensures { result ≡ none_listed selection }
     {
-        Lists {
+        WatchLists {
             units: RunTable::new(alloc),
             began: false,
             selection,
@@ -64,7 +64,7 @@ impl Lists {
     }
 
     /// The runs of a unit and kind, oldest first.
-    pub(crate) fn runs(&self, who: Who, kind: Kind) -> &[Run]
+    pub(crate) fn runs(&self, who: Who, kind: Kind) -> &[EntryRun]
         ensures { result.now ≡ runs_under self.now who kind }
     {
         self.units.runs(who, kind)
@@ -122,7 +122,7 @@ impl Lists {
     }
 
     /// Goes on with the contests that other lists know.
-    pub(crate) fn keep_contests(&mut self, other: &Lists)
+    pub(crate) fn keep_contests(&mut self, other: &WatchLists)
         ensures { self.new ≡ self.old }
     {
         self.contests.go_on_with(&other.contests);
@@ -168,7 +168,7 @@ impl Lists {
     }
 }
 
-impl SentLists for Lists {
+impl SentLists for WatchLists {
     ghost use Rattle.bus_watch.specs.Runs.{HasRuns};
 
     ghost Takes = { λ before entry after. HasRuns before entry after };

@@ -8,7 +8,7 @@ use trouble_code::Codes;
 
 /// Equal entries that came one after the other under a NAME.
 #[derive(Debug, Drop)]
-pub struct Run {
+pub struct EntryRun {
     /// What each of them shows.
     pub shown: Shown,
     /// The address that each of them went to, 255 for all.
@@ -36,7 +36,7 @@ fn is_same_codes(one: &Codes, other: &Codes) -> bool
 }
 
 /// Whether an entry that went to this address can be counted to a run.
-fn goes_on(run: &Run, shown: &Shown, to: u8, contested: bool) -> bool
+fn goes_on(run: &EntryRun, shown: &Shown, to: u8, contested: bool) -> bool
     ensures shown { result ≡ true → run.now.shown ≡ shown.now }
     ensures to { result ≡ true → run.now.to ≡ to }
     ensures room { result ≡ true → run.now.times + 1 < 2 ^ 64 }
@@ -46,7 +46,13 @@ fn goes_on(run: &Run, shown: &Shown, to: u8, contested: bool) -> bool
 
 /// Counts an entry to the newest run, where it goes on with it. Tells whether it does.
 #[tactic(auto, using(crate::proofs::Runs::one_more))]
-fn lengthen(runs: &mut Vec<Run>, shown: &Shown, to: u8, time: Option<Time>, contested: bool) -> bool
+fn lengthen(
+    runs: &mut Vec<EntryRun>,
+    shown: &Shown,
+    to: u8,
+    time: Option<Time>,
+    contested: bool,
+) -> bool
     ensures entries { unrolled runs.new.items ≡ (if result then unrolled runs.old.items ++ record { to = to; shown = shown.now } ∷ [] else unrolled runs.old.items) }
     ensures runs { length runs.new.items ≡ length runs.old.items }
     ensures same { result ≡ false → runs.new.items ≡ runs.old.items }
@@ -64,7 +70,7 @@ fn lengthen(runs: &mut Vec<Run>, shown: &Shown, to: u8, time: Option<Time>, cont
 /// Puts an entry to the newest run, or begins one. Tells whether it begins one. Where memory is refused, nothing changes.
 #[tactic(auto, using(crate::proofs::Runs::one_run_more), unfolding(crate::specs::Runs::has_begun))]
 pub(crate) fn add_to(
-    runs: &mut Vec<Run>,
+    runs: &mut Vec<EntryRun>,
     shown: Shown,
     to: u8,
     time: Option<Time>,
@@ -79,7 +85,7 @@ pub(crate) fn add_to(
     if lengthen(runs, &shown, to, time, contested) {
         return Ok(false);
     }
-    runs.push(Run {
+    runs.push(EntryRun {
         shown,
         to,
         times: 1,

@@ -2,7 +2,7 @@ ghost use Rattle.std.specs.Prelude.{◌≡◌, ◌∷◌, [], ◌++◌, length, 
 ghost use Rattle.bus_watch.specs.Runs.{has_begun, unrolled};
 ghost use Rattle.bus_model.specs.Heard.{counted};
 
-use crate::run::{Run, add_to};
+use crate::run::{EntryRun, add_to};
 use candump_line::Time;
 use dm_messages::Shown;
 use std::alloc::{AllocError, Global};
@@ -11,17 +11,17 @@ use std::marker::Model;
 /// The runs of a list of entries, oldest first, and how many entries they are.
 #[derive(Debug, Drop)]
 pub(crate) struct RunList {
-    runs: Vec<Run>,
+    runs: Vec<EntryRun>,
     entries: u64,
 }
 
 impl Model for RunList {
     ghost use Rattle.std.specs.Prelude.{◌≡◌, List, length};
-    ghost use Rattle.bus_watch.specs.declared.run.Run.{Run};
+    ghost use Rattle.bus_watch.specs.declared.run.EntryRun.{EntryRun};
     ghost use Rattle.bus_watch.specs.Runs.{has_begun, unrolled};
     ghost use Rattle.bus_model.specs.Heard.{counted};
 
-    ghost Value = { List Run };
+    ghost Value = { List EntryRun };
 
     ghost view = { λ l. l.runs.items };
 
@@ -40,7 +40,7 @@ impl RunList {
     }
 
     /// The runs.
-    pub(crate) fn runs(&self) -> &[Run]
+    pub(crate) fn runs(&self) -> &[EntryRun]
         ensures { result.now ≡ self.now }
     {
         self.runs.as_slice()

@@ -9,7 +9,7 @@ ghost use Rattle.dm_messages.specs.View.{same_kind};
 ghost use Rattle.dm_messages.specs.declared.kind.Kind.{Kind as AnyKind};
 
 use crate::key::Key;
-use crate::run::Run;
+use crate::run::EntryRun;
 use crate::unit_runs::UnitRuns;
 use candump_line::Time;
 use dm_messages::Kind;
@@ -20,7 +20,8 @@ use std::marker::Model;
 
 /// The runs of each unit's entries, and the units in the order of their first entries.
 ///
-/// Who sends messages chooses whose they are. So a unit is found in a tree, whose depth the number of units bounds, and not by a hash.
+/// Who sends messages chooses whose they are. So a unit is found in a tree, whose depth the number of units bounds, and not by a
+/// hash.
 #[derive(Drop)]
 pub(crate) struct RunTable {
     order: Vec<Key>,
@@ -73,7 +74,7 @@ impl RunTable {
     }
 
     /// The runs of a unit and kind, oldest first.
-    pub(crate) fn runs(&self, who: Who, kind: Kind) -> &[Run]
+    pub(crate) fn runs(&self, who: Who, kind: Kind) -> &[EntryRun]
         ensures { result.now ≡ runs_in self.now who kind }
     {
         match self.units.get(&Key::of(who)) {
@@ -104,7 +105,8 @@ impl RunTable {
         ensures entries { OnOk result ((w : AnyWho) (k : AnyKind) → unrolled (runs_in self.new w k)
             ≡ (if same_who entry.who w && same_kind entry.kind k then unrolled (runs_in self.old w k) ++ record { to = entry.to; shown = entry.shown } ∷ [] else unrolled (runs_in self.old w k))) }
         ensures units { OnOk result (units_of self.new ≡ with_unit entry.who (units_of self.old)) }
-        ensures begins { IfOk result (λ b. b ≡ has_begun (runs_in self.old entry.who entry.kind) (runs_in self.new entry.who entry.kind)) }
+        ensures begins { IfOk result
+            (λ b. b ≡ has_begun (runs_in self.old entry.who entry.kind) (runs_in self.new entry.who entry.kind)) }
         ensures err { OnErr result (self.new ≡ self.old) }
     {
         match self.units.get_mut(&Key::of(entry.who)) {
@@ -125,7 +127,8 @@ impl RunTable {
         ensures entries { OnOk result ((w : AnyWho) (k : AnyKind) → unrolled (runs_in self.new w k)
             ≡ (if same_who entry.who w && same_kind entry.kind k then unrolled (runs_in self.old w k) ++ record { to = entry.to; shown = entry.shown } ∷ [] else unrolled (runs_in self.old w k))) }
         ensures units { OnOk result (units_of self.new ≡ with_unit entry.who (units_of self.old)) }
-        ensures begins { IfOk result (λ b. b ≡ has_begun (runs_in self.old entry.who entry.kind) (runs_in self.new entry.who entry.kind)) }
+        ensures begins { IfOk result
+            (λ b. b ≡ has_begun (runs_in self.old entry.who entry.kind) (runs_in self.new entry.who entry.kind)) }
         ensures err { OnErr result (self.new ≡ self.old) }
     {
         let key = Key::of(entry.who);
@@ -139,7 +142,8 @@ impl RunTable {
     fn put(&mut self, key: Key, unit: UnitRuns) -> Result<(), AllocError>
         requires { lookup (same_key key) self.old.runs ≡ None }
         ensures units { OnOk result (units_of self.new ≡ with_unit (who_of key) (units_of self.old)) }
-        ensures runs { OnOk result ((q : AnyKey) → lookup (same_key q) self.new.runs ≡ cond (same_key key q) (Some unit) (lookup (same_key q) self.old.runs)) }
+        ensures runs { OnOk result ((q : AnyKey)
+            → lookup (same_key q) self.new.runs ≡ cond (same_key key q) (Some unit) (lookup (same_key q) self.old.runs)) }
         ensures err { OnErr result (self.new ≡ self.old) }
     {
         self.order.reserve(1)?;

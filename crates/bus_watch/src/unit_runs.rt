@@ -4,7 +4,7 @@ ghost use Rattle.bus_watch.specs.Runs.{has_begun, no_runs, runs_of, unrolled};
 ghost use Rattle.dm_messages.specs.View.{same_kind};
 ghost use Rattle.dm_messages.specs.declared.kind.Kind.{Kind as AnyKind};
 
-use crate::run::Run;
+use crate::run::EntryRun;
 use crate::run_list::RunList;
 use candump_line::Time;
 use dm_messages::Kind;
@@ -41,7 +41,7 @@ impl UnitRuns {
     }
 
     /// The runs of a kind, oldest first.
-    pub(crate) fn runs(&self, kind: Kind) -> &[Run]
+    pub(crate) fn runs(&self, kind: Kind) -> &[EntryRun]
         ensures { result.now ≡ runs_of self.now kind }
     {
         match kind {

@@ -4,8 +4,8 @@ ghost use Rattle.bus_watch.specs.Tellings.{none_told, told_after, told_of_source
 use listener::{Overheard, Who};
 use std::marker::Model;
 
-/// Of which addresses it was told that a message came from there without an owner: once, until somebody claims the address or frames
-/// are missed.
+/// Of which addresses it was told that a message came from there without an owner: once, until somebody claims the address or
+/// frames are missed.
 #[derive(Debug, Drop)]
 pub(crate) struct Unowned {
     told: [bool; 256],

@@ -6,11 +6,11 @@ ghost use Rattle.bus_watch.specs.Told.{Beginning, StandsForAll, Told, all_said, 
 ghost use Rattle.station_table.specs.StandsFor.{row_heard_as};
 
 use self::over::Before;
-use crate::counts::Counts;
-use crate::lists::Lists;
+use crate::counts::WatchCounts;
+use crate::lists::WatchLists;
 use crate::packets::Packets;
 use crate::pairs::Pairs;
-use crate::run::Run;
+use crate::run::EntryRun;
 use crate::selection::Selection;
 use crate::unowned::Unowned;
 use candump_line::Time;
@@ -29,7 +29,7 @@ pub use over::Limits;
 
 /// How a bus is watched.
 #[derive(Clone, Copy, Debug)]
-pub struct Settings {
+pub struct WatchSettings {
     /// Which messages are shown.
     pub selection: Selection,
     /// Whether a bad line is passed over; else it is a frame that was missed.
@@ -41,13 +41,13 @@ pub struct Settings {
 /// A listener that reads the lines of a log or of a live bus. What it lists is kept as runs of equal entries.
 #[derive(Drop)]
 pub struct Watch {
-    settings: Settings,
+    settings: WatchSettings,
     listener: Listener,
     bus: Option<String>,
     unowned: Unowned,
     packets: Packets,
-    lists: Lists,
-    counts: Counts,
+    lists: WatchLists,
+    counts: WatchCounts,
     /// How many runs were begun; one of several codes counts as many.
     kept: u64,
     pairs: Pairs,
@@ -77,7 +77,11 @@ impl Model for Watch {
 impl Watch {
     /// A watch that has read nothing, of the bus of this name, or of the first that a line names.
     #[tactic(auto, using(crate::proofs::Steps::opened))]
-    pub fn new(alloc: Global, settings: Settings, bus: Option<&str>) -> Result<Watch, AllocError>
+    pub fn new(
+        alloc: Global,
+        settings: WatchSettings,
+        bus: Option<&str>,
+    ) -> Result<Watch, AllocError>
         ensures { IfOk result (λ w. StandsForAll (record {
           selection = settings.selection;
           skips_bad = settings.skips_bad;
@@ -98,8 +102,8 @@ impl Watch {
             bus,
             unowned: Unowned::new(),
             packets,
-            lists: Lists::new(alloc, settings.selection),
-            counts: Counts::default(),
+            lists: WatchLists::new(alloc, settings.selection),
+            counts: WatchCounts::default(),
             kept: 0,
             pairs,
             before: Before::default(),
@@ -107,7 +111,7 @@ impl Watch {
     }
 
     /// How many lines there were of each sort.
-    pub fn counts(&self) -> Counts {
+    pub fn counts(&self) -> WatchCounts {
         self.counts
     }
 
@@ -121,7 +125,8 @@ impl Watch {
     /// The time of the newest line that has one.
     #[tactic(auto, using(crate::proofs::Queries::time_as_heard))]
     pub fn now(&self) -> Option<Time>
-        ensures heard { (b : Beginning) (ts : List Told) → StandsForAll b ts self.entry.now → result ≡ newest_time (all_said b ts).moments }
+        ensures heard { (b : Beginning) (ts : List Told) → StandsForAll b ts self.entry.now
+            → result ≡ newest_time (all_said b ts).moments }
     {
         self.lists.now()
     }
@@ -129,7 +134,8 @@ impl Watch {
     /// How many NAMEs have a row.
     #[tactic(auto, using(crate::proofs::Queries::names_as_heard))]
     pub fn names(&self) -> usize
-        ensures heard { (b : Beginning) (ts : List Told) → StandsForAll b ts self.entry.now → result ≡ length (names_heard (readings_said b ts)) }
+        ensures heard { (b : Beginning) (ts : List Told) → StandsForAll b ts self.entry.now
+            → result ≡ length (names_heard (readings_said b ts)) }
     {
         self.listener.names()
     }
@@ -137,7 +143,8 @@ impl Watch {
     /// The NAME of the row at this place, from 0, in the order of the NAMEs' first claims.
     #[tactic(auto, using(crate::proofs::Queries::name_as_heard))]
     pub fn name_at(&self, place: usize) -> Option<Name>
-        ensures heard { (b : Beginning) (ts : List Told) → StandsForAll b ts self.entry.now → result ≡ slice_get (names_heard (readings_said b ts)) place }
+        ensures heard { (b : Beginning) (ts : List Told) → StandsForAll b ts self.entry.now
+            → result ≡ slice_get (names_heard (readings_said b ts)) place }
     {
         self.listener.name_at(place)
     }
@@ -145,7 +152,8 @@ impl Watch {
     /// What is known of a NAME; none before its first claim.
     #[tactic(auto, using(crate::proofs::Queries::row_as_heard))]
     pub fn row(&self, name: Name) -> Option<Row>
-        ensures heard { (b : Beginning) (ts : List Told) → StandsForAll b ts self.entry.now → option_map row_heard_as result ≡ row_overheard name (readings_said b ts) }
+        ensures heard { (b : Beginning) (ts : List Told) → StandsForAll b ts self.entry.now
+            → option_map row_heard_as result ≡ row_overheard name (readings_said b ts) }
     {
         self.listener.row(name)
     }
@@ -153,7 +161,8 @@ impl Watch {
     /// How many units have entries that are shown: NAMEs, and addresses that nobody has claimed.
     #[tactic(auto, using(crate::proofs::Queries::units_as_heard))]
     pub fn units(&self) -> usize
-        ensures heard { (b : Beginning) (ts : List Told) → StandsForAll b ts self.entry.now → result ≡ length (units_shown b.selection (all_said b ts).moments) }
+        ensures heard { (b : Beginning) (ts : List Told) → StandsForAll b ts self.entry.now
+            → result ≡ length (units_shown b.selection (all_said b ts).moments) }
     {
         self.lists.units()
     }
@@ -163,7 +172,8 @@ impl Watch {
     /// An address that nobody has claimed is a unit of its own between two gaps, and no more of it from a claim of it on.
     #[tactic(auto, using(crate::proofs::Queries::unit_as_heard))]
     pub fn unit_at(&self, place: usize) -> Option<Who>
-        ensures heard { (b : Beginning) (ts : List Told) → StandsForAll b ts self.entry.now → result ≡ slice_get (units_shown b.selection (all_said b ts).moments) place }
+        ensures heard { (b : Beginning) (ts : List Told) → StandsForAll b ts self.entry.now
+            → result ≡ slice_get (units_shown b.selection (all_said b ts).moments) place }
     {
         self.lists.unit_at(place)
     }
@@ -172,8 +182,9 @@ impl Watch {
     ///
     /// One after the other, their entries are the list that was heard, of what is shown.
     #[tactic(auto, using(crate::proofs::Queries::runs_as_heard))]
-    pub fn runs(&self, who: Who, kind: Kind) -> &[Run]
-        ensures heard { (b : Beginning) (ts : List Told) → StandsForAll b ts self.entry.now → unrolled result.now ≡ lists_shown b.selection (all_said b ts).moments who kind }
+    pub fn runs(&self, who: Who, kind: Kind) -> &[EntryRun]
+        ensures heard { (b : Beginning) (ts : List Told) → StandsForAll b ts self.entry.now
+            → unrolled result.now ≡ lists_shown b.selection (all_said b ts).moments who kind }
     {
         self.lists.runs(who, kind)
     }
@@ -181,7 +192,8 @@ impl Watch {
     /// How many entries a unit has of a kind, up to the greatest 64-bit number.
     #[tactic(auto, using(crate::proofs::Queries::entries_as_heard))]
     pub fn entries(&self, who: Who, kind: Kind) -> u64
-        ensures heard { (b : Beginning) (ts : List Told) → StandsForAll b ts self.entry.now → result ≡ counted (length (lists_shown b.selection (all_said b ts).moments who kind)) }
+        ensures heard { (b : Beginning) (ts : List Told) → StandsForAll b ts self.entry.now
+            → result ≡ counted (length (lists_shown b.selection (all_said b ts).moments who kind)) }
     {
         self.lists.entries(who, kind)
     }
@@ -189,7 +201,8 @@ impl Watch {
     /// How many frames were missed, up to the greatest 64-bit number.
     #[tactic(auto, using(crate::proofs::Queries::missed_as_heard))]
     pub fn missed(&self) -> u64
-        ensures heard { (b : Beginning) (ts : List Told) → StandsForAll b ts self.entry.now → result ≡ missed_count (readings_said b ts) }
+        ensures heard { (b : Beginning) (ts : List Told) → StandsForAll b ts self.entry.now
+            → result ≡ missed_count (readings_said b ts) }
     {
         self.listener.missed()
     }
@@ -197,7 +210,8 @@ impl Watch {
     /// How many messages could not be read, up to the greatest 64-bit number.
     #[tactic(auto, using(crate::proofs::Queries::unread_as_heard))]
     pub fn unread(&self) -> u64
-        ensures heard { (b : Beginning) (ts : List Told) → StandsForAll b ts self.entry.now → result ≡ unread_overheard (readings_said b ts) }
+        ensures heard { (b : Beginning) (ts : List Told) → StandsForAll b ts self.entry.now
+            → result ≡ unread_overheard (readings_said b ts) }
     {
         self.listener.unread()
     }

@@ -65,7 +65,8 @@ impl Id {
         ensures pgn { pgn_of result ≡ pgn }
         ensures dest { destination_of result ≡ Some dest }
         ensures source { source_of result ≡ source }
-        ensures only { (n : ℕ) → priority_of n ≡ priority → pgn_of n ≡ pgn → destination_of n ≡ Some dest → source_of n ≡ source → n ≡ result }
+        ensures only { (n : ℕ) → priority_of n ≡ priority → pgn_of n ≡ pgn → destination_of n ≡ Some dest → source_of n ≡ source
+            → n ≡ result }
     {
         Id {
             number: joined(priority, pgn.number() | u32::from(dest), source),
@@ -84,7 +85,8 @@ impl Id {
         ensures pgn { pgn_of result ≡ pgn }
         ensures dest { destination_of result ≡ None }
         ensures source { source_of result ≡ source }
-        ensures only { (n : ℕ) → priority_of n ≡ priority → pgn_of n ≡ pgn → destination_of n ≡ None → source_of n ≡ source → n ≡ result }
+        ensures only { (n : ℕ) → priority_of n ≡ priority → pgn_of n ≡ pgn → destination_of n ≡ None → source_of n ≡ source
+            → n ≡ result }
     {
         Id {
             number: joined(priority, pgn.number(), source),

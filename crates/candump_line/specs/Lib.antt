@@ -4,6 +4,6 @@ pub mod PlainText
 pub mod OtherLogs
 pub mod TimeForms
 pub mod Times
-pub mod Said
+pub mod Content
 pub mod Logged
 pub mod LostFrames

@@ -7,8 +7,8 @@ use crate::time::leading_micros;
 
 const DAY_MICROS: u64 = 86_400_000_000;
 
-/// The microseconds from the start of 1970 to the date and the time of day that stand at the front of a text, and what stands behind
-/// them.
+/// The microseconds from the start of 1970 to the date and the time of day that stand at the front of a text, and what stands
+/// behind them.
 pub(crate) fn leading_date_micros(text: &[u8]) -> Option<(u64, &[u8])>
     ensures too_long { BeginsWithElevenDigits text.now → result ≡ None }
 {
@@ -32,8 +32,8 @@ fn leading_days(text: &[u8]) -> Option<(u64, &[u8])>
     Some((days, rest))
 }
 
-/// The microseconds from midnight to the time of day `HH:MM:SS.` with its fraction at the front of a text, and what stands behind it. A
-/// leap second counts for one.
+/// The microseconds from midnight to the time of day `HH:MM:SS.` with its fraction at the front of a text, and what stands behind
+/// it. A leap second counts for one.
 fn leading_day_micros(text: &[u8]) -> Option<(u64, &[u8])>
     ensures { IfSome result (λ found. found.0 < 2 ^ 40) }
 {

@@ -108,7 +108,8 @@ pub(crate) fn read_number(digits: &[u8]) -> Option<u32>
 /// Reads two hexadecimal digits of either case for each byte. Tells whether the text is that many digits.
 #[inline(always)]
 pub(crate) fn read_pairs(digits: &[u8], bytes: &mut [u8]) -> bool
-    ensures reads_back { (bs : List ℕ) → All (λ b. b < 256) bs → length bytes.old ≡ length bs → digits.now ≡ flat_map byte_digits bs → (result ≡ true) × (bytes.new ≡ bs) }
+    ensures reads_back { (bs : List ℕ) → All (λ b. b < 256) bs → length bytes.old ≡ length bs → digits.now ≡ flat_map byte_digits bs
+        → (result ≡ true) × (bytes.new ≡ bs) }
 {
     if digits.len() % 2 != 0 {
         return false;

@@ -24,11 +24,11 @@ pub(crate) fn read_dropped(rest: &str) -> Line<'_> {
     Line::Dropped { bus, count }
 }
 
-/// How many frames a word tells of, which candump writes in decimal digits alone: one where it is no such word. It counts in 32 bits, so
-/// a greater number stands for the greatest of those.
+/// How many frames a word tells of, which candump writes in decimal digits alone: one where it is no such word. It counts in 32
+/// bits, so a greater number stands for the greatest of those.
 #[tactic(auto, using(std::proofs::lemmas::Int::Digits::digits_more, std::proofs::lemmas::Int::Digits::digits_value_more))]
 fn count_of(word: &[u8]) -> u32
-    ensures told { IsNumeral 10 word.now → digits_value 10 word.now < 2 ^ 32 → result ≡ digits_value 10 word.now }
+    ensures counted { IsNumeral 10 word.now → digits_value 10 word.now < 2 ^ 32 → result ≡ digits_value 10 word.now }
     ensures most { IsNumeral 10 word.now → 2 ^ 32 ≤ digits_value 10 word.now → result ≡ 2 ^ 32 - 1 }
     ensures other { (IsNumeral 10 word.now → ⊥) → result ≡ 1 }
 {

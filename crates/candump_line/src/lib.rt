@@ -6,6 +6,7 @@
 //! count `Times`, and what an input looks like in which no frame was recognised `OtherLog`.
 #![tactic(auto)]
 
+mod content;
 mod date;
 mod digits;
 mod dropped;
@@ -16,7 +17,6 @@ mod plain;
 mod read;
 mod reason;
 mod reason_kind;
-mod said;
 mod time;
 mod time_form;
 mod times;

@@ -1,6 +1,6 @@
 ghost use Rattle.std.specs.Prelude.{◌≡◌, None};
-ghost use Rattle.candump_line.specs.Said.{time_of, untimed};
-ghost use Rattle.candump_line.specs.Said as said;
+ghost use Rattle.candump_line.specs.Content.{time_of, untimed};
+ghost use Rattle.candump_line.specs.Content as content;
 
 use crate::reason::Reason;
 use crate::time::Time;
@@ -10,7 +10,7 @@ use can_frame::Frame;
 #[derive(Clone, Copy, Debug, PartialEq, Eq)]
 pub enum Foreign {
     /// Its identifier has 11 bits: three digits.
-    Short,
+    StandardId,
     /// It is a remote frame.
     Remote,
     /// It is a CAN FD frame.
@@ -91,7 +91,7 @@ impl<'a> Line<'a> {
 
     /// Whether it tells of a frame: one of J1939, another one, or one that was lost.
     pub fn is_of_frames(&self) -> bool
-        ensures { result ≡ said.is_of_frames self.now }
+        ensures { result ≡ content.is_of_frames self.now }
     {
         match self {
             Line::Note | Line::Bad(_) => false,

@@ -23,10 +23,12 @@ pub(crate) struct Logged<'a> {
 /// How many digits a 29-bit identifier has.
 const ID_DIGITS: usize = 8;
 
-/// Reads a line as `write_line` writes it, but for the case of its digits and for times with three or nine digits behind the point; none for
-/// any other line.
+/// Reads a line as `write_line` writes it, but for the case of its digits and for times with three or nine digits behind the point;
+/// none for any other line.
 pub(crate) fn read_logged(line: &[u8]) -> Option<Logged<'_>>
-    ensures reads { (digits ticks : ℕ) (bus : List ℕ) (f : FrameValue) → IsFraction digits → ticks < 10 ^ (10 + digits) → IsBusName bus → IsDataFrame f → line.now ≡ timed_line (ticks_text digits ticks) bus f → option_map logged_value result ≡ Some (micros_of_ticks digits ticks, bus, f) }
+    ensures reads { (digits ticks : ℕ) (bus : List ℕ) (f : FrameValue) → IsFraction digits → ticks < 10 ^ (10 + digits)
+        → IsBusName bus → IsDataFrame f → line.now ≡ timed_line (ticks_text digits ticks) bus f
+        → option_map logged_value result ≡ Some (micros_of_ticks digits ticks, bus, f) }
     ensures bus { IfSome result (λ logged. All (λ c. 32 < c) logged.bus.now) }
 {
     let rest = behind(line, b'(')?;
@@ -43,10 +45,12 @@ pub(crate) fn read_logged(line: &[u8]) -> Option<Logged<'_>>
     })
 }
 
-/// The word before the first space of a text, and what stands behind that; none where another character that is not seen stands before it.
+/// The word before the first space of a text, and what stands behind that; none where another character that is not seen stands
+/// before it.
 #[inline(always)]
 fn cut_at_space(text: &[u8]) -> Option<(&[u8], &[u8])>
-    ensures reads_back { (word rest : List ℕ) → All (λ c. 32 < c) word → text.now ≡ word ++ 32 ∷ rest → MatchOption result ⊥ (λ cut. (cut.0.now ≡ word) × (cut.1.now ≡ rest)) }
+    ensures reads_back { (word rest : List ℕ) → All (λ c. 32 < c) word → text.now ≡ word ++ 32 ∷ rest
+        → MatchOption result ⊥ (λ cut. (cut.0.now ≡ word) × (cut.1.now ≡ rest)) }
     ensures word { IfSome result (λ cut. All (λ c. 32 < c) cut.0.now) }
 {
     for (place, byte) in text.iter().enumerate() {
@@ -77,7 +81,8 @@ fn bus_name(word: &[u8]) -> Option<&str>
 
 /// The frame of eight digits of identifier, `#` and at most sixteen digits of data.
 fn read_frame(text: &[u8]) -> Option<Frame>
-    ensures reads_back { (f : FrameValue) → IsDataFrame f → text.now ≡ id_text f.id ++ 35 ∷ flat_map byte_digits f.bytes → result ≡ Some f }
+    ensures reads_back { (f : FrameValue) → IsDataFrame f → text.now ≡ id_text f.id ++ 35 ∷ flat_map byte_digits f.bytes
+        → result ≡ Some f }
 {
     let (id, rest) = text.split_at_checked(ID_DIGITS)?;
     let number = read_number(id)?;
@@ -88,7 +93,8 @@ fn read_frame(text: &[u8]) -> Option<Frame>
 /// The frame of this identifier, and of the bytes that at most sixteen digits spell.
 #[inline(always)]
 fn read_data(number: u32, digits: &[u8]) -> Option<Frame>
-    ensures reads_back { (f : FrameValue) → IsDataFrame f → number ≡ f.id → digits.now ≡ flat_map byte_digits f.bytes → result ≡ Some f }
+    ensures reads_back { (f : FrameValue) → IsDataFrame f → number ≡ f.id → digits.now ≡ flat_map byte_digits f.bytes
+        → result ≡ Some f }
 {
     let len = digits.len() / 2;
     if len > 8 {

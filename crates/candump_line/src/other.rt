@@ -20,8 +20,8 @@ impl OtherLog {
 
     /// The form that an input is in, by one of its lines; the first ones tell it.
     ///
-    /// `Blf` begins with `LOGG`, a line of a header of `Trc` with `;`, one of `Asc` with `date ` or `base `, and a line of `Csv` has three
-    /// commas or semicolons at least. Of a line in which a frame is read this says nothing.
+    /// `Blf` begins with `LOGG`, a line of a header of `Trc` with `;`, one of `Asc` with `date ` or `base `, and a line of `Csv`
+    /// has three commas or semicolons at least. Of a line in which a frame is read this says nothing.
     pub fn of(line: &[u8]) -> Option<OtherLog>
         ensures { result ≡ other_log line.now }
     {

@@ -1,22 +1,22 @@
 ghost use Rattle.std.specs.Prelude.{◌≡◌, ℕ, ◌+◌, ◌<◌, ◌≤◌};
 ghost use Rattle.candump_line.specs.PlainText.{is_count, is_fd_count};
 
+use crate::content::{Content, content_of};
 use crate::digits::{is_at, is_digit_at};
 use crate::line::{Foreign, Line};
 use crate::reason::Reason;
-use crate::said::{Said, said_by};
 use crate::time::Time;
 use crate::word::{Bytes, IdWord, read_bytes, read_id};
 use std::str::SplitAsciiWhitespace;
 
 /// What a line says of a frame that was seen at this time on this bus, as far as it tells.
-fn line_of<'a>(time: Option<Time>, bus: Option<&'a str>, said: Said) -> Line<'a> {
-    match said {
-        Said::Frame(frame) => Line::Frame { time, bus, frame },
-        Said::Overflow => Line::Overflow { time, bus },
-        Said::Foreign(what) => Line::Foreign { bus, what },
-        Said::Nothing => Line::Note,
-        Said::Bad(reason) => Line::Bad(reason),
+fn line_of<'a>(time: Option<Time>, bus: Option<&'a str>, content: Content) -> Line<'a> {
+    match content {
+        Content::Frame(frame) => Line::Frame { time, bus, frame },
+        Content::Overflow => Line::Overflow { time, bus },
+        Content::Foreign(what) => Line::Foreign { bus, what },
+        Content::Nothing => Line::Note,
+        Content::Bad(reason) => Line::Bad(reason),
     }
 }
 
@@ -50,93 +50,93 @@ pub(crate) fn read_untimed(text: &str) -> Line<'_> {
         return Line::Note;
     };
     if first.contains('#') {
-        return line_of(None, None, or_nothing(read_joined(first, words)));
+        return line_of(None, None, nothing_if_bad(read_joined(first, words)));
     }
-    if is_told(text) {
-        return line_of(None, Some(first), read_told_words(words));
+    if has_length(text) {
+        return line_of(None, Some(first), read_counted_words(words));
     }
     line_of(None, None, read_apart(first, words))
 }
 
 /// Whether the word behind the identifier begins with a bracket, as in plain candump.
-fn is_told(text: &str) -> bool {
+fn has_length(text: &str) -> bool {
     let mut words = text.split_ascii_whitespace();
     let _bus = words.next();
     let _id = next_behind_direction(&mut words);
     match words.next() {
-        Some(told) => told.starts_with('['),
+        Some(length) => length.starts_with('['),
         None => false,
     }
 }
 
 /// A line that begins as none of a log says nothing where it is bad.
-fn or_nothing(said: Said) -> Said {
-    match said {
-        Said::Bad(_) => Said::Nothing,
-        said => said,
+fn nothing_if_bad(content: Content) -> Content {
+    match content {
+        Content::Bad(_) => Content::Nothing,
+        content => content,
     }
 }
 
-fn read_frame_words(first: &str, mut words: SplitAsciiWhitespace<'_>) -> Said {
+fn read_frame_words(first: &str, mut words: SplitAsciiWhitespace<'_>) -> Content {
     if first.contains('#') {
         return read_joined(first, words);
     }
     match words.next() {
-        Some(told) if told.starts_with('[') => read_told(first, told, words),
-        _ => Said::Bad(Reason::NoHash),
+        Some(length) if length.starts_with('[') => read_counted(first, length, words),
+        _ => Content::Bad(Reason::NoHash),
     }
 }
 
-fn read_told_words(mut words: SplitAsciiWhitespace<'_>) -> Said {
+fn read_counted_words(mut words: SplitAsciiWhitespace<'_>) -> Content {
     let Some(id) = next_behind_direction(&mut words) else {
-        return Said::Nothing;
+        return Content::Nothing;
     };
-    let Some(told) = words.next() else {
-        return Said::Nothing;
+    let Some(length) = words.next() else {
+        return Content::Nothing;
     };
-    read_told(id, told, words)
+    read_counted(id, length, words)
 }
 
 /// `ID#BYTES`, and `R` or `T` behind it where the direction is told.
-fn read_joined(word: &str, mut words: SplitAsciiWhitespace<'_>) -> Said {
+fn read_joined(word: &str, mut words: SplitAsciiWhitespace<'_>) -> Content {
     let Some((id, rest)) = word.split_once('#') else {
-        return Said::Bad(Reason::NoHash);
+        return Content::Bad(Reason::NoHash);
     };
     if let Some(direction) = words.next() {
         if (direction != "R" && direction != "T") || words.next().is_some() {
-            return Said::Bad(Reason::WordsBehind);
+            return Content::Bad(Reason::WordsBehind);
         }
     }
     let id = match read_id(id) {
         Ok(id) => id,
-        Err(reason) => return Said::Bad(reason),
+        Err(reason) => return Content::Bad(reason),
     };
     if rest.starts_with('#') {
-        return Said::Foreign(Foreign::Fd);
+        return Content::Foreign(Foreign::Fd);
     }
     if rest.starts_with('R') || rest.starts_with('r') {
-        return Said::Foreign(Foreign::Remote);
+        return Content::Foreign(Foreign::Remote);
     }
     match read_bytes(rest) {
-        Ok(bytes) => said_by(id, bytes.as_slice()),
-        Err(reason) => Said::Bad(reason),
+        Ok(bytes) => content_of(id, bytes.as_slice()),
+        Err(reason) => Content::Bad(reason),
     }
 }
 
 /// `ID [COUNT] BYTE BYTE ..`, and candump's remarks behind.
-fn read_told(id: &str, told: &str, words: SplitAsciiWhitespace<'_>) -> Said {
+fn read_counted(id: &str, length: &str, words: SplitAsciiWhitespace<'_>) -> Content {
     let id = match read_id(id) {
         Ok(id) => id,
-        Err(reason) => return Said::Bad(reason),
+        Err(reason) => return Content::Bad(reason),
     };
-    let told = told.as_bytes();
-    if is_fd_count(told) {
-        return Said::Foreign(Foreign::Fd);
+    let length = length.as_bytes();
+    if is_fd_count(length) {
+        return Content::Foreign(Foreign::Fd);
     }
-    if is_count(told) {
-        return read_told_bytes(id, told[1] - b'0', words);
+    if is_count(length) {
+        return read_counted_bytes(id, length[1] - b'0', words);
     }
-    Said::Bad(Reason::NoHash)
+    Content::Bad(Reason::NoHash)
 }
 
 /// Whether brackets hold the number of bytes of a frame, 0 to 8: one digit.
@@ -162,40 +162,40 @@ fn is_fd_count(word: &[u8]) -> bool
 }
 
 /// So many bytes of two digits, and candump's remarks behind.
-fn read_told_bytes(id: IdWord, told: u8, mut words: SplitAsciiWhitespace<'_>) -> Said {
+fn read_counted_bytes(id: IdWord, length: u8, mut words: SplitAsciiWhitespace<'_>) -> Content {
     let mut bytes = Bytes::new();
-    for found in 0..told {
+    for found in 0..length {
         let word = words.next().unwrap_or("");
         if word == "remote" {
-            return Said::Foreign(Foreign::Remote);
+            return Content::Foreign(Foreign::Remote);
         }
         if word.len() != 2 {
-            return Said::Bad(Reason::ByteCount { told, found });
+            return Content::Bad(Reason::ByteCount { length, found });
         }
         if let Err(reason) = bytes.add(word) {
-            return Said::Bad(reason);
+            return Content::Bad(reason);
         }
     }
     let behind = words.next().unwrap_or("");
     if behind == "remote" {
-        return Said::Foreign(Foreign::Remote);
+        return Content::Foreign(Foreign::Remote);
     }
     if behind.is_empty() || behind == "ERRORFRAME" || behind.starts_with('\'') {
-        return said_by(id, bytes.as_slice());
+        return content_of(id, bytes.as_slice());
     }
-    Said::Bad(Reason::WordsBehind)
+    Content::Bad(Reason::WordsBehind)
 }
 
 /// `ID BYTE BYTE ..` with eight digits of identifier.
-fn read_apart(id: &str, words: SplitAsciiWhitespace<'_>) -> Said {
+fn read_apart(id: &str, words: SplitAsciiWhitespace<'_>) -> Content {
     let Ok(IdWord::Long { number }) = read_id(id) else {
-        return Said::Nothing;
+        return Content::Nothing;
     };
     let mut bytes = Bytes::new();
     for word in words {
         if word.len() != 2 || bytes.add(word).is_err() {
-            return Said::Nothing;
+            return Content::Nothing;
         }
     }
-    said_by(IdWord::Long { number }, bytes.as_slice())
+    content_of(IdWord::Long { number }, bytes.as_slice())
 }

@@ -17,14 +17,18 @@ pub const LINE_LIMIT: usize = 4096;
 ///
 /// `Frame` are lines of `candump -L`, of plain candump with a time or without (`-ta`, `-tA`, `-td`, `-tz`) and with a direction
 /// (`-x`), of log2long and cansend, and a frame as this program answers it. Its time is one that `Time::read` reads. A byte
-/// order mark before a line is passed over. `Note` are empty lines, lines that begin with `#`, and any other that does not look like
-/// one of a log. `Bad` has the reason why one that does is none.
+/// order mark before a line is passed over. `Note` are empty lines, lines that begin with `#`, and any other that does not look
+/// like one of a log. `Bad` has the reason why one that does is none.
 ///
 /// A line that `write_line` writes is read back, with its end or without; so is one whose time has three or nine digits behind the
 /// point, of which what is below a microsecond is cut.
 pub fn read_line(line: &[u8]) -> Line<'_>
-    ensures reads { (digits ticks : ℕ) (bus : List ℕ) (f : FrameValue) (end : List ℕ) → IsFraction digits → ticks < 10 ^ (10 + digits) → IsBusName bus → IsDataFrame f → IsLineEnd end → line.now ≡ timed_line (ticks_text digits ticks) bus f ++ end → frame_read result ≡ Some (micros_of_ticks digits ticks, bus, f) }
-    ensures reads_back { (time : ℕ) (bus : List ℕ) (f : FrameValue) (end : List ℕ) → time < 10 ^ 16 → IsBusName bus → IsDataFrame f → IsLineEnd end → line.now ≡ line_text time bus f ++ end → frame_read result ≡ Some (time, bus, f) }
+    ensures reads { (digits ticks : ℕ) (bus : List ℕ) (f : FrameValue) (end : List ℕ) → IsFraction digits
+        → ticks < 10 ^ (10 + digits) → IsBusName bus → IsDataFrame f → IsLineEnd end
+        → line.now ≡ timed_line (ticks_text digits ticks) bus f ++ end
+        → frame_read result ≡ Some (micros_of_ticks digits ticks, bus, f) }
+    ensures reads_back { (time : ℕ) (bus : List ℕ) (f : FrameValue) (end : List ℕ) → time < 10 ^ 16 → IsBusName bus → IsDataFrame f
+        → IsLineEnd end → line.now ≡ line_text time bus f ++ end → frame_read result ≡ Some (time, bus, f) }
 {
     let line = without_end(line);
     if line.len() > LINE_LIMIT {

@@ -31,8 +31,8 @@ pub enum Reason {
     #[error("more than 8 bytes")]
     TooManyBytes,
     /// A plain line has another number of bytes than its brackets say.
-    #[error("{found} bytes, and {told} told of")]
-    ByteCount { told: u8, found: u8 },
+    #[error("{found} bytes, and {length} told of")]
+    ByteCount { length: u8, found: u8 },
     /// The last byte has one digit.
     #[error("odd number of digits")]
     OddDigits,

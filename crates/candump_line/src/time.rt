@@ -59,11 +59,12 @@ impl Time {
 
     /// The time that a text spells; none for any other text.
     ///
-    /// That is seconds in one to ten decimal digits, a point and three, six or nine digits of a second, of which what is below a microsecond
-    /// is cut; or a date and a time of day, `YYYY-MM-DD HH:MM:SS` and a fraction as before, as `candump -tA` writes it. A date is taken
-    /// for one of the time zone UTC, and none is before 1970.
+    /// That is seconds in one to ten decimal digits, a point and three, six or nine digits of a second, of which what is below a
+    /// microsecond is cut; or a date and a time of day, `YYYY-MM-DD HH:MM:SS` and a fraction as before, as `candump -tA` writes it.
+    /// A date is taken for one of the time zone UTC, and none is before 1970.
     pub fn read(text: &str) -> Option<Time>
-        ensures reads { (digits ticks : ℕ) → IsFraction digits → ticks < 10 ^ (10 + digits) → text.now ≡ ticks_text digits ticks → result ≡ Some (micros_of_ticks digits ticks) }
+        ensures reads { (digits ticks : ℕ) → IsFraction digits → ticks < 10 ^ (10 + digits) → text.now ≡ ticks_text digits ticks
+            → result ≡ Some (micros_of_ticks digits ticks) }
         ensures reads_back { (n : ℕ) → n < 10 ^ 16 → text.now ≡ time_text n → result ≡ Some n }
         ensures too_long { BeginsWithElevenDigits text.now → result ≡ None }
     {
@@ -88,8 +89,8 @@ fn whole_time(micros: u64, rest: &[u8]) -> Option<Time>
     Some(Time::of_micros(micros))
 }
 
-/// The microseconds of the seconds that stand at the front of a text with three, six or nine digits behind a point, and what stands behind
-/// them.
+/// The microseconds of the seconds that stand at the front of a text with three, six or nine digits behind a point, and what stands
+/// behind them.
 #[inline(always)]
 pub(crate) fn leading_micros(text: &[u8]) -> Option<(u64, &[u8])>
     ensures bound { IfSome result (λ found. found.0 < 10 ^ 16) }

@@ -11,7 +11,8 @@ pub enum TimeForm {
     Seconds,
     /// A date and a time of day (`candump -tA`).
     Date,
-    /// Three digits of seconds of which the first is 0: since the first line (`candump -tz`), or since the line before (`candump -td`).
+    /// Three digits of seconds of which the first is 0: since the first line (`candump -tz`), or since the line before (`candump
+    /// -td`).
     Relative,
 }
 
@@ -20,8 +21,8 @@ impl TimeForm {
 
     /// The form of the time that a line begins with, one blank before it left out; none where it begins with no time.
     ///
-    /// The first line with a time tells how all of a log are written: with `-tz` and with `-td` it has `000.000000`. Of `-tz` no time is
-    /// less than the one before it; where one is, each is since the line before.
+    /// The first line with a time tells how all of a log are written: with `-tz` and with `-td` it has `000.000000`. Of `-tz` no
+    /// time is less than the one before it; where one is, each is since the line before.
     pub fn of(line: &[u8]) -> Option<TimeForm>
         ensures { result ≡ time_form line.now }
     {

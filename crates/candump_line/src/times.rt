@@ -12,14 +12,15 @@ const ENOUGH: u8 = 10;
 
 /// Whether the times of a log count, by its lines so far.
 ///
-/// Relative times are those since the first line (`candump -tz`), which count, or since the line before (`candump -td`), which say nothing
-/// of lines further apart. One line does not tell which. Of the first kind none is less than the one before it, and they rise: where the
-/// first ten are so, they count, and until then and else they do not.
+/// Relative times are those since the first line (`candump -tz`), which count, or since the line before (`candump -td`), which say
+/// nothing of lines further apart. One line does not tell which. Of the first kind none is less than the one before it, and they
+/// rise: where the first ten are so, they count, and until then and else they do not.
 #[derive(Clone, Copy, Debug, PartialEq, Eq)]
 pub enum Times {
     /// No line had a time yet.
     Unseen,
-    /// So many lines had relative times, 1 to 9, of which none was less than the one before it: with the one behind the first, and the newest.
+    /// So many lines had relative times, 1 to 9, of which none was less than the one before it: with the one behind the first, and
+    /// the newest.
     Undecided {
         seen: u8,
         second: Time,

@@ -7,7 +7,7 @@ use crate::reason::Reason;
 #[derive(Clone, Copy, Debug, PartialEq, Eq)]
 pub(crate) enum IdWord {
     /// 11 bits: three digits.
-    Short,
+    StandardId,
     /// 29 bits: eight digits.
     Long { number: u32 },
     /// An error on the bus, by its class: eight digits, with bit 29 set.
@@ -25,7 +25,7 @@ const ERROR_END: u32 = 0x4000_0000;
 /// `NoDigit`, `ControlCharacter`: it has other characters than digits. `IdDigits`: it has neither three nor eight.
 /// `IdTooLarge`: more than 29 bits are set, and it is no error's.
 pub(crate) fn read_id(word: &str) -> Result<IdWord, Reason>
-    ensures short { result ≡ Ok IdWord.Short → length word.now ≡ 3 }
+    ensures short { result ≡ Ok IdWord.StandardId → length word.now ≡ 3 }
     ensures long { IfOk result (λ id. (number : ℕ) → id ≡ IdWord.Long number → number < 2 ^ 29) }
     ensures error { IfOk result (λ id. (class : ℕ) → id ≡ IdWord.Error class → (2 ^ 29 ≤ class) × (class < 2 ^ 30)) }
 {
@@ -33,7 +33,7 @@ pub(crate) fn read_id(word: &str) -> Result<IdWord, Reason>
         return Err(reason);
     }
     if word.len() == 3 {
-        return Ok(IdWord::Short);
+        return Ok(IdWord::StandardId);
     }
     match read_number(word.as_bytes()) {
         Some(number) if number < ERROR_FLAG => Ok(IdWord::Long { number }),

@@ -6,4 +6,4 @@ mod time;
 mod utc;
 
 pub use duration::DurationWords;
-pub use time::{Clock, Fraction, TimeWords};
+pub use time::{ClockForm, Fraction, TimeWords};

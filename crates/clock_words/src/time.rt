@@ -4,7 +4,7 @@ use std::fmt;
 
 /// How times are told to people.
 #[derive(Clone, Copy, Debug, PartialEq, Eq)]
-pub enum Clock {
+pub enum ClockForm {
     /// As the log has them: seconds.
     Log,
     /// As a date and a time of day at UTC, for times that count from the start of the year 1970.
@@ -30,7 +30,7 @@ pub enum Fraction {
 /// `08:00:05.123456`; since the first `+0:00:05.123456`, or, of a time before it, `-0:00:05.123456`.
 #[derive(Clone, Copy)]
 pub struct TimeWords {
-    pub clock: Clock,
+    pub clock: ClockForm,
     /// The time of the first line that has one.
     pub start: Time,
     pub time: Time,
@@ -42,9 +42,9 @@ pub struct TimeWords {
 impl fmt::Display for TimeWords {
     fn fmt<W: fmt::Write>(&self, f: &mut fmt::Formatter<W>) -> fmt::Result {
         match self.clock {
-            Clock::Log => write_log(f, self.time, self.fraction),
-            Clock::Utc => write_utc(f, self.time, self.fraction, self.with_date),
-            Clock::Relative => write_relative(f, self.start, self.time, self.fraction),
+            ClockForm::Log => write_log(f, self.time, self.fraction),
+            ClockForm::Utc => write_utc(f, self.time, self.fraction, self.with_date),
+            ClockForm::Relative => write_relative(f, self.start, self.time, self.fraction),
         }
     }
 }

@@ -1,4 +1,4 @@
-use csv_rows::{Row, Rows};
+use csv_rows::{CsvRow, CsvRows};
 use indexmap::IndexMap;
 use std::alloc::{AllocError, AllocFailed, Global};
 use std::fmt;
@@ -132,8 +132,8 @@ impl Texts {
 
     /// Adds the texts of all rows behind the first.
     fn add_all(&mut self, alloc: Global, text: &[u8]) -> Result<(), TextsFault> {
-        let mut rows = Rows::of(text);
-        let mut row = Row::new(alloc);
+        let mut rows = CsvRows::of(text);
+        let mut row = CsvRow::new(alloc);
         if !rows.read(&mut row)? {
             return Ok(());
         }
@@ -152,7 +152,7 @@ impl Texts {
     }
 
     /// Adds the text of a row.
-    fn add(&mut self, alloc: Global, row: &Row) -> Result<(), TextsFault> {
+    fn add(&mut self, alloc: Global, row: &CsvRow) -> Result<(), TextsFault> {
         let (spn, fmi, text) = match values_of(row) {
             Ok(values) => values,
             Err(wrong) => return Err(refused(alloc, row.line(), wrong)),
@@ -231,7 +231,7 @@ fn joined(alloc: Global, spn: &str, fmi: &str) -> Result<Option<String>, AllocEr
 }
 
 /// The SPN, the FMI and the text of a row.
-fn values_of(row: &Row) -> Result<(Option<u32>, Option<u32>, &str), Wrong<'_>> {
+fn values_of(row: &CsvRow) -> Result<(Option<u32>, Option<u32>, &str), Wrong<'_>> {
     if row.len() != 3 {
         return Err(Wrong::Values(row.len() as u64));
     }
@@ -241,7 +241,7 @@ fn values_of(row: &Row) -> Result<(Option<u32>, Option<u32>, &str), Wrong<'_>> {
 }
 
 /// The word of a row at this place.
-fn word_at<'a>(row: &'a Row, place: usize, name: &'a str) -> Result<&'a str, Wrong<'a>> {
+fn word_at<'a>(row: &'a CsvRow, place: usize, name: &'a str) -> Result<&'a str, Wrong<'a>> {
     match row.get(place) {
         Some(bytes) => match std::str::from_utf8(bytes) {
             Ok(word) => Ok(word),
@@ -253,7 +253,7 @@ fn word_at<'a>(row: &'a Row, place: usize, name: &'a str) -> Result<&'a str, Wro
 
 /// The number of a row at this place, at most `last`; none where it is empty.
 fn number_at<'a>(
-    row: &'a Row,
+    row: &'a CsvRow,
     place: usize,
     name: &'a str,
     last: u32,

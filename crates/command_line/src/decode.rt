@@ -5,7 +5,7 @@ ghost use Rattle.command_line.specs.CommandLine.{decode_shape};
 
 use crate::options::{CommandOption, Given, subcommand};
 use clap::{ArgMatches, Command};
-use command_words::DecodeWords;
+use command_words::DecodeArguments;
 use std::alloc::{AllocError, Global};
 
 /// What a texts file holds.
@@ -76,8 +76,8 @@ pub(crate) fn command<'a>(alloc: Global) -> Result<Command<'a>, AllocError>
 }
 
 /// The words behind `decode`.
-pub(crate) fn words<'a>(found: &ArgMatches<'a>) -> DecodeWords<'a> {
-    DecodeWords {
+pub(crate) fn words<'a>(found: &ArgMatches<'a>) -> DecodeArguments<'a> {
+    DecodeArguments {
         format: found.get_str("format"),
         units: found.get_str("units"),
         texts: found.get_str("texts"),

@@ -31,7 +31,8 @@ impl From<AllocError> for LineFault {
 /// What an error of `clap` is to the program. Its text is told of words that are refused where that is wanted.
 pub(crate) fn fault_of(alloc: Global, error: &Error, is_told: bool) -> LineFault
     ensures memory { kind_of error.now ≡ OutOfMemory → result ≡ LineFault.Memory }
-    ensures asked { (kind_of error.now ≡ DisplayHelp) ⊎ (kind_of error.now ≡ DisplayVersion) → IsHelp result ⊎ (result ≡ LineFault.Memory) }
+    ensures asked { (kind_of error.now ≡ DisplayHelp) ⊎ (kind_of error.now ≡ DisplayVersion)
+        → IsHelp result ⊎ (result ≡ LineFault.Memory) }
     ensures help { IsHelp result → (kind_of error.now ≡ DisplayHelp) ⊎ (kind_of error.now ≡ DisplayVersion) }
     ensures told { HasWords result → IsTrue is_told }
     ensures untold { result ≡ LineFault.Refused None → is_told ≡ false }

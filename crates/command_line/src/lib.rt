@@ -14,4 +14,4 @@ mod threads;
 mod watch;
 
 pub use fault::LineFault;
-pub use reading::read_line;
+pub use reading::parse;

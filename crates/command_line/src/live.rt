@@ -5,7 +5,7 @@ ghost use Rattle.command_line.specs.CommandLine.{live_shape};
 
 use crate::options::{CommandOption, Given, subcommand};
 use clap::{ArgMatches, Command};
-use command_words::LiveWords;
+use command_words::LiveArguments;
 use std::alloc::{AllocError, Global};
 
 /// How a bus is joined.
@@ -112,8 +112,8 @@ pub(crate) fn command<'a>(alloc: Global) -> Result<Command<'a>, AllocError>
 }
 
 /// The words behind `live`.
-pub(crate) fn words<'a>(found: &ArgMatches<'a>) -> LiveWords<'a> {
-    LiveWords {
+pub(crate) fn words<'a>(found: &ArgMatches<'a>) -> LiveArguments<'a> {
+    LiveArguments {
         file: found.get_str("file"),
         bus: found.get_str("bus"),
         control: found.get_str("control"),

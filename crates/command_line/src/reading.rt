@@ -20,7 +20,7 @@ const PROGRAM: &str = "j1939bench";
 /// - `Refused`: the words are none of the program's, or a number of turns or readings is not 1 to 100,000. Behind `watch`, `log`,
 ///   `decode`, `check` and `live` it has what is wrong, with the words that may have been meant and the usage.
 /// - `Memory`: memory ran out.
-pub fn read_line<'a>(alloc: Global, words: &'a [String]) -> Result<Job<'a>, LineFault>
+pub fn parse<'a>(alloc: Global, words: &'a [String]) -> Result<Job<'a>, LineFault>
     ensures range { IfOk result HasCounts }
     ensures taken { OnOk result (faults_in (map string_bytes words.now) ≡ []) }
     ensures help { IfErr result (λ fault. IsHelp fault → AsksForHelp (map string_bytes words.now)) }

@@ -5,7 +5,7 @@ ghost use Rattle.command_line.specs.CommandLine.{check_shape, log_shape, script_
 
 use crate::options::{CommandOption, Given, subcommand};
 use clap::{ArgMatches, Command};
-use command_words::LogWords;
+use command_words::LogArguments;
 use std::alloc::{AllocError, Global};
 
 /// What a script's lines may be.
@@ -99,8 +99,8 @@ pub(crate) fn check_command<'a>(alloc: Global) -> Result<Command<'a>, AllocError
 }
 
 /// The words behind `log`.
-pub(crate) fn log_words<'a>(found: &ArgMatches<'a>) -> LogWords<'a> {
-    LogWords {
+pub(crate) fn log_words<'a>(found: &ArgMatches<'a>) -> LogArguments<'a> {
+    LogArguments {
         bus: found.get_str("bus"),
         period: found.get_str("period"),
     }

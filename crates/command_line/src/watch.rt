@@ -5,7 +5,7 @@ ghost use Rattle.command_line.specs.CommandLine.{watch_shape};
 
 use crate::options::{CommandOption, Given, subcommand};
 use clap::{ArgMatches, Command};
-use command_words::WatchWords;
+use command_words::WatchArguments;
 use std::alloc::{AllocError, Global};
 
 /// What is written, and how it is to be read.
@@ -167,8 +167,8 @@ pub(crate) fn command<'a>(alloc: Global) -> Result<Command<'a>, AllocError>
 }
 
 /// The words behind `watch`, but for the units that it assumes.
-pub(crate) fn words<'a>(found: &ArgMatches<'a>) -> WatchWords<'a> {
-    WatchWords {
+pub(crate) fn words<'a>(found: &ArgMatches<'a>) -> WatchArguments<'a> {
+    WatchArguments {
         bus: found.get_str("bus"),
         address: found.get_str("address"),
         name: found.get_str("name"),

@@ -26,23 +26,23 @@ pub enum Job<'a> {
     },
     /// `watch`: the lines of a log or of a live bus, what they change, and a report.
     Watch {
-        words: WatchWords<'a>,
+        words: WatchArguments<'a>,
         /// Each `ADDRESS=NAME` of a unit that holds an address before the first line.
         assumed: Vec<&'a str>,
     },
     /// `log`: a script from standard input, its wire as a log.
-    Log(LogWords<'a>),
+    Log(LogArguments<'a>),
     /// `decode`: the lines of a log, each in words.
-    Decode(DecodeWords<'a>),
+    Decode(DecodeArguments<'a>),
     /// `check`: a script from standard input, each line of it that is not accepted.
     Check,
     /// `live`: the units of a vehicle on the bus whose lines come from standard input.
-    Live(LiveWords<'a>),
+    Live(LiveArguments<'a>),
 }
 
 /// The words behind `live`. A word that was not given is none.
 #[derive(Clone, Copy)]
-pub struct LiveWords<'a> {
+pub struct LiveArguments<'a> {
     /// The file of the vehicle.
     pub file: Option<&'a str>,
     /// The bus whose frames are heard, which the lines name.
@@ -65,7 +65,7 @@ pub struct LiveWords<'a> {
 
 /// The words behind `watch`, but for the units that it assumes. A word that was not given is none.
 #[derive(Clone, Copy)]
-pub struct WatchWords<'a> {
+pub struct WatchArguments<'a> {
     /// The bus that is watched; `all`: each.
     pub bus: Option<&'a str>,
     /// The address whose sessions are shown.
@@ -104,7 +104,7 @@ pub struct WatchWords<'a> {
 
 /// The words behind `log`. A word that was not given is none.
 #[derive(Clone, Copy)]
-pub struct LogWords<'a> {
+pub struct LogArguments<'a> {
     /// The bus that the lines name.
     pub bus: Option<&'a str>,
     /// How many microseconds stand between two frames.
@@ -113,7 +113,7 @@ pub struct LogWords<'a> {
 
 /// The words behind `decode`. A word that was not given is none.
 #[derive(Clone, Copy)]
-pub struct DecodeWords<'a> {
+pub struct DecodeArguments<'a> {
     /// How each line is answered.
     pub format: Option<&'a str>,
     /// A file of texts for units.

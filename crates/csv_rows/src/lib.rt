@@ -3,4 +3,4 @@
 
 mod rows;
 
-pub use rows::{Row, Rows};
+pub use rows::{CsvRow, CsvRows};

@@ -2,16 +2,16 @@ use std::alloc::{AllocError, Global};
 
 /// A row: the line on which it begins, from 1, and its values.
 #[derive(Drop)]
-pub struct Row {
+pub struct CsvRow {
     alloc: Global,
     line: u64,
     values: Vec<Vec<u8>>,
 }
 
-impl Row {
+impl CsvRow {
     /// One without values.
-    pub fn new(alloc: Global) -> Row {
-        Row {
+    pub fn new(alloc: Global) -> CsvRow {
+        CsvRow {
             alloc,
             line: 0,
             values: Vec::new(alloc),
@@ -59,7 +59,7 @@ impl Row {
 
 /// Where in a row a byte stands.
 #[derive(Clone, Copy, PartialEq, Eq)]
-enum Place {
+enum CsvPlace {
     /// Before a row: ends of lines are passed over.
     Between,
     /// At the front of a value.
@@ -74,38 +74,38 @@ enum Place {
 
 /// The rows of a text. A value in quotes may have commas, ends of lines, and quotes, each twice; an empty line is no row.
 #[derive(Drop)]
-pub struct Rows<'a> {
+pub struct CsvRows<'a> {
     rest: &'a [u8],
     line: u64,
 }
 
-impl<'a> Rows<'a> {
+impl<'a> CsvRows<'a> {
     /// Those of this text, behind its byte order mark.
-    pub fn of(text: &'a [u8]) -> Rows<'a> {
+    pub fn of(text: &'a [u8]) -> CsvRows<'a> {
         let rest = match text.strip_prefix(b"\xEF\xBB\xBF") {
             Some(rest) => rest,
             None => text,
         };
-        Rows { rest, line: 1 }
+        CsvRows { rest, line: 1 }
     }
 
     /// Reads the next row; tells whether there was one.
     ///
     /// # Errors
     /// Memory was refused.
-    pub fn read(&mut self, row: &mut Row) -> Result<bool, AllocError> {
+    pub fn read(&mut self, row: &mut CsvRow) -> Result<bool, AllocError> {
         let text = self.rest;
-        let mut place = Place::Between;
+        let mut place = CsvPlace::Between;
         for (at, byte) in text.iter().enumerate() {
-            if place == Place::Between && !is_end(*byte) {
+            if place == CsvPlace::Between && !is_end(*byte) {
                 row.begin(self.line)?;
-                place = Place::Front;
+                place = CsvPlace::Front;
             }
             if *byte == b'\n' {
                 self.line = self.line.saturating_add(1);
             }
-            if is_end(*byte) && place != Place::Quoted {
-                if place != Place::Between {
+            if is_end(*byte) && place != CsvPlace::Quoted {
+                if place != CsvPlace::Between {
                     self.rest = &text[at + 1..];
                     return Ok(true);
                 }
@@ -114,7 +114,7 @@ impl<'a> Rows<'a> {
             }
         }
         self.rest = &[];
-        Ok(place != Place::Between)
+        Ok(place != CsvPlace::Between)
     }
 }
 
@@ -124,25 +124,25 @@ fn is_end(byte: u8) -> bool {
 }
 
 /// Puts a byte of a row where it belongs, and tells where the next one stands.
-fn put_byte(row: &mut Row, place: Place, byte: u8) -> Result<Place, AllocError> {
+fn put_byte(row: &mut CsvRow, place: CsvPlace, byte: u8) -> Result<CsvPlace, AllocError> {
     match (place, byte) {
-        (Place::Quoted, b'"') => Ok(Place::Quote),
-        (Place::Front, b'"') => Ok(Place::Quoted),
-        (Place::Quoted, _) => {
+        (CsvPlace::Quoted, b'"') => Ok(CsvPlace::Quote),
+        (CsvPlace::Front, b'"') => Ok(CsvPlace::Quoted),
+        (CsvPlace::Quoted, _) => {
             row.put(byte)?;
-            Ok(Place::Quoted)
+            Ok(CsvPlace::Quoted)
         }
-        (Place::Quote, b'"') => {
+        (CsvPlace::Quote, b'"') => {
             row.put(byte)?;
-            Ok(Place::Quoted)
+            Ok(CsvPlace::Quoted)
         }
         (_, b',') => {
             row.begin_value()?;
-            Ok(Place::Front)
+            Ok(CsvPlace::Front)
         }
         _ => {
             row.put(byte)?;
-            Ok(Place::Plain)
+            Ok(CsvPlace::Plain)
         }
     }
 }

@@ -1,6 +1,6 @@
 use can_frame::Frame;
 use candump_line::Line;
-use pair_joining::{Halves, Joined};
+use pair_joining::{Joined, PairHalves};
 use parameter_group::ParameterGroup;
 use std::alloc::{AllocError, Global};
 
@@ -11,15 +11,15 @@ const MOST_BUSES: usize = 16;
 #[derive(Drop)]
 pub(crate) struct Joining {
     alloc: Global,
-    buses: Vec<Bus>,
+    buses: Vec<BusJoining>,
 }
 
 /// A bus that lines name.
 #[derive(Drop)]
-struct Bus {
+struct BusJoining {
     /// Its name; empty for lines that name none.
     name: String,
-    halves: Halves,
+    halves: PairHalves,
 }
 
 impl Joining {
@@ -31,8 +31,8 @@ impl Joining {
         }
     }
 
-    /// Takes what a line says, and answers the message that it makes whole. A line that is bad, or tells of frames that were lost, ends
-    /// what is half joined on every bus: what it stands for may have ended any of it.
+    /// Takes what a line says, and answers the message that it makes whole. A line that is bad, or tells of frames that were lost,
+    /// ends what is half joined on every bus: what it stands for may have ended any of it.
     pub(crate) fn take(&mut self, line: &Line<'_>) -> Result<Option<Joined>, AllocError> {
         match line {
             Line::Frame { bus, frame, .. } => self.take_frame(bus.unwrap_or(""), frame),
@@ -70,9 +70,9 @@ impl Joining {
         if place >= MOST_BUSES {
             return Ok(None);
         }
-        let bus = Bus {
+        let bus = BusJoining {
             name: String::from_str(self.alloc, name)?,
-            halves: Halves::new(self.alloc)?,
+            halves: PairHalves::new(self.alloc)?,
         };
         self.buses.push(bus)?;
         Ok(Some(place))

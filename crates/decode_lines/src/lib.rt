@@ -3,8 +3,9 @@
 #![tactic(auto)]
 
 mod joining;
+mod object_writer;
 mod objects;
 mod run;
 
 pub use code_texts::{Texts, TextsFault};
-pub use run::{Form, Options, decode};
+pub use run::{DecodeForm, DecodeOptions, decode};

@@ -5,7 +5,7 @@ use candump_line::{Line, Time, read_line};
 use code_texts::Texts;
 use dm_messages::{Shown, read};
 use frame_words::{write_joined_words, write_line_words};
-use log_lines::{Ended, LogFault, Notices, ROOM, next_line};
+use log_lines::{LinesEnd, LogFault, Notices, ROOM, next_line};
 use pair_joining::Joined;
 use parameter_group::ParameterGroup;
 use std::alloc::Global;
@@ -15,7 +15,7 @@ use unit_words::UnitTexts;
 
 /// How a line is answered.
 #[derive(Clone, Copy, Debug, PartialEq, Eq)]
-pub enum Form {
+pub enum DecodeForm {
     /// In words.
     Text,
     /// By a JSON object.
@@ -24,8 +24,8 @@ pub enum Form {
 
 /// How lines are answered.
 #[derive(Clone, Copy)]
-pub struct Options<'a> {
-    pub form: Form,
+pub struct DecodeOptions<'a> {
+    pub form: DecodeForm,
     /// A shop's texts for units, and for codes.
     pub units: &'a UnitTexts,
     pub texts: &'a Texts,
@@ -33,9 +33,9 @@ pub struct Options<'a> {
     pub join: bool,
 }
 
-/// Reads lines to their end and answers each by one. Of bad lines the first ten of each kind are told on `errors` besides, with their numbers,
-/// and how many further ones there were; so is that no line is a frame. Where packets are joined, a message has a line of its own behind that
-/// of its last packet.
+/// Reads lines to their end and answers each by one. Of bad lines the first ten of each kind are told on `errors` besides, with
+/// their numbers, and how many further ones there were; so is that no line is a frame. Where packets are joined, a message has a
+/// line of its own behind that of its last packet.
 ///
 /// Lines are answered before the program waits for another.
 pub fn decode<R: Read + Drop, W: Write + Drop, E: Write>(
@@ -43,18 +43,18 @@ pub fn decode<R: Read + Drop, W: Write + Drop, E: Write>(
     reader: R,
     writer: W,
     errors: &mut E,
-    options: &Options<'_>,
-) -> Ended {
+    options: &DecodeOptions<'_>,
+) -> LinesEnd {
     let (Ok(mut reader), Ok(mut writer)) = (
         BufReader::with_capacity(alloc, ROOM, reader),
         BufWriter::with_capacity(alloc, ROOM, writer),
     ) else {
-        return Ended::failed(LogFault::Memory);
+        return LinesEnd::failed(LogFault::Memory);
     };
     let ended = answer_lines(alloc, &mut reader, &mut writer, errors, options);
     match writer.flush() {
         Ok(()) => ended,
-        Err(_) => Ended {
+        Err(_) => LinesEnd {
             fault: Some(LogFault::Write),
             ..ended
         },
@@ -67,8 +67,8 @@ fn answer_lines<R: Read + Drop, W: Write + Drop, E: Write>(
     reader: &mut BufReader<R>,
     writer: &mut BufWriter<W>,
     errors: &mut E,
-    options: &Options<'_>,
-) -> Ended {
+    options: &DecodeOptions<'_>,
+) -> LinesEnd {
     let mut notices = Notices::new();
     let end = answer_each(alloc, reader, writer, errors, options, &mut notices);
     notices.ended(errors, end)
@@ -80,7 +80,7 @@ fn answer_each<R: Read + Drop, W: Write + Drop, E: Write>(
     reader: &mut BufReader<R>,
     writer: &mut BufWriter<W>,
     errors: &mut E,
-    options: &Options<'_>,
+    options: &DecodeOptions<'_>,
     notices: &mut Notices,
 ) -> Result<bool, LogFault> {
     let mut line = Vec::new(alloc);
@@ -101,14 +101,14 @@ fn answer_each<R: Read + Drop, W: Write + Drop, E: Write>(
 fn answer<W: Write>(
     alloc: Global,
     writer: &mut W,
-    options: &Options<'_>,
+    options: &DecodeOptions<'_>,
     joining: &mut Joining,
     said: &Line<'_>,
     number: u64,
 ) -> Result<(), LogFault> {
     match options.form {
-        Form::Text => write_words(alloc, writer, options, said)?,
-        Form::Json => {
+        DecodeForm::Text => write_words(alloc, writer, options, said)?,
+        DecodeForm::Json => {
             let object = line_object(alloc, options.texts, number, said)?;
             write_object(writer, object)?;
         }
@@ -125,14 +125,14 @@ fn answer<W: Write>(
 fn write_joined<W: Write>(
     alloc: Global,
     writer: &mut W,
-    options: &Options<'_>,
+    options: &DecodeOptions<'_>,
     number: u64,
     line: &Line<'_>,
     joined: &Joined,
 ) -> Result<(), LogFault> {
     match options.form {
-        Form::Text => write_words_of_joined(alloc, writer, options.texts, line, joined),
-        Form::Json => {
+        DecodeForm::Text => write_words_of_joined(alloc, writer, options.texts, line, joined),
+        DecodeForm::Json => {
             let object = joined_object(alloc, options.texts, number, line, joined)?;
             write_object(writer, object)
         }
@@ -184,7 +184,7 @@ fn write_object<W: Write>(writer: &mut W, object: Vec<u8>) -> Result<(), LogFaul
 fn write_words<W: Write>(
     alloc: Global,
     writer: &mut W,
-    options: &Options<'_>,
+    options: &DecodeOptions<'_>,
     line: &Line<'_>,
 ) -> Result<(), LogFault> {
     if let Err(error) = write_line_words(writer, alloc, line) {

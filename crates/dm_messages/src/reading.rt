@@ -117,9 +117,12 @@ fn first_fault(groups: &[u8]) -> Option<ReadError>
 
 /// The code of one group, or its fault.
 fn read_code(group: [u8; 4]) -> Result<Dtc, ReadError>
-    ensures ok { IfOk result (λ d. code_of_bytes (slice_index group 0) (slice_index group 1) (slice_index group 2) (slice_index group 3) ≡ Some d) }
-    ensures no_fault { IfOk result (λ _. fault_of_group (slice_index group 0) (slice_index group 1) (slice_index group 2) (slice_index group 3) ≡ None) }
-    ensures fault { IfErr result (λ e. fault_of_group (slice_index group 0) (slice_index group 1) (slice_index group 2) (slice_index group 3) ≡ Some e) }
+    ensures ok { IfOk result
+        (λ d. code_of_bytes (slice_index group 0) (slice_index group 1) (slice_index group 2) (slice_index group 3) ≡ Some d) }
+    ensures no_fault { IfOk result
+        (λ _. fault_of_group (slice_index group 0) (slice_index group 1) (slice_index group 2) (slice_index group 3) ≡ None) }
+    ensures fault { IfErr result
+        (λ e. fault_of_group (slice_index group 0) (slice_index group 1) (slice_index group 2) (slice_index group 3) ≡ Some e) }
 {
     match Dtc::from_bytes(group) {
         Ok(code) => Ok(code),

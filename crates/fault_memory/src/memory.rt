@@ -99,7 +99,8 @@ impl FaultMemory {
     pub fn apply(&mut self, change: FaultChange) -> Result<(), FaultError>
         ensures ok { OnOk result (changed self.old change ≡ Ok self.new) }
         ensures refused { (e : FaultError) → changed self.old change ≡ Err e → result ≡ Err e }
-        ensures why { IfErr result (λ e. ((e ≡ FaultError.OutOfMemory) × Grows (changed self.old change) self.old) ⊎ (changed self.old change ≡ Err e)) }
+        ensures why { IfErr result
+            (λ e. ((e ≡ FaultError.OutOfMemory) × Grows (changed self.old change) self.old) ⊎ (changed self.old change ≡ Err e)) }
         ensures unchanged { OnErr result (self.new ≡ self.old) }
     {
         match change {

@@ -2,7 +2,7 @@
 use Rattle.std.specs.Prelude.{ℕ, List, ◌++◌, codes}
 use Rattle.std.specs.Fmt.{decimal}
 use Rattle.candump_line.specs.declared.line.Foreign.{Foreign as AnyForeign}
-use Rattle.candump_line.specs.declared.line.Foreign.TheVariants.{Short, Remote, Fd, Error}
+use Rattle.candump_line.specs.declared.line.Foreign.TheVariants.{StandardId, Remote, Fd, Error}
 use Rattle.dm_messages.specs.declared.kind.Kind.{Kind}
 use Rattle.dm_messages.specs.declared.kind.Kind.TheVariants.{Dm1, Dm2, Dm6}
 use Rattle.name_field.specs.declared.NameFields.{NameFields}
@@ -15,7 +15,7 @@ kind_text Dm6 = codes "DM6"
 
 -- what a frame is that is none of SAE J1939
 abbrev pub foreign_text : AnyForeign → List ℕ
-foreign_text Short = codes "11-bit identifier"
+foreign_text StandardId = codes "11-bit identifier"
 foreign_text Remote = codes "remote frame"
 foreign_text Fd = codes "CAN FD frame"
 foreign_text Error = codes "error frame"

@@ -1,4 +1,5 @@
-//! `decode`: what one line of a log says, in words, or a message that was joined from packets. No line is read with another in mind.
+//! `decode`: what one line of a log says, in words, or a message that was joined from packets. No line is read with another in
+//! mind.
 #![tactic(auto)]
 
 mod audience;

@@ -68,7 +68,7 @@ fn foreign_word(what: Foreign) -> &'static str
     ensures { result.now ≡ foreign_text what }
 {
     match what {
-        Foreign::Short => "11-bit identifier",
+        Foreign::StandardId => "11-bit identifier",
         Foreign::Remote => "remote frame",
         Foreign::Fd => "CAN FD frame",
         Foreign::Error => "error frame",

@@ -9,7 +9,7 @@ use Rattle.can_frame.specs.declared.reading.Reading.{Reading}
 use Rattle.can_frame.specs.declared.reading.Reading.TheVariants as reading
 use Rattle.fault_memory.specs.Memory.{MemoryValue}
 use Rattle.dm_messages.specs.declared.shown.Shown.{Shown}
-use Rattle.journal.specs.Journal.{GarageValue, Adds, listed_at, memory_told, state_of, tally_of}
+use Rattle.journal.specs.Journal.{GarageValue, Adds, listed_at, memory_recorded, state_of, tally_of}
 use Rattle.journal.specs.Promises.{KeepsLists}
 use Rattle.journal.specs.State.{Settings}
 use Rattle.journal.specs.declared.event.Event.{Event}
@@ -18,7 +18,7 @@ use Rattle.journal.specs.declared.tally.Tally.{Tally}
 use Rattle.journal.proofs.Lifted.{keeps_adds, keeps_same}
 use Rattle.garage.specs.Answers.{Reads}
 use Rattle.garage.specs.Carrying.{AddsCarry}
-use Rattle.garage.specs.Crew.{AreOthersUntouched, AreSeated, AreUntouched, Comes, IsCrew, IsOfRound, IsTold, IsUntouched, KeepsUnit, LeadTo, Sits, Sitting}
+use Rattle.garage.specs.Crew.{AreOthersUntouched, AreSeated, AreUntouched, Comes, IsCrew, IsOfRound, IsRecorded, IsUntouched, KeepsUnit, LeadTo, Sits, Sitting}
 use Rattle.garage.specs.declared.hearing.Recorded.{Recorded}
 use Rattle.garage.specs.declared.hearing.Recorded.TheVariants.{Current, Unknown}
 use Rattle.node_core.specs.declared.heard.Answer.{Answer as UnitAnswer}
@@ -30,27 +30,27 @@ pub untouched_same : (k : ℕ) (g g' : GarageValue) → g' ≡ g → IsUntouched
 untouched_same k g g' e = record {
   keeps = subst (λ (v : GarageValue). KeepsUnit k g v) (sym e) (keeps_itself k (state_of g).traffic);
   counted = ap (λ (v : GarageValue). (tally_of k v.journal).events) e;
-  told = ap (λ (v : GarageValue). memory_told k v.journal) e;
+  told = ap (λ (v : GarageValue). memory_recorded k v.journal) e;
 }
 
 -- one event more, of another seat or of none
-untouched_by : (k : ℕ) (g g' : GarageValue) (e : Event) → Adds g e g' → KeepsUnit k g g' → tally_of k (e ∷ g.journal) ≡ tally_of k g.journal → memory_told k (e ∷ g.journal) ≡ memory_told k g.journal → IsUntouched k g g'
+untouched_by : (k : ℕ) (g g' : GarageValue) (e : Event) → Adds g e g' → KeepsUnit k g g' → tally_of k (e ∷ g.journal) ≡ tally_of k g.journal → memory_recorded k (e ∷ g.journal) ≡ memory_recorded k g.journal → IsUntouched k g g'
 untouched_by k g g' e adds keeps tally told = record {
   keeps = keeps;
   counted = ap (λ (v : GarageValue). (tally_of k v.journal).events) adds.adds ∙ ap (λ (t : Tally). t.events) tally;
-  told = ap (λ (v : GarageValue). memory_told k v.journal) adds.adds ∙ told;
+  told = ap (λ (v : GarageValue). memory_recorded k v.journal) adds.adds ∙ told;
 }
 
-memory_of_other : (k j : ℕ) (memory : MemoryValue) (answered : UnitAnswer) (es : List Event) → k ≢ j → memory_told k (Hear j memory answered ∷ es) ≡ memory_told k es
-unfolding memory_told
+memory_of_other : (k j : ℕ) (memory : MemoryValue) (answered : UnitAnswer) (es : List Event) → k ≢ j → memory_recorded k (Hear j memory answered ∷ es) ≡ memory_recorded k es
+unfolding memory_recorded
 memory_of_other k j memory answered es n = (let t : nat_eq j k ≡ false = ne_eqb j k (λ e. n (sym e)) in rw t refl)
 
-memory_read : (y k : ℕ) (r : Reading) (es : List Event) → memory_told k (Read y r ∷ es) ≡ memory_told k es
-unfolding memory_told
+memory_read : (y k : ℕ) (r : Reading) (es : List Event) → memory_recorded k (Read y r ∷ es) ≡ memory_recorded k es
+unfolding memory_recorded
 memory_read y k r es = refl
 
-memory_carried : (k j : ℕ) (es : List Event) → memory_told k (Carry j ∷ es) ≡ memory_told k es
-unfolding memory_told
+memory_carried : (k j : ℕ) (es : List Event) → memory_recorded k (Carry j ∷ es) ≡ memory_recorded k es
+unfolding memory_recorded
 memory_carried k j es = refl
 
 pub heard_untouched : (k : ℕ) (g : GarageValue) (j : ℕ) (memory : MemoryValue) (answered : UnitAnswer) (g' : GarageValue) → Adds g (Hear j memory answered) g' → k ≢ j → k < length (state_of g).traffic.seats → IsUntouched k g g'
@@ -160,7 +160,7 @@ other_seat sitting g us i j p q seated n at_i at_j same =
 
 -- a unit that heard: the others are as they were
 pub crew_heard : {P : Type 0} (sitting : P → Sitting) (g g' : GarageValue) (us : List P) (recorded recorded' : List Recorded) (i : ℕ) (p p' : P) (known : Recorded) → IsCrew sitting g us recorded → slice_get us i ≡ Some p
-    → (sitting p').seat ≡ (sitting p).seat → Sits g' (sitting p') → (known ≡ Current → IsTold g' (sitting p'))
+    → (sitting p').seat ≡ (sitting p).seat → Sits g' (sitting p') → (known ≡ Current → IsRecorded g' (sitting p'))
     → ((k : ℕ) → k ≢ (sitting p).seat → k < length (state_of g).traffic.seats → IsUntouched k g g')
     → ((j : ℕ) → j ≢ i → slice_get recorded' j ≡ Some Current → slice_get recorded j ≡ Some Current) → (slice_get recorded' i ≡ Some Current → known ≡ Current)
     → IsCrew sitting g' (set us i p') recorded'
@@ -197,7 +197,7 @@ crew_heard {P} sitting g g' us recorded recorded' i p p' known crew at_i seat si
   };
   told = λ j q e m.
       elim (slice_get_set us i j p' q e) [
-        | inl same ↦ subst (λ (x : P). IsTold g' (sitting x)) (sym same.1) (tells (here (ap (λ (x : ℕ). slice_get recorded' x) (sym same.0) ∙ m)))
+        | inl same ↦ subst (λ (x : P). IsRecorded g' (sitting x)) (sym same.1) (tells (here (ap (λ (x : ℕ). slice_get recorded' x) (sym same.0) ∙ m)))
         | inr other ↦
             let s = crew.seated.each j q other.1 in
             (all (sitting q).seat (other_seat sitting g us i j p q crew.seated other.0 at_i other.1) s.unit.1).told ∙ crew.told j q other.1 (rest j other.0 m)

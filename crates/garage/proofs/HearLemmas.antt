@@ -109,8 +109,8 @@ next_stays k g g' h =
     ∙ ap (λ (n : ℕ). option_map (λ (c : CarriedFrame). c.frame) (slice_get (state_of g).traffic.wire n)) h.heard
 
 -- the last frame of the wire too
-pub last_stays : (f : FrameValue) (sifted : _) (g g' : GarageValue) → (state_of g').traffic.wire ≡ (state_of g).traffic.wire → IsLast f sifted g → IsLast f sifted g'
-last_stays f sifted g g' same last = record {
+pub last_stays : (f : FrameValue) (acceptance : _) (g g' : GarageValue) → (state_of g').traffic.wire ≡ (state_of g).traffic.wire → IsLast f acceptance g → IsLast f acceptance g'
+last_stays f acceptance g g' same last = record {
   frame = ap (λ (w : List CarriedFrame). last_on w) same ∙ last.frame;
   tells = last.tells;
 }

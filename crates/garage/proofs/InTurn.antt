@@ -9,17 +9,17 @@ use Rattle.bus_ledger.specs.Changes.{heard_more}
 use Rattle.unit_trait.specs.declared.question.Question.{Question}
 use Rattle.node_core.specs.NodeValue.{NodeValue}
 use Rattle.node_core.specs.Asking.{memory_answered}
-use Rattle.node_core.specs.Passing.{IsHeardQuietly, Settles}
+use Rattle.node_core.specs.Passing.{IsHeardQuietly, Absorbs}
 use Rattle.node_core.specs.Reaction.{memory_after}
 use Rattle.node_core.specs.declared.heard.Answer.{Answer as UnitAnswer}
 use Rattle.node_core.specs.declared.heard.Answer.TheVariants.{NotAsked}
-use Rattle.node_core.specs.declared.sifted.Sifted.{Sifted}
-use Rattle.journal.specs.Journal.{GarageValue, IsSeated, memory_told, one_more, state_of, tally_of}
+use Rattle.node_core.specs.declared.acceptance.Acceptance.{Acceptance}
+use Rattle.journal.specs.Journal.{GarageValue, IsSeated, memory_recorded, one_more, state_of, tally_of}
 use Rattle.journal.specs.State.{Settings, unit_at}
 use Rattle.journal.specs.Steps.{next_for}
 use Rattle.journal.specs.declared.event.Event.TheVariants.{Hear}
 use Rattle.garage.specs.Answers.{Passes}
-use Rattle.garage.specs.Crew.{IsCrew, IsTold, Sitting}
+use Rattle.garage.specs.Crew.{IsCrew, IsRecorded, Sitting}
 use Rattle.garage.specs.Hearing.{HearsFrame, HearsOut, IsLast}
 use Rattle.garage.specs.Inside.{no_tally, place_at, settings_of, garage_value_of, unit_of, Stands}
 use Rattle.garage.specs.Rounds.{HearOnward, HearsAt}
@@ -34,10 +34,10 @@ use Rattle.garage.proofs.RoundLemmas.{crew_after, last_after, moved_some, set_it
 use Rattle.garage.proofs.Standing.{place_told, state}
 
 -- how far they have come: all stands, those before this number have heard all, and there is room for so many more
-pub record InTurn {P : Type 0} (sitting : P → Sitting) (asked : P → P → Option Question → UnitAnswer → Type 0) (first : ℕ) (before : GarageValue) (earlier : List P) (f : FrameValue) (sifted : Sifted) (a : Inside) (units : List P) (recorded : List Recorded) (i left : ℕ) : Type 0 where
+pub record InTurn {P : Type 0} (sitting : P → Sitting) (asked : P → P → Option Question → UnitAnswer → Type 0) (first : ℕ) (before : GarageValue) (earlier : List P) (f : FrameValue) (acceptance : Acceptance) (a : Inside) (units : List P) (recorded : List Recorded) (i left : ℕ) : Type 0 where
   pub stands : Stands a
   pub crew : IsCrew sitting (garage_value_of a) units recorded
-  pub last : IsLast f sifted (garage_value_of a)
+  pub last : IsLast f acceptance (garage_value_of a)
   pub heard : HearOnward sitting asked first i before earlier (garage_value_of a) units
   pub count : length units ≡ length earlier
   pub within : length a.journal.items + left + a.live ≤ a.limit
@@ -48,10 +48,10 @@ onward : {P : Type 0} (sitting : P → Sitting) (asked : P → P → Option Ques
 onward sitting asked first i j a b c us vs ws e heard one = λ v xs h. units_more sitting asked i j v b c xs vs ws e (heard v xs h) one
 
 -- one that has heard all
-pub turn_still : {P : Type 0} (sitting : P → Sitting) (asked : P → P → Option Question → UnitAnswer → Type 0) (first : ℕ) (before : GarageValue) (earlier : List P) (f : FrameValue) (sifted : Sifted) (a : Inside) (units : List P) (recorded : List Recorded) (i j left fewer : ℕ) (p : P)
-    → InTurn sitting asked first before earlier f sifted a units recorded i left → j ≡ i + 1 → fewer ≤ left → slice_get units i ≡ Some p → length a.bus.traffic.wire ≤ (seat_at a.bus.traffic (sitting p).seat).heard
-    → InTurn sitting asked first before earlier f sifted a units recorded j fewer
-turn_still {P} sitting asked first before earlier f sifted a units recorded i j left fewer p so next less at none =
+pub turn_still : {P : Type 0} (sitting : P → Sitting) (asked : P → P → Option Question → UnitAnswer → Type 0) (first : ℕ) (before : GarageValue) (earlier : List P) (f : FrameValue) (acceptance : Acceptance) (a : Inside) (units : List P) (recorded : List Recorded) (i j left fewer : ℕ) (p : P)
+    → InTurn sitting asked first before earlier f acceptance a units recorded i left → j ≡ i + 1 → fewer ≤ left → slice_get units i ≡ Some p → length a.bus.traffic.wire ≤ (seat_at a.bus.traffic (sitting p).seat).heard
+    → InTurn sitting asked first before earlier f acceptance a units recorded j fewer
+turn_still {P} sitting asked first before earlier f acceptance a units recorded i j left fewer p so next less at none =
     let v = garage_value_of a in
     let all : length (state_of v).traffic.wire ≤ (seat_at (state_of v).traffic (sitting p).seat).heard = subst (λ (t : Traffic). length t.wire ≤ (seat_at t (sitting p).seat).heard) so.stands.traffic none in
     record {
@@ -65,13 +65,13 @@ turn_still {P} sitting asked first before earlier f sifted a units recorded i j 
     }
 
 -- one that passes over the frame
-pub turn_passed : {P : Type 0} (sitting : P → Sitting) (asked : P → P → Option Question → UnitAnswer → Type 0) (first : ℕ) (before : GarageValue) (earlier : List P) (f : FrameValue) (sifted : Sifted) (a b : Inside) (units : List P) (recorded recorded' : List Recorded) (i j left fewer events : ℕ) (p p' : P) (x : Place) (node' : NodeValue)
-    → InTurn sitting asked first before earlier f sifted a units recorded i left → j ≡ i + 1 → fewer + 1 ≡ left → slice_get units i ≡ Some p → IsTold (garage_value_of a) (sitting p) → ((k : ℕ) → k ≢ i → slice_get recorded' k ≡ slice_get recorded k) → (seat_at a.bus.traffic (sitting p).seat).heard + 1 ≡ length a.bus.traffic.wire
-    → x ≡ get_or a.places.items ((sitting p).seat - a.stations) x → Settles sifted x.node node' → sitting p' ≡ record (sitting p) { events = events } → events ≡ x.tally.events + 1 → asked p p' None NotAsked
+pub turn_passed : {P : Type 0} (sitting : P → Sitting) (asked : P → P → Option Question → UnitAnswer → Type 0) (first : ℕ) (before : GarageValue) (earlier : List P) (f : FrameValue) (acceptance : Acceptance) (a b : Inside) (units : List P) (recorded recorded' : List Recorded) (i j left fewer events : ℕ) (p p' : P) (x : Place) (node' : NodeValue)
+    → InTurn sitting asked first before earlier f acceptance a units recorded i left → j ≡ i + 1 → fewer + 1 ≡ left → slice_get units i ≡ Some p → IsRecorded (garage_value_of a) (sitting p) → ((k : ℕ) → k ≢ i → slice_get recorded' k ≡ slice_get recorded k) → (seat_at a.bus.traffic (sitting p).seat).heard + 1 ≡ length a.bus.traffic.wire
+    → x ≡ get_or a.places.items ((sitting p).seat - a.stations) x → Absorbs acceptance x.node node' → sitting p' ≡ record (sitting p) { events = events } → events ≡ x.tally.events + 1 → asked p p' None NotAsked
     → settings_of b ≡ settings_of a → b.journal.items ≡ a.journal.items ++ Hear (sitting p).seat (sitting p).memory NotAsked ∷ [] → b.bus.traffic ≡ heard_more (sitting p).seat 1 a.bus.traffic
     → SamePosts a b → b.places.items ≡ set a.places.items ((sitting p).seat - a.stations) (record x { node = node'; tally = one_more x.tally }) → b.begun ≡ a.begun → b.live ≡ a.live → b.injected ≡ a.injected
-    → a.journal.room ≤ b.journal.room + 1 → InTurn sitting asked first before earlier f sifted b (set units i p') recorded' j fewer
-turn_passed {P} sitting asked first before earlier f sifted a b units recorded recorded' i j left fewer events p p' x node' so next fewer_is at known others one read settles sitting_is events_are unasked settings journal now posts places begun live injected rooms =
+    → a.journal.room ≤ b.journal.room + 1 → InTurn sitting asked first before earlier f acceptance b (set units i p') recorded' j fewer
+turn_passed {P} sitting asked first before earlier f acceptance a b units recorded recorded' i j left fewer events p p' x node' so next fewer_is at known others one read settles sitting_is events_are unasked settings journal now posts places begun live injected rooms =
     let v = garage_value_of a in
     let w = garage_value_of b in
     let s = sitting p in
@@ -103,11 +103,11 @@ turn_passed {P} sitting asked first before earlier f sifted a b units recorded r
     let limit : b.limit ≡ a.limit = ap (λ (y : Settings). y.limit) settings in
     let more : length b.journal.items ≡ length a.journal.items + 1 = ap length journal ∙ length-append a.journal.items (Hear s.seat s.memory NotAsked ∷ []) in
     let moved = moved_some sitting asked out.count i v w units p p' so.crew.seated at out.heard in
-    let tells : IsTold w (sitting p') = ap (λ (y : Sitting). memory_told y.seat w.journal) same ∙ (told_hearing v w s.seat s.memory NotAsked passes.adds ∙ ap (λ (y : Sitting). Some y.memory) (sym same)) in
+    let tells : IsRecorded w (sitting p') = ap (λ (y : Sitting). memory_recorded y.seat w.journal) same ∙ (told_hearing v w s.seat s.memory NotAsked passes.adds ∙ ap (λ (y : Sitting). Some y.memory) (sym same)) in
     record {
       stands = quiet_stands a b s.seat s.memory f x node' stands u told.1 is_next read quiet settings journal now posts places begun live injected few ready;
       crew = crew_after sitting asked i v w units recorded recorded' p p' Current so.crew at out (λ k. tells) others (λ k. refl);
-      last = last_after sitting f sifted v w units (set units i p') moved so.last;
+      last = last_after sitting f acceptance v w units (set units i p') moved so.last;
       heard = onward sitting asked first i j before v w earlier units (set units i p') next so.heard (record { before = p; after = p'; there = at; put = refl; heard = out });
       count = moved.count ∙ so.count;
       within = omega arith;
@@ -119,19 +119,19 @@ turn_passed {P} sitting asked first before earlier f sifted a b units recorded r
 
 -- one at whose memory was looked
 pub crew_looked : {P : Type 0} (sitting : P → Sitting) (g : GarageValue) (us : List P) (recorded recorded' : List Recorded) (i : ℕ) (p : P) → IsCrew sitting g us recorded → slice_get us i ≡ Some p
-    → ((k : ℕ) → k ≢ i → slice_get recorded' k ≡ slice_get recorded k) → (slice_get recorded' i ≡ Some Current → IsTold g (sitting p)) → IsCrew sitting g us recorded'
+    → ((k : ℕ) → k ≢ i → slice_get recorded' k ≡ slice_get recorded k) → (slice_get recorded' i ≡ Some Current → IsRecorded g (sitting p)) → IsCrew sitting g us recorded'
 crew_looked {P} sitting g us recorded recorded' i p crew at others this = record {
   seated = crew.seated;
   told = λ j q e m. elim (same_or_not j i) [
     | inl same ↦
         let is : p ≡ q = (let here = sym at ∙ (ap (λ (k : ℕ). slice_get us k) (sym same) ∙ e) in cc) in
-        subst (λ (x : P). IsTold g (sitting x)) is (this (ap (λ (k : ℕ). slice_get recorded' k) (sym same) ∙ m))
+        subst (λ (x : P). IsRecorded g (sitting x)) is (this (ap (λ (k : ℕ). slice_get recorded' k) (sym same) ∙ m))
     | inr other ↦ crew.told j q e (sym (others j other) ∙ m)
   ];
 }
 
-pub told_same : {P : Type 0} (sitting : P → Sitting) (g : GarageValue) (us : List P) (i : ℕ) (p q : P) → slice_get us i ≡ Some q → slice_get us i ≡ Some p → IsTold g (sitting q) → IsTold g (sitting p)
-told_same {P} sitting g us i p q one two told = (let is : q ≡ p = (let same = sym one ∙ two in cc) in subst (λ (x : P). IsTold g (sitting x)) is told)
+pub told_same : {P : Type 0} (sitting : P → Sitting) (g : GarageValue) (us : List P) (i : ℕ) (p q : P) → slice_get us i ≡ Some q → slice_get us i ≡ Some p → IsRecorded g (sitting q) → IsRecorded g (sitting p)
+told_same {P} sitting g us i p q one two told = (let is : q ≡ p = (let same = sym one ∙ two in cc) in subst (λ (x : P). IsRecorded g (sitting x)) is told)
 
 -- a place that is written as it was
 pub stands_written : (a : Inside) (k : ℕ) (x y : Place) → Stands a → x ≡ get_or a.places.items k x → y ≡ x → Stands (record a { places = with_item a.places k y })

@@ -20,7 +20,7 @@ use Rattle.node_core.specs.declared.heard.Answer.TheVariants.{NotAsked}
 use Rattle.journal.specs.Fits.{Fits}
 use Rattle.journal.specs.State.{Settings, State, UnitState, unit_at, table_at}
 use Rattle.journal.specs.Steps.{after, after_hearing, next_for}
-use Rattle.journal.specs.Journal.{GarageValue, Adds, AllFit, memory_told, one_more, state_of, tally_of}
+use Rattle.journal.specs.Journal.{GarageValue, Adds, AllFit, memory_recorded, one_more, state_of, tally_of}
 use Rattle.journal.specs.declared.event.Event.{Event}
 use Rattle.journal.specs.declared.event.Event.TheVariants.{Join, Hear, Begin, Turned, Carry, Read, Ordered, Leave, Inject}
 use Rattle.entry_lists.specs.Entries.{entries_under}
@@ -153,11 +153,11 @@ at_latest : (b : Bool) (memory m : MemoryValue) (o : Option MemoryValue) → IsL
 at_latest true memory m o lawful old h = (let e : memory ≡ m = cc in subst IsLawfulMemory e lawful)
 at_latest false memory m o lawful old h = old h
 
-pub told_is_lawful : (r : Settings) (es : List Event) (k : ℕ) (m : MemoryValue) → AllFit r es → memory_told k es ≡ Some m → IsLawfulMemory m
-unfolding memory_told AllFit
+pub told_is_lawful : (r : Settings) (es : List Event) (k : ℕ) (m : MemoryValue) → AllFit r es → memory_recorded k es ≡ Some m → IsLawfulMemory m
+unfolding memory_recorded AllFit
 told_is_lawful r [] k m fits h = absurd cc
-told_is_lawful r (Hear j memory answered ∷ older) k m fits h = at_latest (nat_eq j k) memory m (memory_told k older) fits.0.2 (told_is_lawful r older k m fits.1) h
-told_is_lawful r (Begin j memory ∷ older) k m fits h = at_latest (nat_eq j k) memory m (memory_told k older) fits.0.2 (told_is_lawful r older k m fits.1) h
+told_is_lawful r (Hear j memory answered ∷ older) k m fits h = at_latest (nat_eq j k) memory m (memory_recorded k older) fits.0.2 (told_is_lawful r older k m fits.1) h
+told_is_lawful r (Begin j memory ∷ older) k m fits h = at_latest (nat_eq j k) memory m (memory_recorded k older) fits.0.2 (told_is_lawful r older k m fits.1) h
 told_is_lawful r (Join seat name address ∷ older) k m fits h = told_is_lawful r older k m fits.1 h
 told_is_lawful r (Turned j ∷ older) k m fits h = told_is_lawful r older k m fits.1 h
 told_is_lawful r (Carry j ∷ older) k m fits h = told_is_lawful r older k m fits.1 h
@@ -167,19 +167,19 @@ told_is_lawful r (Leave j ∷ older) k m fits h = told_is_lawful r older k m fit
 told_is_lawful r (Inject frame ∷ older) k m fits h = told_is_lawful r older k m fits.1 h
 
 -- what is told at the fields of a garage
-pub told_inside : (a : Inside) (v : GarageValue) (k : ℕ) (m : MemoryValue) → garage_value_of a ≡ v → Stands a → memory_told k v.journal ≡ Some m
-    → (memory_told k (reverse a.journal.items) ≡ Some m) × IsLawfulMemory m
+pub told_inside : (a : Inside) (v : GarageValue) (k : ℕ) (m : MemoryValue) → garage_value_of a ≡ v → Stands a → memory_recorded k v.journal ≡ Some m
+    → (memory_recorded k (reverse a.journal.items) ≡ Some m) × IsLawfulMemory m
 told_inside a v k m is stands told =
-    let here : memory_told k (reverse a.journal.items) ≡ Some m = ap (λ (w : GarageValue). memory_told k w.journal) is ∙ told in
+    let here : memory_recorded k (reverse a.journal.items) ≡ Some m = ap (λ (w : GarageValue). memory_recorded k w.journal) is ∙ told in
     (here, told_is_lawful (settings_of a) (reverse a.journal.items) k m stands.fits here)
 
 -- what a seat has just heard tells its memory
-pub told_hearing : (v w : GarageValue) (k : ℕ) (m : MemoryValue) (answered : UnitAnswer) → Adds v (Hear k m answered) w → memory_told k w.journal ≡ Some m
-unfolding memory_told
+pub told_hearing : (v w : GarageValue) (k : ℕ) (m : MemoryValue) (answered : UnitAnswer) → Adds v (Hear k m answered) w → memory_recorded k w.journal ≡ Some m
+unfolding memory_recorded
 told_hearing v w k m answered h =
     let t : nat_eq k k ≡ true = eq-eqb k k refl in
-    let now : memory_told k (Hear k m answered ∷ v.journal) ≡ Some m = rw t refl in
-    ap (λ (g : GarageValue). memory_told k g.journal) h.adds ∙ now
+    let now : memory_recorded k (Hear k m answered ∷ v.journal) ≡ Some m = rw t refl in
+    ap (λ (g : GarageValue). memory_recorded k g.journal) h.adds ∙ now
 
 -- a unit that was not asked has the memory that it had
 pub memory_unasked : (q : Option Question) (answered : UnitAnswer) (m : MemoryValue) → answered ≡ NotAsked → memory_answered q answered m ≡ m

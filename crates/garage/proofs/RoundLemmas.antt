@@ -17,7 +17,7 @@ use Rattle.journal.specs.Journal.{Adds, GarageValue, state_after, state_of}
 use Rattle.journal.specs.Steps.{after}
 use Rattle.journal.specs.declared.event.Event.TheVariants.{Carry}
 use Rattle.garage.specs.Carrying.{AddsCarry}
-use Rattle.garage.specs.Crew.{AreSeated, Comes, IsCrew, IsTold, Sits, Sitting}
+use Rattle.garage.specs.Crew.{AreSeated, Comes, IsCrew, IsRecorded, Sits, Sitting}
 use Rattle.garage.specs.Hearing.{HasHeardAll, HearsMany, HearsOut, IsHearingCut, IsLast, IsWantAt}
 use Rattle.garage.specs.Rounds.{AreRounds, HaveReadAll, HaveRounds, HearInTurn, HearsAt, IsCarryCut, IsListeningCut, IsReadingCut, IsRoundCut, Listens, EachReads}
 use Rattle.garage.specs.Calls.{IsWant}
@@ -175,7 +175,7 @@ pub moved_some : {P : Type 0} (sitting : P → Sitting) (asked : P → P → Opt
 moved_some sitting asked n i b c vs p q seated at h = moved_by sitting n i b c vs (set vs i q) p q seated at refl (hearing_many sitting asked n b p c q h (seated.each i p at))
 
 pub crew_after : {P : Type 0} (sitting : P → Sitting) (asked : P → P → Option Question → UnitAnswer → Type 0) (i : ℕ) (b c : GarageValue) (vs : List P) (recorded recorded' : List Recorded) (p q : P) (known : Recorded)
-    → IsCrew sitting b vs recorded → slice_get vs i ≡ Some p → HearsOut sitting asked b p c q → (known ≡ Current → IsTold c (sitting q))
+    → IsCrew sitting b vs recorded → slice_get vs i ≡ Some p → HearsOut sitting asked b p c q → (known ≡ Current → IsRecorded c (sitting q))
     → ((j : ℕ) → j ≢ i → slice_get recorded' j ≡ slice_get recorded j) → (slice_get recorded' i ≡ Some Current → known ≡ Current) → IsCrew sitting c (set vs i q) recorded'
 crew_after sitting asked i b c vs recorded recorded' p q known crew at out tells others this =
     let so = hearing_many sitting asked out.count b p c q out.heard (crew.seated.each i p at) in
@@ -187,8 +187,8 @@ rest_comes (Ok x) n a b reads cut = turn_comes n a b reads
 rest_comes (Err e) n a b reads cut = cut_comes e a b cut
 
 -- the wire, as the last frame tells of it
-pub last_after : {P : Type 0} (sitting : P → Sitting) (f : FrameValue) (sifted : _) (g g' : GarageValue) (us us' : List P) → Moved sitting g us g' us' → IsLast f sifted g → IsLast f sifted g'
-last_after sitting f sifted g g' us us' h last = last_stays f sifted g g' h.wire last
+pub last_after : {P : Type 0} (sitting : P → Sitting) (f : FrameValue) (acceptance : _) (g g' : GarageValue) (us us' : List P) → Moved sitting g us g' us' → IsLast f acceptance g → IsLast f acceptance g'
+last_after sitting f acceptance g g' us us' h last = last_stays f acceptance g g' h.wire last
 
 -- ---- rounds
 

@@ -3,10 +3,10 @@ use Rattle.std.specs.Prelude.{◌≡◌, ◌⊎◌, ℕ, suc, zero, ◌+◌, ◌
 use Rattle.std.specs.Option.{option_map}
 use Rattle.can_frame.specs.FrameValue.{FrameValue}
 use Rattle.unit_trait.specs.declared.question.Question.{Question}
-use Rattle.node_core.specs.Passing.{IsSifted}
+use Rattle.node_core.specs.Passing.{IsAcceptance}
 use Rattle.node_core.specs.Reaction.{memory_after, question}
 use Rattle.node_core.specs.declared.heard.Answer.{Answer as UnitAnswer}
-use Rattle.node_core.specs.declared.sifted.Sifted.{Sifted}
+use Rattle.node_core.specs.declared.acceptance.Acceptance.{Acceptance}
 use Rattle.journal.specs.State.{unit_at}
 use Rattle.journal.specs.Steps.{next_for}
 use Rattle.journal.specs.Journal.{GarageValue, Adds, state_of}
@@ -25,9 +25,9 @@ abbrev pub last_frame : GarageValue → Option FrameValue
 last_frame g = option_map (λ c. c.frame) (slice_get (state_of g).traffic.wire (length (state_of g).traffic.wire - 1))
 
 -- it is this one, and tells this to the units that it asks nothing of
-pub record IsLast (f : FrameValue) (sifted : Sifted) (g : GarageValue) : Type 0 where
+pub record IsLast (f : FrameValue) (acceptance : Acceptance) (g : GarageValue) : Type 0 where
   pub frame : last_frame g ≡ Some f
-  pub tells : IsSifted sifted f
+  pub tells : IsAcceptance acceptance f
 
 -- why a step was refused: the journal has no room; or it has, and there is no memory
 abbrev pub IsWantAt : GarageValue → GarageError → Type 0

@@ -3,8 +3,8 @@ ghost use Rattle.can_frame.specs.FrameValue.{FrameValue};
 ghost use Rattle.fault_memory.specs.Memory.{MemoryValue};
 ghost use Rattle.bus_ledger.specs.BusValue.{IsUnit, seat_at};
 ghost use Rattle.bus_ledger.specs.Changes.{heard_more};
-ghost use Rattle.node_core.specs.Passing.{IsSifted};
-ghost use Rattle.journal.specs.Journal.{memory_told, one_more, state_of, IsSeated};
+ghost use Rattle.node_core.specs.Passing.{IsAcceptance};
+ghost use Rattle.journal.specs.Journal.{memory_recorded, one_more, state_of, IsSeated};
 ghost use Rattle.journal.specs.Notes.{Gains};
 ghost use Rattle.journal.specs.Promises.{KeepsLists};
 ghost use Rattle.journal.specs.Steps.{begins_session, next_for, session_message_after};
@@ -24,7 +24,7 @@ use crate::room::{has_room, make_ready};
 use bus_ledger::Bus;
 use can_frame::{Frame, GLOBAL_ADDRESS};
 use journal::Journal;
-use node_core::{Answer, Begun, Sifted};
+use node_core::{Acceptance, Answer, Begun};
 use std::alloc::Global;
 use unit_trait::Unit;
 
@@ -50,13 +50,13 @@ pub(crate) enum Recorded {
 #[derive(Clone, Copy, Debug, PartialEq, Eq)]
 pub(crate) struct LastFrame {
     pub(crate) frame: Frame,
-    pub(crate) sifted: Sifted,
+    pub(crate) acceptance: Acceptance,
 }
 
-/// How units hear. Each frame that a unit hears is heard by `hear_frame`: a frame that asks nothing of it and makes it do nothing is
-/// passed over (`passes_over`), to any other one it reacts (`react`).
+/// How units hear. Each frame that a unit hears is heard by `hear_frame`: a frame that asks nothing of it and makes it do nothing
+/// is passed over (`passes_over`), to any other one it reacts (`react`).
 ///
-/// What a frame tells those that it asks nothing of is sifted of it, by its identifier for the most part, and in a round once for all.
+/// A frame's acceptance is found by its identifier for the most part, and in a round once for all units.
 impl Garage {
     /// The next frame that the unit on the seat has not heard.
     #[tactic(auto, using(crate::proofs::Passing::next_is))]
@@ -78,13 +78,13 @@ impl Garage {
 
     /// The last frame of the wire; nothing where it has none.
     pub(crate) fn last_frame(&self) -> Option<LastFrame>
-        ensures { MatchOption result (length (state_of self.now).traffic.wire ≡ 0) (λ l. IsLast l.frame l.sifted self.now) }
+        ensures { MatchOption result (length (state_of self.now).traffic.wire ≡ 0) (λ l. IsLast l.frame l.acceptance self.now) }
     {
         let last = self.bus.wire_len().checked_sub(1)?;
         let frame = self.bus.wire_frame(last)?;
         Some(LastFrame {
             frame,
-            sifted: Sifted::of(&frame),
+            acceptance: Acceptance::of(&frame),
         })
     }
 
@@ -100,7 +100,8 @@ impl Garage {
     ) -> Result<HeardOne, GarageError>
         requires unit { IsUnit (state_of self.old).traffic seat }
         ensures name { name_of unit.new ≡ name_of unit.old }
-        ensures ok { IfOk result (λ h. (u : _) × (unit.new ≡ (unit.old.0, u)) × Hears self.old seat (memory_of unit.old) (Answers unit.old) unit.old.1 h self.new (memory_of unit.new) u) }
+        ensures ok { IfOk result (λ h. (u : _) × (unit.new ≡ (unit.old.0, u))
+            × Hears self.old seat (memory_of unit.old) (Answers unit.old) unit.old.1 h self.new (memory_of unit.new) u) }
         ensures nothing { HearsNothing self.old seat result }
         ensures full { HearsFull self.old seat result }
         ensures only { IfErr result IsWant }
@@ -110,13 +111,21 @@ impl Garage {
         let Some(frame) = self.next_for(seat) else {
             return Ok(HeardOne::Nothing);
         };
-        let sifted = Sifted::of(&frame);
-        self.hear_frame(alloc, seat, frame, Some(&sifted), unit, Recorded::Unknown)?;
+        let acceptance = Acceptance::of(&frame);
+        self.hear_frame(
+            alloc,
+            seat,
+            frame,
+            Some(&acceptance),
+            unit,
+            Recorded::Unknown,
+        )?;
         Ok(HeardOne::Frame(frame))
     }
 
-    /// The unit on the seat hears this frame, its next one, of which this was sifted; nothing, where it is known not to pass it over. It is
-    /// asked exactly what the frame puts to it, and is else as it was. The answer says what is known of its memory afterwards.
+    /// The unit on the seat hears this frame, its next one, whose acceptance this is; none, where it is known not to pass it over.
+    /// It is asked exactly what the frame puts to it, and is else as it was. The answer says what is known of its memory
+    /// afterwards.
     ///
     /// Refused where the journal has no room, then where there is no memory; then nothing changed, and the unit was not asked.
     #[inline(always)]
@@ -125,25 +134,28 @@ impl Garage {
         alloc: Global,
         seat: u32,
         frame: Frame,
-        sifted: Option<&Sifted>,
+        acceptance: Option<&Acceptance>,
         unit: &mut dyn Unit,
         recorded: Recorded,
     ) -> Result<Recorded, GarageError>
         requires unit { IsUnit (state_of self.old).traffic seat }
         requires next { next_for (state_of self.old) seat ≡ Some frame }
-        requires sifted { IfSome sifted (λ s. IsSifted s.now frame) }
-        requires recorded { recorded ≡ Recorded.Current → memory_told seat self.old.journal ≡ Some (memory_of unit.old) }
+        requires acceptance { IfSome acceptance (λ s. IsAcceptance s.now frame) }
+        requires recorded { recorded ≡ Recorded.Current → memory_recorded seat self.old.journal ≡ Some (memory_of unit.old) }
         ensures name { name_of unit.new ≡ name_of unit.old }
-        ensures ok { OnOk result ((u : _) × (unit.new ≡ (unit.old.0, u)) × Hears self.old seat (memory_of unit.old) (Answers unit.old) unit.old.1 (HeardOne.Frame frame) self.new (memory_of unit.new) u) }
-        ensures recorded { IfOk result (λ r. r ≡ Recorded.Current → memory_told seat self.new.journal ≡ Some (memory_of unit.new)) }
+        ensures ok { OnOk result ((u : _) × (unit.new ≡ (unit.old.0, u))
+            × Hears self.old seat (memory_of unit.old) (Answers unit.old) unit.old.1 (HeardOne.Frame frame) self.new
+            (memory_of unit.new) u) }
+        ensures recorded { IfOk result
+            (λ r. r ≡ Recorded.Current → memory_recorded seat self.new.journal ≡ Some (memory_of unit.new)) }
         ensures full { IsErrOf result GarageError.BookFull ↔ IsFull self.old }
         ensures only { IfErr result IsWant }
         ensures err { OnErr result (self.new ≡ self.old) }
         ensures unasked { OnErr result (unit.new ≡ unit.old) }
     {
         let recorded = self.recorded(seat, &*unit, recorded);
-        if let Some(sifted) = sifted {
-            if is_current(recorded) && self.passes_over(seat, sifted) {
+        if let Some(acceptance) = acceptance {
+            if is_current(recorded) && self.passes_over(seat, acceptance) {
                 return Ok(Recorded::Current);
             }
         }
@@ -153,8 +165,8 @@ impl Garage {
     /// What is known of the memory that the journal has of a unit, once the two are compared.
     #[inline(always)]
     fn recorded(&self, seat: u32, unit: &dyn Unit, recorded: Recorded) -> Recorded
-        requires { recorded ≡ Recorded.Current → memory_told seat self.now.journal ≡ Some (memory_of unit.now) }
-        ensures { result ≡ Recorded.Current → memory_told seat self.now.journal ≡ Some (memory_of unit.now) }
+        requires { recorded ≡ Recorded.Current → memory_recorded seat self.now.journal ≡ Some (memory_of unit.now) }
+        ensures { result ≡ Recorded.Current → memory_recorded seat self.now.journal ≡ Some (memory_of unit.now) }
     {
         match recorded {
             Recorded::Current => Recorded::Current,
@@ -165,24 +177,25 @@ impl Garage {
     /// Compares a unit's memory with the one that the journal has of it.
     #[inline(never)]
     fn compared(&self, seat: u32, unit: &dyn Unit) -> Recorded
-        ensures { result ≡ Recorded.Current → memory_told seat self.now.journal ≡ Some (memory_of unit.now) }
+        ensures { result ≡ Recorded.Current → memory_recorded seat self.now.journal ≡ Some (memory_of unit.now) }
     {
-        if self.journal.tells(seat, unit.memory()) {
+        if self.journal.is_recorded(seat, unit.memory()) {
             Recorded::Current
         } else {
             Recorded::Unknown
         }
     }
 
-    /// The unit on the seat, whose memory is recorded, passes over its next frame, of which this was sifted; answers whether it did.
-    /// Else, and where the journal has no room ready, nothing changes.
+    /// The unit on the seat, whose memory is recorded, passes over its next frame, whose acceptance this is; returns whether it
+    /// did. Else, and where the journal has no room ready, nothing changes.
     #[inline(always)]
     #[tactic(auto, using(crate::proofs::Standing::seat_low, crate::proofs::Standing::seat_placed))]
-    fn passes_over(&mut self, seat: u32, sifted: &Sifted) -> bool
+    fn passes_over(&mut self, seat: u32, acceptance: &Acceptance) -> bool
         requires unit { IsUnit (state_of self.old).traffic seat }
-        requires next { (f : FrameValue) × (next_for (state_of self.old) seat ≡ Some f) × IsSifted sifted.now f }
-        requires recorded { (m : MemoryValue) × (memory_told seat self.old.journal ≡ Some m) }
-        ensures passed { (m : MemoryValue) → memory_told seat self.old.journal ≡ Some m → IsTrue result → PassesNext self.old seat m self.new }
+        requires next { (f : FrameValue) × (next_for (state_of self.old) seat ≡ Some f) × IsAcceptance acceptance.now f }
+        requires recorded { (m : MemoryValue) × (memory_recorded seat self.old.journal ≡ Some m) }
+        ensures passed { (m : MemoryValue) → memory_recorded seat self.old.journal ≡ Some m → IsTrue result
+            → PassesNext self.old seat m self.new }
         ensures ready { IsTrue result → ¬ IsFull self.old }
         ensures left { IsFalse result → self.new ≡ self.old }
     {
@@ -190,7 +203,7 @@ impl Garage {
             return false;
         }
         let place = &mut self.places[(seat - self.stations) as usize];
-        if !place.node.settle(sifted) {
+        if !place.node.absorb(acceptance) {
             return false;
         }
         pass_over(place, &mut self.bus, &mut self.journal, seat);
@@ -213,10 +226,13 @@ impl Garage {
     ) -> Result<Recorded, GarageError>
         requires unit { IsUnit (state_of self.old).traffic seat }
         requires next { next_for (state_of self.old) seat ≡ Some frame }
-        requires recorded { recorded ≡ Recorded.Current → memory_told seat self.old.journal ≡ Some (memory_of unit.old) }
+        requires recorded { recorded ≡ Recorded.Current → memory_recorded seat self.old.journal ≡ Some (memory_of unit.old) }
         ensures name { name_of unit.new ≡ name_of unit.old }
-        ensures ok { OnOk result ((u : _) × (unit.new ≡ (unit.old.0, u)) × Hears self.old seat (memory_of unit.old) (Answers unit.old) unit.old.1 (HeardOne.Frame frame) self.new (memory_of unit.new) u) }
-        ensures recorded { IfOk result (λ r. r ≡ Recorded.Current → memory_told seat self.new.journal ≡ Some (memory_of unit.new)) }
+        ensures ok { OnOk result ((u : _) × (unit.new ≡ (unit.old.0, u))
+            × Hears self.old seat (memory_of unit.old) (Answers unit.old) unit.old.1 (HeardOne.Frame frame) self.new
+            (memory_of unit.new) u) }
+        ensures recorded { IfOk result
+            (λ r. r ≡ Recorded.Current → memory_recorded seat self.new.journal ≡ Some (memory_of unit.new)) }
         ensures full { IsErrOf result GarageError.BookFull ↔ IsFull self.old }
         ensures only { IfErr result IsWant }
         ensures err { OnErr result (self.new ≡ self.old) }
@@ -248,11 +264,11 @@ impl Garage {
         Ok(recorded_after(answer))
     }
 
-    /// Lets a parked unit take its seat, hear so many frames at most, and be parked again; answers how many it heard: so many as were
-    /// asked for, or fewer where it has heard the whole wire then.
+    /// Lets a parked unit take its seat, hear so many frames at most, and be parked again; answers how many it heard: so many as
+    /// were asked for, or fewer where it has heard the whole wire then.
     ///
-    /// At each frame the journal tells the memory that the unit had then and what it answered; it was asked exactly what the frame puts to
-    /// it, and is else as it was.
+    /// At each frame the journal tells the memory that the unit had then and what it answered; it was asked exactly what the frame
+    /// puts to it, and is else as it was.
     ///
     /// Refused with `Stranger` exactly where this garage has no live seat with its seat number, NAME and count of events; then
     /// nothing changed. `BookFull`, then `OutOfMemory`, where there is one more frame to hear: what was heard before stays, and the
@@ -265,16 +281,22 @@ impl Garage {
         most: u32,
     ) -> Result<u32, GarageError>
         requires { Unit {0} }
-        ensures stranger { IsErrOf result GarageError.Stranger ↔ (¬ IsSeated self.old parked.old.seat (name_of parked.old.unit) parked.old.events) }
+        ensures stranger { IsErrOf result GarageError.Stranger
+            ↔ (¬ IsSeated self.old parked.old.seat (name_of parked.old.unit) parked.old.events) }
         ensures unchanged { IsErrOf result GarageError.Stranger → ((self.new ≡ self.old) × (parked.new ≡ parked.old)) }
         ensures kept { (parked.new.seat ≡ parked.old.seat) × (name_of parked.new.unit ≡ name_of parked.old.unit) }
-        ensures seated { IsSeated self.old parked.old.seat (name_of parked.old.unit) parked.old.events → IsSeated self.new parked.new.seat (name_of parked.new.unit) parked.new.events }
-        ensures heard { IfOk result (λ n. HearsMany (sitting_of (λ b. name_of b) (λ b. memory_of b)) (asked_of (λ b. Answers b)) n self.old parked.old self.new parked.new) }
+        ensures seated { IsSeated self.old parked.old.seat (name_of parked.old.unit) parked.old.events
+            → IsSeated self.new parked.new.seat (name_of parked.new.unit) parked.new.events }
+        ensures heard { IfOk result (λ n. HearsMany (sitting_of (λ b. name_of b) (λ b. memory_of b)) (asked_of (λ b. Answers b)) n
+            self.old parked.old self.new parked.new) }
         ensures most { IfOk result (λ n. n ≤ most) }
         ensures all { IfOk result (λ n. n < most → HasHeardAll parked.old.seat self.new) }
         ensures counted { IfOk result (λ n. parked.new.events ≡ parked.old.events + n) }
         ensures only { IfErr result (λ e. (e ≡ GarageError.Stranger) ⊎ IsWant e) }
-        ensures cut { IfErr result (λ e. (e ≡ GarageError.Stranger) ⊎ ((n : ℕ) × (n < most) × IsHearingCut (sitting_of (λ b. name_of b) (λ b. memory_of b)) (asked_of (λ b. Answers b)) n e self.old parked.old self.new parked.new)) }
+        ensures cut { IfErr result (λ e. (e ≡ GarageError.Stranger)
+            ⊎ ((n : ℕ) × (n < most)
+            × IsHearingCut (sitting_of (λ b. name_of b) (λ b. memory_of b)) (asked_of (λ b. Answers b)) n e self.old parked.old
+            self.new parked.new)) }
         ensures comes { Comes self.old self.new }
         ensures lists { KeepsLists self.old self.new }
     {
@@ -296,20 +318,25 @@ impl Garage {
         most: u32,
     ) -> Result<(u32, Recorded), GarageError>
         requires seated { IsSeated self.old parked.old.seat (name_of parked.old.unit) parked.old.events }
-        requires recorded { recorded ≡ Recorded.Current → memory_told parked.old.seat self.old.journal ≡ Some (memory_of parked.old.unit) }
-        ensures heard { IfOk result (λ h. HearsMany (sitting_of (λ b. name_of b) (λ b. memory_of b)) (asked_of (λ b. Answers b)) h.0 self.old parked.old self.new parked.new) }
+        requires recorded { recorded ≡ Recorded.Current
+            → memory_recorded parked.old.seat self.old.journal ≡ Some (memory_of parked.old.unit) }
+        ensures heard { IfOk result (λ h. HearsMany (sitting_of (λ b. name_of b) (λ b. memory_of b)) (asked_of (λ b. Answers b)) h.0
+            self.old parked.old self.new parked.new) }
         ensures most { IfOk result (λ h. h.0 ≤ most) }
         ensures all { IfOk result (λ h. h.0 < most → HasHeardAll parked.old.seat self.new) }
-        ensures recorded { IfOk result (λ h. h.1 ≡ Recorded.Current → memory_told parked.new.seat self.new.journal ≡ Some (memory_of parked.new.unit)) }
-        ensures cut { IfErr result (λ e. (n : ℕ) × (n < most) × IsHearingCut (sitting_of (λ b. name_of b) (λ b. memory_of b)) (asked_of (λ b. Answers b)) n e self.old parked.old self.new parked.new) }
+        ensures recorded { IfOk result
+            (λ h. h.1 ≡ Recorded.Current → memory_recorded parked.new.seat self.new.journal ≡ Some (memory_of parked.new.unit)) }
+        ensures cut { IfErr result (λ e. (n : ℕ) × (n < most)
+            × IsHearingCut (sitting_of (λ b. name_of b) (λ b. memory_of b)) (asked_of (λ b. Answers b)) n e self.old parked.old
+            self.new parked.new) }
     {
         let mut recorded = recorded;
         for heard in 0..most {
             let Some(frame) = self.next_for(parked.seat) else {
                 return Ok((heard, recorded));
             };
-            let sifted = Sifted::of(&frame);
-            recorded = self.hear_seated(alloc, &mut *parked, frame, Some(&sifted), recorded)?;
+            let acceptance = Acceptance::of(&frame);
+            recorded = self.hear_seated(alloc, &mut *parked, frame, Some(&acceptance), recorded)?;
         }
         Ok((most, recorded))
     }
@@ -323,15 +350,18 @@ impl Garage {
         alloc: Global,
         parked: &mut Parked,
         frame: Frame,
-        sifted: Option<&Sifted>,
+        acceptance: Option<&Acceptance>,
         recorded: Recorded,
     ) -> Result<Recorded, GarageError>
         requires seated { IsSeated self.old parked.old.seat (name_of parked.old.unit) parked.old.events }
         requires next { next_for (state_of self.old) parked.old.seat ≡ Some frame }
-        requires sifted { IfSome sifted (λ s. IsSifted s.now frame) }
-        requires recorded { recorded ≡ Recorded.Current → memory_told parked.old.seat self.old.journal ≡ Some (memory_of parked.old.unit) }
-        ensures heard { OnOk result (HearsFrame (sitting_of (λ b. name_of b) (λ b. memory_of b)) (asked_of (λ b. Answers b)) frame self.old parked.old self.new parked.new) }
-        ensures recorded { IfOk result (λ r. r ≡ Recorded.Current → memory_told parked.new.seat self.new.journal ≡ Some (memory_of parked.new.unit)) }
+        requires acceptance { IfSome acceptance (λ s. IsAcceptance s.now frame) }
+        requires recorded { recorded ≡ Recorded.Current
+            → memory_recorded parked.old.seat self.old.journal ≡ Some (memory_of parked.old.unit) }
+        ensures heard { OnOk result (HearsFrame (sitting_of (λ b. name_of b) (λ b. memory_of b)) (asked_of (λ b. Answers b)) frame
+            self.old parked.old self.new parked.new) }
+        ensures recorded { IfOk result
+            (λ r. r ≡ Recorded.Current → memory_recorded parked.new.seat self.new.journal ≡ Some (memory_of parked.new.unit)) }
         ensures full { IsErrOf result GarageError.BookFull ↔ IsFull self.old }
         ensures only { IfErr result IsWant }
         ensures err { OnErr result ((self.new ≡ self.old) × (parked.new ≡ parked.old)) }
@@ -340,7 +370,7 @@ impl Garage {
             alloc,
             parked.seat,
             frame,
-            sifted,
+            acceptance,
             &mut *parked.unit,
             recorded,
         )?;
@@ -361,11 +391,16 @@ impl Garage {
         recorded: Recorded,
     ) -> Result<Recorded, GarageError>
         requires seated { IsSeated self.old parked.old.seat (name_of parked.old.unit) parked.old.events }
-        requires last { IsLast last.now.frame last.now.sifted self.old }
-        requires recorded { recorded ≡ Recorded.Current → memory_told parked.old.seat self.old.journal ≡ Some (memory_of parked.old.unit) }
-        ensures heard { OnOk result (HearsOut (sitting_of (λ b. name_of b) (λ b. memory_of b)) (asked_of (λ b. Answers b)) self.old parked.old self.new parked.new) }
-        ensures recorded { IfOk result (λ r. r ≡ Recorded.Current → memory_told parked.new.seat self.new.journal ≡ Some (memory_of parked.new.unit)) }
-        ensures cut { IfErr result (λ e. (n : ℕ) × IsHearingCut (sitting_of (λ b. name_of b) (λ b. memory_of b)) (asked_of (λ b. Answers b)) n e self.old parked.old self.new parked.new) }
+        requires last { IsLast last.now.frame last.now.acceptance self.old }
+        requires recorded { recorded ≡ Recorded.Current
+            → memory_recorded parked.old.seat self.old.journal ≡ Some (memory_of parked.old.unit) }
+        ensures heard { OnOk result (HearsOut (sitting_of (λ b. name_of b) (λ b. memory_of b)) (asked_of (λ b. Answers b)) self.old
+            parked.old self.new parked.new) }
+        ensures recorded { IfOk result
+            (λ r. r ≡ Recorded.Current → memory_recorded parked.new.seat self.new.journal ≡ Some (memory_of parked.new.unit)) }
+        ensures cut { IfErr result (λ e. (n : ℕ)
+            × IsHearingCut (sitting_of (λ b. name_of b) (λ b. memory_of b)) (asked_of (λ b. Answers b)) n e self.old parked.old
+            self.new parked.new) }
     {
         let unheard = self.unheard(parked.seat);
         if unheard == 0 {
@@ -373,22 +408,22 @@ impl Garage {
         }
         if unheard == 1 {
             // one whose memory is recorded did not pass it over (`pass_in_turn`)
-            let sifted = if is_current(recorded) {
+            let acceptance = if is_current(recorded) {
                 None
             } else {
-                Some(&last.sifted)
+                Some(&last.acceptance)
             };
-            return self.hear_seated(alloc, parked, last.frame, sifted, recorded);
+            return self.hear_seated(alloc, parked, last.frame, acceptance, recorded);
         }
         let (_, recorded) = self.hear_some(alloc, parked, recorded, unheard)?;
         Ok(recorded)
     }
 
-    /// From the `first` unit on each in turn passes over the last frame of the wire, where it is its next one, or has heard all, as far as
-    /// that goes. Answers the number of the first that is to hear otherwise: it and all after it are as they were.
+    /// From the `first` unit on each in turn passes over the last frame of the wire, where it is its next one, or has heard all, as
+    /// far as that goes. Answers the number of the first that is to hear otherwise: it and all after it are as they were.
     ///
-    /// That is what `catch_up` does with most units, by the same commit. Room is looked at once for all of them, which for 64 units saves a
-    /// fifth of the instructions of a round. Those behind the end of `recorded` are left to `catch_up`.
+    /// That is what `catch_up` does with most units, by the same commit. Room is looked at once for all of them, which for 64 units
+    /// saves a fifth of the instructions of a round. Those behind the end of `recorded` are left to `catch_up`.
     #[inline(never)]
     pub(crate) fn pass_in_turn(
         &mut self,
@@ -398,11 +433,12 @@ impl Garage {
         last: &LastFrame,
     ) -> usize
         requires crew { IsCrew (sitting_of (λ b. name_of b) (λ b. memory_of b)) self.old units.old recorded.old }
-        requires last { IsLast last.now.frame last.now.sifted self.old }
+        requires last { IsLast last.now.frame last.now.acceptance self.old }
         requires first { first ≤ length units.old }
         ensures crew { IsCrew (sitting_of (λ b. name_of b) (λ b. memory_of b)) self.new units.new recorded.new }
-        ensures last { IsLast last.now.frame last.now.sifted self.new }
-        ensures heard { HearOnward (sitting_of (λ b. name_of b) (λ b. memory_of b)) (asked_of (λ b. Answers b)) first result self.old units.old self.new units.new }
+        ensures last { IsLast last.now.frame last.now.acceptance self.new }
+        ensures heard { HearOnward (sitting_of (λ b. name_of b) (λ b. memory_of b)) (asked_of (λ b. Answers b)) first result
+            self.old units.old self.new units.new }
         ensures count { length units.new ≡ length units.old }
         ensures onward { first ≤ result }
         ensures within { result ≤ length units.new }
@@ -425,7 +461,7 @@ impl Garage {
                 return i;
             }
             let place = &mut self.places[(seat - stations) as usize];
-            if !place.node.settle(&last.sifted) {
+            if !place.node.absorb(&last.acceptance) {
                 return i;
             }
             pass_over(place, &mut self.bus, &mut self.journal, seat);
@@ -435,18 +471,19 @@ impl Garage {
     }
 }
 
-/// The one commit for a frame that a unit passes over, once its node has settled it: the unit has one event more, its seat has heard one
-/// frame more, and the journal tells that it heard and was not asked. Its memory is recorded, and there is room.
+/// The one commit for a frame that a unit passes over, once its node has absorbed it: the unit has one event more, its seat has
+/// heard one frame more, and the journal tells that it heard and was not asked. Its memory is recorded, and there is room.
 #[inline(always)]
 fn pass_over(place: &mut Place, bus: &mut Bus, journal: &mut Journal, seat: u32)
     requires unit { IsUnit bus.old.traffic seat }
     requires next { (seat_at bus.old.traffic seat).heard < length bus.old.traffic.wire }
-    requires recorded { (m : MemoryValue) × (memory_told seat (reverse journal.old.items) ≡ Some m) }
+    requires recorded { (m : MemoryValue) × (memory_recorded seat (reverse journal.old.items) ≡ Some m) }
     requires room { 0 < journal.old.room }
     requires few { place.old.tally.events + 1 < 2 ^ 32 }
     ensures place { place.new ≡ record place.old { tally = one_more place.old.tally } }
     ensures traffic { bus.new.traffic ≡ heard_more seat 1 bus.old.traffic }
-    ensures noted { (m : MemoryValue) → memory_told seat (reverse journal.old.items) ≡ Some m → Gains journal.old (Hear seat m Answer.NotAsked) journal.new }
+    ensures noted { (m : MemoryValue) → memory_recorded seat (reverse journal.old.items) ≡ Some m
+        → Gains journal.old (Hear seat m Answer.NotAsked) journal.new }
 {
     place.tally.events += 1;
     bus.mark_heard(seat);
@@ -500,10 +537,12 @@ pub(crate) fn keep(recorded: &mut [Recorded], i: usize, known: Recorded)
 #[inline(always)]
 fn is_recorded(journal: &Journal, unit: &Parked, recorded: &mut [Recorded], i: usize) -> bool
     requires kept { i < length recorded.old }
-    requires known { slice_get recorded.old i ≡ Some Recorded.Current → memory_told unit.now.seat (reverse journal.now.items) ≡ Some (memory_of unit.now.unit) }
-    ensures told { IsTrue result → memory_told unit.now.seat (reverse journal.now.items) ≡ Some (memory_of unit.now.unit) }
+    requires known { slice_get recorded.old i ≡ Some Recorded.Current
+        → memory_recorded unit.now.seat (reverse journal.now.items) ≡ Some (memory_of unit.now.unit) }
+    ensures told { IsTrue result → memory_recorded unit.now.seat (reverse journal.now.items) ≡ Some (memory_of unit.now.unit) }
     ensures others { (j : ℕ) → j ≢ i → slice_get recorded.new j ≡ slice_get recorded.old j }
-    ensures this { slice_get recorded.new i ≡ Some Recorded.Current → memory_told unit.now.seat (reverse journal.now.items) ≡ Some (memory_of unit.now.unit) }
+    ensures this { slice_get recorded.new i ≡ Some Recorded.Current
+        → memory_recorded unit.now.seat (reverse journal.now.items) ≡ Some (memory_of unit.now.unit) }
 {
     is_current(recorded[i]) || is_found_recorded(journal, unit, recorded, i)
 }
@@ -511,12 +550,14 @@ fn is_recorded(journal: &Journal, unit: &Parked, recorded: &mut [Recorded], i: u
 /// As `is_recorded`, where that is not known: the memory is compared.
 #[inline(never)]
 fn is_found_recorded(journal: &Journal, unit: &Parked, recorded: &mut [Recorded], i: usize) -> bool
-    requires { slice_get recorded.old i ≡ Some Recorded.Current → memory_told unit.now.seat (reverse journal.now.items) ≡ Some (memory_of unit.now.unit) }
-    ensures told { IsTrue result → memory_told unit.now.seat (reverse journal.now.items) ≡ Some (memory_of unit.now.unit) }
+    requires { slice_get recorded.old i ≡ Some Recorded.Current
+        → memory_recorded unit.now.seat (reverse journal.now.items) ≡ Some (memory_of unit.now.unit) }
+    ensures told { IsTrue result → memory_recorded unit.now.seat (reverse journal.now.items) ≡ Some (memory_of unit.now.unit) }
     ensures others { (j : ℕ) → j ≢ i → slice_get recorded.new j ≡ slice_get recorded.old j }
-    ensures this { slice_get recorded.new i ≡ Some Recorded.Current → memory_told unit.now.seat (reverse journal.now.items) ≡ Some (memory_of unit.now.unit) }
+    ensures this { slice_get recorded.new i ≡ Some Recorded.Current
+        → memory_recorded unit.now.seat (reverse journal.now.items) ≡ Some (memory_of unit.now.unit) }
 {
-    if !journal.tells(unit.seat, unit.memory()) {
+    if !journal.is_recorded(unit.seat, unit.memory()) {
         return false;
     }
     keep(recorded, i, Recorded::Current);

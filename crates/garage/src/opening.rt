@@ -48,8 +48,10 @@ impl Garage {
         grant: u8,
         limit: u32,
     ) -> Result<Garage, GarageError>
-        ensures ok { IfOk result (λ g. g ≡ new_garage (with_one (record { name = name; address = address; window = window; grant = grant }) limit)) }
-        ensures bad_setting { IsErrOf result GarageError.BadSetting ↔ (¬ IsSetting (record { name = name; address = address; window = window; grant = grant }) limit) }
+        ensures ok { IfOk result
+            (λ g. g ≡ new_garage (with_one (record { name = name; address = address; window = window; grant = grant }) limit)) }
+        ensures bad_setting { IsErrOf result GarageError.BadSetting
+            ↔ (¬ IsSetting (record { name = name; address = address; window = window; grant = grant }) limit) }
         ensures only { IfErr result (λ e. (e ≡ GarageError.BadSetting) ⊎ (e ≡ GarageError.OutOfMemory)) }
     {
         let setting = Setting {
@@ -78,8 +80,10 @@ impl Garage {
     ) -> Result<Garage, GarageError>
         ensures ok { IfOk result (λ g. g ≡ new_garage (with_stations (first ∷ second ∷ []) limit)) }
         ensures bad_setting { IsErrOf result GarageError.BadSetting ↔ (¬ AreSettings (first ∷ second ∷ []) limit) }
-        ensures name_in_use { IsErrOf result GarageError.NameInUse ↔ (AreSettings (first ∷ second ∷ []) limit × (first.name ≡ second.name)) }
-        ensures only { IfErr result (λ e. (e ≡ GarageError.BadSetting) ⊎ (e ≡ GarageError.NameInUse) ⊎ (e ≡ GarageError.OutOfMemory)) }
+        ensures name_in_use { IsErrOf result GarageError.NameInUse
+            ↔ (AreSettings (first ∷ second ∷ []) limit × (first.name ≡ second.name)) }
+        ensures only { IfErr result
+            (λ e. (e ≡ GarageError.BadSetting) ⊎ (e ≡ GarageError.NameInUse) ⊎ (e ≡ GarageError.OutOfMemory)) }
     {
         Garage::with_stations(alloc, &[first, second], limit)
     }
@@ -101,8 +105,10 @@ impl Garage {
     ) -> Result<Garage, GarageError>
         ensures ok { IfOk result (λ g. g ≡ new_garage (with_stations settings.now limit)) }
         ensures bad_setting { IsErrOf result GarageError.BadSetting ↔ (¬ AreSettings settings.now limit) }
-        ensures name_in_use { IsErrOf result GarageError.NameInUse ↔ (AreSettings settings.now limit × (¬ HaveOwnNames settings.now)) }
-        ensures only { IfErr result (λ e. (e ≡ GarageError.BadSetting) ⊎ (e ≡ GarageError.NameInUse) ⊎ (e ≡ GarageError.OutOfMemory)) }
+        ensures name_in_use { IsErrOf result GarageError.NameInUse
+            ↔ (AreSettings settings.now limit × (¬ HaveOwnNames settings.now)) }
+        ensures only { IfErr result
+            (λ e. (e ≡ GarageError.BadSetting) ⊎ (e ≡ GarageError.NameInUse) ⊎ (e ≡ GarageError.OutOfMemory)) }
     {
         if !are_settings(settings, limit) {
             return Err(GarageError::BadSetting);

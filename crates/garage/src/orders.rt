@@ -30,9 +30,12 @@ impl Garage {
     pub fn ask(&mut self, alloc: Global, name: Name, ask: Ask) -> Result<(), GarageError>
         ensures ok { OnOk result (Adds self.old (Ordered 0 (order.Ask name ask)) self.new) }
         ensures not_held { IsErrOf result GarageError.NotHeld ↔ IsNone (own_address self.old) }
-        ensures no_address { IsErrOf result GarageError.NoAddress ↔ (IsSome (own_address self.old) × IsNone (known_address self.old name)) }
-        ensures full { IsErrOf result GarageError.BookFull ↔ (IsSome (own_address self.old) × IsSome (known_address self.old name) × IsFull self.old) }
-        ensures only { IfErr result (λ e. (e ≡ GarageError.NotHeld) ⊎ (e ≡ GarageError.NoAddress) ⊎ (e ≡ GarageError.BookFull) ⊎ (e ≡ GarageError.OutOfMemory)) }
+        ensures no_address { IsErrOf result GarageError.NoAddress
+            ↔ (IsSome (own_address self.old) × IsNone (known_address self.old name)) }
+        ensures full { IsErrOf result GarageError.BookFull
+            ↔ (IsSome (own_address self.old) × IsSome (known_address self.old name) × IsFull self.old) }
+        ensures only { IfErr result (λ e. (e ≡ GarageError.NotHeld) ⊎ (e ≡ GarageError.NoAddress) ⊎ (e ≡ GarageError.BookFull)
+            ⊎ (e ≡ GarageError.OutOfMemory)) }
         ensures err { OnErr result (self.new ≡ self.old) }
         ensures lists { KeepsLists self.old self.new }
     {
@@ -58,9 +61,12 @@ impl Garage {
         requires { station < length self.old.settings.stations }
         ensures ok { OnOk result (Adds self.old (Ordered station (order.Ask name ask)) self.new) }
         ensures not_held { IsErrOf result GarageError.NotHeld ↔ IsNone (own_address_at self.old station) }
-        ensures no_address { IsErrOf result GarageError.NoAddress ↔ (IsSome (own_address_at self.old station) × IsNone (known_address_at self.old station name)) }
-        ensures full { IsErrOf result GarageError.BookFull ↔ (IsSome (own_address_at self.old station) × IsSome (known_address_at self.old station name) × IsFull self.old) }
-        ensures only { IfErr result (λ e. (e ≡ GarageError.NotHeld) ⊎ (e ≡ GarageError.NoAddress) ⊎ (e ≡ GarageError.BookFull) ⊎ (e ≡ GarageError.OutOfMemory)) }
+        ensures no_address { IsErrOf result GarageError.NoAddress
+            ↔ (IsSome (own_address_at self.old station) × IsNone (known_address_at self.old station name)) }
+        ensures full { IsErrOf result GarageError.BookFull
+            ↔ (IsSome (own_address_at self.old station) × IsSome (known_address_at self.old station name) × IsFull self.old) }
+        ensures only { IfErr result (λ e. (e ≡ GarageError.NotHeld) ⊎ (e ≡ GarageError.NoAddress) ⊎ (e ≡ GarageError.BookFull)
+            ⊎ (e ≡ GarageError.OutOfMemory)) }
         ensures err { OnErr result (self.new ≡ self.old) }
         ensures lists { KeepsLists self.old self.new }
     {
@@ -108,8 +114,10 @@ impl Garage {
         ensures ok { OnOk result (Adds self.old (Ordered 0 (order.Command name address)) self.new) }
         ensures not_an_address { IsErrOf result GarageError.NotAnAddress ↔ (GREATEST_ADDRESS < address) }
         ensures not_held { IsErrOf result GarageError.NotHeld ↔ ((address ≤ GREATEST_ADDRESS) × IsNone (own_address self.old)) }
-        ensures full { IsErrOf result GarageError.BookFull ↔ ((address ≤ GREATEST_ADDRESS) × IsSome (own_address self.old) × IsFull self.old) }
-        ensures only { IfErr result (λ e. (e ≡ GarageError.NotAnAddress) ⊎ (e ≡ GarageError.NotHeld) ⊎ (e ≡ GarageError.BookFull) ⊎ (e ≡ GarageError.OutOfMemory)) }
+        ensures full { IsErrOf result GarageError.BookFull
+            ↔ ((address ≤ GREATEST_ADDRESS) × IsSome (own_address self.old) × IsFull self.old) }
+        ensures only { IfErr result (λ e. (e ≡ GarageError.NotAnAddress) ⊎ (e ≡ GarageError.NotHeld) ⊎ (e ≡ GarageError.BookFull)
+            ⊎ (e ≡ GarageError.OutOfMemory)) }
         ensures err { OnErr result (self.new ≡ self.old) }
         ensures lists { KeepsLists self.old self.new }
     {
@@ -135,9 +143,12 @@ impl Garage {
         requires { station < length self.old.settings.stations }
         ensures ok { OnOk result (Adds self.old (Ordered station (order.Command name address)) self.new) }
         ensures not_an_address { IsErrOf result GarageError.NotAnAddress ↔ (GREATEST_ADDRESS < address) }
-        ensures not_held { IsErrOf result GarageError.NotHeld ↔ ((address ≤ GREATEST_ADDRESS) × IsNone (own_address_at self.old station)) }
-        ensures full { IsErrOf result GarageError.BookFull ↔ ((address ≤ GREATEST_ADDRESS) × IsSome (own_address_at self.old station) × IsFull self.old) }
-        ensures only { IfErr result (λ e. (e ≡ GarageError.NotAnAddress) ⊎ (e ≡ GarageError.NotHeld) ⊎ (e ≡ GarageError.BookFull) ⊎ (e ≡ GarageError.OutOfMemory)) }
+        ensures not_held { IsErrOf result GarageError.NotHeld
+            ↔ ((address ≤ GREATEST_ADDRESS) × IsNone (own_address_at self.old station)) }
+        ensures full { IsErrOf result GarageError.BookFull
+            ↔ ((address ≤ GREATEST_ADDRESS) × IsSome (own_address_at self.old station) × IsFull self.old) }
+        ensures only { IfErr result (λ e. (e ≡ GarageError.NotAnAddress) ⊎ (e ≡ GarageError.NotHeld) ⊎ (e ≡ GarageError.BookFull)
+            ⊎ (e ≡ GarageError.OutOfMemory)) }
         ensures err { OnErr result (self.new ≡ self.old) }
         ensures lists { KeepsLists self.old self.new }
     {
@@ -161,7 +172,8 @@ impl Garage {
         ensures ok { OnOk result (Adds self.old (Ordered station order) self.new) }
         ensures refused { (e : AnyRefusal) → e ≢ StationError.OutOfMemory → ((result ≡ Err (of_station e)) ↔ (answer ≡ Err e)) }
         ensures full { IsErrOf result GarageError.BookFull ↔ (IsOkUnless answer StationError.OutOfMemory × IsFull self.old) }
-        ensures only { IfErr result (λ e. (e ≡ GarageError.BookFull) ⊎ (e ≡ GarageError.OutOfMemory) ⊎ ((s : AnyRefusal) × (answer ≡ Err s) × (e ≡ of_station s))) }
+        ensures only { IfErr result (λ e. (e ≡ GarageError.BookFull) ⊎ (e ≡ GarageError.OutOfMemory)
+            ⊎ ((s : AnyRefusal) × (answer ≡ Err s) × (e ≡ of_station s))) }
         ensures err { OnErr result (self.new ≡ self.old) }
         ensures lists { KeepsLists self.old self.new }
     {

@@ -25,14 +25,19 @@ impl Garage {
     #[tactic(auto, using(crate::proofs::Lists::lists_same, crate::proofs::Lists::lists_begun))]
     pub fn let_begin(&mut self, alloc: Global, parked: &mut Parked) -> Result<Begin, GarageError>
         requires { Unit {0} }
-        ensures stranger { IsErrOf result GarageError.Stranger ↔ (¬ IsSeated self.old parked.old.seat (name_of parked.old.unit) parked.old.events) }
+        ensures stranger { IsErrOf result GarageError.Stranger
+            ↔ (¬ IsSeated self.old parked.old.seat (name_of parked.old.unit) parked.old.events) }
         ensures kept { (parked.new.seat ≡ parked.old.seat) × (parked.new.unit ≡ parked.old.unit) }
-        ensures seated { IsSeated self.old parked.old.seat (name_of parked.old.unit) parked.old.events → IsSeated self.new parked.new.seat (name_of parked.new.unit) parked.new.events }
+        ensures seated { IsSeated self.old parked.old.seat (name_of parked.old.unit) parked.old.events
+            → IsSeated self.new parked.new.seat (name_of parked.new.unit) parked.new.events }
         ensures ok { IfOk result (λ b. Begins self.old parked.old.seat (memory_of parked.old.unit) b self.new) }
         ensures counted { IfOk result (λ b. parked.new.events ≡ counted_beginning parked.old.events b) }
-        ensures unclaimed { IsSeated self.old parked.old.seat (name_of parked.old.unit) parked.old.events → BeginsUnclaimed self.old parked.old.seat result }
-        ensures held { IsSeated self.old parked.old.seat (name_of parked.old.unit) parked.old.events → BeginsHeld self.old parked.old.seat result }
-        ensures full { IsSeated self.old parked.old.seat (name_of parked.old.unit) parked.old.events → BeginsFull self.old parked.old.seat result }
+        ensures unclaimed { IsSeated self.old parked.old.seat (name_of parked.old.unit) parked.old.events
+            → BeginsUnclaimed self.old parked.old.seat result }
+        ensures held { IsSeated self.old parked.old.seat (name_of parked.old.unit) parked.old.events
+            → BeginsHeld self.old parked.old.seat result }
+        ensures full { IsSeated self.old parked.old.seat (name_of parked.old.unit) parked.old.events
+            → BeginsFull self.old parked.old.seat result }
         ensures only { IfErr result (λ e. (e ≡ GarageError.Stranger) ⊎ IsBeginRefusal e) }
         ensures err { OnErr result ((self.new ≡ self.old) × (parked.new ≡ parked.old)) }
         ensures lists { KeepsLists self.old self.new }
@@ -54,12 +59,15 @@ impl Garage {
     #[tactic(auto, using(crate::proofs::Lists::lists_same, crate::proofs::Lists::lists_of_event))]
     pub fn let_turn(&mut self, parked: &mut Parked) -> Result<(), GarageError>
         requires { Unit {0} }
-        ensures stranger { IsErrOf result GarageError.Stranger ↔ (¬ IsSeated self.old parked.old.seat (name_of parked.old.unit) parked.old.events) }
+        ensures stranger { IsErrOf result GarageError.Stranger
+            ↔ (¬ IsSeated self.old parked.old.seat (name_of parked.old.unit) parked.old.events) }
         ensures kept { (parked.new.seat ≡ parked.old.seat) × (parked.new.unit ≡ parked.old.unit) }
-        ensures seated { IsSeated self.old parked.old.seat (name_of parked.old.unit) parked.old.events → IsSeated self.new parked.new.seat (name_of parked.new.unit) parked.new.events }
+        ensures seated { IsSeated self.old parked.old.seat (name_of parked.old.unit) parked.old.events
+            → IsSeated self.new parked.new.seat (name_of parked.new.unit) parked.new.events }
         ensures ok { OnOk result (Adds self.old (Turned parked.old.seat) self.new) }
         ensures counted { OnOk result (parked.new.events ≡ parked.old.events + 1) }
-        ensures full { IsSeated self.old parked.old.seat (name_of parked.old.unit) parked.old.events → (IsErrOf result GarageError.BookFull ↔ IsFull self.old) }
+        ensures full { IsSeated self.old parked.old.seat (name_of parked.old.unit) parked.old.events
+            → (IsErrOf result GarageError.BookFull ↔ IsFull self.old) }
         ensures only { IfErr result (λ e. (e ≡ GarageError.Stranger) ⊎ IsWant e) }
         ensures err { OnErr result ((self.new ≡ self.old) × (parked.new ≡ parked.old)) }
         ensures lists { KeepsLists self.old self.new }

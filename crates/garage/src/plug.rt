@@ -94,7 +94,9 @@ impl Parked {
         ensures events { self.new.events ≡ self.old.events }
         ensures ok { OnOk result (changed (memory_of self.old.unit) change ≡ Ok (memory_of self.new.unit)) }
         ensures refused { (e : AnyFault) → changed (memory_of self.old.unit) change ≡ Err e → result ≡ Err e }
-        ensures why { IfErr result (λ e. ((e ≡ FaultError.OutOfMemory) × Grows (changed (memory_of self.old.unit) change) (memory_of self.old.unit)) ⊎ (changed (memory_of self.old.unit) change ≡ Err e)) }
+        ensures why { IfErr result (λ e. ((e ≡ FaultError.OutOfMemory)
+            × Grows (changed (memory_of self.old.unit) change) (memory_of self.old.unit))
+            ⊎ (changed (memory_of self.old.unit) change ≡ Err e)) }
         ensures err { OnErr result (memory_of self.new.unit ≡ memory_of self.old.unit) }
         ensures takes { (u : _) × (self.new.unit ≡ record self.old.unit { value = u }) × Takes self.old.unit change u }
     {
@@ -125,11 +127,15 @@ impl Garage {
         want: u8,
     ) -> Result<Parked, (Box<dyn Unit>, GarageError)>
         requires { Unit {0} }
-        ensures ok { IfOk result (λ p. Adds self.old (Join p.seat (name_of unit) want) self.new × (p.unit ≡ unit) × (p.seat ≡ length (state_of self.old).traffic.seats) × IsSeated self.new p.seat (name_of unit) p.events) }
+        ensures ok { IfOk result (λ p. Adds self.old (Join p.seat (name_of unit) want) self.new × (p.unit ≡ unit)
+            × (p.seat ≡ length (state_of self.old).traffic.seats) × IsSeated self.new p.seat (name_of unit) p.events) }
         ensures not_an_address { (result ≡ Err (unit, GarageError.NotAnAddress)) ↔ (GREATEST_ADDRESS < want) }
-        ensures name_in_use { (result ≡ Err (unit, GarageError.NameInUse)) ↔ ((want ≤ GREATEST_ADDRESS) × HasNameInUse self.old (name_of unit)) }
-        ensures too_many { (result ≡ Err (unit, GarageError.TooManySeats)) ↔ ((want ≤ GREATEST_ADDRESS) × HasTooMany self.old (name_of unit)) }
-        ensures full { (result ≡ Err (unit, GarageError.BookFull)) ↔ ((want ≤ GREATEST_ADDRESS) × HasNoRoomFor self.old (name_of unit)) }
+        ensures name_in_use { (result ≡ Err (unit, GarageError.NameInUse))
+            ↔ ((want ≤ GREATEST_ADDRESS) × HasNameInUse self.old (name_of unit)) }
+        ensures too_many { (result ≡ Err (unit, GarageError.TooManySeats))
+            ↔ ((want ≤ GREATEST_ADDRESS) × HasTooMany self.old (name_of unit)) }
+        ensures full { (result ≡ Err (unit, GarageError.BookFull))
+            ↔ ((want ≤ GREATEST_ADDRESS) × HasNoRoomFor self.old (name_of unit)) }
         ensures only { IfErr result (λ e. (e.1 ≡ GarageError.NotAnAddress) ⊎ IsJoinRefusal e.1) }
         ensures err { IfErr result (λ e. (e.0 ≡ unit) × (self.new ≡ self.old)) }
         ensures lists { KeepsLists self.old self.new }
@@ -179,7 +185,8 @@ impl Garage {
     pub fn attach(&mut self, parked: Parked) -> Result<Plug<'_>, (Parked, GarageError)>
         requires { Unit {0} }
         ensures stranger { IsErr result ↔ (¬ IsSeated self.entry.now parked.seat (name_of parked.unit) parked.events) }
-        ensures ok { IfOk result (λ p. (p.garage.ghost_name ≡ self.entry.ghost_name) × (p.garage.now ≡ self.entry.now) × (p.unit ≡ parked.unit) × (p.name ≡ name_of parked.unit) × (p.seat ≡ parked.seat) × (p.events ≡ parked.events)) }
+        ensures ok { IfOk result (λ p. (p.garage.ghost_name ≡ self.entry.ghost_name) × (p.garage.now ≡ self.entry.now)
+            × (p.unit ≡ parked.unit) × (p.name ≡ name_of parked.unit) × (p.seat ≡ parked.seat) × (p.events ≡ parked.events)) }
         ensures err { IfErr result (λ e. (e.0 ≡ parked) × (e.1 ≡ GarageError.Stranger)) }
         ensures lists { IfOk result (λ p. KeepsLists self.entry.now p.garage.now) }
         ensures* rests { sem 𝓛 (RestsIfErr the_row self.entry (λ p. p.garage.ghost_name) result (λ g. g ≡ self.old)) }
@@ -265,8 +272,11 @@ impl<'a> Plug<'a> {
     pub fn hear(&mut self, alloc: Global) -> Result<HeardOne, GarageError>
         requires { Unit {0} }
         ensures same { self.new.garage.ghost_name ≡ self.old.garage.ghost_name }
-        ensures kept { (self.new.seat ≡ self.old.seat) × (self.new.name ≡ self.old.name) × (name_of self.new.unit ≡ name_of self.old.unit) }
-        ensures ok { IfOk result (λ h. (u : _) × (self.new.unit ≡ record self.old.unit { value = u }) × Hears self.old.garage.now self.old.seat (memory_of self.old.unit) (Answers self.old.unit) self.old.unit.value h self.new.garage.now (memory_of self.new.unit) u) }
+        ensures kept { (self.new.seat ≡ self.old.seat) × (self.new.name ≡ self.old.name)
+            × (name_of self.new.unit ≡ name_of self.old.unit) }
+        ensures ok { IfOk result (λ h. (u : _) × (self.new.unit ≡ record self.old.unit { value = u })
+            × Hears self.old.garage.now self.old.seat (memory_of self.old.unit) (Answers self.old.unit) self.old.unit.value h
+            self.new.garage.now (memory_of self.new.unit) u) }
         ensures counted { IfOk result (λ h. self.new.events ≡ counted_hearing self.old.events h) }
         // Hearing ends by this count.
         ensures few { OnOk result (self.new.events < 2 ^ 32) }

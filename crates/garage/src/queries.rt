@@ -24,8 +24,10 @@ const NO_EVENTS: Tally = Tally {
 impl Garage {
     /// What station 0 knows of a NAME. None before it read its first claim.
     pub fn row(&self, name: Name) -> Option<Row>
-        ensures heard { option_map row_heard_as result ≡ row_heard (station_of self.now.settings) name (readings_of self.now.journal) }
-        ensures kept { result ≡ row_of (table_at (state_of self.now) 0).owners name (kept_under (table_at (state_of self.now) 0).rows name) }
+        ensures heard { option_map row_heard_as result ≡ row_heard (station_of self.now.settings) name
+            (readings_of self.now.journal) }
+        ensures kept { result ≡ row_of (table_at (state_of self.now) 0).owners name
+            (kept_under (table_at (state_of self.now) 0).rows name) }
     {
         let _ = self.stations();
         self.row_at(0, name)
@@ -37,8 +39,10 @@ impl Garage {
     #[tactic(auto, using(crate::proofs::Headline::row_known_heard))]
     pub fn row_at(&self, station: u32, name: Name) -> Option<Row>
         requires { station < length self.now.settings.stations }
-        ensures heard { option_map row_heard_as result ≡ row_heard (station_of_at self.now.settings station) name (readings_at station self.now.journal) }
-        ensures kept { result ≡ row_of (table_at (state_of self.now) station).owners name (kept_under (table_at (state_of self.now) station).rows name) }
+        ensures heard { option_map row_heard_as result ≡ row_heard (station_of_at self.now.settings station) name
+            (readings_at station self.now.journal) }
+        ensures kept { result ≡ row_of (table_at (state_of self.now) station).owners name
+            (kept_under (table_at (state_of self.now) station).rows name) }
     {
         self.posts[station as usize].station.row(name)
     }
@@ -47,8 +51,11 @@ impl Garage {
     ///
     /// All are 0 of a station's seat, and of one that no unit was given.
     pub fn tally(&self, seat: u32) -> Tally
-        ensures given { length self.now.settings.stations ≤ seat → seat < length self.now.settings.stations + joins self.now.journal → result ≡ tally_of seat self.now.journal }
-        ensures never { ((seat < length self.now.settings.stations) ⊎ (length self.now.settings.stations + joins self.now.journal ≤ seat)) → result ≡ no_events }
+        ensures given { length self.now.settings.stations ≤ seat → seat < length self.now.settings.stations + joins self.now.journal
+            → result ≡ tally_of seat self.now.journal }
+        ensures never { ((seat < length self.now.settings.stations)
+            ⊎ (length self.now.settings.stations + joins self.now.journal ≤ seat))
+            → result ≡ no_events }
     {
         if seat < self.stations {
             return NO_EVENTS;

@@ -29,7 +29,8 @@ pub(crate) fn queue_outs(bus: &mut Bus, seat: u32, mut put: Outs, numbering: Num
     requires live { IsLive bus.old.traffic seat }
     requires spare { length put ≤ spare_at bus.old seat }
     requires few { (seat_at bus.old.traffic seat).queued + length put < 2 ^ 32 }
-    ensures { bus.new.traffic ≡ put_all seat (map (tagged numbering.begun numbering.is_session numbering.session) put) bus.old.traffic }
+    ensures { bus.new.traffic ≡ put_all seat (map (tagged numbering.begun numbering.is_session numbering.session) put)
+        bus.old.traffic }
 {
     while let Some(piece) = put.take_piece() {
         queue_piece(bus, seat, piece, numbering);
@@ -43,7 +44,8 @@ fn queue_piece(bus: &mut Bus, seat: u32, piece: Piece, numbering: Numbering)
     requires live { IsLive bus.old.traffic seat }
     requires spare { 0 < spare_at bus.old seat }
     requires few { (seat_at bus.old.traffic seat).queued + length (outs_of piece) < 2 ^ 32 }
-    ensures traffic { bus.new.traffic ≡ put_all seat (map (tagged numbering.begun numbering.is_session numbering.session) (outs_of piece)) bus.old.traffic }
+    ensures traffic { bus.new.traffic ≡ put_all seat
+        (map (tagged numbering.begun numbering.is_session numbering.session) (outs_of piece)) bus.old.traffic }
     ensures spare { spare_at bus.old seat ≤ spare_at bus.new seat + 1 }
 {
     match piece {
@@ -142,7 +144,8 @@ pub(crate) fn do_heard(bus: &mut Bus, seat: u32, heard: Heard, numbering: Number
     requires next { (seat_at bus.old.traffic seat).heard < length bus.old.traffic.wire }
     requires spare { length heard.put ≤ spare_at bus.old seat }
     requires few { (seat_at bus.old.traffic seat).queued + length heard.put < 2 ^ 32 }
-    ensures { bus.new.traffic ≡ put_all seat (map (tagged numbering.begun numbering.is_session numbering.session) heard.put) (withdrawn_by seat heard.withdraw (heard_more seat 1 bus.old.traffic)) }
+    ensures { bus.new.traffic ≡ put_all seat (map (tagged numbering.begun numbering.is_session numbering.session) heard.put)
+        (withdrawn_by seat heard.withdraw (heard_more seat 1 bus.old.traffic)) }
 {
     let Heard { withdraw, put, .. } = heard;
     bus.mark_heard(seat);

@@ -25,7 +25,8 @@ impl Garage {
         // Readings end by this count.
         ensures few { length self.old.journal < 2 ^ 32 }
         ensures empty { (result ≡ Ok Reading.Empty) ↔ (next_reading (state_of self.old).traffic 0 ≡ Reading.Empty) }
-        ensures full { IsErrOf result GarageError.BookFull ↔ ((next_reading (state_of self.old).traffic 0 ≢ Reading.Empty) × IsFull self.old) }
+        ensures full { IsErrOf result GarageError.BookFull
+            ↔ ((next_reading (state_of self.old).traffic 0 ≢ Reading.Empty) × IsFull self.old) }
         ensures only { IfErr result IsWant }
         ensures err { OnErr result (self.new ≡ self.old) }
         ensures lists { KeepsLists self.old self.new }
@@ -46,7 +47,8 @@ impl Garage {
         // Readings end by this count.
         ensures few { length self.old.journal < 2 ^ 32 }
         ensures empty { (result ≡ Ok Reading.Empty) ↔ (next_reading (state_of self.old).traffic station ≡ Reading.Empty) }
-        ensures full { IsErrOf result GarageError.BookFull ↔ ((next_reading (state_of self.old).traffic station ≢ Reading.Empty) × IsFull self.old) }
+        ensures full { IsErrOf result GarageError.BookFull
+            ↔ ((next_reading (state_of self.old).traffic station ≢ Reading.Empty) × IsFull self.old) }
         ensures only { IfErr result IsWant }
         ensures err { OnErr result (self.new ≡ self.old) }
         ensures lists { KeepsLists self.old self.new }

@@ -1,7 +1,7 @@
 ghost use Rattle.std.specs.Prelude.{◌≡◌, ◌+◌, ◌<◌, ◌≤◌, ◌^◌, ◌↔◌, ◌⊎◌, length, reverse, OnOk, IfOk, IfErr, IsErrOf, IsTrue, Some};
 ghost use Rattle.fault_memory.specs.Memory.{IsLawfulMemory};
 ghost use Rattle.bus_ledger.specs.BusValue.{IsLive, spare_at};
-ghost use Rattle.journal.specs.Journal.{memory_told};
+ghost use Rattle.journal.specs.Journal.{memory_recorded};
 ghost use Rattle.journal.specs.Notes.{IsStored};
 ghost use Rattle.garage.specs.Calls.{IsWant};
 
@@ -37,7 +37,8 @@ pub(crate) fn make_room(journal: &mut Journal, count: u32, limit: u32) -> Result
     ensures grows { journal.old.room ≤ journal.new.room }
     ensures ok { OnOk result ((length journal.old.items + count ≤ limit) × (count ≤ journal.new.room)) }
     ensures full { IsErrOf result GarageError.BookFull ↔ (limit < length journal.old.items + count) }
-    ensures err { IfErr result (λ e. (e ≡ GarageError.BookFull) ⊎ ((e ≡ GarageError.OutOfMemory) × (length journal.old.items + count ≤ limit))) }
+    ensures err { IfErr result
+        (λ e. (e ≡ GarageError.BookFull) ⊎ ((e ≡ GarageError.OutOfMemory) × (length journal.old.items + count ≤ limit))) }
 {
     if has_room(journal, count, limit) {
         return Ok(());
@@ -53,7 +54,8 @@ fn make_more_room(journal: &mut Journal, count: u32, limit: u32) -> Result<(), G
     ensures grows { journal.old.room ≤ journal.new.room }
     ensures ok { OnOk result ((length journal.old.items + count ≤ limit) × (count ≤ journal.new.room)) }
     ensures full { IsErrOf result GarageError.BookFull ↔ (limit < length journal.old.items + count) }
-    ensures err { IfErr result (λ e. (e ≡ GarageError.BookFull) ⊎ ((e ≡ GarageError.OutOfMemory) × (length journal.old.items + count ≤ limit))) }
+    ensures err { IfErr result
+        (λ e. (e ≡ GarageError.BookFull) ⊎ ((e ≡ GarageError.OutOfMemory) × (length journal.old.items + count ≤ limit))) }
 {
     if journal.len() > limit as usize || limit as usize - journal.len() < count as usize {
         return Err(GarageError::BookFull);
@@ -107,7 +109,7 @@ pub(crate) fn make_ready(
 ) -> Result<u32, GarageError>
     requires few { limit ≤ 2 ^ 24 }
     requires live { IsLive bus.old.traffic seat }
-    requires recorded { recorded ≡ Recorded.Current → memory_told seat (reverse journal.old.items) ≡ Some (memory_of unit.now) }
+    requires recorded { recorded ≡ Recorded.Current → memory_recorded seat (reverse journal.old.items) ≡ Some (memory_of unit.now) }
     requires lawful { recorded ≡ Recorded.Current → IsLawfulMemory (memory_of unit.now) }
     ensures items { journal.new.items ≡ journal.old.items }
     ensures grows { journal.old.room ≤ journal.new.room }
@@ -123,7 +125,7 @@ pub(crate) fn make_ready(
     let memory = match recorded {
         Recorded::Current => {
             make_room(journal, count, limit)?;
-            journal.told(seat)
+            journal.recorded_copy(seat)
         }
         Recorded::Unknown => ready_to_note(journal, count, limit, seat, unit)?,
     };

@@ -30,15 +30,17 @@ pub struct Rounds {
 }
 
 impl Garage {
-    /// Runs rounds with these units, so many at most. In a round each unit in turn takes its seat and hears all that it has not heard,
-    /// the stations read all, and one frame is carried. It ends early where none can be. At the end all have heard and read all.
+    /// Runs rounds with these units, so many at most. In a round each unit in turn takes its seat and hears all that it has not
+    /// heard, the stations read all, and one frame is carried. It ends early where none can be. At the end all have heard and read
+    /// all.
     ///
-    /// That is what plugs, `read` and `carry` do, and costs less: seats are looked up once, and a memory that cannot have changed since
-    /// its unit's latest event is not compared.
+    /// That is what plugs, `read` and `carry` do, and costs less: seats are looked up once, and a memory that cannot have changed
+    /// since its unit's latest event is not compared.
     ///
     /// Refused with `Stranger` exactly where this garage has no live seat with the seat number, NAME and count of events of one of
-    /// them, or where they do not stand in the order of their seats; then nothing changed. `BookFull`, then `OutOfMemory`, where there is
-    /// one more frame to hear, to read or to carry: what was done before stays, and the step that was refused changed nothing.
+    /// them, or where they do not stand in the order of their seats; then nothing changed. `BookFull`, then `OutOfMemory`, where
+    /// there is one more frame to hear, to read or to carry: what was done before stays, and the step that was refused changed
+    /// nothing.
     #[tactic(auto, using(crate::proofs::Crew::lists_come, crate::proofs::Crew::comes_same, crate::proofs::Lists::lists_same))]
     pub fn round(
         &mut self,
@@ -47,16 +49,22 @@ impl Garage {
         most: u32,
     ) -> Result<Rounds, GarageError>
         requires { Unit {0} }
-        ensures stranger { IsErrOf result GarageError.Stranger ↔ (¬ AreSeated (sitting_of (λ b. name_of b) (λ b. memory_of b)) self.old units.old) }
+        ensures stranger { IsErrOf result GarageError.Stranger
+            ↔ (¬ AreSeated (sitting_of (λ b. name_of b) (λ b. memory_of b)) self.old units.old) }
         ensures unchanged { IsErrOf result GarageError.Stranger → ((self.new ≡ self.old) × (units.new ≡ units.old)) }
-        ensures seated { AreSeated (sitting_of (λ b. name_of b) (λ b. memory_of b)) self.old units.old → AreSeated (sitting_of (λ b. name_of b) (λ b. memory_of b)) self.new units.new }
-        ensures done { IfOk result (λ r. HaveRounds (sitting_of (λ b. name_of b) (λ b. memory_of b)) (asked_of (λ b. Answers b)) r.carried self.old units.old self.new units.new) }
+        ensures seated { AreSeated (sitting_of (λ b. name_of b) (λ b. memory_of b)) self.old units.old
+            → AreSeated (sitting_of (λ b. name_of b) (λ b. memory_of b)) self.new units.new }
+        ensures done { IfOk result (λ r. HaveRounds (sitting_of (λ b. name_of b) (λ b. memory_of b)) (asked_of (λ b. Answers b))
+            r.carried self.old units.old self.new units.new) }
         ensures all_heard { OnOk result ((i : ℕ) (p : _) → slice_get units.new i ≡ Some p → HasHeardAll p.seat self.new) }
         ensures all_read { OnOk result (HaveReadAll (length self.new.settings.stations) self.new) }
-        ensures carried { IfOk result (λ r. length (state_of self.new).traffic.wire ≡ length (state_of self.old).traffic.wire + r.carried) }
+        ensures carried { IfOk result
+            (λ r. length (state_of self.new).traffic.wire ≡ length (state_of self.old).traffic.wire + r.carried) }
         ensures end { IfOk result (λ r. EndsSo most r.carried r.end self.new) }
         ensures only { IfErr result (λ e. (e ≡ GarageError.Stranger) ⊎ IsWant e) }
-        ensures cut { IfErr result (λ e. (e ≡ GarageError.Stranger) ⊎ IsRoundCut (sitting_of (λ b. name_of b) (λ b. memory_of b)) (asked_of (λ b. Answers b)) most e self.old units.old self.new units.new) }
+        ensures cut { IfErr result (λ e. (e ≡ GarageError.Stranger)
+            ⊎ IsRoundCut (sitting_of (λ b. name_of b) (λ b. memory_of b)) (asked_of (λ b. Answers b)) most e self.old units.old
+            self.new units.new) }
         ensures comes { Comes self.old self.new }
         ensures lists { KeepsLists self.old self.new }
     {
@@ -69,7 +77,8 @@ impl Garage {
 
     /// Whether each has a live seat here, and they stand in the order of their seats.
     fn are_seated(&self, units: &[Parked]) -> bool
-        ensures { MatchBool result (AreSeated (sitting_of (λ b. name_of b) (λ b. memory_of b)) self.now units.now) (¬ AreSeated (sitting_of (λ b. name_of b) (λ b. memory_of b)) self.now units.now) }
+        ensures { MatchBool result (AreSeated (sitting_of (λ b. name_of b) (λ b. memory_of b)) self.now units.now)
+            (¬ AreSeated (sitting_of (λ b. name_of b) (λ b. memory_of b)) self.now units.now) }
     {
         for i in 0..units.len() {
             let parked = &units[i];
@@ -92,9 +101,11 @@ impl Garage {
     ) -> Result<Rounds, GarageError>
         requires { IsCrew (sitting_of (λ b. name_of b) (λ b. memory_of b)) self.old units.old recorded.old }
         ensures seated { AreSeated (sitting_of (λ b. name_of b) (λ b. memory_of b)) self.new units.new }
-        ensures done { IfOk result (λ r. HaveRounds (sitting_of (λ b. name_of b) (λ b. memory_of b)) (asked_of (λ b. Answers b)) r.carried self.old units.old self.new units.new) }
+        ensures done { IfOk result (λ r. HaveRounds (sitting_of (λ b. name_of b) (λ b. memory_of b)) (asked_of (λ b. Answers b))
+            r.carried self.old units.old self.new units.new) }
         ensures end { IfOk result (λ r. EndsSo most r.carried r.end self.new) }
-        ensures cut { IfErr result (λ e. IsRoundCut (sitting_of (λ b. name_of b) (λ b. memory_of b)) (asked_of (λ b. Answers b)) most e self.old units.old self.new units.new) }
+        ensures cut { IfErr result (λ e. IsRoundCut (sitting_of (λ b. name_of b) (λ b. memory_of b)) (asked_of (λ b. Answers b))
+            most e self.old units.old self.new units.new) }
         ensures comes { Comes self.old self.new }
     {
         for carried in 0..most {
@@ -122,8 +133,10 @@ impl Garage {
         requires { IsCrew (sitting_of (λ b. name_of b) (λ b. memory_of b)) self.old units.old recorded.old }
         ensures crew { OnOk result (IsCrew (sitting_of (λ b. name_of b) (λ b. memory_of b)) self.new units.new recorded.new) }
         ensures seated { AreSeated (sitting_of (λ b. name_of b) (λ b. memory_of b)) self.new units.new }
-        ensures heard { OnOk result (Listens (sitting_of (λ b. name_of b) (λ b. memory_of b)) (asked_of (λ b. Answers b)) self.old units.old self.new units.new) }
-        ensures cut { IfErr result (λ e. IsListeningCut (sitting_of (λ b. name_of b) (λ b. memory_of b)) (asked_of (λ b. Answers b)) e self.old units.old self.new units.new) }
+        ensures heard { OnOk result (Listens (sitting_of (λ b. name_of b) (λ b. memory_of b)) (asked_of (λ b. Answers b)) self.old
+            units.old self.new units.new) }
+        ensures cut { IfErr result (λ e. IsListeningCut (sitting_of (λ b. name_of b) (λ b. memory_of b)) (asked_of (λ b. Answers b))
+            e self.old units.old self.new units.new) }
         ensures comes { Comes self.old self.new }
     {
         let Some(last) = self.last_unheard(&*units) else {
@@ -147,7 +160,7 @@ impl Garage {
     fn last_unheard(&self, units: &[Parked]) -> Option<LastFrame>
         requires { AreSeated (sitting_of (λ b. name_of b) (λ b. memory_of b)) self.now units.now }
         ensures heard { IsNone result → (i : ℕ) (p : _) → slice_get units.now i ≡ Some p → HasHeardAll p.seat self.now }
-        ensures last { IfSome result (λ l. IsLast l.frame l.sifted self.now) }
+        ensures last { IfSome result (λ l. IsLast l.frame l.acceptance self.now) }
     {
         for i in 0..units.len() {
             if self.unheard(units[i].seat) > 0 {

@@ -27,7 +27,8 @@ impl Garage {
     #[tactic(auto, using(crate::proofs::Lists::lists_same, crate::proofs::Lists::lists_added))]
     pub(crate) fn join(&mut self, alloc: Global, name: Name, want: u8) -> Result<u32, GarageError>
         requires { want ≤ GREATEST_ADDRESS }
-        ensures ok { IfOk result (λ k. (k ≡ length (state_of self.old).traffic.seats) × Adds self.old (Join k name want) self.new × IsSeated self.new k name 1) }
+        ensures ok { IfOk result (λ k. (k ≡ length (state_of self.old).traffic.seats) × Adds self.old (Join k name want) self.new
+            × IsSeated self.new k name 1) }
         ensures name_in_use { IsErrOf result GarageError.NameInUse ↔ HasNameInUse self.old name }
         ensures too_many { IsErrOf result GarageError.TooManySeats ↔ HasTooMany self.old name }
         ensures full { IsErrOf result GarageError.BookFull ↔ HasNoRoomFor self.old name }

@@ -19,8 +19,12 @@ impl Garage {
     pub fn shown(&self, name: Name, kind: Kind) -> &[Shown]
         ensures expected { injected_of self.now.journal ≡ 0 → result.now ≡ shown_of self.now name kind }
         ensures heard { result.now ≡ reverse (entries_heard (station_of self.now.settings) name kind (readings_of self.now.journal)) }
-        ensures quiet { injected_of self.now.journal ≡ 0 → NoneMissed (path_at (state_of self.now) 0) → result.now ≡ reverse (received_whole (station_of self.now.settings) name kind (state_of self.now).begun (path_at (state_of self.now) 0)) }
-        ensures looks_back { injected_of self.now.journal ≡ 0 → (m : Message) → IsAmong m (state_of self.now).begun → (is_clear (station_of self.now.settings) m (path_at (state_of self.now) 0) ≡ true) ↔ IsOnClearPath (station_of self.now.settings) m (path_at (state_of self.now) 0) }
+        ensures quiet { injected_of self.now.journal ≡ 0 → NoneMissed (path_at (state_of self.now) 0)
+            → result.now ≡ reverse
+            (received_whole (station_of self.now.settings) name kind (state_of self.now).begun (path_at (state_of self.now) 0)) }
+        ensures looks_back { injected_of self.now.journal ≡ 0 → (m : Message) → IsAmong m (state_of self.now).begun
+            → (is_clear (station_of self.now.settings) m (path_at (state_of self.now) 0) ≡ true)
+            ↔ IsOnClearPath (station_of self.now.settings) m (path_at (state_of self.now) 0) }
     {
         let _ = self.stations();
         self.shown_at(0, name, kind)
@@ -43,9 +47,14 @@ impl Garage {
     pub fn shown_at(&self, station: u32, name: Name, kind: Kind) -> &[Shown]
         requires { station < length self.now.settings.stations }
         ensures expected { injected_of self.now.journal ≡ 0 → result.now ≡ shown_at self.now station name kind }
-        ensures heard { result.now ≡ reverse (entries_heard (station_of_at self.now.settings station) name kind (readings_at station self.now.journal)) }
-        ensures quiet { injected_of self.now.journal ≡ 0 → NoneMissed (path_at (state_of self.now) station) → result.now ≡ reverse (received_whole (station_of_at self.now.settings station) name kind (state_of self.now).begun (path_at (state_of self.now) station)) }
-        ensures looks_back { injected_of self.now.journal ≡ 0 → (m : Message) → IsAmong m (state_of self.now).begun → (is_clear (station_of_at self.now.settings station) m (path_at (state_of self.now) station) ≡ true) ↔ IsOnClearPath (station_of_at self.now.settings station) m (path_at (state_of self.now) station) }
+        ensures heard { result.now ≡ reverse
+            (entries_heard (station_of_at self.now.settings station) name kind (readings_at station self.now.journal)) }
+        ensures quiet { injected_of self.now.journal ≡ 0 → NoneMissed (path_at (state_of self.now) station)
+            → result.now ≡ reverse (received_whole (station_of_at self.now.settings station) name kind (state_of self.now).begun
+            (path_at (state_of self.now) station)) }
+        ensures looks_back { injected_of self.now.journal ≡ 0 → (m : Message) → IsAmong m (state_of self.now).begun
+            → (is_clear (station_of_at self.now.settings station) m (path_at (state_of self.now) station) ≡ true)
+            ↔ IsOnClearPath (station_of_at self.now.settings station) m (path_at (state_of self.now) station) }
     {
         self.posts[station as usize].lists.shown(name, kind)
     }

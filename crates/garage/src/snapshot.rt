@@ -73,9 +73,11 @@ impl Garage {
     #[tactic(auto, using(crate::proofs::Lines::line_more, crate::proofs::Lines::name_is_there))]
     pub fn snapshot_at(&self, alloc: Global, station: u32) -> Result<Snapshot, GarageError>
         requires { station < length self.now.settings.stations }
-        ensures rows { IfOk result (λ s. s.rows.items ≡ map (line_at self.now station) (names_heard (readings_at station self.now.journal))) }
+        ensures rows { IfOk result
+            (λ s. s.rows.items ≡ map (line_at self.now station) (names_heard (readings_at station self.now.journal))) }
         ensures missed { IfOk result (λ s. s.missed ≡ missed_count (readings_at station self.now.journal)) }
-        ensures unread { IfOk result (λ s. s.unread ≡ unread_count (station_of_at self.now.settings station) (readings_at station self.now.journal)) }
+        ensures unread { IfOk result
+            (λ s. s.unread ≡ unread_count (station_of_at self.now.settings station) (readings_at station self.now.journal)) }
         ensures none { injected_of self.now.journal ≡ 0 → IfOk result (λ s. s.unread ≡ 0) }
         ensures err { IfErr result (λ e. e ≡ GarageError.OutOfMemory) }
     {
@@ -122,7 +124,8 @@ impl Garage {
     #[tactic(auto, using(crate::proofs::Lines::row_address_heard, crate::proofs::Lines::no_address))]
     fn address_at(&self, station: u32, name: Name) -> Option<u8>
         requires { station < length self.now.settings.stations }
-        ensures { result ≡ address_in_row (row_heard (station_of_at self.now.settings station) name (readings_at station self.now.journal)) }
+        ensures { result ≡ address_in_row
+            (row_heard (station_of_at self.now.settings station) name (readings_at station self.now.journal)) }
     {
         match self.row_at(station, name) {
             Some(row) => row.address,

@@ -10,7 +10,7 @@ use Rattle.journal.specs.declared.event.Event.{Event}
 use Rattle.journal.specs.declared.event.Event.TheVariants.{Hear}
 use Rattle.journal.specs.declared.note.Note.{Note}
 use Rattle.journal.specs.declared.note.Note.TheVariants as note
-use Rattle.journal.specs.declared.passing.Passing.{Passing}
+use Rattle.journal.specs.declared.hear_run.HearRun.{HearRun}
 use Rattle.journal.proofs.Over.{ends_with}
 use Rattle.journal.proofs.Runs.{events_begun}
 
@@ -45,12 +45,12 @@ again_over ms ns k j count more last same is =
     after ∙ (ap (λ (n : ℕ). passed_again k n older) is ∙ (again_more k count older ∙ ap (passed_again k 1) (sym before)))
 
 -- a run of one hear
-pub events_apart : (ms : List MemoryValue) (run : Passing) (ns : List Note) (older : List Event) (seat : ℕ) → run.first ≡ seat → run.next ≡ seat + 1 → events_of ms (reverse ns) ≡ older
+pub events_apart : (ms : List MemoryValue) (run : HearRun) (ns : List Note) (older : List Event) (seat : ℕ) → run.first ≡ seat → run.next ≡ seat + 1 → events_of ms (reverse ns) ≡ older
     → events_of ms (newest_first run ns) ≡ passed_again seat 1 older
 events_apart ms run ns older seat first next is = events_begun ms run ns older seat first next is ∙ sym (again_one seat older)
 
 -- a run of one hear, and before it one hear more of the same seat
-pub events_again : (ms : List MemoryValue) (run : Passing) (ns ns' : List Note) (seat : ℕ) → run.first ≡ seat → run.next ≡ seat + 1 → events_of ms (reverse ns') ≡ passed_again seat 1 (events_of ms (reverse ns))
+pub events_again : (ms : List MemoryValue) (run : HearRun) (ns ns' : List Note) (seat : ℕ) → run.first ≡ seat → run.next ≡ seat + 1 → events_of ms (reverse ns') ≡ passed_again seat 1 (events_of ms (reverse ns))
     → events_of ms (newest_first run ns') ≡ passed_again seat 1 (events_of ms (newest_first run ns))
 events_again ms run ns ns' seat first next is =
     let older = events_of ms (reverse ns) in

@@ -9,7 +9,7 @@ use Rattle.journal.specs.declared.event.Event.{Event}
 use Rattle.journal.specs.declared.event.Event.TheVariants.{Hear, Begin}
 use Rattle.journal.specs.declared.note.Note.{Note}
 use Rattle.journal.specs.declared.note.Note.TheVariants as note
-use Rattle.journal.specs.declared.passing.Passing.{Passing}
+use Rattle.journal.specs.declared.hear_run.HearRun.{HearRun}
 
 note_more : (ms : List MemoryValue) (m : MemoryValue) (n : Note) (older : List Event) → IsNoted (length ms) n → with_note (ms ++ m ∷ []) n older ≡ with_note ms n older
 note_more ms m (note.Join address seat name) older h = refl
@@ -20,8 +20,8 @@ note_more ms m (note.Begin k n) older h = ap (λ (v : MemoryValue). Begin k v �
 note_more ms m (note.Turned k) older h = refl
 note_more ms m (note.Carry k) older h = refl
 note_more ms m (note.Frame station bytes id) older h = refl
-note_more ms m (note.Relayed bytes k id) older h = refl
-note_more ms m (note.ReadAndCarried bytes k id) older h = refl
+note_more ms m (note.CarryRead bytes k id) older h = refl
+note_more ms m (note.ReadCarry bytes k id) older h = refl
 note_more ms m (note.Gap station missed) older h = refl
 note_more ms m (note.Empty station) older h = refl
 note_more ms m (note.Ask station ask name) older h = refl
@@ -44,6 +44,6 @@ all_reversed many ns all = λ k d l.
     subst (IsNoted many) (sym (get_or-reverse ns k d low)) (all (length ns - 1 - k) d (omega arith)))
 
 -- what the notes tell, with one copy more
-pub told_more : (ms : List MemoryValue) (m : MemoryValue) (run : Passing) (ns : List Note) → All (IsNoted (length ms)) ns → events_of (ms ++ m ∷ []) (newest_first run ns) ≡ events_of ms (newest_first run ns)
+pub recorded_more : (ms : List MemoryValue) (m : MemoryValue) (run : HearRun) (ns : List Note) → All (IsNoted (length ms)) ns → events_of (ms ++ m ∷ []) (newest_first run ns) ≡ events_of ms (newest_first run ns)
 unfolding events_of
-told_more ms m run ns all = ap (with_note ms (note.Passed run.first (run.next - run.first))) (events_more ms m (reverse ns) (all_reversed (length ms) ns all))
+recorded_more ms m run ns all = ap (with_note ms (note.Passed run.first (run.next - run.first))) (events_more ms m (reverse ns) (all_reversed (length ms) ns all))

@@ -28,7 +28,7 @@ pub mod Lifted
 pub mod Living
 pub mod Runs
 pub mod Kept
-pub mod Told
+pub mod Recorded
 pub mod Keeping
 pub mod Over
 pub mod Storing

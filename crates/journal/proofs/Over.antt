@@ -10,7 +10,7 @@ use Rattle.journal.specs.declared.event.Event.{Event}
 use Rattle.journal.specs.declared.event.Event.TheVariants.{Carry, Read}
 use Rattle.journal.specs.declared.note.Note.{Note}
 use Rattle.journal.specs.declared.note.Note.TheVariants as note
-use Rattle.journal.specs.declared.passing.Passing.{Passing}
+use Rattle.journal.specs.declared.hear_run.HearRun.{HearRun}
 use Rattle.journal.proofs.Runs.{events_note}
 
 -- what stands before the last note, which another takes the place of
@@ -25,10 +25,10 @@ ends_with (a ∷ b ∷ ns) (suc j) n n' e last =
     (a ∷ r.0, ap (λ (l : List Note). a ∷ l) r.1, ap (λ (l : List Note). a ∷ l) r.2)
 
 -- a note that tells one event more than the last one, in its place
-told_over : (ms : List MemoryValue) (run : Passing) (ns : List Note) (n n' : Note) (e : Event) → run.first ≡ run.next → slice_get ns (length ns - 1) ≡ Some n
+recorded_over : (ms : List MemoryValue) (run : HearRun) (ns : List Note) (n n' : Note) (e : Event) → run.first ≡ run.next → slice_get ns (length ns - 1) ≡ Some n
     → ((older : List Event) → with_note ms n' older ≡ e ∷ with_note ms n older)
     → events_of ms (newest_first run (set ns (length ns - 1) n')) ≡ e ∷ events_of ms (newest_first run ns)
-told_over ms run ns n n' e none last more =
+recorded_over ms run ns n n' e none last more =
     let within : length ns - 1 < length ns = slice_get_within ns (length ns - 1) n last in
     let ends = ends_with ns (length ns - 1) n n' (omega arith) last in
     let older = events_of ms (reverse ends.0) in
@@ -37,13 +37,13 @@ told_over ms run ns n n' e none last more =
     after ∙ (more older ∙ ap (λ (es : List Event). e ∷ es) (sym before))
 
 -- a carry after a reading of station 0
-pub over_reading : (run : Passing) (ns : List Note) (bytes : List ℕ) (id seat k : ℕ) → run.first ≡ run.next → slice_get ns (length ns - 1) ≡ Some (note.Frame 0 bytes id) → k ≡ seat
-    → TellsOver run ns (Carry seat) (note.ReadAndCarried bytes k id)
+pub over_reading : (run : HearRun) (ns : List Note) (bytes : List ℕ) (id seat k : ℕ) → run.first ≡ run.next → slice_get ns (length ns - 1) ≡ Some (note.Frame 0 bytes id) → k ≡ seat
+    → TellsOver run ns (Carry seat) (note.ReadCarry bytes k id)
 over_reading run ns bytes id seat k none last same = λ ms.
-    told_over ms run ns (note.Frame 0 bytes id) (note.ReadAndCarried bytes k id) (Carry seat) none last (λ older. rw same refl)
+    recorded_over ms run ns (note.Frame 0 bytes id) (note.ReadCarry bytes k id) (Carry seat) none last (λ older. rw same refl)
 
 -- a reading of station 0 after a carry
-pub over_carry : (run : Passing) (ns : List Note) (bytes bytes' : List ℕ) (id seat k : ℕ) → run.first ≡ run.next → slice_get ns (length ns - 1) ≡ Some (note.Carry seat)
-    → k ≡ seat → bytes' ≡ bytes → TellsOver run ns (Read 0 (reading.Frame (frame id bytes))) (note.Relayed bytes' k id)
+pub over_carry : (run : HearRun) (ns : List Note) (bytes bytes' : List ℕ) (id seat k : ℕ) → run.first ≡ run.next → slice_get ns (length ns - 1) ≡ Some (note.Carry seat)
+    → k ≡ seat → bytes' ≡ bytes → TellsOver run ns (Read 0 (reading.Frame (frame id bytes))) (note.CarryRead bytes' k id)
 over_carry run ns bytes bytes' id seat k none last same these = λ ms.
-    told_over ms run ns (note.Carry seat) (note.Relayed bytes' k id) (Read 0 (reading.Frame (frame id bytes))) none last (λ older. rw (same, these) refl)
+    recorded_over ms run ns (note.Carry seat) (note.CarryRead bytes' k id) (Read 0 (reading.Frame (frame id bytes))) none last (λ older. rw (same, these) refl)

@@ -70,11 +70,11 @@ tally_of k [] = record { joined = 0; turned = 0; left = 0; events = 0 }
 tally_of k (e ∷ older) = tallied k e (tally_of k older)
 
 -- the fault memory that the latest hear or begin of a seat tells
-unfoldable pub memory_told : ℕ → List Event → Option MemoryValue
-memory_told k [] = None
-memory_told k (Hear j memory answered ∷ older) = if j == k then Some memory else memory_told k older
-memory_told k (Begin j memory ∷ older) = if j == k then Some memory else memory_told k older
-memory_told k (_ ∷ older) = memory_told k older
+unfoldable pub memory_recorded : ℕ → List Event → Option MemoryValue
+memory_recorded k [] = None
+memory_recorded k (Hear j memory answered ∷ older) = if j == k then Some memory else memory_recorded k older
+memory_recorded k (Begin j memory ∷ older) = if j == k then Some memory else memory_recorded k older
+memory_recorded k (_ ∷ older) = memory_recorded k older
 
 -- a live seat of a unit with this number, NAME and count of its own events
 pub record IsSeated (g : GarageValue) (k name events : ℕ) : Type 0 where

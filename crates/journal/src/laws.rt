@@ -20,7 +20,9 @@ ghost use Rattle.journal.specs.declared.order.Order.TheVariants.{Command};
 /// If every event fits what came before, and no frame came from outside, the state that the journal leads to is a world that the
 /// machine reaches.
 pub fn journal_is_a_run()
-    ensures { (settings : Settings) (journal : List Event) → AllFit settings journal → injected_of journal ≡ 0 → (seats : List Seat) × (steps : List Step) × Run (start (stations_of settings)) steps (world_of settings (state_after settings journal) seats) }
+    ensures { (settings : Settings) (journal : List Event) → AllFit settings journal → injected_of journal ≡ 0
+        → (seats : List Seat) × (steps : List Step)
+        × Run (start (stations_of settings)) steps (world_of settings (state_after settings journal) seats) }
 {}
 
 /// The tables of each station say what was heard of its readings in the journal.
@@ -45,7 +47,8 @@ pub fn shown_is_expected()
 ///
 /// It holds of messages of units, if no frame came from outside.
 pub fn nothing_stays_unread()
-    ensures { (settings : Settings) (journal : List Event) → AllFit settings journal → injected_of journal ≡ 0 → (y : ℕ) → y < length settings.stations → (table_at (state_after settings journal) y).unread ≡ 0 }
+    ensures { (settings : Settings) (journal : List Event) → AllFit settings journal → injected_of journal ≡ 0 → (y : ℕ)
+        → y < length settings.stations → (table_at (state_after settings journal) y).unread ≡ 0 }
 {}
 
 /// The path of each station is the wire, as its readings mark it.
@@ -57,7 +60,8 @@ pub fn nothing_stays_unread()
 ///
 /// It holds of every garage into which no frame came from outside.
 pub fn path_is_marked()
-    ensures { (g : GarageValue) → IsLawful g → injected_of g.journal ≡ 0 → (y : ℕ) → y < length g.settings.stations → IsMarkedBy y (readings_at y g.journal) (wire_of (state_of g)) (path_at (state_of g) y) }
+    ensures { (g : GarageValue) → IsLawful g → injected_of g.journal ≡ 0 → (y : ℕ) → y < length g.settings.stations
+        → IsMarkedBy y (readings_at y g.journal) (wire_of (state_of g)) (path_at (state_of g) y) }
 {}
 
 /// A command that fits is to an address that can be held, 0 to 253.

@@ -6,11 +6,11 @@
 #![tactic(auto)]
 
 mod event;
+mod hear_run;
 mod laws;
 mod note;
 mod notes;
 mod order;
-mod passing;
 mod promises;
 mod sharing;
 mod tally;

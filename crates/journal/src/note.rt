@@ -2,7 +2,7 @@ ghost use Rattle.std.specs.Prelude.{◌≡◌, ◌≤◌, List, None, Some, leng
 ghost use Rattle.fault_memory.specs.Memory.{MemoryValue};
 ghost use Rattle.journal.specs.declared.event.Event.TheVariants.{Ordered};
 ghost use Rattle.journal.specs.declared.order.Order.TheVariants as order;
-ghost use Rattle.journal.specs.Notes.{event_of, told_by};
+ghost use Rattle.journal.specs.Notes.{event_of, copy_in};
 
 use can_frame::{Id, Pgn};
 use name_field::Name;
@@ -167,13 +167,13 @@ pub(crate) enum Note {
         id: Id,
     },
     /// The first frame of a seat's queue was carried, and then station 0 read this frame.
-    Relayed {
+    CarryRead {
         bytes: FrameBytes,
         seat: u16,
         id: Id,
     },
     /// Station 0 read this frame, and then the first frame of a seat's queue was carried.
-    ReadAndCarried {
+    ReadCarry {
         bytes: FrameBytes,
         seat: u16,
         id: Id,
@@ -225,7 +225,7 @@ impl Note {
     /// The station with this number asked the unit of this NAME.
     pub(crate) fn ask(station: u8, name: Name, ask: Ask) -> Note
         ensures event { (memories : List MemoryValue) → event_of memories result ≡ Some (Ordered station (order.Ask name ask)) }
-        ensures untold { told_by result ≡ None }
+        ensures unrecorded { copy_in result ≡ None }
     {
         let name = SplitName::of(name);
         let ask = match ask {

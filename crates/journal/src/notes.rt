@@ -1,14 +1,14 @@
 ghost use Rattle.std.specs.Prelude.{◌≡◌, ℕ, [], ◌<◌, ◌≤◌, ◌↔◌, length, reverse, slice_index_or, IfOk, IfSome, IsSome, IsTrue, None, OnOk, Some};
 ghost use Rattle.can_frame.specs.declared.reading.Reading.TheVariants as reading;
 ghost use Rattle.fault_memory.specs.Memory.{IsLawfulMemory, MemoryValue};
-ghost use Rattle.journal.specs.Journal.{memory_told};
+ghost use Rattle.journal.specs.Journal.{memory_recorded};
 ghost use Rattle.journal.specs.declared.event.Event.TheVariants as event;
 ghost use Rattle.node_core.specs.declared.heard.Answer.TheVariants as answer;
-ghost use Rattle.journal.specs.Notes.{Gains, IsStored, event_of, memory_at, told_by};
+ghost use Rattle.journal.specs.Notes.{Gains, IsStored, event_of, memory_at, copy_in};
 
+use crate::hear_run::{HearRun, NO_RUN, start_run, store};
 use crate::note::{FrameBytes, Note, SplitName};
 use crate::order::Order;
-use crate::passing::{NO_RUN, Passing, pass_apart, store};
 use crate::sharing::{store_carry, store_frame};
 use can_frame::{Frame, Reading};
 use fault_memory::FaultMemory;
@@ -33,13 +33,13 @@ const NO_COPY: u32 = u32::MAX;
 pub struct Journal {
     notes: Vec<Note>,
     // the run that is growing: its note is not stored yet
-    passing: Passing,
+    hear_run: HearRun,
     events: u32,
     // for how many events there is room in all
     limit: u32,
     memories: Vec<FaultMemory>,
     // by seat: the number of the copy that its latest hear or begin tells
-    told: Vec<u32>,
+    recorded: Vec<u32>,
 }
 
 impl Model for Journal {
@@ -60,11 +60,11 @@ impl Journal {
     {
         Journal {
             notes: Vec::new(alloc),
-            passing: NO_RUN,
+            hear_run: NO_RUN,
             events: 0,
             limit: 0,
             memories: Vec::new(alloc),
-            told: Vec::new(alloc),
+            recorded: Vec::new(alloc),
         }
     }
 
@@ -135,7 +135,7 @@ impl Journal {
         ensures lawful { OnOk result (IsLawfulMemory memory.now) }
         ensures placed { OnOk result (seat < self.new.placed) }
     {
-        make_place(&mut self.told, seat)?;
+        make_place(&mut self.recorded, seat)?;
         if let Some(number) = self.found(seat, memory) {
             return Ok(number);
         }
@@ -147,11 +147,12 @@ impl Journal {
     }
 
     /// The number of the copy that a seat's latest hear or begin tells. 2^32 - 1 if it has none.
-    pub fn told(&self, seat: u32) -> u32
-        ensures some { (m : MemoryValue) → memory_told seat (reverse self.now.items) ≡ Some m → (seat < self.now.placed) × IsStored self.now.memories result m }
-        ensures none { memory_told seat (reverse self.now.items) ≡ None → result ≡ NO_COPY }
+    pub fn recorded_copy(&self, seat: u32) -> u32
+        ensures some { (m : MemoryValue) → memory_recorded seat (reverse self.now.items) ≡ Some m
+            → (seat < self.now.placed) × IsStored self.now.memories result m }
+        ensures none { memory_recorded seat (reverse self.now.items) ≡ None → result ≡ NO_COPY }
     {
-        match self.told.get(seat as usize) {
+        match self.recorded.get(seat as usize) {
             Some(number) => *number,
             None => NO_COPY,
         }
@@ -160,10 +161,10 @@ impl Journal {
     /// True only if the latest hear or begin of a seat tells just this memory.
     ///
     /// It is false of the copy with the number 2^32 - 1, which stands for none.
-    pub fn tells(&self, seat: u32, memory: &FaultMemory) -> bool
-        ensures { IsTrue result → memory_told seat (reverse self.now.items) ≡ Some memory.now }
+    pub fn is_recorded(&self, seat: u32, memory: &FaultMemory) -> bool
+        ensures { IsTrue result → memory_recorded seat (reverse self.now.items) ≡ Some memory.now }
     {
-        let number = self.told(seat);
+        let number = self.recorded_copy(seat);
         number != NO_COPY && is_copy(&self.memories, number, memory)
     }
 
@@ -173,9 +174,9 @@ impl Journal {
     fn found(&self, seat: u32, memory: &FaultMemory) -> Option<u32>
         ensures { IfSome result (λ n. IsStored self.now.memories n memory.now × IsLawfulMemory memory.now) }
     {
-        let told = self.told(seat);
-        if is_copy(&self.memories, told, memory) {
-            return Some(told);
+        let recorded = self.recorded_copy(seat);
+        if is_copy(&self.memories, recorded, memory) {
+            return Some(recorded);
         }
         let newest = u32::try_from(self.memories.len().checked_sub(1)?).ok()?;
         if is_copy(&self.memories, newest, memory) {
@@ -211,7 +212,7 @@ impl Journal {
             seat,
             memory,
         };
-        self.tell(seat, memory, note);
+        self.record(seat, memory, note);
     }
 
     /// Notes that a unit heard its next frame and was not asked.
@@ -220,11 +221,12 @@ impl Journal {
     #[inline]
     pub fn note_passed(&mut self, seat: u32)
         requires room { 0 < self.old.room }
-        requires told { (m : MemoryValue) × (memory_told seat (reverse self.old.items) ≡ Some m) }
-        ensures { (m : MemoryValue) → memory_told seat (reverse self.old.items) ≡ Some m → Gains self.old (event.Hear seat m answer.NotAsked) self.new }
+        requires recorded { (m : MemoryValue) × (memory_recorded seat (reverse self.old.items) ≡ Some m) }
+        ensures { (m : MemoryValue) → memory_recorded seat (reverse self.old.items) ≡ Some m
+            → Gains self.old (event.Hear seat m answer.NotAsked) self.new }
     {
-        if self.passing.next == u64::from(seat) {
-            self.passing.next += 1;
+        if self.hear_run.next == u64::from(seat) {
+            self.hear_run.next += 1;
             self.events += 1;
         } else {
             self.begin_run(seat);
@@ -235,10 +237,11 @@ impl Journal {
     #[inline(never)]
     fn begin_run(&mut self, seat: u32)
         requires room { 0 < self.old.room }
-        requires told { (m : MemoryValue) × (memory_told seat (reverse self.old.items) ≡ Some m) }
-        ensures { (m : MemoryValue) → memory_told seat (reverse self.old.items) ≡ Some m → Gains self.old (event.Hear seat m answer.NotAsked) self.new }
+        requires recorded { (m : MemoryValue) × (memory_recorded seat (reverse self.old.items) ≡ Some m) }
+        ensures { (m : MemoryValue) → memory_recorded seat (reverse self.old.items) ≡ Some m
+            → Gains self.old (event.Hear seat m answer.NotAsked) self.new }
     {
-        pass_apart(&mut self.notes, &mut self.passing, seat);
+        start_run(&mut self.notes, &mut self.hear_run, seat);
         self.events += 1;
     }
 
@@ -249,7 +252,7 @@ impl Journal {
         requires placed { seat < self.old.placed }
         ensures { Gains self.old (event.Begin seat (memory_at self.old.memories memory)) self.new }
     {
-        self.tell(seat, memory, Note::Begin { seat, memory });
+        self.record(seat, memory, Note::Begin { seat, memory });
     }
 
     /// Notes that a turn of a unit is over.
@@ -266,7 +269,7 @@ impl Journal {
         requires { 0 < self.old.room }
         ensures { Gains self.old (event.Carry seat) self.new }
     {
-        store_carry(&mut self.notes, &mut self.passing, seat);
+        store_carry(&mut self.notes, &mut self.hear_run, seat);
         self.events += 1;
     }
 
@@ -295,7 +298,7 @@ impl Journal {
         let bytes = FrameBytes::of(frame.bytes());
         store_frame(
             &mut self.notes,
-            &mut self.passing,
+            &mut self.hear_run,
             station,
             bytes,
             frame.id(),
@@ -342,39 +345,41 @@ impl Journal {
     fn push(&mut self, note: Note)
         requires room { 0 < self.old.room }
         requires single { IsSome (event_of self.old.memories note) }
-        requires untold { told_by note ≡ None }
+        requires unrecorded { copy_in note ≡ None }
         ensures { IfSome (event_of self.old.memories note) (λ e. Gains self.old e self.new) }
     {
-        store(&mut self.notes, &mut self.passing, note);
+        store(&mut self.notes, &mut self.hear_run, note);
         self.events += 1;
     }
 
     /// Adds an event that tells the memory of this number.
     ///
     /// It is an event of the unit on the seat. There is room for it.
-    fn tell(&mut self, seat: u32, memory: u32, note: Note)
+    fn record(&mut self, seat: u32, memory: u32, note: Note)
         requires room { 0 < self.old.room }
         requires stored { memory < length self.old.memories }
         requires placed { seat < self.old.placed }
-        requires telling { told_by note ≡ Some (seat, memory) }
+        requires telling { copy_in note ≡ Some (seat, memory) }
         ensures { IfSome (event_of self.old.memories note) (λ e. Gains self.old e self.new) }
     {
-        store(&mut self.notes, &mut self.passing, note);
-        self.told[seat as usize] = memory;
+        store(&mut self.notes, &mut self.hear_run, note);
+        self.recorded[seat as usize] = memory;
         self.events += 1;
     }
 }
 
 /// Makes a place for the number of a seat's copy, if there is none. The others stay.
-fn make_place(told: &mut Vec<u32>, seat: u32) -> Result<(), AllocError>
-    ensures longer { length told.old.items ≤ length told.new.items }
-    ensures kept { (k : ℕ) → k < length told.old.items → slice_index_or told.new.items k 0 ≡ slice_index_or told.old.items k 0 }
-    ensures fresh { (k : ℕ) → length told.old.items ≤ k → k < length told.new.items → slice_index_or told.new.items k 0 ≡ NO_COPY }
-    ensures placed { OnOk result (seat < length told.new.items) }
+fn make_place(recorded: &mut Vec<u32>, seat: u32) -> Result<(), AllocError>
+    ensures longer { length recorded.old.items ≤ length recorded.new.items }
+    ensures kept { (k : ℕ) → k < length recorded.old.items
+        → slice_index_or recorded.new.items k 0 ≡ slice_index_or recorded.old.items k 0 }
+    ensures fresh { (k : ℕ) → length recorded.old.items ≤ k → k < length recorded.new.items
+        → slice_index_or recorded.new.items k 0 ≡ NO_COPY }
+    ensures placed { OnOk result (seat < length recorded.new.items) }
 {
     let place = seat as usize;
-    if told.len() <= place {
-        told.resize(place + 1, NO_COPY)?;
+    if recorded.len() <= place {
+        recorded.resize(place + 1, NO_COPY)?;
     }
     Ok(())
 }

@@ -7,18 +7,20 @@ ghost use Rattle.journal.specs.Notes.{IsNoted, TellsOver, events_of, newest_firs
 ghost use Rattle.journal.specs.declared.event.Event.TheVariants as event;
 ghost use Rattle.journal.specs.declared.note.Note.TheVariants as note;
 
+use crate::hear_run::{HearRun, store};
 use crate::note::{FrameBytes, Note};
-use crate::passing::{Passing, store};
 use can_frame::Id;
 
 /// Stores the carry of a frame from this seat. There is a place for its note.
 ///
 /// - In the note right before it, if that is a reading by station 0 alone, and a note of both has a place for the seat's number.
 /// - Else in a note of its own.
-pub(crate) fn store_carry(notes: &mut Vec<Note>, run: &mut Passing, seat: u32)
+pub(crate) fn store_carry(notes: &mut Vec<Note>, run: &mut HearRun, seat: u32)
     requires few { run.old.next - run.old.first < 2 ^ 32 }
     requires place { places_of run.old (vec_len notes.old) < vec_capacity notes.old }
-    ensures events { (memories : List MemoryValue) → events_of memories (newest_first run.new notes.new.items) ≡ with_note memories (note.Carry seat) (events_of memories (newest_first run.old notes.old.items)) }
+    ensures events { (memories : List MemoryValue)
+        → events_of memories (newest_first run.new notes.new.items) ≡ with_note memories (note.Carry seat)
+        (events_of memories (newest_first run.old notes.old.items)) }
     ensures noted { (many : ℕ) → All (IsNoted many) notes.old.items → All (IsNoted many) notes.new.items }
     ensures none { run.new.first ≡ run.new.next }
     ensures places { vec_len notes.new ≤ places_of run.old (vec_len notes.old) + 1 }
@@ -37,14 +39,16 @@ pub(crate) fn store_carry(notes: &mut Vec<Note>, run: &mut Passing, seat: u32)
 /// - Else in a note of its own.
 pub(crate) fn store_frame(
     notes: &mut Vec<Note>,
-    run: &mut Passing,
+    run: &mut HearRun,
     station: u8,
     bytes: FrameBytes,
     id: Id,
 )
     requires few { run.old.next - run.old.first < 2 ^ 32 }
     requires place { places_of run.old (vec_len notes.old) < vec_capacity notes.old }
-    ensures events { (memories : List MemoryValue) → events_of memories (newest_first run.new notes.new.items) ≡ with_note memories (note.Frame station bytes id) (events_of memories (newest_first run.old notes.old.items)) }
+    ensures events { (memories : List MemoryValue)
+        → events_of memories (newest_first run.new notes.new.items) ≡ with_note memories (note.Frame station bytes id)
+        (events_of memories (newest_first run.old notes.old.items)) }
     ensures noted { (many : ℕ) → All (IsNoted many) notes.old.items → All (IsNoted many) notes.new.items }
     ensures none { run.new.first ≡ run.new.next }
     ensures places { vec_len notes.new ≤ places_of run.old (vec_len notes.old) + 1 }
@@ -60,7 +64,7 @@ pub(crate) fn store_frame(
 ///
 /// None if it is no reading by station 0, or a note of both has no place for the seat's number.
 #[inline]
-fn with_carry(notes: &[Note], run: &Passing, seat: u32) -> Option<Note>
+fn with_carry(notes: &[Note], run: &HearRun, seat: u32) -> Option<Note>
     ensures none { OnSome result (run.now.first ≡ run.now.next) }
     ensures some { OnSome result (0 < length notes.now) }
     ensures events { IfSome result (λ n. TellsOver run.now notes.now (event.Carry seat) n) }
@@ -73,7 +77,7 @@ fn with_carry(notes: &[Note], run: &Passing, seat: u32) -> Option<Note>
         return None;
     }
     let seat = u16::try_from(seat).ok()?;
-    Some(Note::ReadAndCarried {
+    Some(Note::ReadCarry {
         bytes: bytes.copy(),
         seat,
         id: *id,
@@ -86,7 +90,7 @@ fn with_carry(notes: &[Note], run: &Passing, seat: u32) -> Option<Note>
 #[inline]
 fn with_frame(
     notes: &[Note],
-    run: &Passing,
+    run: &HearRun,
     station: u8,
     bytes: &FrameBytes,
     id: Id,
@@ -103,7 +107,7 @@ fn with_frame(
         return None;
     };
     let seat = u16::try_from(*seat).ok()?;
-    Some(Note::Relayed {
+    Some(Note::CarryRead {
         bytes: bytes.copy(),
         seat,
         id,
@@ -112,7 +116,7 @@ fn with_frame(
 
 /// The note stored last. None if a run grows after it.
 #[inline]
-fn newest<'a>(notes: &'a [Note], run: &Passing) -> Option<&'a Note>
+fn newest<'a>(notes: &'a [Note], run: &HearRun) -> Option<&'a Note>
     ensures none { OnSome result (run.now.first ≡ run.now.next) }
     ensures some { OnSome result (0 < length notes.now) }
     ensures last { IfSome result (λ n. slice_get notes.now (length notes.now - 1) ≡ Some n.now) }

@@ -1,16 +1,16 @@
 use crate::ending::outcome;
 use crate::shop::{ShopFiles, ShopTexts};
-use command_words::DecodeWords;
-use decode_lines::{Form, Options};
+use command_words::DecodeArguments;
+use decode_lines::{DecodeForm, DecodeOptions};
 use program_io::{Failure, Fault, Messages};
 use std::alloc::Global;
 use std::io::{LineWriter, Read, Write};
 
 /// How the words behind `decode` want each line answered: in words where that is not said.
-pub(crate) fn form_of(words: DecodeWords<'_>) -> Result<Form, Fault> {
+pub(crate) fn form_of(words: DecodeArguments<'_>) -> Result<DecodeForm, Fault> {
     match words.format {
-        None | Some("text") => Ok(Form::Text),
-        Some("json") => Ok(Form::Json),
+        None | Some("text") => Ok(DecodeForm::Text),
+        Some("json") => Ok(DecodeForm::Json),
         Some(_) => Err(Fault::CommandLine),
     }
 }
@@ -24,7 +24,7 @@ pub(crate) fn form_of(words: DecodeWords<'_>) -> Result<Form, Fault> {
 /// - `BadLines`: all lines are answered, but some were bad; each is told on `errors`, where that takes it.
 pub fn decode<R: Read + Drop, W: Write + Drop, E: Write + Drop>(
     alloc: Global,
-    words: DecodeWords<'_>,
+    words: DecodeArguments<'_>,
     files: ShopFiles<'_>,
     reader: R,
     writer: W,
@@ -32,7 +32,7 @@ pub fn decode<R: Read + Drop, W: Write + Drop, E: Write + Drop>(
 ) -> Result<(), Failure> {
     let form = form_of(words)?;
     let shop = ShopTexts::read(alloc, files)?;
-    let options = Options {
+    let options = DecodeOptions {
         form,
         units: &shop.units,
         texts: &shop.texts,

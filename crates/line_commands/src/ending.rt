@@ -1,11 +1,11 @@
 ghost use Rattle.std.specs.Prelude.{◌≡◌, ◌<◌, None, Err, true};
 
-use log_lines::{Ended, LogFault};
+use log_lines::{LinesEnd, LogFault};
 use program_io::Fault;
 use watch_lines::Watched;
 
 /// How a run over lines ends the program.
-pub(crate) fn outcome(ended: Ended) -> Result<(), Fault>
+pub(crate) fn outcome(ended: LinesEnd) -> Result<(), Fault>
     ensures bad { ended.fault ≡ None → 0 < ended.bad → result ≡ Err Fault.BadLines }
     ensures unread { ended.fault ≡ None → ended.is_unread ≡ true → result ≡ Err Fault.BadLines }
 {

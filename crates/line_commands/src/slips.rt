@@ -5,7 +5,7 @@ use crate::watch_words::{
     address_of, bus_of, clock_of, form_of, keep_of, most_of, name_of, shows_unclaimed, silence_of,
     skips_bad, time_of, unit_of,
 };
-use command_words::{DecodeWords, Slip, WatchWords};
+use command_words::{DecodeArguments, Slip, WatchArguments};
 use program_io::{Failure, Fault};
 use std::alloc::Global;
 
@@ -28,7 +28,7 @@ const A_NAME: &str = "16 hexadecimal digits";
 /// `CommandLine`: a word is none that its option takes; it is told which.
 pub fn look_at_watch_words(
     alloc: Global,
-    words: &WatchWords<'_>,
+    words: &WatchArguments<'_>,
     assumed: &[&str],
 ) -> Result<(), Failure> {
     refuse(alloc, slip_of_station(words))?;
@@ -41,7 +41,7 @@ pub fn look_at_watch_words(
 ///
 /// # Errors
 /// `CommandLine`: a word is none that its option takes; it is told which.
-pub fn look_at_decode_words(alloc: Global, words: &DecodeWords<'_>) -> Result<(), Failure> {
+pub fn look_at_decode_words(alloc: Global, words: &DecodeArguments<'_>) -> Result<(), Failure> {
     let is_form = decode_form_of(*words).is_ok();
     refuse(
         alloc,
@@ -75,7 +75,7 @@ fn slip<'a>(
 }
 
 /// The slip in what is said of the station and of its bus.
-fn slip_of_station<'a>(words: &WatchWords<'a>) -> Option<Slip<'a>> {
+fn slip_of_station<'a>(words: &WatchArguments<'a>) -> Option<Slip<'a>> {
     let is_address = match words.address {
         Some(word) => address_of(word).is_ok(),
         None => true,
@@ -91,7 +91,7 @@ fn slip_of_station<'a>(words: &WatchWords<'a>) -> Option<Slip<'a>> {
 }
 
 /// The slip in what is said of the lines, and of how they are answered.
-fn slip_of_lines<'a>(words: &WatchWords<'a>) -> Option<Slip<'a>> {
+fn slip_of_lines<'a>(words: &WatchArguments<'a>) -> Option<Slip<'a>> {
     let is_bad = skips_bad(words.bad).is_ok();
     let is_silence = silence_of(words.silence).is_ok();
     let is_form = form_of(words.format).is_ok();
@@ -118,7 +118,7 @@ fn slip_of_lines<'a>(words: &WatchWords<'a>) -> Option<Slip<'a>> {
 }
 
 /// The slip in what is said of the unit and of the times of which it is told, of how much is kept, and of how times are told.
-fn slip_of_filters<'a>(words: &WatchWords<'a>) -> Option<Slip<'a>> {
+fn slip_of_filters<'a>(words: &WatchArguments<'a>) -> Option<Slip<'a>> {
     let is_unit = unit_of(words.unit).is_ok();
     let is_from = time_of(words.from).is_ok();
     let is_to = time_of(words.to).is_ok();

@@ -4,15 +4,15 @@ ghost use Rattle.std.specs.Prelude.{◌≡◌, ◌≤◌, ◌↔◌, ℕ, IfOk, 
 ghost use Rattle.can_frame.specs.declared.address.TheConstants.{GREATEST_ADDRESS};
 
 use crate::shop::ShopTexts;
-use bus_watch::{BusShown, Limits, Selection, Settings, UnitShown};
+use bus_watch::{BusShown, Limits, Selection, UnitShown, WatchSettings};
 use can_frame::GREATEST_ADDRESS;
 use candump_line::Time;
-use clock_words::Clock;
-use command_words::{WatchWords, is_bus, path_of};
+use clock_words::ClockForm;
+use command_words::{WatchArguments, is_bus, path_of};
 use name_field::Name;
 use program_io::Fault;
 use std::alloc::Global;
-use watch_lines::{Assumed, Form, Options};
+use watch_lines::{Assumed, WatchForm, WatchOptions};
 
 /// T1 of the transport protocol in milliseconds (SAE J1939-21): how late a packet may come where that is not said.
 const SILENCE: u64 = 750;
@@ -23,16 +23,17 @@ const LONGEST_SILENCE: u64 = 3_600_000;
 /// Of how many NAMEs is known at once where that is not said: of far more than a bus has in a day.
 const MOST: u64 = 65_536;
 
-/// How many runs are kept at once where that is not said: as many as ten units have that tell another thing each second, a day long.
+/// How many runs are kept at once where that is not said: as many as ten units have that tell another thing each second, a day
+/// long.
 const KEEP: u64 = 1_000_000;
 
 /// How the bus is watched, with these units that hold an address before the first line.
 pub(crate) fn options_of<'a>(
-    words: &'a WatchWords<'_>,
+    words: &'a WatchArguments<'_>,
     assumed: &'a [Assumed],
     shop: &'a ShopTexts,
-) -> Result<Options<'a>, Fault> {
-    Ok(Options {
+) -> Result<WatchOptions<'a>, Fault> {
+    Ok(WatchOptions {
         settings: settings_of(words)?,
         bus: bus_of(words.bus)?,
         assumed,
@@ -56,11 +57,11 @@ fn title_of(word: Option<&str>) -> &str {
 }
 
 /// What of the bus is shown, and how its lines are read. The NAME that old command lines give is looked at, and says nothing.
-fn settings_of(words: &WatchWords<'_>) -> Result<Settings, Fault> {
+fn settings_of(words: &WatchArguments<'_>) -> Result<WatchSettings, Fault> {
     if let Some(word) = words.name {
         name_of(word)?;
     }
-    Ok(Settings {
+    Ok(WatchSettings {
         selection: Selection {
             address: shown_of(words.address)?,
             unclaimed: shows_unclaimed(words.unclaimed)?,
@@ -74,7 +75,7 @@ fn settings_of(words: &WatchWords<'_>) -> Result<Settings, Fault> {
 }
 
 /// How much is kept at once.
-fn limits_of(words: &WatchWords<'_>) -> Result<Limits, Fault> {
+fn limits_of(words: &WatchArguments<'_>) -> Result<Limits, Fault> {
     Ok(Limits {
         most: most_of(words.most)? as usize,
         keep: keep_of(words.keep)?,
@@ -173,7 +174,8 @@ pub(crate) fn bus_of(word: Option<&str>) -> Result<BusShown<'_>, Fault>
 /// The unit of which alone it is told, by its NAME or by its address; none: of all.
 pub(crate) fn unit_of(word: Option<&str>) -> Result<Option<UnitShown>, Fault>
     ensures default { word.entry ≡ None → result ≡ Ok None }
-    ensures address { IfOk result (λ unit. IfSome unit (λ shown. (address : ℕ) → shown ≡ UnitShown.Address address → address ≤ GREATEST_ADDRESS)) }
+    ensures address { IfOk result
+        (λ unit. IfSome unit (λ shown. (address : ℕ) → shown ≡ UnitShown.Address address → address ≤ GREATEST_ADDRESS)) }
 {
     let Some(word) = word else {
         return Ok(None);
@@ -248,27 +250,27 @@ pub(crate) fn silence_of(word: Option<&str>) -> Result<Option<u64>, Fault>
 }
 
 /// How changes and report are written: for people where that is not said.
-pub(crate) fn form_of(word: Option<&str>) -> Result<Form, Fault>
-    ensures default { word.entry ≡ None → result ≡ Ok Form.Text }
-    ensures json { (result ≡ Ok Form.Json) ↔ IsSomeAnd word.entry (λ w. w.now ≡ codes "json") }
-    ensures csv { (result ≡ Ok Form.Csv) ↔ IsSomeAnd word.entry (λ w. w.now ≡ codes "csv") }
+pub(crate) fn form_of(word: Option<&str>) -> Result<WatchForm, Fault>
+    ensures default { word.entry ≡ None → result ≡ Ok WatchForm.Text }
+    ensures json { (result ≡ Ok WatchForm.Json) ↔ IsSomeAnd word.entry (λ w. w.now ≡ codes "json") }
+    ensures csv { (result ≡ Ok WatchForm.Csv) ↔ IsSomeAnd word.entry (λ w. w.now ≡ codes "csv") }
 {
     match word {
-        None | Some("text") => Ok(Form::Text),
-        Some("json") => Ok(Form::Json),
-        Some("csv") => Ok(Form::Csv),
-        Some("html") => Ok(Form::Html),
+        None | Some("text") => Ok(WatchForm::Text),
+        Some("json") => Ok(WatchForm::Json),
+        Some("csv") => Ok(WatchForm::Csv),
+        Some("html") => Ok(WatchForm::Html),
         Some(_) => Err(Fault::CommandLine),
     }
 }
 
 /// How times are told; none where that is not said.
-pub(crate) fn clock_of(word: Option<&str>) -> Result<Option<Clock>, Fault> {
+pub(crate) fn clock_of(word: Option<&str>) -> Result<Option<ClockForm>, Fault> {
     match word {
         None => Ok(None),
-        Some("utc") => Ok(Some(Clock::Utc)),
-        Some("log") => Ok(Some(Clock::Log)),
-        Some("relative") => Ok(Some(Clock::Relative)),
+        Some("utc") => Ok(Some(ClockForm::Utc)),
+        Some("log") => Ok(Some(ClockForm::Log)),
+        Some("relative") => Ok(Some(ClockForm::Relative)),
         Some(_) => Err(Fault::CommandLine),
     }
 }

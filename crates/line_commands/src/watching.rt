@@ -1,7 +1,7 @@
 use crate::ending::outcome_of;
 use crate::shop::{ShopFiles, ShopTexts};
 use crate::watch_words::{assumed_of, options_of};
-use command_words::WatchWords;
+use command_words::WatchArguments;
 use program_io::{Failure, Fault, Messages};
 use std::alloc::Global;
 use std::io::{LineWriter, Read, Write};
@@ -14,11 +14,11 @@ use watch_lines::Assumed;
 /// - `CommandLine`: the words are none of it; nothing is read.
 /// - `Texts`: a file of the shop holds no texts, and it is told at which line; nothing is read.
 /// - `Read`, `Write`, `Memory`: what happened; what was found until then is reported.
-/// - `BadLines`: all is reported, but some lines were bad, each of which is told on `errors`, where that takes it; or more was heard than is kept
-///   at once, and it was begun anew.
+/// - `BadLines`: all is reported, but some lines were bad, each of which is told on `errors`, where that takes it; or more was
+///   heard than is kept at once, and it was begun anew.
 pub fn watch<R: Read + Drop, W: Write + Drop, E: Write + Drop>(
     alloc: Global,
-    words: WatchWords<'_>,
+    words: WatchArguments<'_>,
     assumed: &[&str],
     files: ShopFiles<'_>,
     reader: R,
@@ -42,7 +42,7 @@ pub fn watch<R: Read + Drop, W: Write + Drop, E: Write + Drop>(
 /// Watches with a shop's texts.
 fn watch_with<R: Read + Drop, W: Write + Drop, E: Write + Drop>(
     alloc: Global,
-    words: &WatchWords<'_>,
+    words: &WatchArguments<'_>,
     assumed: &[Assumed],
     shop: &ShopTexts,
     reader: R,

@@ -22,7 +22,7 @@ use Rattle.station_table.specs.Orders.{address_in}
 use Rattle.station_table.specs.StandsFor.{row_known, row_of}
 use Rattle.station_table.specs.declared.row.AckSeen.{AckSeen}
 use Rattle.listener.specs.ListenerValue.{ListenerValue, who_in}
-use Rattle.listener.specs.declared.ended.Ended.{Ended}
+use Rattle.listener.specs.declared.ended.ReadSending.{ReadSending}
 
 -- a listener that has read nothing
 abbrev pub new_listener : ListenerValue
@@ -132,14 +132,14 @@ reading_told l (Frame f) = group_told l (group_of f)
 -- ---- what is listed
 
 -- what a message that ended shows, if one did, or why it cannot be read
-abbrev pub showing : Option MessageSent → Option Ended
+abbrev pub showing : Option MessageSent → Option ReadSending
 showing None = None
 showing (Some m) = Some (record { sending = record { who = m.who; kind = m.kind }; shown = decoding m.bytes; why = why_unread m.bytes })
 
-abbrev pub after_ended : ListenerValue → Option Ended → ListenerValue
+abbrev pub after_ended : ListenerValue → Option ReadSending → ListenerValue
 after_ended l None = l
 after_ended l (Some e) = after_showing l e.shown
 
-abbrev pub ended_told : ℕ → ℕ → Option Ended → Overheard
+abbrev pub ended_told : ℕ → ℕ → Option ReadSending → Overheard
 ended_told source to None = Nothing
 ended_told source to (Some e) = if is_some e.shown then Listed e.sending.who e.sending.kind source to else Unreadable e.sending.who e.sending.kind source to e.why

@@ -12,7 +12,7 @@ use Rattle.dm_messages.specs.declared.shown.Shown.{Shown}
 use Rattle.parameter_group.specs.Group.{Group, Diagnostic, DataTransfer, group_of}
 use Rattle.listener.specs.ListenerSteps.{in_one_frame, whole_with}
 use Rattle.listener.specs.ListenerValue.{ListenerValue}
-use Rattle.listener.specs.declared.ended.Ended.{Ended}
+use Rattle.listener.specs.declared.ended.ReadSending.{ReadSending}
 use Rattle.listener.specs.declared.entry.SentEntry.{SentEntry}
 
 -- what became of lists that take an entry so, where one was put, or none
@@ -26,7 +26,7 @@ entry_shown source to s None = None
 entry_shown source to s (Some v) = Some (record { who = s.who; kind = s.kind; source = source; to = to; shown = v })
 
 -- and of one that ended, if one did
-abbrev pub entry_ended : ℕ → ℕ → Option Ended → Option SentEntry
+abbrev pub entry_ended : ℕ → ℕ → Option ReadSending → Option SentEntry
 entry_ended source to None = None
 entry_ended source to (Some e) = entry_shown source to e.sending e.shown
 

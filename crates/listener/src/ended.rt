@@ -12,9 +12,10 @@ use reassembly::PairedPartials;
 use std::alloc::{AllocError, Global};
 use transport::Took;
 
-/// A message that ended: whose it is and of which kind, and what it shows; or why it cannot be read, which says nothing where it can.
+/// A message that ended: whose it is and of which kind, and what it shows; or why it cannot be read, which says nothing where it
+/// can.
 #[derive(Debug, Drop)]
-pub struct Ended {
+pub struct ReadSending {
     pub sending: Sending,
     pub shown: Option<Shown>,
     pub why: ReadError,
@@ -40,7 +41,7 @@ pub fn ended_with(
     source: u8,
     dest: u8,
     packet: &[u8],
-) -> Result<Option<Ended>, AllocError>
+) -> Result<Option<ReadSending>, AllocError>
     requires { answer_to packet.now (pair_at messages.old source dest) ≡ Some Took.Whole }
     ensures same { messages.new ≡ messages.old }
     ensures ok { IfOk result (λ o. o ≡ showing (sent_whole dest (with_packet packet.now (pair_at messages.old source dest)))) }
@@ -52,7 +53,7 @@ pub fn ended_with(
     let (shown, why) = messages.read_with(source, dest, packet, |payload: &[u8]| {
         shown_by(alloc, payload)
     })?;
-    Ok(Some(Ended {
+    Ok(Some(ReadSending {
         sending,
         shown,
         why,

@@ -1,7 +1,8 @@
 //! A listener: one who hears the messages between any two addresses of a bus, and takes no part (SAE J1939-21, -73 and -81).
 //!
-//! Nobody answers for it, so it sees for itself where a message ends before its last packet: at another announcement between the same two
-//! addresses, at an abort by either, at a claim of the source under another NAME, at a gap, at a packet that is not the next.
+//! Nobody answers for it, so it sees for itself where a message ends before its last packet: at another announcement between the
+//! same two addresses, at an abort by either, at a claim of the source under another NAME, at a gap, at a packet that is not the
+//! next.
 #![tactic(auto)]
 
 mod ended;

@@ -18,8 +18,9 @@ mod claims;
 mod messages;
 mod readings;
 
-/// One who hears the messages between any two addresses of a bus, and takes no part: the rows by NAME that the frames tell, and what is half
-/// sent between any two addresses. What it reads of diagnostic messages it puts into the lists that it is lent (`SentLists`).
+/// One who hears the messages between any two addresses of a bus, and takes no part: the rows by NAME that the frames tell, and
+/// what is half sent between any two addresses. What it reads of diagnostic messages it puts into the lists that it is lent
+/// (`SentLists`).
 ///
 /// It knows of the bus only what it was handed.
 #[derive(Drop)]

@@ -37,8 +37,8 @@ impl GivenUp {
     }
 
     /// Hears what a frame says, at a reader with this address, 0 to 253, if it has one. A request to send to it gives up the
-    /// session from its source, unless it announces a diagnostic message; an abort, by the source or from the reader's address, gives
-    /// it up whatever group it names.
+    /// session from its source, unless it announces a diagnostic message; an abort, by the source or from the reader's address,
+    /// gives it up whatever group it names.
     pub fn hear(&mut self, held: Option<u8>, group: &ParameterGroup<'_>)
         ensures { self.new ≡ given_up_after held (said group.now) self.old }
     {

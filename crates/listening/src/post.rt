@@ -19,8 +19,8 @@ use std::marker::Model;
 
 /// A station before a bus: one that answers, or one that only listens.
 ///
-/// For one that only listens somebody else answers, or nobody. It joins the sessions to its address all the same, but for packets of
-/// a session that was given up.
+/// For one that only listens somebody else answers, or nobody. It joins the sessions to its address all the same, but for packets
+/// of a session that was given up.
 #[derive(Drop)]
 pub struct Post {
     station: Station,
@@ -112,9 +112,11 @@ fn listen<L: Lists>(
     reading: Reading,
     lists: &mut L,
 ) -> Result<Change, StationError>
-    ensures step { OnOk result (record { station = station.new; given_up = Some given_up.new } ≡ after_taking (record { station = station.old; given_up = Some given_up.old }) reading) }
+    ensures step { OnOk result (record { station = station.new; given_up = Some given_up.new } ≡ after_taking
+        (record { station = station.old; given_up = Some given_up.old }) reading) }
     ensures change { IfOk result (λ c. c ≡ change_at (record { station = station.old; given_up = Some given_up.old }) reading) }
-    ensures lists { OnOk result (HasPut L.Takes lists.old (entry_at (record { station = station.old; given_up = Some given_up.old }) reading) lists.new) }
+    ensures lists { OnOk result
+        (HasPut L.Takes lists.old (entry_at (record { station = station.old; given_up = Some given_up.old }) reading) lists.new) }
     ensures err { OnErr result ((station.new ≡ station.old) × (given_up.new ≡ given_up.old)) }
     ensures err_lists { OnErr result (lists.new ≡ lists.old) }
     ensures only_memory { IsOkUnless result StationError.OutOfMemory }

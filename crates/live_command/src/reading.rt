@@ -1,7 +1,7 @@
 //! The threads that read: the lines of the bus, and what is asked of the units.
 
 use crate::shared::{Shared, now};
-use live_lines::{Order, Reply};
+use live_lines::{ControlOrder, Reply};
 use log_lines::{LogFault, ROOM, next_line};
 use std::io::{BufReader, Read};
 use std::sync::Wait;
@@ -64,7 +64,7 @@ fn give_order<R: Wait>(rt: &R, shared: &Shared, line: &[u8]) {
         return;
     }
     let mut state = shared.state.lock(rt);
-    let reply = match Order::read(text) {
+    let reply = match ControlOrder::read(text) {
         Some(order) => order.give(alloc, &mut state.fleet),
         None => Reply::BadLine,
     };

@@ -2,7 +2,7 @@
 
 use crate::reading::{read_bus, read_orders};
 use live_lines::{Ear, Fleet};
-use log_lines::{Ended, LogFault};
+use log_lines::{LinesEnd, LogFault};
 use program_io::{Failure, Fault};
 use std::alloc::Global;
 use std::io;
@@ -90,7 +90,7 @@ pub(crate) fn tell<E: Write>(errors: &mut E, notes: &[u8]) -> io::Result<()> {
 }
 
 /// How a run ends that ended so.
-pub(crate) fn failure_of(ended: Ended) -> Result<(), Failure> {
+pub(crate) fn failure_of(ended: LinesEnd) -> Result<(), Failure> {
     match ended.fault {
         Some(LogFault::Read) => Err(Failure::from(Fault::Read)),
         Some(LogFault::Write) => Err(Failure::from(Fault::Write)),

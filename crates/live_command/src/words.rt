@@ -2,15 +2,15 @@
 
 ghost use Rattle.std.specs.Prelude.{◌≤◌, IfOk};
 
-use command_words::{LiveWords, Slip, is_bus};
-use live_unit::Settings;
+use command_words::{LiveArguments, Slip, is_bus};
+use live_unit::UnitSettings;
 use program_io::{Failure, Fault};
 use std::alloc::Global;
 
 /// How the units keep to time, and how lines are written.
 #[derive(Clone, Copy)]
 pub(crate) struct Ways<'a> {
-    pub(crate) settings: Settings,
+    pub(crate) settings: UnitSettings,
     /// The bus whose frames are heard, which the lines name.
     pub(crate) bus: &'a str,
     /// How long it is at least from a line to the next, in microseconds.
@@ -26,12 +26,12 @@ impl<'a> Ways<'a> {
     ///
     /// # Errors
     /// A word is none that its option takes.
-    pub(crate) fn of(words: &LiveWords<'a>) -> Result<Ways<'a>, Slip<'a>> {
+    pub(crate) fn of(words: &LiveArguments<'a>) -> Result<Ways<'a>, Slip<'a>> {
         let bus = words.bus.unwrap_or("can0");
         if !is_bus(bus) {
             return Err(slip("bus <BUS>", bus, "the name of a bus"));
         }
-        let settings = Settings {
+        let settings = UnitSettings {
             gap: 1000
                 * number_of(
                     "gap <MS>",
@@ -74,7 +74,7 @@ impl<'a> Ways<'a> {
 ///
 /// # Errors
 /// `CommandLine`: a word is none that its option takes, and it is told which; or no vehicle file is named.
-pub fn look_at_live_words(alloc: Global, words: &LiveWords<'_>) -> Result<(), Failure> {
+pub fn look_at_live_words(alloc: Global, words: &LiveArguments<'_>) -> Result<(), Failure> {
     if let Err(slip) = Ways::of(words) {
         return Err(Failure::told(Fault::CommandLine, slip.to_string(alloc)));
     }

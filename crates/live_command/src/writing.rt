@@ -5,7 +5,7 @@ use crate::shared::{Listens, Shared, State, date, failure_of, now, tell};
 use crate::words::Ways;
 use can_frame::{Frame, GREATEST_ADDRESS};
 use candump_line::{Time, write_line};
-use command_words::LiveWords;
+use command_words::LiveArguments;
 use fault_memory::FaultError;
 use live_lines::{Ear, Fleet, Playback, Unheld, begin_with};
 use log_lines::LogFault;
@@ -36,8 +36,8 @@ enum Next {
     Again,
 }
 
-/// Runs units on the bus whose lines `reader` gives, writes their frames as lines, and ends with those lines. What is asked of the units
-/// meanwhile is read from `orders`, where there are any.
+/// Runs units on the bus whose lines `reader` gives, writes their frames as lines, and ends with those lines. What is asked of the
+/// units meanwhile is read from `orders`, where there are any.
 ///
 /// # Errors
 /// - `CommandLine`: the words are none of it; nothing is read.
@@ -53,7 +53,7 @@ pub fn live<
 >(
     rt: &R,
     alloc: Global,
-    words: &LiveWords<'_>,
+    words: &LiveArguments<'_>,
     units: Vec<LiveLine>,
     reader: I,
     orders: Option<O>,
@@ -203,8 +203,8 @@ fn write_frames<R: Wait + Clock, W: Write, E: Write>(
     unreachable!()
 }
 
-/// Looks what is next. Where that is nothing it waits until a frame is due, or something has changed: the lock is held from the look to the wait,
-/// so no change comes between.
+/// Looks what is next. Where that is nothing it waits until a frame is due, or something has changed: the lock is held from the
+/// look to the wait, so no change comes between.
 fn look<R: Wait + Clock>(rt: &R, shared: &Shared) -> Next {
     let alloc = shared.alloc;
     let time = now(rt);

@@ -25,7 +25,8 @@ impl Cyclic {
         self.from
     }
 
-    /// Its frame from this address, if it goes at this time. It goes again a period after it was due, or after this time where that is over:
+    /// Its frame from this address, if it goes at this time. It goes again a period after it was due, or after this time where that
+    /// is over:
     /// what was missed is not made up for.
     pub(crate) fn due(&mut self, source: u8, now: u64) -> Option<Frame>
         ensures source { IfSome result (λ f. source_of f.id ≡ source) }

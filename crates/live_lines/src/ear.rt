@@ -3,7 +3,7 @@
 use crate::fleet::Fleet;
 use can_frame::Frame;
 use candump_line::{Line, Time, read_line};
-use log_lines::{Ended, LogFault, Notices};
+use log_lines::{LinesEnd, LogFault, Notices};
 use std::alloc::{AllocError, Global};
 use std::io::Write;
 
@@ -17,7 +17,7 @@ pub struct Ear {
 
 /// What a line is to the units.
 #[derive(Clone, Copy, Debug)]
-pub(crate) struct Said {
+pub(crate) struct Heard {
     /// A frame of their bus, with its time where the line has one.
     pub(crate) frame: Option<(Option<Time>, Frame)>,
     /// Whether the line is bad.
@@ -34,8 +34,8 @@ impl Ear {
         })
     }
 
-    /// Takes a line, with its end: the units hear its frame at this time, where it has one of this bus. A bad line is told on `errors`. Answers
-    /// whether the line is bad.
+    /// Takes a line, with its end: the units hear its frame at this time, where it has one of this bus. A bad line is told on
+    /// `errors`. Answers whether the line is bad.
     ///
     /// # Errors
     /// `Write`: it could not be told.
@@ -49,7 +49,7 @@ impl Ear {
     ) -> Result<bool, LogFault>
         requires { Unit {0} }
     {
-        let Said { frame, is_bad } = self.read(line, errors)?;
+        let Heard { frame, is_bad } = self.read(line, errors)?;
         if let Some((_, frame)) = frame {
             let _unheard = fleet.hear(alloc, &frame, now);
         }
@@ -57,7 +57,11 @@ impl Ear {
     }
 
     /// Reads a line. A bad one is told on `errors`.
-    pub(crate) fn read<E: Write>(&mut self, line: &[u8], errors: &mut E) -> Result<Said, LogFault> {
+    pub(crate) fn read<E: Write>(
+        &mut self,
+        line: &[u8],
+        errors: &mut E,
+    ) -> Result<Heard, LogFault> {
         self.number = self.number.saturating_add(1);
         let said = read_line(line);
         let is_bad = self.notices.take(errors, self.number, line, &said)?;
@@ -65,7 +69,7 @@ impl Ear {
             Line::Frame { time, bus, frame } if self.is_of_bus(bus) => Some((time, frame)),
             _ => None,
         };
-        Ok(Said { frame, is_bad })
+        Ok(Heard { frame, is_bad })
     }
 
     /// The bus whose lines are read.
@@ -74,7 +78,7 @@ impl Ear {
     }
 
     /// How the lines ended, at the end of the input or not.
-    pub fn ended<E: Write>(&self, errors: &mut E, end: Result<bool, LogFault>) -> Ended {
+    pub fn ended<E: Write>(&self, errors: &mut E, end: Result<bool, LogFault>) -> LinesEnd {
         self.notices.ended(errors, end)
     }
 

@@ -7,7 +7,7 @@ use crate::cyclic::Cyclic;
 use can_frame::Frame;
 use dm_messages::Kind;
 use fault_memory::{FaultChange, FaultError};
-use live_unit::{Act, Counts, LiveError, LiveUnit, Settings};
+use live_unit::{Act, LiveError, LiveUnit, QueueCounts, UnitSettings};
 use std::alloc::{AllocError, Global};
 use std::io;
 use std::io::Write;
@@ -61,7 +61,7 @@ impl Fleet {
         alloc: Global,
         unit: Box<dyn Unit>,
         address: u8,
-        settings: Settings,
+        settings: UnitSettings,
         sends: Vec<SendLine>,
     ) -> Result<(), AllocError>
         requires { address ≤ GREATEST_ADDRESS }
@@ -102,8 +102,8 @@ impl Fleet {
         unheard
     }
 
-    /// The frame that goes at this time, if one does: that of the first unit, from the one whose turn it is on, that has one. Units do first
-    /// of their own accord what is due. Answers also how many were refused memory for it.
+    /// The frame that goes at this time, if one does: that of the first unit, from the one whose turn it is on, that has one. Units
+    /// do first of their own accord what is due. Answers also how many were refused memory for it.
     pub fn step(&mut self, alloc: Global, now: u64) -> (Option<Frame>, u32)
         requires { Unit {0} }
     {
@@ -183,7 +183,7 @@ impl Fleet {
     }
 
     /// What became of the frames of a unit, one that has left too.
-    pub fn counts(&self, place: u32) -> Option<Counts> {
+    pub fn counts(&self, place: u32) -> Option<QueueCounts> {
         Some(self.members.get(place as usize)?.unit.counts())
     }
 
@@ -223,7 +223,7 @@ impl Member {
     /// The frame of it that goes at this time: one that waits, or else one that it sends again and again.
     fn due(&mut self, now: u64) -> Option<Frame>
         requires { Unit {0} }
-        ensures source { IfSome result (λ f. source_of f.id ≡ claim_source self.old.unit.node.claimer.held) }
+        ensures source { IfSome result (λ f. source_of f.id ≡ claim_source self.old.unit.live.node.claimer.held) }
     {
         if self.has_left {
             return None;
@@ -271,7 +271,7 @@ impl Member {
         if self.unheard > 0 {
             write!(writer, " unheard {}", self.unheard)?;
         }
-        let Counts {
+        let QueueCounts {
             written,
             withdrawn,
             waiting,

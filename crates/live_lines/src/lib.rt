@@ -13,5 +13,5 @@ mod playback;
 pub use beginning::{Unheld, begin_with};
 pub use ear::Ear;
 pub use fleet::Fleet;
-pub use orders::{Order, Reply};
+pub use orders::{ControlOrder, Reply};
 pub use playback::Playback;

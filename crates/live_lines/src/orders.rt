@@ -3,14 +3,14 @@
 use crate::fleet::Fleet;
 use dm_messages::Kind;
 use fault_memory::{FaultChange, FaultError};
-use live_unit::{Counts, LiveError};
+use live_unit::{LiveError, QueueCounts};
 use script_line::{CodeChange, Command};
 use std::alloc::Global;
 use std::fmt;
 
 /// What is asked of a unit.
 #[derive(Clone, Copy, Debug, PartialEq, Eq)]
-pub struct Order {
+pub struct ControlOrder {
     command: Command,
 }
 
@@ -24,7 +24,7 @@ pub enum Reply {
     /// A session of that kind is open: no message was begun.
     Held,
     /// A unit's counts.
-    Counts(Counts),
+    QueueCounts(QueueCounts),
     /// The line is no order.
     BadLine,
     /// No unit at that place is on the bus.
@@ -35,16 +35,16 @@ pub enum Reply {
     Unit(LiveError),
 }
 
-impl Order {
+impl ControlOrder {
     /// The order of a line; none where it is none, and where it is silent: empty, or behind a `#`.
-    pub fn read(line: &str) -> Option<Order> {
+    pub fn read(line: &str) -> Option<ControlOrder> {
         let line = script_line::read_line(line)?;
         match line.command {
             Command::Change { .. }
             | Command::Lamps { .. }
             | Command::Dm1 { .. }
             | Command::Leave { .. }
-            | Command::Counts { .. } => Some(Order {
+            | Command::Counts { .. } => Some(ControlOrder {
                 command: line.command,
             }),
             _ => None,
@@ -72,7 +72,7 @@ impl Order {
                 None => Reply::NoUnit,
             },
             Command::Counts { seat } => match fleet.counts(seat) {
-                Some(counts) => Reply::Counts(counts),
+                Some(counts) => Reply::QueueCounts(counts),
                 None => Reply::NoUnit,
             },
             _ => Reply::BadLine,
@@ -130,8 +130,8 @@ impl fmt::Display for Reply {
             Reply::Done => write!(f, "ok"),
             Reply::Begun => write!(f, "begun"),
             Reply::Held => write!(f, "held"),
-            Reply::Counts(counts) => {
-                let Counts {
+            Reply::QueueCounts(counts) => {
+                let QueueCounts {
                     put,
                     written,
                     withdrawn,

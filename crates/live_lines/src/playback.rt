@@ -1,12 +1,15 @@
 //! Units whose clock is the times of the lines that they hear: nothing waits, and what they write is the same each time.
 
-use crate::ear::{Ear, Said};
+use crate::ear::{Ear, Heard};
 use crate::fleet::Fleet;
 use can_frame::Frame;
 use candump_line::{Time, write_line};
-use log_lines::{Ended, LogFault};
+use log_lines::{LinesEnd, LogFault};
 use std::alloc::Global;
 use std::io::Write;
+
+/// How much later than the line before a line may be for what is due in between to be written: a day, in microseconds.
+const LONGEST_PAUSE: u64 = 86_400_000_000;
 
 /// Units, and the lines that they hear at the times of these.
 #[derive(Drop)]
@@ -15,6 +18,8 @@ pub struct Playback {
     ear: Ear,
     /// The greatest time of a line so far, in microseconds.
     clock: Option<u64>,
+    /// Whether a line had a time.
+    is_timed: bool,
 }
 
 impl Playback {
@@ -24,12 +29,17 @@ impl Playback {
             fleet,
             ear,
             clock: None,
+            is_timed: false,
         }
     }
 
-    /// Takes a line, with its end. What is due before its time, or at it, is written first, each frame as a line with the time at which it is due,
-    /// and heard by the other units; then the units hear the frame of the line. A line without a time, or with an earlier one than the line
-    /// before, is heard at the time of that. A bad line is told on `errors`. Answers whether the line is bad.
+    /// Takes a line, with its end. What is due before its time, or at it, is written first, each frame as a line with the time at
+    /// which it is due, and heard by the other units; then the units hear the frame of the line. A line without a time, or with an
+    /// earlier one than the line before, is heard at the time of that, or at 0 before any line had one. A bad line is told on
+    /// `errors`. Answers whether the line is bad.
+    ///
+    /// At the first time of all, and at one more than a day after that of the line before, the clock begins anew: what was due
+    /// before is written then, and not what would have become due in between.
     ///
     /// # Errors
     /// `Write`: a line could not be written.
@@ -42,10 +52,14 @@ impl Playback {
     ) -> Result<bool, LogFault>
         requires { Unit {0} }
     {
-        let Said { frame, is_bad } = self.ear.read(line, errors)?;
+        let Heard { frame, is_bad } = self.ear.read(line, errors)?;
         let Some((time, frame)) = frame else {
             return Ok(is_bad);
         };
+        if self.begins_anew(time) {
+            self.clock = None;
+        }
+        self.is_timed = self.is_timed || time.is_some();
         let now = self.time_of(time);
         self.write_until(alloc, now, writer)?;
         let _unheard = self.fleet.hear(alloc, &frame, now);
@@ -66,10 +80,20 @@ impl Playback {
     }
 
     /// How the lines ended, at the end of the input or not. Tells a line for each unit.
-    pub fn ended<E: Write>(&self, errors: &mut E, end: Result<bool, LogFault>) -> Ended {
+    pub fn ended<E: Write>(&self, errors: &mut E, end: Result<bool, LogFault>) -> LinesEnd {
         let ended = self.ear.ended(errors, end);
         let _ = self.fleet.write_summary(errors);
         ended
+    }
+
+    /// Whether the clock begins anew at a line with this time.
+    fn begins_anew(&self, time: Option<Time>) -> bool {
+        match (time, self.clock) {
+            (Some(time), Some(before)) => {
+                !self.is_timed || time.micros().saturating_sub(before) > LONGEST_PAUSE
+            }
+            _ => false,
+        }
     }
 
     /// The time at which a line is heard.

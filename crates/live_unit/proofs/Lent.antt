@@ -35,3 +35,8 @@ pub given_back_on_err : {I T E : Type 0} {D : I → Type 0} (r : Result T E) (b 
     → OnErr r (record { ptr = b.ptr; vtable = q.0; alloc = b.alloc; value = v } ≡ b)
 given_back_on_err (Ok x) b q v e same = tt
 given_back_on_err (Err x) b q v e same = given_back b q v same e
+
+-- what holds anyhow holds of a call that was refused
+pub on_err : {T E P : Type 0} (r : Result T E) → P → OnErr r P
+on_err (Ok x) p = tt
+on_err (Err e) p = p

@@ -3,7 +3,7 @@ use Rattle.std.proofs.Common.{ℕ, ◌≡◌, ◌<◌, Bool, true, false, if◌t
 use Rattle.std.proofs.lemmas.Bool.{and_parts, ltb-true}
 use Rattle.live_unit.specs.Queue.{QueueValue, lane_of, waits}
 use Rattle.live_unit.specs.Times.{lane_due, message_goes, other_lane_due}
-use Rattle.live_unit.specs.declared.clock.Clock.{Clock}
+use Rattle.live_unit.specs.declared.clock.UnitClock.{UnitClock}
 use Rattle.live_unit.specs.declared.queue.Lane.{Lane}
 use Rattle.live_unit.specs.declared.queue.Lane.TheVariants.{Claims, Singles, Session, Messages}
 
@@ -16,7 +16,7 @@ here : (q : QueueValue) (one lane : Lane) → waits (lane_of one q) ≡ true →
 here q one lane w e = (let same : one ≡ lane = cc in subst (λ (l : Lane). 0 < length (lane_of l q).outs) same (ltb-true 0 _ w))
 
 -- the lane that is due has a frame
-pub due_waits : (c : Clock) (now : ℕ) (q : QueueValue) (lane : Lane) → lane_due c now q ≡ Some lane → 0 < length (lane_of lane q).outs
+pub due_waits : (c : UnitClock) (now : ℕ) (q : QueueValue) (lane : Lane) → lane_due c now q ≡ Some lane → 0 < length (lane_of lane q).outs
 due_waits c now q lane e =
     let P : Lane → Type 0 = λ l. 0 < length (lane_of l q).outs in
     from_if P (waits q.claims) _ _ lane

@@ -17,13 +17,13 @@ use Rattle.node_core.specs.Reaction.{Reacts}
 use Rattle.node_core.specs.declared.heard.Answer.{Answer}
 use Rattle.node_core.specs.declared.heard.Heard.{Heard}
 use Rattle.node_core.specs.declared.out.Out.{Out}
-use Rattle.live_unit.specs.declared.clock.Clock.{Clock}
-use Rattle.live_unit.specs.declared.clock.Settings.{Settings}
+use Rattle.live_unit.specs.declared.clock.UnitClock.{UnitClock}
+use Rattle.live_unit.specs.declared.clock.UnitSettings.{UnitSettings}
 use Rattle.live_unit.specs.declared.clock.TheConstants.{DM1_PERIOD}
 use Rattle.live_unit.specs.declared.queue.Lane.{Lane}
 use Rattle.live_unit.specs.declared.queue.TheConstants.{MOST_PUT}
-use Rattle.live_unit.specs.declared.unit.Act.{Act}
-use Rattle.live_unit.specs.declared.unit.Act.TheVariants as act
+use Rattle.live_unit.specs.declared.node.Act.{Act}
+use Rattle.live_unit.specs.declared.node.Act.TheVariants as act
 use Rattle.live_unit.specs.Queue.{HasFreeLanes, QueueValue, TakesFirst, lane_of, putting, after_heard}
 use Rattle.live_unit.specs.Times.{clock_written, has_to_tell, is_dm1_due, is_left_alone, lane_due, later}
 
@@ -82,12 +82,12 @@ pub record GivesUp (u u' : Standing) : Type 0 where
   pub queue : u'.queue ≡ after_heard (given_up u.node) (claim_source u.node.claimer.held) u.queue
 
 -- a DM1 of its own puts off the next
-abbrev pub clock_told : ℕ → MemoryValue → Clock → Clock
+abbrev pub clock_told : ℕ → MemoryValue → UnitClock → UnitClock
 clock_told now m c = record c { dm1_from = later now DM1_PERIOD; told = has_to_tell m }
 
 -- what a unit did of its own accord: nothing where nothing is due; it gave up its session, which was left alone; or it began a DM1,
 -- which was due
-abbrev pub Acts : Settings → ℕ → Bool → Act → Standing → Clock → Standing → Clock → Type 0
+abbrev pub Acts : UnitSettings → ℕ → Bool → Act → Standing → UnitClock → Standing → UnitClock → Type 0
 Acts s now willing act.Nothing u c u' c' =
     (CanPut u.queue → (is_left_alone c now u.node u.queue ≡ false) × (is_dm1_due s c now willing u.node u.memory u.queue ≡ false))
     × (u' ≡ u) × (c' ≡ c)
@@ -96,7 +96,7 @@ Acts s now willing act.Began u c u' c' =
     (is_dm1_due s c now willing u.node u.memory u.queue ≡ true) × BeginsToAll Dm1 u u' × (c' ≡ clock_told now u.memory c)
 
 -- a frame goes: the first of the lane that is due
-pub record Writes (s : Settings) (now : ℕ) (f : FrameValue) (q : QueueValue) (c : Clock) (q' : QueueValue) (c' : Clock) : Type 0 where
+pub record Writes (s : UnitSettings) (now : ℕ) (f : FrameValue) (q : QueueValue) (c : UnitClock) (q' : QueueValue) (c' : UnitClock) : Type 0 where
   pub lane : Lane
   pub due : lane_due c now q ≡ Some lane
   pub out : Out

@@ -6,8 +6,8 @@ use Rattle.node_core.specs.NodeValue.{NodeValue, is_open}
 use Rattle.node_core.specs.declared.out.Out.{Out}
 use Rattle.node_core.specs.declared.out.Part.{Part}
 use Rattle.node_core.specs.declared.out.Part.TheVariants as part
-use Rattle.live_unit.specs.declared.clock.Clock.{Clock}
-use Rattle.live_unit.specs.declared.clock.Settings.{Settings}
+use Rattle.live_unit.specs.declared.clock.UnitClock.{UnitClock}
+use Rattle.live_unit.specs.declared.clock.UnitSettings.{UnitSettings}
 use Rattle.live_unit.specs.declared.clock.TheConstants.{ANSWER_WITHIN, HELD_FOR, LONGEST_PAUSE}
 use Rattle.live_unit.specs.declared.queue.Lane.{Lane}
 use Rattle.live_unit.specs.declared.queue.Lane.TheVariants.{Claims, Singles, Session, Messages}
@@ -16,6 +16,10 @@ use Rattle.live_unit.specs.Queue.{LaneValue, QueueValue, waits}
 -- a time and a wait; times end at 2^64 - 1
 abbrev pub later : ℕ → ℕ → ℕ
 later now wait = min (now + wait) (2 ^ 64 - 1)
+
+-- nothing was written yet, so nothing is put off
+abbrev pub clock_at_start : UnitClock
+clock_at_start = record { claim_from = 0; settled_from = 0; packet_from = 0; alone_from = 0; dm1_from = 0; told = false }
 
 -- ---- what is written when
 
@@ -29,11 +33,11 @@ is_further (Some o) = is_further_part o.part
 is_further None = false
 
 -- the first frame of the messages goes: a further packet only after the gap
-abbrev pub message_goes : Clock → ℕ → LaneValue → Bool
+abbrev pub message_goes : UnitClock → ℕ → LaneValue → Bool
 message_goes c now l = waits l && (not (is_further (slice_get l.outs 0)) || nat_le c.packet_from now)
 
 -- what of the lanes but the claims goes: single frames first, then those of a session, then messages to all
-abbrev pub other_lane_due : Clock → ℕ → QueueValue → Option Lane
+abbrev pub other_lane_due : UnitClock → ℕ → QueueValue → Option Lane
 other_lane_due c now q =
     if waits q.singles then Some Singles
     else if waits q.session then Some Session
@@ -41,14 +45,14 @@ other_lane_due c now q =
     else None
 
 -- the lane whose first frame goes at this time: a claim goes before all, and nothing else until the unit has settled
-abbrev pub lane_due : Clock → ℕ → QueueValue → Option Lane
+abbrev pub lane_due : UnitClock → ℕ → QueueValue → Option Lane
 lane_due c now q =
     if waits q.claims then (if nat_le c.claim_from now then Some Claims else None)
     else if nat_le c.settled_from now then other_lane_due c now q
     else None
 
 -- what a frame that is written puts off: all but claims, the next packet of a broadcast, the end of the session's patience
-abbrev pub clock_written : Settings → Lane → ℕ → Clock → Clock
+abbrev pub clock_written : UnitSettings → Lane → ℕ → UnitClock → UnitClock
 clock_written s Claims now c = record c { settled_from = later now s.settle }
 clock_written s Singles now c = c
 clock_written s Session now c = record c { alone_from = later now ANSWER_WITHIN }
@@ -59,20 +63,20 @@ abbrev pub pause_of : ℕ → ℕ
 pause_of name = 1000 * (name % 2 ^ 21 % (LONGEST_PAUSE + 1))
 
 -- the times after a frame was heard: a session that was held open by it has its time anew, and a unit that lost its address waits
-abbrev pub clock_after_hearing : Bool → Bool → ℕ → ℕ → Clock → Clock
+abbrev pub clock_after_hearing : Bool → Bool → ℕ → ℕ → UnitClock → UnitClock
 clock_after_hearing held_open lost name now c = record c {
   alone_from = if held_open then later now HELD_FOR else c.alone_from;
   claim_from = if lost then later now (pause_of name) else c.claim_from;
 }
 
 -- from when on the unit may send frames beside those that wait: it holds an address, and no claim of it waits
-abbrev pub free_from : Clock → NodeValue → QueueValue → Option ℕ
+abbrev pub free_from : UnitClock → NodeValue → QueueValue → Option ℕ
 free_from c node q = if is_some node.claimer.held && not (waits q.claims) then Some c.settled_from else None
 
 -- ---- what a unit does of its own accord
 
 -- its session was left alone: no frame of it waits, and its time is over
-abbrev pub is_left_alone : Clock → ℕ → NodeValue → QueueValue → Bool
+abbrev pub is_left_alone : UnitClock → ℕ → NodeValue → QueueValue → Bool
 is_left_alone c now node q = is_some node.session && not (waits q.session) && nat_le c.alone_from now
 
 -- it has something to tell: an active code, or a lamp
@@ -80,11 +84,11 @@ abbrev pub has_to_tell : MemoryValue → Bool
 has_to_tell m = nat_lt 0 (length m.active) || nat_lt 0 m.lamps.lamps
 
 -- it holds an address and has settled, and no claim, no message to all and no session of a DM1 is on its way
-abbrev pub is_free_for_dm1 : Clock → ℕ → NodeValue → QueueValue → Bool
+abbrev pub is_free_for_dm1 : UnitClock → ℕ → NodeValue → QueueValue → Bool
 is_free_for_dm1 c now node q =
     is_some node.claimer.held && nat_le c.settled_from now && not (waits q.claims) && not (waits q.messages) && not (is_open node.session Dm1)
 
 -- a DM1 of its own is due: each second while it has something to tell, and once after that
-abbrev pub is_dm1_due : Settings → Clock → ℕ → Bool → NodeValue → MemoryValue → QueueValue → Bool
+abbrev pub is_dm1_due : UnitSettings → UnitClock → ℕ → Bool → NodeValue → MemoryValue → QueueValue → Bool
 is_dm1_due s c now willing node memory q =
     willing && nat_le c.dm1_from now && (s.always || c.told || has_to_tell memory) && is_free_for_dm1 c now node q

@@ -1,18 +1,23 @@
-//! Calls of a boxed unit: each says of the box what the unit's call says of the unit.
+//! Calls of a boxed unit, and of a node that asks it: each says of the box what that call says of the unit.
 
-ghost use Rattle.std.specs.Prelude.{◌≡◌, ◌↔◌, ◌⊎◌, ◌≤◌, IfErr, IfOk, IfSome, IsErrOf, IsNone, IsSome, Ok, OnErr, OnOk, length, true};
+ghost use Rattle.std.specs.Prelude.{ℕ, ◌≡◌, ◌↔◌, ◌⊎◌, ◌≤◌, ◌<◌, IfErr, IfOk, IsErrOf, IsNone, None, Ok, OnErr, OnOk, false, true};
 ghost use Rattle.fault_memory.specs.Changes.{changed, Grows};
 ghost use Rattle.fault_memory.specs.declared.error.FaultError.{FaultError as AnyFault};
 ghost use Rattle.node_core.specs.Asking.{IsAsked};
-ghost use Rattle.node_core.specs.Beginning.{IsFew, begins};
+ghost use Rattle.node_core.specs.GivingUp.{is_held_open};
 ghost use Rattle.node_core.specs.NodeValue.{is_open};
-ghost use Rattle.node_core.specs.Reaction.{Reacts, question};
+ghost use Rattle.node_core.specs.Reaction.{question};
+ghost use Rattle.parameter_group.specs.Group.{group_of};
+ghost use Rattle.live_unit.specs.Steps.{Acts, BeginsToAll, CanPut, HasHeardFrame, LacksRoomFor, has_lost, standing};
+ghost use Rattle.live_unit.specs.Times.{clock_after_hearing, is_dm1_due, is_left_alone, lane_due};
 
+use crate::error::LiveError;
+use crate::node::{Act, LiveNode};
 use can_frame::Frame;
 use dm_messages::Kind;
 use fault_memory::{FaultChange, FaultError, FaultMemory};
 use name_field::Name;
-use node_core::{Heard, Node, NodeError, Started};
+use node_core::Answer;
 use std::alloc::Global;
 use unit_trait::Unit;
 
@@ -30,54 +35,89 @@ pub(crate) fn memory_in(unit: &Box<dyn Unit>) -> &FaultMemory
     unit.memory()
 }
 
-/// Whether the unit wants to begin a DM1.
-pub(crate) fn wants_in(unit: &Box<dyn Unit>) -> bool
-    ensures { result ≡ wants unit.now }
-{
-    unit.wants_dm1()
-}
-
 /// Tells the unit of a change of its fault memory.
 pub(crate) fn apply_in(unit: &mut Box<dyn Unit>, change: FaultChange) -> Result<(), FaultError>
     ensures name { name_of unit.new ≡ name_of unit.old }
     ensures ok { OnOk result (changed (memory_of unit.old) change ≡ Ok (memory_of unit.new)) }
     ensures refused { (e : AnyFault) → changed (memory_of unit.old) change ≡ Err e → result ≡ Err e }
-    ensures why { IfErr result (λ e. ((e ≡ FaultError.OutOfMemory) × Grows (changed (memory_of unit.old) change) (memory_of unit.old)) ⊎ (changed (memory_of unit.old) change ≡ Err e)) }
+    ensures why { IfErr result (λ e. ((e ≡ FaultError.OutOfMemory)
+        × Grows (changed (memory_of unit.old) change) (memory_of unit.old))
+        ⊎ (changed (memory_of unit.old) change ≡ Err e)) }
     ensures err { OnErr result (memory_of unit.new ≡ memory_of unit.old) }
     ensures takes { (u : _) × (unit.new ≡ record unit.old { value = u }) × Takes unit.old change u }
 {
     unit.apply(change)
 }
 
+/// Has the node hear a frame, and put to the unit what it asks.
+pub(crate) fn hear_in(
+    live: &mut LiveNode,
+    alloc: Global,
+    frame: &Frame,
+    now: u64,
+    unit: &mut Box<dyn Unit>,
+) -> Result<Answer, LiveError>
+    ensures heard { IfOk result (λ a. HasHeardFrame frame.now a (standing live.old.node (memory_of unit.old) live.old.queue)
+        (standing live.new.node (memory_of unit.new) live.new.queue)) }
+    ensures clock { OnOk result (live.new.clock ≡ clock_after_hearing (is_held_open live.old.node (group_of frame.now))
+        (has_lost live.old.node.claimer.held live.new.node.claimer.held) (name_of unit.old) now live.old.clock) }
+    ensures asked { IfOk result (λ a. (u : _) × (unit.new ≡ record unit.old { value = u })
+        × IsAsked (Answers unit.old) (question live.old.node frame.now) a unit.old.value u) }
+    ensures settings { live.new.settings ≡ live.old.settings }
+    ensures full { IsErrOf result LiveError.Full ↔ LacksRoomFor frame.now live.old.queue }
+    ensures only { IfErr result (λ e. (e ≡ LiveError.Full) ⊎ (e ≡ LiveError.OutOfMemory)) }
+    ensures err { OnErr result
+        ((live.new.node ≡ live.old.node) × (live.new.queue ≡ live.old.queue) × (live.new.clock ≡ live.old.clock)) }
+    ensures unasked { OnErr result (unit.new ≡ unit.old) }
+{
+    live.hear(alloc, frame, now, &mut **unit)
+}
+
+/// Has the node do of its own accord what is due.
+pub(crate) fn act_in(
+    live: &mut LiveNode,
+    alloc: Global,
+    now: u64,
+    unit: &Box<dyn Unit>,
+) -> Result<Act, LiveError>
+    ensures acts { IfOk result (λ a. Acts live.old.settings now (wants unit.now) a
+        (standing live.old.node (memory_of unit.now) live.old.queue) live.old.clock
+        (standing live.new.node (memory_of unit.now) live.new.queue) live.new.clock) }
+    ensures settings { live.new.settings ≡ live.old.settings }
+    ensures only { IfErr result (λ e. e ≡ LiveError.OutOfMemory) }
+    ensures err { OnErr result
+        ((live.new.node ≡ live.old.node) × (live.new.queue ≡ live.old.queue) × (live.new.clock ≡ live.old.clock)) }
+{
+    live.act(alloc, now, &**unit)
+}
+
 /// Has the node begin a message of the unit's fault memory.
 pub(crate) fn begin_in(
-    node: &Node,
+    live: &mut LiveNode,
     alloc: Global,
     kind: Kind,
     unit: &Box<dyn Unit>,
-) -> Result<Started, NodeError>
-    ensures unclaimed { IsErrOf result NodeError.Unclaimed ↔ IsNone node.now.claimer.held }
-    ensures held { (result ≡ Ok Started.Held) ↔ (IsSome node.now.claimer.held × (is_open node.now.session kind ≡ true)) }
-    ensures started { IfOk result (λ s. IfSome node.now.claimer.held (λ source. s ≡ begins node.now.session kind (memory_of unit.now) source)) }
-    ensures few { IfOk result IsFew }
+) -> Result<bool, LiveError>
+    ensures begun { result ≡ Ok true
+        → BeginsToAll kind (standing live.old.node (memory_of unit.now) live.old.queue)
+        (standing live.new.node (memory_of unit.now) live.new.queue) }
+    ensures held { IfOk result (λ b. (b ≡ false) ↔ (is_open live.old.node.session kind ≡ true)) }
+    ensures unchanged { result ≡ Ok false → ((live.new.node ≡ live.old.node) × (live.new.queue ≡ live.old.queue)) }
+    ensures same { (live.new.settings ≡ live.old.settings) × (live.new.clock ≡ live.old.clock) }
+    ensures full { IsErrOf result LiveError.Full ↔ (¬ CanPut live.old.queue) }
+    ensures unclaimed { IsErrOf result LiveError.Unclaimed ↔ (CanPut live.old.queue × IsNone live.old.node.claimer.held) }
+    ensures err { OnErr result ((live.new.node ≡ live.old.node) × (live.new.queue ≡ live.old.queue)) }
 {
-    node.begin(alloc, kind, &**unit)
+    live.begin(alloc, kind, &**unit)
 }
 
-/// Has the node hear a frame, and put to the unit what it asks.
-pub(crate) fn hear_in(
-    node: &mut Node,
-    alloc: Global,
-    frame: &Frame,
-    unit: &mut Box<dyn Unit>,
-) -> Result<Heard, NodeError>
-    ensures name { name_of unit.new ≡ name_of unit.old }
-    ensures heard { IfOk result (λ h. Reacts frame.now node.old (memory_of unit.old) h node.new (memory_of unit.new)) }
-    ensures asked { IfOk result (λ h. (u : _) × (unit.new ≡ record unit.old { value = u }) × IsAsked (Answers unit.old) (question node.old frame.now) h.answer unit.old.value u) }
-    ensures few { IfOk result (λ h. length h.put ≤ 256) }
-    ensures refused { IfErr result (λ e. e ≡ NodeError.OutOfMemory) }
-    ensures kept { OnErr result (node.new ≡ node.old) }
-    ensures unasked { OnErr result (unit.new ≡ unit.old) }
+/// When to look again.
+pub(crate) fn next_in(live: &LiveNode, now: u64, unit: &Box<dyn Unit>) -> u64
+    ensures idle { (t : ℕ) → now ≤ t → t < result
+        → (lane_due live.now.clock t live.now.queue ≡ None) × (is_left_alone live.now.clock t live.now.node live.now.queue ≡ false)
+        × (is_dm1_due live.now.settings live.now.clock t (wants unit.now) live.now.node (memory_of unit.now)
+        live.now.queue ≡ false) }
+    ensures ahead { now ≤ result }
 {
-    node.hear(alloc, frame, &mut **unit)
+    live.next(now, &**unit)
 }

@@ -1,5 +1,5 @@
 ghost use Rattle.std.specs.Prelude.{◌≡◌};
-ghost use Rattle.live_unit.specs.Times.{clock_after_hearing, clock_written, later, pause_of};
+ghost use Rattle.live_unit.specs.Times.{clock_after_hearing, clock_at_start, clock_written, later, pause_of};
 
 use crate::queue::Lane;
 use name_field::Name;
@@ -18,7 +18,7 @@ pub(crate) const LONGEST_PAUSE: u64 = 153;
 
 /// What a unit keeps to, in microseconds.
 #[derive(Clone, Copy, Debug, PartialEq, Eq)]
-pub struct Settings {
+pub struct UnitSettings {
     /// How long it is at least from a packet of a broadcast to the next: 10,000 to 200,000 (SAE J1939-21).
     pub gap: u64,
     /// How long it is from a claim to anything but a claim: 250,000 (SAE J1939-81).
@@ -29,7 +29,7 @@ pub struct Settings {
 
 /// From when on a unit may do what, in microseconds of its caller's clock.
 #[derive(Clone, Copy, Debug, PartialEq, Eq)]
-pub struct Clock {
+pub struct UnitClock {
     /// A claim goes.
     pub claim_from: u64,
     /// More than claims goes.
@@ -44,10 +44,12 @@ pub struct Clock {
     pub told: bool,
 }
 
-impl Clock {
+impl UnitClock {
     /// Nothing was written yet, so nothing is put off.
-    pub(crate) fn at_start() -> Clock {
-        Clock {
+    pub(crate) fn at_start() -> UnitClock
+        ensures { result ≡ clock_at_start }
+    {
+        UnitClock {
             claim_from: 0,
             settled_from: 0,
             packet_from: 0,
@@ -58,7 +60,7 @@ impl Clock {
     }
 
     /// The times after a frame of a lane was written.
-    pub(crate) fn written(self, settings: &Settings, lane: Lane, now: u64) -> Clock
+    pub(crate) fn written(self, settings: &UnitSettings, lane: Lane, now: u64) -> UnitClock
         ensures { result ≡ clock_written settings.now lane now self }
     {
         let mut clock = self;
@@ -71,9 +73,9 @@ impl Clock {
         clock
     }
 
-    /// The times after a frame was heard: whether the open session was held open by it, and whether the unit, of this NAME, lost its
-    /// address by it and got no other.
-    pub(crate) fn heard(self, held_open: bool, lost: bool, now: u64, name: Name) -> Clock
+    /// The times after a frame was heard: whether the open session was held open by it, and whether the unit, of this NAME, lost
+    /// its address by it and got no other.
+    pub(crate) fn heard(self, held_open: bool, lost: bool, now: u64, name: Name) -> UnitClock
         ensures { result ≡ clock_after_hearing held_open lost name now self }
     {
         let mut clock = self;
@@ -87,12 +89,13 @@ impl Clock {
     }
 
     /// The times after a DM1 of the unit's own, and whether it told something.
-    pub(crate) fn told(self, now: u64, told: bool) -> Clock
+    pub(crate) fn told(self, now: u64, told: bool) -> UnitClock
         ensures from { result.dm1_from ≡ later now DM1_PERIOD }
         ensures told { result.told ≡ told }
-        ensures kept { (result.claim_from ≡ self.claim_from) × (result.settled_from ≡ self.settled_from) × (result.packet_from ≡ self.packet_from) × (result.alone_from ≡ self.alone_from) }
+        ensures kept { (result.claim_from ≡ self.claim_from) × (result.settled_from ≡ self.settled_from)
+            × (result.packet_from ≡ self.packet_from) × (result.alone_from ≡ self.alone_from) }
     {
-        Clock {
+        UnitClock {
             dm1_from: now.saturating_add(DM1_PERIOD),
             told,
             ..self

@@ -1,17 +1,19 @@
 //! A unit that takes part in a bus that others are on: it hears frames, and says which frame it writes when.
 //!
-//! It has no clock and no bus: the time is handed in with each call, in microseconds of any clock that does not go back, and a frame
-//! that it answers is for its caller to write.
+//! It has no clock and no bus: the time is handed in with each call, in microseconds of any clock that does not go back, and a
+//! frame that it answers is for its caller to write.
 #![tactic(auto)]
 
 mod boxed;
 mod clock;
 mod error;
+mod node;
 mod queue;
 mod unit;
 mod waiting;
 
-pub use clock::{Clock, Settings};
+pub use clock::{UnitClock, UnitSettings};
 pub use error::LiveError;
-pub use queue::Counts;
-pub use unit::{Act, LiveUnit};
+pub use node::{Act, LiveNode};
+pub use queue::QueueCounts;
+pub use unit::LiveUnit;

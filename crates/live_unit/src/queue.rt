@@ -30,7 +30,7 @@ pub(crate) enum Lane {
 
 /// What became of the frames that a unit put: `put` is always the sum of the other three.
 #[derive(Clone, Copy, Debug, PartialEq, Eq)]
-pub struct Counts {
+pub struct QueueCounts {
     pub put: u64,
     pub written: u64,
     pub withdrawn: u64,
@@ -81,14 +81,14 @@ impl Queue {
     }
 
     /// What became of the frames that were put.
-    pub(crate) fn counts(&self) -> Counts
+    pub(crate) fn counts(&self) -> QueueCounts
         ensures put { result.put ≡ self.now.put }
         ensures written { result.written ≡ self.now.written }
         ensures withdrawn { result.withdrawn ≡ self.now.withdrawn }
         ensures waiting { result.waiting ≡ frames_waiting self.now }
         ensures balanced { result.put ≡ result.written + result.withdrawn + result.waiting }
     {
-        Counts {
+        QueueCounts {
             put: self.put,
             written: self.written,
             withdrawn: self.withdrawn,

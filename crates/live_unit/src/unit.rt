@@ -1,7 +1,7 @@
-ghost use Rattle.std.specs.Prelude.{ℕ, ◌≡◌, ◌⊎◌, ◌≤◌, ◌<◌, ◌+◌, ◌^◌, ◌↔◌, ◌&&◌, ◌||◌, false, true, is_some, not, nat_le, nat_lt, IfErr, IfOk, IfSome, IsErrOf, IsNone, IsSome, IsTrue, MatchOption, None, Ok, OnErr, OnOk, Some, length};
+ghost use Rattle.std.specs.Prelude.{ℕ, ◌≡◌, ◌⊎◌, ◌≤◌, ◌<◌, ◌+◌, ◌↔◌, false, true, IfErr, IfOk, IfSome, IsErrOf, IsNone, MatchOption, None, Ok, OnErr, OnOk};
 ghost use Rattle.can_frame.specs.Fields.{source_of};
 ghost use Rattle.can_frame.specs.declared.address.TheConstants.{GREATEST_ADDRESS};
-ghost use Rattle.address_claim.specs.Frames.{claim_frame_value, claim_source};
+ghost use Rattle.address_claim.specs.Frames.{claim_source};
 ghost use Rattle.fault_memory.specs.Changes.{changed, Grows};
 ghost use Rattle.fault_memory.specs.declared.error.FaultError.{FaultError as AnyFault};
 ghost use Rattle.node_core.specs.Asking.{IsAsked};
@@ -9,46 +9,29 @@ ghost use Rattle.node_core.specs.GivingUp.{is_held_open};
 ghost use Rattle.node_core.specs.NodeValue.{is_open, new_node};
 ghost use Rattle.node_core.specs.Reaction.{question};
 ghost use Rattle.parameter_group.specs.Group.{group_of};
-ghost use Rattle.live_unit.specs.Queue.{HasFreeLanes, frames_waiting};
-ghost use Rattle.live_unit.specs.Steps.{Acts, BeginsToAll, CanPut, GivesUp, HasHeardFrame, LacksRoomFor, Writes, has_lost, standing};
-ghost use Rattle.live_unit.specs.Steps as steps;
-ghost use Rattle.live_unit.specs.Times.{clock_after_hearing, is_dm1_due, is_free_for_dm1, is_left_alone, lane_due};
+ghost use Rattle.live_unit.specs.Queue.{frames_waiting};
+ghost use Rattle.live_unit.specs.Steps.{Acts, BeginsToAll, CanPut, HasHeardFrame, LacksRoomFor, Writes, has_lost, standing};
+ghost use Rattle.live_unit.specs.Times.{clock_after_hearing, is_dm1_due, is_left_alone, lane_due};
 ghost use Rattle.live_unit.specs.Times as times;
 
-use crate::boxed::{apply_in, begin_in, hear_in, memory_in, name_in, wants_in};
-use crate::clock::{Clock, Settings};
+use crate::boxed::{act_in, apply_in, begin_in, hear_in, memory_in, name_in, next_in};
+use crate::clock::UnitSettings;
 use crate::error::LiveError;
-use crate::queue::{Counts, Lane, MOST_PUT, Queue};
-use can_frame::{Frame, NULL_ADDRESS};
+use crate::node::{Act, LiveNode};
+use crate::queue::QueueCounts;
+use can_frame::Frame;
 use dm_messages::Kind;
 use fault_memory::{FaultChange, FaultError, FaultMemory};
 use name_field::Name;
-use node_core::{Answer, Node, Outs, Part, Started};
-use parameter_group::ParameterGroup;
+use node_core::Answer;
 use std::alloc::{AllocError, Global};
-use transport::Control;
 use unit_trait::Unit;
 
-/// What a unit did of its own accord.
-#[derive(Clone, Copy, Debug, PartialEq, Eq)]
-pub enum Act {
-    /// Nothing is due.
-    Nothing,
-    /// It gave up its session, which was left alone.
-    GaveUp,
-    /// It began a DM1.
-    Began,
-}
-
-/// A unit that takes part in a bus that others are on.
+/// A unit of any kind that takes part in a bus that others are on: the unit in a box, and its node.
 #[derive(Drop)]
 pub struct LiveUnit {
-    node: Node,
+    live: LiveNode,
     unit: Box<dyn Unit>,
-    queue: Queue,
-    clock: Clock,
-    settings: Settings,
-    pub ghost sourced: { queue.source ≡ claim_source node.claimer.held },
 }
 
 impl LiveUnit {
@@ -57,23 +40,15 @@ impl LiveUnit {
         alloc: Global,
         unit: Box<dyn Unit>,
         want: u8,
-        settings: Settings,
+        settings: UnitSettings,
     ) -> Result<LiveUnit, AllocError>
         requires { want ≤ GREATEST_ADDRESS }
         ensures unit { IfOk result (λ u. u.unit ≡ unit) }
-        ensures node { IfOk result (λ u. u.node ≡ new_node (name_of unit) want) }
-        ensures settings { IfOk result (λ u. u.settings ≡ settings) }
+        ensures node { IfOk result (λ u. u.live.node ≡ new_node (name_of unit) want) }
+        ensures settings { IfOk result (λ u. u.live.settings ≡ settings) }
     {
-        let node = Node::new(name_in(&unit), want);
-        let mut queue = Queue::new(alloc, want)?;
-        queue.put(Outs::plain(node.start()), false);
-        Ok(LiveUnit {
-            node,
-            unit,
-            queue,
-            clock: Clock::at_start(),
-            settings,
-        })
+        let live = LiveNode::new(alloc, name_in(&unit), want, settings)?;
+        Ok(LiveUnit { live, unit })
     }
 
     /// The NAME.
@@ -85,9 +60,9 @@ impl LiveUnit {
 
     /// The address that the unit holds, 0 to 253.
     pub fn held(&self) -> Option<u8>
-        ensures { result ≡ self.now.node.claimer.held }
+        ensures { result ≡ self.now.live.node.claimer.held }
     {
-        self.node.held()
+        self.live.held()
     }
 
     /// The fault memory.
@@ -98,375 +73,121 @@ impl LiveUnit {
     }
 
     /// What became of the frames that the unit put.
-    pub fn counts(&self) -> Counts
-        ensures put { result.put ≡ self.now.queue.put }
-        ensures written { result.written ≡ self.now.queue.written }
-        ensures withdrawn { result.withdrawn ≡ self.now.queue.withdrawn }
-        ensures waiting { result.waiting ≡ frames_waiting self.now.queue }
+    pub fn counts(&self) -> QueueCounts
+        ensures put { result.put ≡ self.now.live.queue.put }
+        ensures written { result.written ≡ self.now.live.queue.written }
+        ensures withdrawn { result.withdrawn ≡ self.now.live.queue.withdrawn }
+        ensures waiting { result.waiting ≡ frames_waiting self.now.live.queue }
         ensures balanced { result.put ≡ result.written + result.withdrawn + result.waiting }
     {
-        self.queue.counts()
+        self.live.counts()
     }
 
-    /// Hears a frame of the bus, and answers what the unit answered to what the frame puts to it: to clear, or to hold a commanded
-    /// address. What it owes for the frame is withdrawn and put as `node_core` has it; it is asked exactly what the frame puts to it, in
-    /// one call, and is else as it was. A frame of its own, which the bus told it of, it hears as any other: it owes nothing for it.
+    /// Hears a frame of the bus, as `LiveNode::hear` does; it is the unit in the box that is asked.
     ///
-    /// Refused: `Full`, where as much waits as there is room for and the frame is a request, a request to send or a clear to send;
-    /// `OutOfMemory`. Then nothing changed, and the unit was not asked.
+    /// Refused: `Full`, `OutOfMemory`. Then nothing changed, and the unit was not asked.
     pub fn hear(&mut self, alloc: Global, frame: &Frame, now: u64) -> Result<Answer, LiveError>
         requires { Unit {0} }
-        ensures heard { IfOk result (λ a. HasHeardFrame frame.now a (standing self.old.node (memory_of self.old.unit) self.old.queue) (standing self.new.node (memory_of self.new.unit) self.new.queue)) }
-        ensures clock { OnOk result (self.new.clock ≡ clock_after_hearing (is_held_open self.old.node (group_of frame.now)) (has_lost self.old.node.claimer.held self.new.node.claimer.held) (name_of self.old.unit) now self.old.clock) }
-        ensures asked { IfOk result (λ a. (u : _) × (self.new.unit ≡ record self.old.unit { value = u }) × IsAsked (Answers self.old.unit) (question self.old.node frame.now) a self.old.unit.value u) }
-        ensures settings { self.new.settings ≡ self.old.settings }
-        ensures full { IsErrOf result LiveError.Full ↔ LacksRoomFor frame.now self.old.queue }
+        ensures heard { IfOk result (λ a. HasHeardFrame frame.now a
+            (standing self.old.live.node (memory_of self.old.unit) self.old.live.queue)
+            (standing self.new.live.node (memory_of self.new.unit) self.new.live.queue)) }
+        ensures clock { OnOk result (self.new.live.clock ≡ clock_after_hearing
+            (is_held_open self.old.live.node (group_of frame.now))
+            (has_lost self.old.live.node.claimer.held self.new.live.node.claimer.held) (name_of self.old.unit) now
+            self.old.live.clock) }
+        ensures asked { IfOk result (λ a. (u : _) × (self.new.unit ≡ record self.old.unit { value = u })
+            × IsAsked (Answers self.old.unit) (question self.old.live.node frame.now) a self.old.unit.value u) }
+        ensures settings { self.new.live.settings ≡ self.old.live.settings }
+        ensures full { IsErrOf result LiveError.Full ↔ LacksRoomFor frame.now self.old.live.queue }
         ensures only { IfErr result (λ e. (e ≡ LiveError.Full) ⊎ (e ≡ LiveError.OutOfMemory)) }
-        ensures err { OnErr result ((self.new.node ≡ self.old.node) × (self.new.queue ≡ self.old.queue) × (self.new.clock ≡ self.old.clock)) }
+        ensures err { OnErr result ((self.new.live.node ≡ self.old.live.node) × (self.new.live.queue ≡ self.old.live.queue)
+            × (self.new.live.clock ≡ self.old.live.clock)) }
         ensures unasked { OnErr result (self.new.unit ≡ self.old.unit) }
     {
-        if !self.queue.may_put() || !self.queue.has_room() && needs_room(frame) {
-            return Err(LiveError::Full);
-        }
-        let is_held_open = self.node.is_held_open(frame);
-        let before = self.node.held();
-        let answer = hear_frame(
-            &mut self.node,
-            &mut self.queue,
-            alloc,
-            frame,
-            &mut self.unit,
-        )?;
-        let lost = before.is_some() && self.node.held().is_none();
-        self.clock = self
-            .clock
-            .heard(is_held_open, lost, now, name_in(&self.unit));
-        Ok(answer)
+        hear_in(&mut self.live, alloc, frame, now, &mut self.unit)
     }
 
-    /// The frame that goes at this time, if one does. It is written, as far as the unit knows: there is no way back.
-    ///
-    /// Claims go first, and after a claim nothing else until the unit has settled; then single frames, those of a session, and messages
-    /// to all, whose packets keep their gap. What goes is from the address that the unit holds, or from 254 where it holds none.
-    #[tactic(auto, using(crate::proofs::Timing::due_waits))]
+    /// The frame that goes at this time, if one does, as `LiveNode::due` has it.
     pub fn due(&mut self, now: u64) -> Option<Frame>
         requires { Unit {0} }
-        ensures writes { MatchOption result ((lane_due self.old.clock now self.old.queue ≡ None) × (self.new.queue ≡ self.old.queue) × (self.new.clock ≡ self.old.clock)) (λ f. Writes self.old.settings now f self.old.queue self.old.clock self.new.queue self.new.clock) }
-        ensures source { IfSome result (λ f. source_of f.id ≡ claim_source self.old.node.claimer.held) }
-        ensures same { (self.new.node ≡ self.old.node) × (self.new.unit ≡ self.old.unit) × (self.new.settings ≡ self.old.settings) }
+        ensures writes { MatchOption result ((lane_due self.old.live.clock now self.old.live.queue ≡ None)
+            × (self.new.live.queue ≡ self.old.live.queue) × (self.new.live.clock ≡ self.old.live.clock)) (λ f. Writes self.old.live.settings now f self.old.live.queue self.old.live.clock self.new.live.queue self.new.live.clock) }
+        ensures source { IfSome result (λ f. source_of f.id ≡ claim_source self.old.live.node.claimer.held) }
+        ensures same { (self.new.live.node ≡ self.old.live.node) × (self.new.unit ≡ self.old.unit)
+            × (self.new.live.settings ≡ self.old.live.settings) }
     {
-        let lane = self.lane_due(now)?;
-        let out = self.queue.take(lane);
-        self.clock = self.clock.written(&self.settings, lane, now);
-        Some(out.frame)
+        self.live.due(now)
     }
 
-    /// Does of the unit's own accord what is due at this time, one thing in a call: gives up a session that was left alone, or begins a
-    /// DM1. While as much waits as there is room for it does nothing.
+    /// Does of the unit's own accord what is due at this time, one thing in a call, as `LiveNode::act` does.
     ///
-    /// A DM1 is due a second after the one before while a code is active or a lamp is lit (or always, as the settings have it), and once
-    /// more after that, for a unit that wants to tell; it waits until the unit has settled and what it said to all before is written.
     /// Refused: `OutOfMemory`; then nothing changed.
     pub fn act(&mut self, alloc: Global, now: u64) -> Result<Act, LiveError>
         requires { Unit {0} }
-        ensures acts { IfOk result (λ a. Acts self.old.settings now (wants self.old.unit) a (standing self.old.node (memory_of self.old.unit) self.old.queue) self.old.clock (standing self.new.node (memory_of self.new.unit) self.new.queue) self.new.clock) }
-        ensures same { (self.new.unit ≡ self.old.unit) × (self.new.settings ≡ self.old.settings) }
+        ensures acts { IfOk result (λ a. Acts self.old.live.settings now (wants self.old.unit) a
+            (standing self.old.live.node (memory_of self.old.unit) self.old.live.queue) self.old.live.clock
+            (standing self.new.live.node (memory_of self.new.unit) self.new.live.queue) self.new.live.clock) }
+        ensures same { (self.new.unit ≡ self.old.unit) × (self.new.live.settings ≡ self.old.live.settings) }
         ensures only { IfErr result (λ e. e ≡ LiveError.OutOfMemory) }
-        ensures err { OnErr result ((self.new.node ≡ self.old.node) × (self.new.queue ≡ self.old.queue) × (self.new.clock ≡ self.old.clock)) }
+        ensures err { OnErr result ((self.new.live.node ≡ self.old.live.node) × (self.new.live.queue ≡ self.old.live.queue)
+            × (self.new.live.clock ≡ self.old.live.clock)) }
     {
-        if !self.can_put() {
-            return Ok(Act::Nothing);
-        }
-        if self.is_left_alone(now) {
-            let heard = self.node.give_up();
-            self.queue.take_in(heard, source_of(&self.node));
-            return Ok(Act::GaveUp);
-        }
-        if !self.is_dm1_due(now) {
-            return Ok(Act::Nothing);
-        }
-        if !begin_to_all(&self.node, &mut self.queue, alloc, Kind::Dm1, &self.unit)? {
-            return Ok(Act::Nothing);
-        }
-        self.clock = self.clock.told(now, has_to_tell(memory_in(&self.unit)));
-        Ok(Act::Began)
+        act_in(&mut self.live, alloc, now, &self.unit)
     }
 
-    /// Begins a message of this kind to all, of the fault memory as it is; answers whether it did: not while a session of that kind is
-    /// open.
+    /// Begins a message of this kind to all, as `LiveNode::begin` does; answers whether it did.
     ///
-    /// Refused: `Full`, where as much waits as there is room for; `Unclaimed`, where the unit holds no address; `OutOfMemory`. Then
-    /// nothing changed.
+    /// Refused: `Full`, `Unclaimed`, `OutOfMemory`. Then nothing changed.
     pub fn begin(&mut self, alloc: Global, kind: Kind) -> Result<bool, LiveError>
         requires { Unit {0} }
-        ensures begun { result ≡ Ok true → BeginsToAll kind (standing self.old.node (memory_of self.old.unit) self.old.queue) (standing self.new.node (memory_of self.new.unit) self.new.queue) }
-        ensures held { IfOk result (λ b. (b ≡ false) ↔ (is_open self.old.node.session kind ≡ true)) }
-        ensures unchanged { result ≡ Ok false → ((self.new.node ≡ self.old.node) × (self.new.queue ≡ self.old.queue)) }
-        ensures same { (self.new.unit ≡ self.old.unit) × (self.new.settings ≡ self.old.settings) × (self.new.clock ≡ self.old.clock) }
-        ensures full { IsErrOf result LiveError.Full ↔ (¬ CanPut self.old.queue) }
-        ensures unclaimed { IsErrOf result LiveError.Unclaimed ↔ (CanPut self.old.queue × IsNone self.old.node.claimer.held) }
-        ensures err { OnErr result ((self.new.node ≡ self.old.node) × (self.new.queue ≡ self.old.queue)) }
+        ensures begun { result ≡ Ok true
+            → BeginsToAll kind (standing self.old.live.node (memory_of self.old.unit) self.old.live.queue)
+            (standing self.new.live.node (memory_of self.new.unit) self.new.live.queue) }
+        ensures held { IfOk result (λ b. (b ≡ false) ↔ (is_open self.old.live.node.session kind ≡ true)) }
+        ensures unchanged { result ≡ Ok false
+            → ((self.new.live.node ≡ self.old.live.node) × (self.new.live.queue ≡ self.old.live.queue)) }
+        ensures same { (self.new.unit ≡ self.old.unit) × (self.new.live.settings ≡ self.old.live.settings)
+            × (self.new.live.clock ≡ self.old.live.clock) }
+        ensures full { IsErrOf result LiveError.Full ↔ (¬ CanPut self.old.live.queue) }
+        ensures unclaimed { IsErrOf result LiveError.Unclaimed
+            ↔ (CanPut self.old.live.queue × IsNone self.old.live.node.claimer.held) }
+        ensures err { OnErr result ((self.new.live.node ≡ self.old.live.node) × (self.new.live.queue ≡ self.old.live.queue)) }
     {
-        if !self.can_put() {
-            return Err(LiveError::Full);
-        }
-        begin_to_all(&self.node, &mut self.queue, alloc, kind, &self.unit)
+        begin_in(&mut self.live, alloc, kind, &self.unit)
     }
 
-    /// When to look again, at this time or later: before that `act` does nothing and `due` answers nothing, unless a frame is heard, a
-    /// fault changes or a message is begun. The greatest number where nothing waits for its time.
+    /// When to look again, as `LiveNode::next` has it.
     pub fn next(&self, now: u64) -> u64
-        ensures idle { (t : ℕ) → now ≤ t → t < result → (lane_due self.now.clock t self.now.queue ≡ None) × (is_left_alone self.now.clock t self.now.node self.now.queue ≡ false) × (is_dm1_due self.now.settings self.now.clock t (wants self.now.unit) self.now.node (memory_of self.now.unit) self.now.queue ≡ false) }
+        ensures idle { (t : ℕ) → now ≤ t → t < result
+            → (lane_due self.now.live.clock t self.now.live.queue ≡ None)
+            × (is_left_alone self.now.live.clock t self.now.live.node self.now.live.queue ≡ false)
+            × (is_dm1_due self.now.live.settings self.now.live.clock t (wants self.now.unit) self.now.live.node
+            (memory_of self.now.unit) self.now.live.queue ≡ false) }
         ensures ahead { now ≤ result }
     {
-        let frame = frame_from(&self.clock, &self.queue);
-        let act = self.alone_from().min(self.dm1_from());
-        frame.min(act).max(now)
+        next_in(&self.live, now, &self.unit)
     }
 
     /// From when on frames may go in the unit's name beside what waits: none while it holds no address, or a claim of it waits.
     pub fn free_from(&self) -> Option<u64>
-        ensures { result ≡ times.free_from self.now.clock self.now.node self.now.queue }
+        ensures { result ≡ times.free_from self.now.live.clock self.now.live.node self.now.live.queue }
     {
-        if self.node.held().is_some() && !self.queue.waits(Lane::Claims) {
-            Some(self.clock.settled_from)
-        } else {
-            None
-        }
+        self.live.free_from()
     }
 
-    /// When the open session will have been left alone.
-    fn alone_from(&self) -> u64
-        ensures { (t : ℕ) → t < result → is_left_alone self.now.clock t self.now.node self.now.queue ≡ false }
-    {
-        if self.node.session().is_some() && !self.queue.waits(Lane::Session) {
-            self.clock.alone_from
-        } else {
-            u64::MAX
-        }
-    }
-
-    /// When a DM1 of the unit's own will be due.
-    fn dm1_from(&self) -> u64
-        ensures { (t : ℕ) → t < result → is_dm1_due self.now.settings self.now.clock t (wants self.now.unit) self.now.node (memory_of self.now.unit) self.now.queue ≡ false }
-    {
-        if self.is_dm1_due(u64::MAX) {
-            self.clock.dm1_from.max(self.clock.settled_from)
-        } else {
-            u64::MAX
-        }
-    }
-
-    /// Tells the unit of a change of its fault memory, by one call of its `apply`. Refused as the memory refuses it, which is then as it
-    /// was.
+    /// Tells the unit of a change of its fault memory, by one call of its `apply`. Refused as the memory refuses it, which is then
+    /// as it was.
     pub fn change(&mut self, change: FaultChange) -> Result<(), FaultError>
         requires { Unit {0} }
         ensures ok { OnOk result (changed (memory_of self.old.unit) change ≡ Ok (memory_of self.new.unit)) }
         ensures refused { (e : AnyFault) → changed (memory_of self.old.unit) change ≡ Err e → result ≡ Err e }
-        ensures why { IfErr result (λ e. ((e ≡ FaultError.OutOfMemory) × Grows (changed (memory_of self.old.unit) change) (memory_of self.old.unit)) ⊎ (changed (memory_of self.old.unit) change ≡ Err e)) }
+        ensures why { IfErr result (λ e. ((e ≡ FaultError.OutOfMemory)
+            × Grows (changed (memory_of self.old.unit) change) (memory_of self.old.unit))
+            ⊎ (changed (memory_of self.old.unit) change ≡ Err e)) }
         ensures err { OnErr result (memory_of self.new.unit ≡ memory_of self.old.unit) }
         ensures takes { (u : _) × (self.new.unit ≡ record self.old.unit { value = u }) × Takes self.old.unit change u }
-        ensures same { (self.new.node ≡ self.old.node) × (self.new.queue ≡ self.old.queue) × (self.new.clock ≡ self.old.clock) × (self.new.settings ≡ self.old.settings) }
+        ensures same { self.new.live ≡ self.old.live }
     {
         apply_in(&mut self.unit, change)
-    }
-
-    /// Whether the unit can put something: it has room, and has not put as many frames as a unit may.
-    fn can_put(&self) -> bool
-        ensures { IsTrue result ↔ CanPut self.now.queue }
-    {
-        self.queue.may_put() && self.queue.has_room()
-    }
-
-    /// The lane whose first frame goes at this time.
-    fn lane_due(&self, now: u64) -> Option<Lane>
-        ensures { result ≡ lane_due self.now.clock now self.now.queue }
-    {
-        lane_due(&self.clock, now, &self.queue)
-    }
-
-    /// Whether the open session was left alone.
-    fn is_left_alone(&self, now: u64) -> bool
-        ensures { result ≡ is_left_alone self.now.clock now self.now.node self.now.queue }
-    {
-        self.node.session().is_some()
-            && !self.queue.waits(Lane::Session)
-            && self.clock.alone_from <= now
-    }
-
-    /// Whether a DM1 of the unit's own is due.
-    fn is_dm1_due(&self, now: u64) -> bool
-        ensures { result ≡ is_dm1_due self.now.settings self.now.clock now (wants self.now.unit) self.now.node (memory_of self.now.unit) self.now.queue }
-    {
-        wants_in(&self.unit)
-            && self.clock.dm1_from <= now
-            && (self.settings.always || self.clock.told || has_to_tell(memory_in(&self.unit)))
-            && self.is_free_for_dm1(now)
-    }
-
-    /// Whether nothing keeps a DM1 of the unit's own from beginning.
-    fn is_free_for_dm1(&self, now: u64) -> bool
-        ensures { result ≡ is_free_for_dm1 self.now.clock now self.now.node self.now.queue }
-    {
-        self.node.held().is_some()
-            && self.clock.settled_from <= now
-            && !self.queue.waits(Lane::Claims)
-            && !self.queue.waits(Lane::Messages)
-            && self.node.session() != Some(Kind::Dm1)
-    }
-}
-
-/// Has a node hear a frame, and withdraws and puts what it withdraws and puts; answers what the unit answered.
-///
-/// Where memory is refused nothing changed, and the unit was not asked.
-fn hear_frame(
-    node: &mut Node,
-    queue: &mut Queue,
-    alloc: Global,
-    frame: &Frame,
-    unit: &mut Box<dyn Unit>,
-) -> Result<Answer, LiveError>
-    requires sourced { queue.old.source ≡ claim_source node.old.claimer.held }
-    requires few { queue.old.put < MOST_PUT }
-    requires room { (steps.needs_room (group_of frame.now) ≡ false) ⊎ HasFreeLanes queue.old }
-    ensures heard { IfOk result (λ a. HasHeardFrame frame.now a (standing node.old (memory_of unit.old) queue.old) (standing node.new (memory_of unit.new) queue.new)) }
-    ensures asked { IfOk result (λ a. (u : _) × (unit.new ≡ record unit.old { value = u }) × IsAsked (Answers unit.old) (question node.old frame.now) a unit.old.value u) }
-    ensures sourced { queue.new.source ≡ claim_source node.new.claimer.held }
-    ensures name { name_of unit.new ≡ name_of unit.old }
-    ensures only { IfErr result (λ e. e ≡ LiveError.OutOfMemory) }
-    ensures err { OnErr result ((node.new ≡ node.old) × (queue.new ≡ queue.old)) }
-    ensures unasked { OnErr result (unit.new ≡ unit.old) }
-{
-    let _before = node.held();
-    let heard = hear_in(node, alloc, frame, unit)?;
-    let answer = heard.answer;
-    queue.take_in(heard, source_of(node));
-    Ok(answer)
-}
-
-/// Begins a message of the unit's fault memory to all; answers whether it did: not while a session of that kind is open.
-///
-/// Refused: `Unclaimed`, `OutOfMemory`; then nothing changed.
-fn begin_to_all(
-    node: &Node,
-    queue: &mut Queue,
-    alloc: Global,
-    kind: Kind,
-    unit: &Box<dyn Unit>,
-) -> Result<bool, LiveError>
-    requires sourced { queue.old.source ≡ claim_source node.now.claimer.held }
-    requires room { CanPut queue.old }
-    ensures begun { result ≡ Ok true → BeginsToAll kind (standing node.now (memory_of unit.now) queue.old) (standing node.now (memory_of unit.now) queue.new) }
-    ensures held { IfOk result (λ b. (b ≡ false) ↔ (is_open node.now.session kind ≡ true)) }
-    ensures unchanged { result ≡ Ok false → queue.new ≡ queue.old }
-    ensures unclaimed { IsErrOf result LiveError.Unclaimed ↔ IsNone node.now.claimer.held }
-    ensures only { IfErr result (λ e. (e ≡ LiveError.Unclaimed) ⊎ (e ≡ LiveError.OutOfMemory)) }
-    ensures err { OnErr result (queue.new ≡ queue.old) }
-    ensures source { queue.new.source ≡ queue.old.source }
-{
-    let Some(_source) = node.held() else {
-        return Err(LiveError::Unclaimed);
-    };
-    match begin_in(node, alloc, kind, unit)? {
-        Started::Held => Ok(false),
-        Started::Begun { put, .. } => {
-            queue.put(put, true);
-            Ok(true)
-        }
-    }
-}
-
-/// The address from which a node sends: the one that it holds, or 254.
-fn source_of(node: &Node) -> u8
-    ensures { result ≡ claim_source node.now.claimer.held }
-{
-    match node.held() {
-        Some(address) => address,
-        None => NULL_ADDRESS,
-    }
-}
-
-/// Whether a frame is one for which a unit may put something beside what waits.
-fn needs_room(frame: &Frame) -> bool
-    ensures { result ≡ steps.needs_room (group_of frame.now) }
-{
-    match ParameterGroup::read(frame) {
-        ParameterGroup::Request(_) => true,
-        ParameterGroup::ConnectionManagement { control, .. } => {
-            matches!(control, Control::Rts { .. } | Control::Cts { .. })
-        }
-        _ => false,
-    }
-}
-
-/// Whether a memory has something to tell: an active code, or a lamp.
-fn has_to_tell(memory: &FaultMemory) -> bool
-    ensures { result ≡ times.has_to_tell memory.now }
-{
-    let [lamps, _] = memory.lamps().to_bytes();
-    !memory.active().is_empty() || lamps != 0
-}
-
-/// The lane whose first frame goes at this time.
-fn lane_due(clock: &Clock, now: u64, queue: &Queue) -> Option<Lane>
-    ensures { result ≡ times.lane_due clock.now now queue.now }
-{
-    if queue.waits(Lane::Claims) {
-        return if clock.claim_from <= now {
-            Some(Lane::Claims)
-        } else {
-            None
-        };
-    }
-    if clock.settled_from > now {
-        return None;
-    }
-    if queue.waits(Lane::Singles) {
-        return Some(Lane::Singles);
-    }
-    if queue.waits(Lane::Session) {
-        return Some(Lane::Session);
-    }
-    if message_goes(clock, now, queue) {
-        Some(Lane::Messages)
-    } else {
-        None
-    }
-}
-
-/// When the first frame of some lane will go.
-fn frame_from(clock: &Clock, queue: &Queue) -> u64
-    ensures { (t : ℕ) → t < result → times.lane_due clock.now t queue.now ≡ None }
-{
-    if queue.waits(Lane::Claims) {
-        return clock.claim_from;
-    }
-    if queue.waits(Lane::Singles) || queue.waits(Lane::Session) {
-        return clock.settled_from;
-    }
-    match queue.first(Lane::Messages) {
-        Some(out) if is_further(out.part) => clock.settled_from.max(clock.packet_from),
-        Some(_) => clock.settled_from,
-        None => u64::MAX,
-    }
-}
-
-/// Whether the first frame of the messages goes at this time.
-fn message_goes(clock: &Clock, now: u64, queue: &Queue) -> bool
-    ensures { result ≡ times.message_goes clock.now now queue.now.messages }
-{
-    match queue.first(Lane::Messages) {
-        Some(out) => !is_further(out.part) || clock.packet_from <= now,
-        None => false,
-    }
-}
-
-/// Whether a frame is a further packet of a message.
-fn is_further(part: Option<Part>) -> bool
-    ensures { result ≡ times.is_further_part part }
-{
-    match part {
-        Some(Part::Begun(number)) => number > 0,
-        _ => false,
     }
 }

@@ -39,7 +39,8 @@ impl BadLines {
     fn count(&mut self, place: usize) -> bool
         requires { place < 13 }
         ensures told { result ≡ nat_lt (slice_index self.old.counts place) 10 }
-        ensures counted { self.new.counts ≡ slice_set self.old.counts place (min (slice_index self.old.counts place + 1) (2 ^ 64 - 1)) }
+        ensures counted { self.new.counts ≡ slice_set self.old.counts place
+            (min (slice_index self.old.counts place + 1) (2 ^ 64 - 1)) }
     {
         let before = self.counts[place];
         self.counts[place] = before.saturating_add(1);

@@ -8,23 +8,23 @@ use std::io::Write;
 
 /// The times of a log: those that are since the line before count for nothing.
 #[derive(Clone, Copy, Debug)]
-pub struct Clock {
+pub struct LineClock {
     times: Times,
     /// Whether a frame had no time before any had one.
     has_untimed: bool,
 }
 
-impl Clock {
+impl LineClock {
     /// No line was read.
-    pub fn new() -> Clock {
-        Clock {
+    pub fn new() -> LineClock {
+        LineClock {
             times: Times::Unseen,
             has_untimed: false,
         }
     }
 
-    /// Takes a line and what it says, and tells whether its time counts: else the line is to be heard without it. Where the times are found to
-    /// be since the line before, that is told on `errors`, once.
+    /// Takes a line and what it says, and tells whether its time counts: else the line is to be heard without it. Where the times
+    /// are found to be since the line before, that is told on `errors`, once.
     ///
     /// # Errors
     /// That could not be written.

@@ -54,7 +54,7 @@ impl LogFault {
 
 /// How a run ended.
 #[derive(Clone, Copy, Debug, PartialEq, Eq)]
-pub struct Ended {
+pub struct LinesEnd {
     /// How many lines were bad.
     pub bad: u64,
     /// Whether all lines were read, and none was a frame.
@@ -63,10 +63,10 @@ pub struct Ended {
     pub fault: Option<LogFault>,
 }
 
-impl Ended {
+impl LinesEnd {
     /// It failed before the first line.
-    pub fn failed(fault: LogFault) -> Ended {
-        Ended {
+    pub fn failed(fault: LogFault) -> LinesEnd {
+        LinesEnd {
             bad: 0,
             is_unread: false,
             fault: Some(fault),

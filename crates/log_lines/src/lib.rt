@@ -8,7 +8,7 @@ mod lines;
 mod notices;
 mod recognised;
 
-pub use clock::Clock;
-pub use fault::{Ended, LogFault};
+pub use clock::LineClock;
+pub use fault::{LinesEnd, LogFault};
 pub use lines::{ROOM, next_line};
 pub use notices::Notices;

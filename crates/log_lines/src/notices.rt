@@ -1,14 +1,14 @@
 //! What is told beside the output of a run over lines.
 
 use crate::bad_lines::BadLines;
-use crate::fault::{Ended, LogFault};
+use crate::fault::{LinesEnd, LogFault};
 use crate::recognised::Recognised;
 use candump_line::Line;
 use std::io;
 use std::io::Write;
 
-/// What is told beside the output of a run over lines: each of the first ten bad lines of a kind, how many further ones there were, and that
-/// no line is a frame.
+/// What is told beside the output of a run over lines: each of the first ten bad lines of a kind, how many further ones there were,
+/// and that no line is a frame.
 #[derive(Debug, Drop)]
 pub struct Notices {
     bad: BadLines,
@@ -24,7 +24,8 @@ impl Notices {
         }
     }
 
-    /// Takes a line and what it says. Tells on `errors` why it is bad, where it is among the first ten of its kind. Tells whether it is bad.
+    /// Takes a line and what it says. Tells on `errors` why it is bad, where it is among the first ten of its kind. Tells whether
+    /// it is bad.
     ///
     /// # Errors
     /// `Write`: it could not be told.
@@ -45,15 +46,15 @@ impl Notices {
         }
     }
 
-    /// How a run ended that came to the end of the input or not, or failed. Tells on `errors` how many bad lines were not told; and of a whole
-    /// input in which no line is a frame what it looks like.
-    pub fn ended<E: Write>(&self, errors: &mut E, end: Result<bool, LogFault>) -> Ended {
+    /// How a run ended that came to the end of the input or not, or failed. Tells on `errors` how many bad lines were not told; and
+    /// of a whole input in which no line is a frame what it looks like.
+    pub fn ended<E: Write>(&self, errors: &mut E, end: Result<bool, LogFault>) -> LinesEnd {
         let bad = self.bad.total();
         let (is_unread, told) = match self.tell_rest(errors, end.unwrap_or(false)) {
             Ok(is_unread) => (is_unread, None),
             Err(error) => (false, Some(LogFault::of_write(error))),
         };
-        Ended {
+        LinesEnd {
             bad,
             is_unread,
             fault: end.err().or(told),

@@ -2,7 +2,7 @@
 ghost use Rattle.std.specs.Prelude.{◌≡◌, ◌||◌, false, true, None, Some};
 ghost use Rattle.candump_line.specs.declared.other.OtherLog.{OtherLog as AnyLog};
 ghost use Rattle.candump_line.specs.OtherLogs.{other_log};
-ghost use Rattle.candump_line.specs.Said.{is_of_frames};
+ghost use Rattle.candump_line.specs.Content.{is_of_frames};
 
 use candump_line::{Line, OtherLog};
 use std::io;
@@ -33,7 +33,8 @@ impl Recognised {
     pub(crate) fn take(&mut self, line: &[u8], said: &Line<'_>)
         ensures frames { self.new.has_frames ≡ (self.old.has_frames || is_of_frames said.now) }
         ensures kept { (other : AnyLog) → self.old.looks ≡ Some other → self.new.looks ≡ Some other }
-        ensures first { self.old.has_frames ≡ false → is_of_frames said.now ≡ false → self.old.looks ≡ None → self.new.looks ≡ other_log line.now }
+        ensures first { self.old.has_frames ≡ false → is_of_frames said.now ≡ false → self.old.looks ≡ None
+            → self.new.looks ≡ other_log line.now }
     {
         self.lines = self.lines.saturating_add(1);
         if self.has_frames {
@@ -48,8 +49,8 @@ impl Recognised {
         }
     }
 
-    /// Tells that no line is a frame, what the input looks like, and how it is converted. Tells whether that was so: an input without any
-    /// line lacks nothing.
+    /// Tells that no line is a frame, what the input looks like, and how it is converted. Tells whether that was so: an input
+    /// without any line lacks nothing.
     pub(crate) fn tell<E: Write>(&self, errors: &mut E) -> io::Result<bool> {
         if self.has_frames || self.lines == 0 {
             return Ok(false);

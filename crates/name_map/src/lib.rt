@@ -14,8 +14,8 @@ use std::marker::Model;
 
 /// Values under NAMEs, in the order in which the NAMEs came.
 ///
-/// Who sends claims chooses their NAMEs. So a NAME is found in a tree in the order of the NAMEs, whose depth the number of NAMEs bounds, and
-/// not by a hash.
+/// Who sends claims chooses their NAMEs. So a NAME is found in a tree in the order of the NAMEs, whose depth the number of NAMEs
+/// bounds, and not by a hash.
 #[derive(Drop)]
 pub struct NameMap<V> {
     names: Vec<Name>,

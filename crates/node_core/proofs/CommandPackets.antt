@@ -5,7 +5,7 @@ use Rattle.std.proofs.lemmas.Bool.{lt-ltb}
 use Rattle.node_core.specs.Commanding.{completed, continued}
 use Rattle.requests.specs.Layouts.{commanded_of}
 use Rattle.requests.specs.declared.commanded.Commanded.{Commanded}
-use Rattle.node_core.specs.declared.commanding.HalfCommand.TheVariants.{Nothing, Started, First}
+use Rattle.node_core.specs.declared.commanding.PartialCommand.TheVariants.{Nothing, Started, First}
 use Rattle.transport.specs.Assembling.{is_next}
 use Rattle.transport.specs.Pieces.{joined}
 

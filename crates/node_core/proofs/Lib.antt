@@ -3,6 +3,6 @@ pub mod Unasked
 pub mod NineBytes
 pub mod PartLists
 pub mod Contested
-pub mod Sifting
-pub mod HalfCommandLists
+pub mod Accepting
+pub mod PartialCommandLists
 pub mod CommandPackets

@@ -24,8 +24,8 @@ use Rattle.dm_messages.specs.View.{payload_of}
 use Rattle.node_core.specs.Deed.{Deed, Nothing, Replies, Begins, Sends, EndsSession, Claims}
 use Rattle.node_core.specs.Asking.{is_agreed}
 use Rattle.node_core.specs.declared.heard.Answer.{Answer}
-use Rattle.node_core.specs.Commanding.{completed, half_from, is_to_all, for_name}
-use Rattle.node_core.specs.Requested.{wanted_by, is_concerned, counts_from, acknowledgment}
+use Rattle.node_core.specs.Commanding.{completed, partial_from, is_to_all, for_name}
+use Rattle.node_core.specs.Requested.{wanted_by, is_addressed, may_answer, acknowledgment}
 use Rattle.node_core.specs.Reaction.{on_step, asked_for_message, asked_at_address, asked_of_all, asked_for_more, on_request, is_with, on_cts, is_open_with, is_all_queued_with, on_end_ack, on_abort, on_control, on_command, reaction_to}
 use Rattle.node_core.specs.declared.session.OpenSession.{OpenSession}
 use Rattle.node_core.specs.declared.requested.Wanted.{Wanted}
@@ -235,7 +235,7 @@ more_is_lawful node memory answer pgn to source (Some address) h =
     let L = IsLawfulDeed node memory (Request pgn to source) in
     let all : Deed = asked_of_all node memory address (wanted_by pgn) in
     let one : Deed = asked_at_address node memory answer pgn address source (wanted_by pgn) in
-    if_case L (counts_from address source) (if to == 255 then all else one) Nothing
+    if_case L (may_answer address source) (if to == 255 then all else one) Nothing
     (λ counts.
     let both = and_parts (nat_le source 253) (not (source == address)) counts in
     let apart : source ≢ address = λ e. let same = eq-eqb source address e in let other = is_not (source == address) both.1 in cc in
@@ -250,7 +250,7 @@ request_is_lawful node memory answer pgn to source =
     let L = IsLawfulDeed node memory (Request pgn to source) in
     let claim : Deed = Replies (claim_frame_value node.claimer.name node.claimer.held) in
     let more : Deed = asked_for_more node memory answer pgn to source node.claimer.held in
-    if_case L (not (is_concerned node.claimer.held to)) Nothing (if pgn == 60928 then claim else more)
+    if_case L (not (is_addressed node.claimer.held to)) Nothing (if pgn == 60928 then claim else more)
     (λ _. record { uncontested = refl; uncut = refl })
     (λ _.
     if_case L (pgn == 60928) claim more
@@ -347,5 +347,5 @@ reaction_is_lawful node memory answer (Acknowledgment control requester pgn dest
 reaction_is_lawful node memory answer (Diagnostic kind source bytes) held = record { uncontested = refl; uncut = refl }
 reaction_is_lawful node memory answer (ConnectionManagement source destination control) held = control_is_lawful node memory source destination control
 reaction_is_lawful node memory answer (DataTransfer source destination bytes) held =
-    command_is_lawful node memory answer source destination bytes _ (command_heard_fits (is_to_all destination source) node.claimer.name (completed (half_from node.half_commands source) bytes))
+    command_is_lawful node memory answer source destination bytes _ (command_heard_fits (is_to_all destination source) node.claimer.name (completed (partial_from node.partial_commands source) bytes))
 reaction_is_lawful node memory answer Other held = record { uncontested = refl; uncut = refl }

@@ -9,5 +9,5 @@ pub mod Laws
 pub mod Beginning
 pub mod Refusals
 pub mod Pieces
-pub mod HalfCommands
+pub mod PartialCommands
 pub mod GivingUp

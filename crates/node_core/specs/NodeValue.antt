@@ -3,8 +3,8 @@ use Rattle.std.specs.Prelude.{ℕ, Bool, false, List, replicate, Option, Some, N
 use Rattle.can_frame.specs.declared.address.TheConstants.{HOLDABLE_ADDRESSES}
 use Rattle.address_claim.specs.Claiming.{ClaimerValue, new_claimer, is_held}
 use Rattle.dm_messages.specs.declared.kind.Kind.{Kind}
-use Rattle.node_core.specs.declared.commanding.HalfCommand.{HalfCommand}
-use Rattle.node_core.specs.declared.commanding.HalfCommand.TheVariants.{Nothing}
+use Rattle.node_core.specs.declared.commanding.PartialCommand.{PartialCommand}
+use Rattle.node_core.specs.declared.commanding.PartialCommand.TheVariants.{Nothing}
 use Rattle.node_core.specs.declared.session.OpenSession.{OpenSession}
 use Rattle.dm_messages.specs.View.{same_kind}
 
@@ -12,7 +12,7 @@ use Rattle.dm_messages.specs.View.{same_kind}
 -- (0 to 253); and its open session
 pub record NodeValue : Type 0 where
   pub claimer : ClaimerValue
-  pub half_commands : List HalfCommand
+  pub partial_commands : List PartialCommand
   pub session : Option OpenSession
 
 -- a session of that kind is open
@@ -31,4 +31,4 @@ is_destination session address = is_held (open_address session) address
 
 -- a unit of that NAME that holds the address it wants, and has heard nothing
 abbrev pub new_node : ℕ → ℕ → NodeValue
-new_node name want = record { claimer = new_claimer name want; half_commands = replicate HOLDABLE_ADDRESSES Nothing; session = None }
+new_node name want = record { claimer = new_claimer name want; partial_commands = replicate HOLDABLE_ADDRESSES Nothing; session = None }

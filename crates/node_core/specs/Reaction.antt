@@ -24,11 +24,11 @@ use Rattle.unit_trait.specs.declared.question.Question.TheVariants.{Hold}
 use Rattle.node_core.specs.NodeValue.{NodeValue, is_open, is_destination}
 use Rattle.dm_messages.specs.View.{payload_of}
 use Rattle.node_core.specs.Deed.{Deed, Nothing, Replies, Begins, Sends, EndsSession, Claims, heard_of, after_deed}
-use Rattle.node_core.specs.Commanding.{command_started, continued, completed, half_from, is_to_all, for_name}
-use Rattle.node_core.specs.Requested.{wanted_by, is_concerned, counts_from, put_by, acknowledgment}
+use Rattle.node_core.specs.Commanding.{command_started, continued, completed, partial_from, is_to_all, for_name}
+use Rattle.node_core.specs.Requested.{wanted_by, is_addressed, may_answer, put_by, acknowledgment}
 use Rattle.node_core.specs.Asking.{is_agreed, memory_answered, IsAnswerTo}
-use Rattle.node_core.specs.declared.commanding.HalfCommand.{HalfCommand}
-use Rattle.node_core.specs.declared.commanding.HalfCommand.TheVariants as half
+use Rattle.node_core.specs.declared.commanding.PartialCommand.{PartialCommand}
+use Rattle.node_core.specs.declared.commanding.PartialCommand.TheVariants as partial
 use Rattle.node_core.specs.declared.session.OpenSession.{OpenSession}
 use Rattle.node_core.specs.declared.heard.Answer.{Answer}
 use Rattle.node_core.specs.declared.heard.Heard.{Heard}
@@ -75,26 +75,26 @@ asked_of_all node memory address _ = Nothing
 abbrev pub asked_for_more : NodeValue → MemoryValue → Answer → ℕ → ℕ → ℕ → Option ℕ → Deed
 asked_for_more node memory answer pgn destination source None = Nothing
 asked_for_more node memory answer pgn destination source (Some address) =
-    if counts_from address source
+    if may_answer address source
     then (if destination == GLOBAL_ADDRESS then asked_of_all node memory address (wanted_by pgn) else asked_at_address node memory answer pgn address source (wanted_by pgn))
     else Nothing
 
 -- a request for the claim is answered with it, or with cannot claim
 abbrev pub on_request : NodeValue → MemoryValue → Answer → ℕ → ℕ → ℕ → Deed
 on_request node memory answer pgn destination source =
-    if not (is_concerned node.claimer.held destination) then Nothing
+    if not (is_addressed node.claimer.held destination) then Nothing
     else if pgn == ADDRESS_CLAIMED then Replies (claim_frame_value node.claimer.name node.claimer.held)
     else asked_for_more node memory answer pgn destination source node.claimer.held
 
 -- what a request for more than the claim puts to the unit
 abbrev pub put_with : ℕ → ℕ → Option ℕ → Option Question
 put_with pgn source None = None
-put_with pgn source (Some address) = if counts_from address source then put_by (wanted_by pgn) else None
+put_with pgn source (Some address) = if may_answer address source then put_by (wanted_by pgn) else None
 
 -- what a request puts to the unit: a clear, asked at its address or of all, by who may hold another
 abbrev pub put_by_request : NodeValue → ℕ → ℕ → ℕ → Option Question
 put_by_request node pgn destination source =
-    if not (is_concerned node.claimer.held destination) then None
+    if not (is_addressed node.claimer.held destination) then None
     else if pgn == ADDRESS_CLAIMED then None
     else put_with pgn source node.claimer.held
 
@@ -150,7 +150,7 @@ on_control node source destination (Bam size packets pgn) = Nothing
 -- the command for this NAME that a packet to all makes whole
 abbrev pub command_heard : NodeValue → ℕ → ℕ → List ℕ → Option Commanded
 command_heard node source destination bytes =
-    if is_to_all destination source then for_name node.claimer.name (completed (half_from node.half_commands source) bytes) else None
+    if is_to_all destination source then for_name node.claimer.name (completed (partial_from node.partial_commands source) bytes) else None
 
 -- it is put to the unit
 abbrev pub put_by_command : Option Commanded → Option Question
@@ -185,27 +185,27 @@ is_of_another None name = false
 is_of_another (Some last) name = not (last == name)
 
 -- a half command from such an address is dropped
-abbrev pub halves_after_claim : NodeValue → ℕ → ℕ → List HalfCommand
+abbrev pub halves_after_claim : NodeValue → ℕ → ℕ → List PartialCommand
 halves_after_claim node source name =
-    if is_of_another (slice_index_or node.claimer.noted source None) name then slice_set node.half_commands source half.Nothing
-    else node.half_commands
+    if is_of_another (slice_index_or node.claimer.noted source None) name then slice_set node.partial_commands source partial.Nothing
+    else node.partial_commands
 
 -- an announced broadcast drops what is half joined from its source, and may start a commanded address
 abbrev pub announced : NodeValue → ℕ → ℕ → ℕ → ℕ → NodeValue
 announced node source destination size pgn =
-    if is_to_all destination source then record node { half_commands = slice_set node.half_commands source (command_started size pgn) } else node
+    if is_to_all destination source then record node { partial_commands = slice_set node.partial_commands source (command_started size pgn) } else node
 
 -- a broadcast packet goes on with what is half joined from its source
 abbrev pub packet_heard : NodeValue → ℕ → ℕ → List ℕ → NodeValue
 packet_heard node source destination bytes =
     if is_to_all destination source
-    then record node { half_commands = slice_set node.half_commands source (continued (half_from node.half_commands source) bytes) }
+    then record node { partial_commands = slice_set node.partial_commands source (continued (partial_from node.partial_commands source) bytes) }
     else node
 
 -- what the unit takes note of before any deed: who claims which address, and commanded addresses on their way
 abbrev pub noted_from : NodeValue → Group → NodeValue
 noted_from node (AddressClaimed source name) =
-    record node { claimer = after_claim source name node.claimer; half_commands = halves_after_claim node source name }
+    record node { claimer = after_claim source name node.claimer; partial_commands = halves_after_claim node source name }
 noted_from node (ConnectionManagement source destination (Bam size packets pgn)) = announced node source destination size pgn
 noted_from node (DataTransfer source destination bytes) = packet_heard node source destination bytes
 noted_from node _ = node

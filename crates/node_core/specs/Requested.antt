@@ -24,12 +24,12 @@ wanted_by pgn =
     else wanted.Unsupported
 
 -- it goes to all, or to the address held
-abbrev pub is_concerned : Option ℕ → ℕ → Bool
-is_concerned held destination = destination == GLOBAL_ADDRESS || is_held held destination
+abbrev pub is_addressed : Option ℕ → ℕ → Bool
+is_addressed held destination = destination == GLOBAL_ADDRESS || is_held held destination
 
 -- a request for more than the claim counts where it comes from an address that can be held, and not from the unit's own
-abbrev pub counts_from : ℕ → ℕ → Bool
-counts_from address source = nat_le source GREATEST_ADDRESS && not (source == address)
+abbrev pub may_answer : ℕ → ℕ → Bool
+may_answer address source = nat_le source GREATEST_ADDRESS && not (source == address)
 
 -- the acknowledgment to all of a request from `requester`: control 0 is "positive", 1 "negative", 3 "cannot respond now"
 abbrev pub acknowledgment : ℕ → ℕ → ℕ → ℕ → FrameValue

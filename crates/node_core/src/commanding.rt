@@ -13,7 +13,7 @@ const COMMAND_SIZE: u16 = 9;
 ///
 /// A commanded address is nine bytes in two packets, so three states tell all.
 #[derive(Clone, Copy, Debug, PartialEq, Eq)]
-pub enum HalfCommand {
+pub enum PartialCommand {
     /// Nothing.
     Nothing,
     /// Its announcement.
@@ -22,27 +22,27 @@ pub enum HalfCommand {
     First([u8; 7]),
 }
 
-impl HalfCommand {
+impl PartialCommand {
     /// What an announced broadcast starts: a commanded address, if it is one.
-    pub fn started(size: u16, pgn: Pgn) -> HalfCommand
+    pub fn started(size: u16, pgn: Pgn) -> PartialCommand
         ensures { result ≡ commanding.command_started size pgn }
     {
         if size == COMMAND_SIZE && pgn == Pgn::COMMANDED_ADDRESS {
-            HalfCommand::Started
+            PartialCommand::Started
         } else {
-            HalfCommand::Nothing
+            PartialCommand::Nothing
         }
     }
 
     /// What is half joined after a packet.
     ///
     /// Nothing after one that is not the next, and after the last.
-    pub fn continued(self, bytes: &[u8]) -> HalfCommand
+    pub fn continued(self, bytes: &[u8]) -> PartialCommand
         ensures { result ≡ commanding.continued self bytes.now }
     {
         match self {
-            HalfCommand::Started => first(bytes),
-            HalfCommand::First(_) | HalfCommand::Nothing => HalfCommand::Nothing,
+            PartialCommand::Started => first(bytes),
+            PartialCommand::First(_) | PartialCommand::Nothing => PartialCommand::Nothing,
         }
     }
 
@@ -50,7 +50,7 @@ impl HalfCommand {
     ///
     /// Returns whether it took it; if not, nothing changed.
     #[inline(always)]
-    pub fn go_on(&mut self, name: Name, bytes: &[u8]) -> bool
+    pub fn absorb_packet(&mut self, name: Name, bytes: &[u8]) -> bool
         ensures unless { IsTrue result → commanding.for_name name (commanding.completed self.old bytes.now) ≡ None }
         ensures joined { IsTrue result → self.new ≡ commanding.continued self.old bytes.now }
         ensures whole { IsFalse result → self.new ≡ self.old }
@@ -63,12 +63,12 @@ impl HalfCommand {
     }
 
     /// Whether there is something half joined.
-    pub fn is_half(self) -> bool
-        ensures { result ≡ commanding.is_half self }
+    pub fn is_partial(self) -> bool
+        ensures { result ≡ commanding.is_partial self }
     {
         match self {
-            HalfCommand::Nothing => false,
-            HalfCommand::Started | HalfCommand::First(_) => true,
+            PartialCommand::Nothing => false,
+            PartialCommand::Started | PartialCommand::First(_) => true,
         }
     }
 
@@ -77,28 +77,28 @@ impl HalfCommand {
         ensures { result ≡ commanding.completed self bytes.now }
     {
         match self {
-            HalfCommand::First(piece) => whole(piece, bytes),
-            HalfCommand::Started | HalfCommand::Nothing => None,
+            PartialCommand::First(piece) => whole(piece, bytes),
+            PartialCommand::Started | PartialCommand::Nothing => None,
         }
     }
 }
 
 /// What the first packet makes.
-fn first(bytes: &[u8]) -> HalfCommand
-    ensures { result ≡ commanding.continued HalfCommand.Started bytes.now }
+fn first(bytes: &[u8]) -> PartialCommand
+    ensures { result ≡ commanding.continued PartialCommand.Started bytes.now }
 {
     if !is_packet(1, bytes) {
-        return HalfCommand::Nothing;
+        return PartialCommand::Nothing;
     }
     match <[u8; 7]>::try_from(&bytes[1..]) {
-        Ok(piece) => HalfCommand::First(piece),
-        Err(_) => HalfCommand::Nothing,
+        Ok(piece) => PartialCommand::First(piece),
+        Err(_) => PartialCommand::Nothing,
     }
 }
 
 /// What the second packet makes.
 fn whole(piece: [u8; 7], bytes: &[u8]) -> Option<Commanded>
-    ensures { result ≡ commanding.completed (HalfCommand.First piece) bytes.now }
+    ensures { result ≡ commanding.completed (PartialCommand.First piece) bytes.now }
 {
     if !is_packet(2, bytes) {
         return None;

@@ -3,19 +3,19 @@
 //! It owes something to frames that it hears, and begins messages (SAE J1939-21, -73, -81).
 #![tactic(auto)]
 
+mod acceptance;
 mod commanding;
 mod error;
-mod half_commands;
 mod heard;
 mod node;
 mod out;
+mod partial_commands;
 mod parts;
 mod requested;
 mod session;
-mod sifted;
 
+pub use acceptance::Acceptance;
 pub use error::NodeError;
 pub use heard::{Answer, Begun, Heard, Started, Withdraw};
 pub use node::Node;
 pub use out::{Out, Outs, Part, Piece};
-pub use sifted::Sifted;

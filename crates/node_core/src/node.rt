@@ -3,9 +3,9 @@ ghost use Rattle.can_frame.specs.declared.address.TheConstants.{GREATEST_ADDRESS
 ghost use Rattle.address_claim.specs.Frames.{claim_frame_value};
 
 use crate::error::NodeError;
-use crate::half_commands::HalfCommands;
 use crate::heard::{Answer, Begun, Heard, Started, Withdraw};
 use crate::out::Outs;
+use crate::partial_commands::PartialCommands;
 use crate::parts::{first_part, parts_to_all};
 use crate::session::OpenSession;
 use address_claim::{Claimer, claim_frame};
@@ -17,12 +17,12 @@ use std::alloc::Global;
 use std::marker::Model;
 use unit_trait::Unit;
 
+mod absorbing;
 mod asked;
 mod claims;
 mod commands;
 mod giving_up;
 mod sessions;
-mod settling;
 
 /// A unit's place on the bus.
 ///
@@ -30,7 +30,7 @@ mod settling;
 #[derive(Drop)]
 pub struct Node {
     claimer: Claimer,
-    half_commands: HalfCommands,
+    partial_commands: PartialCommands,
     session: Option<OpenSession>,
 }
 
@@ -39,7 +39,7 @@ impl Model for Node {
 
     ghost Value = { NodeValue };
 
-    ghost view = { λ n. record { claimer = n.claimer; half_commands = n.half_commands; session = n.session } };
+    ghost view = { λ n. record { claimer = n.claimer; partial_commands = n.partial_commands; session = n.session } };
 }
 
 impl Node {
@@ -57,7 +57,7 @@ impl Node {
     {
         Node {
             claimer: Claimer::new(name, want),
-            half_commands: HalfCommands::none(),
+            partial_commands: PartialCommands::none(),
             session: None,
         }
     }
@@ -100,7 +100,8 @@ impl Node {
     pub fn begin(&self, alloc: Global, kind: Kind, unit: &dyn Unit) -> Result<Started, NodeError>
         ensures unclaimed { IsErrOf result NodeError.Unclaimed ↔ IsNone self.now.claimer.held }
         ensures held { (result ≡ Ok Started.Held) ↔ (IsSome self.now.claimer.held × (is_open self.now.session kind ≡ true)) }
-        ensures started { IfOk result (λ s. IfSome self.now.claimer.held (λ source. s ≡ begins self.now.session kind (memory_of unit.now) source)) }
+        ensures started { IfOk result
+            (λ s. IfSome self.now.claimer.held (λ source. s ≡ begins self.now.session kind (memory_of unit.now) source)) }
         ensures few { IfOk result IsFew }
     {
         let Some(source) = self.claimer.held() else {
@@ -136,7 +137,8 @@ impl Node {
     ) -> Result<Heard, NodeError>
         ensures name { name_of unit.new ≡ name_of unit.old }
         ensures heard { IfOk result (λ h. Reacts frame.now self.old (memory_of unit.old) h self.new (memory_of unit.new)) }
-        ensures asked { IfOk result (λ h. (u : _) × (unit.new ≡ (unit.old.0, u)) × IsAsked (Answers unit.old) (question self.old frame.now) h.answer unit.old.1 u) }
+        ensures asked { IfOk result (λ h. (u : _) × (unit.new ≡ (unit.old.0, u))
+            × IsAsked (Answers unit.old) (question self.old frame.now) h.answer unit.old.1 u) }
         ensures few { IfOk result (λ h. length h.put ≤ 256) }
         ensures refused { IfErr result (λ e. e ≡ NodeError.OutOfMemory) }
         ensures kept { OnErr result (self.new ≡ self.old) }

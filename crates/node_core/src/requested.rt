@@ -1,6 +1,6 @@
 ghost use Rattle.std.specs.Prelude.{◌≡◌, ◌≢◌, Some};
 ghost use Rattle.node_core.specs.Asking.{memory_answered, IsAsked};
-ghost use Rattle.node_core.specs.Requested.{wanted_by, counts_from, acknowledgment};
+ghost use Rattle.node_core.specs.Requested.{wanted_by, may_answer, acknowledgment};
 
 use crate::heard::Answer;
 use can_frame::{Frame, GLOBAL_ADDRESS, GREATEST_ADDRESS, Pgn};
@@ -38,8 +38,8 @@ impl Wanted {
 /// Whether a request from this source may ask for more than the claim.
 ///
 /// It may if the source can be held, 0 to 253, and is not the unit's own address.
-pub fn counts_from(address: u8, source: u8) -> bool
-    ensures { result ≡ counts_from address source }
+pub fn may_answer(address: u8, source: u8) -> bool
+    ensures { result ≡ may_answer address source }
 {
     source <= GREATEST_ADDRESS && source != address
 }

@@ -8,15 +8,15 @@ use Rattle.transport.specs.Pieces.{joined}
 use Rattle.transport.specs.declared.control.Control.TheVariants.{Rts, EndAck, Bam, Abort}
 
 -- what is half joined: by source, and by destination; its tag is its group
-abbrev pub Halves : Type 0
-Halves = List (List (Option (PartialValue ℕ)))
+abbrev pub PairHalves : Type 0
+PairHalves = List (List (Option (PartialValue ℕ)))
 
 -- the message half joined from a source to a destination; a broadcast's destination is 255
-abbrev pub half : Halves → ℕ → ℕ → Option (PartialValue ℕ)
+abbrev pub half : PairHalves → ℕ → ℕ → Option (PartialValue ℕ)
 half = pair_at
 
 -- every table is of 256 addresses
-pub record AreWhole (halves : Halves) : Type 0 where
+pub record AreWhole (halves : PairHalves) : Type 0 where
   pub sources : length halves ≡ 256
   pub destinations : (source : ℕ) → source < 256 → length (pairs_from halves source) ≡ 256
 
@@ -54,6 +54,6 @@ whole_of s d None = None
 whole_of s d (Some p) = if is_whole p then Some (record { source = s; dest = d; pgn = p.tag; bytes = joined p.size p.pieces }) else None
 
 -- the message that a frame makes whole: that of which it is the last packet
-abbrev pub joined_by : Group → Halves → Option JoinedValue
+abbrev pub joined_by : Group → PairHalves → Option JoinedValue
 joined_by (DataTransfer s d bytes) halves = whole_of s d (with_packet bytes (half halves s d))
 joined_by _ halves = None

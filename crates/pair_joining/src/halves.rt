@@ -15,13 +15,13 @@ use transport::{Control, Took};
 
 /// Messages half joined between any two addresses: at most one from each to each, and one from each to all.
 #[derive(Drop)]
-pub struct Halves {
+pub struct PairHalves {
     alloc: Global,
     pairs: PairedPartials<Pgn>,
 }
 
-impl Model for Halves {
-    ghost use Rattle.pair_joining.specs.Halves.{AreWhole, Halves as HalvesValue};
+impl Model for PairHalves {
+    ghost use Rattle.pair_joining.specs.Halves.{AreWhole, PairHalves as HalvesValue};
 
     ghost Value = { HalvesValue };
 
@@ -30,16 +30,16 @@ impl Model for Halves {
     ghost invariant = { λ h. AreWhole h.pairs };
 }
 
-impl Halves {
+impl PairHalves {
     /// Nothing is half joined.
     ///
     /// # Errors
     /// Memory was refused.
-    pub fn new(alloc: Global) -> Result<Halves, AllocError>
+    pub fn new(alloc: Global) -> Result<PairHalves, AllocError>
         ensures { IfOk result (λ halves. (source destination : ℕ) → half halves source destination ≡ None) }
     {
         let pairs = PairedPartials::new(alloc)?;
-        Ok(Halves { alloc, pairs })
+        Ok(PairHalves { alloc, pairs })
     }
 
     /// Takes what a frame says, and answers the message that it makes whole.
@@ -154,7 +154,8 @@ impl Halves {
     fn joined_with(&mut self, source: u8, dest: u8, packet: &[u8]) -> Result<Joined, AllocError>
         requires { answer_to packet.now (half self.old source dest) ≡ Some Took.Whole }
         ensures same { self.new ≡ self.old }
-        ensures joined { IfOk result (λ joined. Some joined ≡ whole_of source dest (with_packet packet.now (half self.old source dest))) }
+        ensures joined { IfOk result
+            (λ joined. Some joined ≡ whole_of source dest (with_packet packet.now (half self.old source dest))) }
     {
         let alloc = self.alloc;
         let Some(partial) = self.pairs.get(source, dest) else {

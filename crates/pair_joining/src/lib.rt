@@ -6,5 +6,5 @@
 mod halves;
 mod joined;
 
-pub use halves::Halves;
+pub use halves::PairHalves;
 pub use joined::Joined;

@@ -1,10 +1,10 @@
-use crate::unit::Unit;
+use crate::unit::DrawnUnit;
 
 /// An address that changed hands: another unit claimed it, and the one that held it lost it.
 #[derive(Clone, Copy, Debug)]
 pub struct Handover {
     pub moment: u64,
     pub address: u8,
-    pub from: Unit,
-    pub to: Unit,
+    pub from: DrawnUnit,
+    pub to: DrawnUnit,
 }

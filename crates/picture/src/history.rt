@@ -4,7 +4,7 @@ ghost use Rattle.picture.specs.Histories.{Remembers};
 ghost use Rattle.picture.specs.declared.history.Happened.{Happened as AChange};
 
 use crate::brief::Brief;
-use crate::unit::Unit;
+use crate::unit::DrawnUnit;
 use circular_buffer::HeapCircularBuffer;
 use dm_messages::Kind;
 use std::alloc::{AllocError, Global};
@@ -12,20 +12,20 @@ use std::marker::Model;
 
 /// What a line of a log changed.
 #[derive(Clone, Copy, Debug)]
-pub enum Told {
+pub enum Occurrence {
     /// The unit holds this address, which another one lost by that, if one did.
     At {
-        unit: Unit,
+        unit: DrawnUnit,
         address: u8,
-        lost_by: Option<Unit>,
+        lost_by: Option<DrawnUnit>,
     },
     /// The unit holds no address.
     NoAddress {
-        unit: Unit,
+        unit: DrawnUnit,
     },
     /// The unit tells something else than before.
     Message {
-        unit: Unit,
+        unit: DrawnUnit,
         kind: Kind,
         brief: Brief,
     },
@@ -41,13 +41,13 @@ pub enum Told {
     },
     /// The unit acknowledged a request of a parameter group.
     Acknowledged {
-        unit: Unit,
+        unit: DrawnUnit,
         control: u8,
         pgn: u32,
     },
     /// A message of the unit could not be read.
     Unread {
-        unit: Unit,
+        unit: DrawnUnit,
         kind: Kind,
     },
 }
@@ -58,12 +58,13 @@ pub struct Happened {
     pub line: u64,
     /// Microseconds, or the line of a log that has no times.
     pub moment: u64,
-    pub told: Told,
+    pub told: Occurrence,
 }
 
-/// How many of the first changes are kept, and how many of the last.
+/// How many of the first changes are kept, at most.
 pub const FIRST: usize = 500;
 
+/// How many of the last changes are kept, at most, behind the first.
 pub const LAST: usize = 500;
 
 /// The first and the last changes, seen as these, and how many between them are left out.
@@ -170,7 +171,8 @@ fn put(changes: &mut Vec<Happened>, change: &Happened) -> Result<(), AllocError>
 /// Puts a change behind all others. Tells whether the first of them goes for it, since there was no room.
 #[tactic(auto, using(crate::proofs::Remembering::one_is_lost))]
 fn is_one_lost(changes: &mut HeapCircularBuffer<Happened>, change: &Happened) -> bool
-    ensures items { changes.new ≡ buffer (keep_last changes.old.capacity (changes.old.items ++ change.now ∷ [])) changes.old.capacity }
+    ensures items { changes.new ≡ buffer (keep_last changes.old.capacity (changes.old.items ++ change.now ∷ []))
+        changes.old.capacity }
     ensures lost { result ≡ not (nat_lt (length changes.old.items) changes.old.capacity) }
 {
     changes.push_back(*change).is_some()

@@ -4,15 +4,17 @@ use crate::brief::Brief;
 use crate::severity::Severity;
 use crate::span::{Shows, Span};
 use crate::track::Track;
-use crate::unit::{Sender, Unit};
+use crate::unit::{DrawnUnit, Sender};
 use dm_messages::Kind;
 use std::alloc::{AllocError, Global};
 
-/// How many spans of addresses a lane keeps, how many of DM1 messages, and how many of DM2 and of DM6 messages.
+/// How many spans of held addresses a lane keeps, at most.
 pub const ADDRESS_SPANS: usize = 128;
 
+/// How many spans of DM1 messages a lane keeps, at most.
 pub const DM1_SPANS: usize = 1024;
 
+/// How many spans of DM2 messages a lane keeps, at most, and as many of DM6 messages.
 pub const OTHER_SPANS: usize = 64;
 
 /// How equal messages in a row ended.
@@ -26,14 +28,14 @@ pub struct RunEnd {
 
 /// A lane of the picture: what one unit held and told.
 #[derive(Debug, Drop)]
-pub struct Lane {
-    unit: Unit,
+pub struct UnitLane {
+    unit: DrawnUnit,
     addresses: Track,
     holding: Holding,
     is_past: bool,
-    dm1: Messages,
-    dm2: Messages,
-    dm6: Messages,
+    dm1: MessageMarks,
+    dm2: MessageMarks,
+    dm6: MessageMarks,
 }
 
 /// Which address a unit holds, as far as was read.
@@ -51,23 +53,23 @@ pub enum Holding {
 
 /// Messages of a kind: those that ended, and those that may go on.
 #[derive(Debug, Drop)]
-struct Messages {
+struct MessageMarks {
     ended: Track,
-    newest: Option<Newest>,
+    newest: Option<NewestSeen>,
 }
 
 /// The newest message, and when the first equal to it was told.
 #[derive(Clone, Copy, Debug)]
-struct Newest {
+struct NewestSeen {
     brief: Brief,
     since: u64,
 }
 
-impl Messages {
-    fn new(alloc: Global, most: usize) -> Messages
+impl MessageMarks {
+    fn new(alloc: Global, most: usize) -> MessageMarks
         requires { 2 ≤ most }
     {
-        Messages {
+        MessageMarks {
             ended: Track::new(alloc, most),
             newest: None,
         }
@@ -76,7 +78,7 @@ impl Messages {
     /// The newest messages end, and others begin at this moment.
     fn begin(&mut self, brief: Brief, moment: u64, end: Option<RunEnd>) -> Result<(), AllocError> {
         self.end(moment, end)?;
-        self.newest = Some(Newest {
+        self.newest = Some(NewestSeen {
             brief,
             since: moment,
         });
@@ -93,7 +95,7 @@ impl Messages {
     }
 }
 
-impl Newest {
+impl NewestSeen {
     /// The span of messages that ended.
     fn ended(self, moment: u64, end: Option<RunEnd>) -> Span {
         let (to, times) = match end {
@@ -109,32 +111,32 @@ impl Newest {
     }
 }
 
-impl Lane {
+impl UnitLane {
     /// A lane of a unit of which nothing was told.
-    pub(crate) fn new(alloc: Global, unit: &Unit) -> Lane {
-        Lane {
+    pub(crate) fn new(alloc: Global, unit: &DrawnUnit) -> UnitLane {
+        UnitLane {
             unit: *unit,
             addresses: Track::new(alloc, ADDRESS_SPANS),
             holding: Holding::Never,
             is_past: false,
-            dm1: Messages::new(alloc, DM1_SPANS),
-            dm2: Messages::new(alloc, OTHER_SPANS),
-            dm6: Messages::new(alloc, OTHER_SPANS),
+            dm1: MessageMarks::new(alloc, DM1_SPANS),
+            dm2: MessageMarks::new(alloc, OTHER_SPANS),
+            dm6: MessageMarks::new(alloc, OTHER_SPANS),
         }
     }
 
     /// Whose it is.
-    pub fn unit(&self) -> &Unit {
+    pub fn unit(&self) -> &DrawnUnit {
         &self.unit
     }
 
     /// Whether it is of this unit.
-    pub(crate) fn is_of(&self, unit: &Unit) -> bool {
+    pub(crate) fn is_of(&self, unit: &DrawnUnit) -> bool {
         self.unit == *unit
     }
 
-    /// Whether it is of an address that nobody has claimed, and frames were missed since, or somebody claimed it: who sends from there now is
-    /// another lane's.
+    /// Whether it is of an address that nobody has claimed, and frames were missed since, or somebody claimed it: who sends from
+    /// there now is another lane's.
     pub fn is_past(&self) -> bool {
         self.is_past
     }
@@ -255,7 +257,7 @@ impl Lane {
         self.messages_mut(kind).end(moment, end)
     }
 
-    fn messages_mut(&mut self, kind: Kind) -> &mut Messages {
+    fn messages_mut(&mut self, kind: Kind) -> &mut MessageMarks {
         match kind {
             Kind::Dm1 => &mut self.dm1,
             Kind::Dm2 => &mut self.dm2,

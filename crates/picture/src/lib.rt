@@ -1,9 +1,9 @@
 //! What is kept of a log for its picture: which unit held which address when, what it told, where frames were missed, and the first
 //! and the last changes.
 //!
-//! All of it is bounded, whatever the log: a lane for each of the first units, and in each of a lane's tracks so many spans. As long as no
-//! more are told, a track has the spans as they were told. Then neighbours are joined that are short together: such a span begins and ends as they
-//! do, and has how many they were and the worst of what they show.
+//! All of it is bounded, whatever the log: a lane for each of the first units, and in each of a lane's tracks so many spans. As
+//! long as no more are told, a track has the spans as they were told. Then neighbours are joined that are short together: such a
+//! span begins and ends as they do, and has how many they were and the worst of what they show.
 #![tactic(auto)]
 
 mod brief;
@@ -18,10 +18,10 @@ mod unit;
 
 pub use brief::{Brief, BriefCode, LISTED};
 pub use handover::Handover;
-pub use history::{Happened, History, Told};
-pub use lane::{Holding, Lane, RunEnd};
+pub use history::{Happened, History, Occurrence};
+pub use lane::{Holding, RunEnd, UnitLane};
 pub use picture::{Axis, Picture};
 pub use severity::Severity;
 pub use span::{Shows, Span};
 pub use track::Track;
-pub use unit::{Sender, Unit};
+pub use unit::{DrawnUnit, Sender};

@@ -2,20 +2,22 @@ ghost use Rattle.std.specs.Prelude.{◌≡◌, ◌++◌, ◌∷◌, [], OnOk, On
 
 use crate::brief::Brief;
 use crate::handover::Handover;
-use crate::history::{FIRST, Happened, History, LAST, Told};
-use crate::lane::{ADDRESS_SPANS, DM1_SPANS, Lane, OTHER_SPANS, RunEnd};
+use crate::history::{FIRST, Happened, History, LAST, Occurrence};
+use crate::lane::{ADDRESS_SPANS, DM1_SPANS, OTHER_SPANS, RunEnd, UnitLane};
 use crate::span::{Shows, Span};
 use crate::track::Track;
-use crate::unit::Unit;
+use crate::unit::DrawnUnit;
 use candump_line::Time;
 use dm_messages::Kind;
 use std::alloc::{AllocError, Global};
 
-/// How many units have a lane, how many gaps are kept, and how many addresses that changed hands.
+/// How many units have a lane, at most.
 pub const LANES: usize = 64;
 
+/// How many gaps are kept, at most.
 pub const GAPS: usize = 1024;
 
+/// How many changes of an address from one unit to another are kept, at most.
 pub const HANDOVERS: usize = 256;
 
 /// The most bytes that are kept of a log, whatever it is.
@@ -23,7 +25,9 @@ pub const MOST_BYTES: usize = 8_000_000;
 
 // (a vector has room for a power of two, as most of these numbers are)
 const _: () = prove!(
-    LANES * (size_of::<Lane>() + (ADDRESS_SPANS + DM1_SPANS + 2 * OTHER_SPANS) * size_of::<Span>())
+    LANES
+        * (size_of::<UnitLane>()
+            + (ADDRESS_SPANS + DM1_SPANS + 2 * OTHER_SPANS) * size_of::<Span>())
         + GAPS * size_of::<Span>()
         + HANDOVERS * size_of::<Handover>()
         + (2 * FIRST + LAST) * size_of::<Happened>()
@@ -43,7 +47,7 @@ pub enum Axis {
 #[derive(Drop)]
 pub struct Picture {
     alloc: Global,
-    lanes: Vec<Lane>,
+    lanes: Vec<UnitLane>,
     gaps: Track,
     handovers: Vec<Handover>,
     handovers_left_out: u64,
@@ -76,7 +80,8 @@ impl Picture {
         })
     }
 
-    /// A line is read: the number of it, and its time, where it has one that counts. A time before that of another line counts as that one.
+    /// A line is read: the number of it, and its time, where it has one that counts. A time before that of another line counts as
+    /// that one.
     pub fn pass(&mut self, line: u64, time: Option<Time>) {
         self.line = line;
         if let Some(time) = time {
@@ -120,12 +125,12 @@ impl Picture {
     }
 
     /// The lanes, in the order in which their units were first told of.
-    pub fn lanes(&self) -> &[Lane] {
+    pub fn lanes(&self) -> &[UnitLane] {
         self.lanes.as_slice()
     }
 
     /// The lane of a unit.
-    pub fn lane_of(&self, unit: &Unit) -> Option<&Lane> {
+    pub fn lane_of(&self, unit: &DrawnUnit) -> Option<&UnitLane> {
         match self.place_of(unit) {
             Some(place) => self.lanes.get(place),
             None => None,
@@ -157,11 +162,12 @@ impl Picture {
         self.undrawn
     }
 
-    /// The line that is read changed this. Where it is a message, how the equal messages before it ended is said, where there were any.
+    /// The line that is read changed this. Where it is a message, how the equal messages before it ended is said, where there were
+    /// any.
     ///
     /// # Errors
     /// Memory was refused: the change may be kept in part.
-    pub fn tell(&mut self, told: &Told, before: Option<RunEnd>) -> Result<(), AllocError> {
+    pub fn tell(&mut self, told: &Occurrence, before: Option<RunEnd>) -> Result<(), AllocError> {
         if self.axis.is_none() {
             self.axis = Some(self.axis());
         }
@@ -173,19 +179,24 @@ impl Picture {
         };
         self.history.add(&change)?;
         match told {
-            Told::At {
+            Occurrence::At {
                 unit,
                 address,
                 lost_by,
             } => self.hand_over(unit, *address, lost_by, moment),
-            Told::NoAddress { unit } => self.lose(unit, moment),
-            Told::Message { unit, kind, brief } => self.begin(unit, *kind, brief, moment, before),
-            Told::Missed { bus, count } => self.miss(*bus, *count, moment),
-            Told::Unowned { .. } | Told::Acknowledged { .. } | Told::Unread { .. } => Ok(()),
+            Occurrence::NoAddress { unit } => self.lose(unit, moment),
+            Occurrence::Message { unit, kind, brief } => self.begin(
+                unit, *kind, brief, moment, before,
+            ),
+            Occurrence::Missed { bus, count } => self.miss(*bus, *count, moment),
+            Occurrence::Unowned { .. }
+            | Occurrence::Acknowledged { .. }
+            | Occurrence::Unread { .. } => Ok(()),
         }
     }
 
-    /// The log has ended: addresses that are held were held until now. How the newest messages of each lane ended is said by `end_messages`.
+    /// The log has ended: addresses that are held were held until now. How the newest messages of each lane ended is said by
+    /// `end_messages`.
     ///
     /// # Errors
     /// Memory was refused.
@@ -205,7 +216,7 @@ impl Picture {
     /// Memory was refused.
     pub fn end_messages(
         &mut self,
-        unit: &Unit,
+        unit: &DrawnUnit,
         kind: Kind,
         end: Option<RunEnd>,
     ) -> Result<(), AllocError> {
@@ -222,9 +233,9 @@ impl Picture {
     /// The unit holds the address, which another one lost by that, if one did.
     fn hand_over(
         &mut self,
-        unit: &Unit,
+        unit: &DrawnUnit,
         address: u8,
-        lost_by: &Option<Unit>,
+        lost_by: &Option<DrawnUnit>,
         moment: u64,
     ) -> Result<(), AllocError> {
         self.pass_claim(unit.bus, address);
@@ -264,7 +275,7 @@ impl Picture {
         put(&mut self.handovers, handover)
     }
 
-    fn lose(&mut self, unit: &Unit, moment: u64) -> Result<(), AllocError> {
+    fn lose(&mut self, unit: &DrawnUnit, moment: u64) -> Result<(), AllocError> {
         match self.lane_for(unit)? {
             Some(place) => match self.lanes.get_mut(place) {
                 Some(lane) => lane.lose(moment),
@@ -276,7 +287,7 @@ impl Picture {
 
     fn begin(
         &mut self,
-        unit: &Unit,
+        unit: &DrawnUnit,
         kind: Kind,
         brief: &Brief,
         moment: u64,
@@ -307,7 +318,7 @@ impl Picture {
     }
 
     /// The place of the lane of a unit.
-    fn place_of(&self, unit: &Unit) -> Option<usize> {
+    fn place_of(&self, unit: &DrawnUnit) -> Option<usize> {
         for (place, lane) in self.lanes.iter().enumerate() {
             if lane.is_of(unit) {
                 return Some(place);
@@ -317,7 +328,7 @@ impl Picture {
     }
 
     /// The place of the lane of a unit, which gets one where there is room; else the change is counted.
-    fn lane_for(&mut self, unit: &Unit) -> Result<Option<usize>, AllocError> {
+    fn lane_for(&mut self, unit: &DrawnUnit) -> Result<Option<usize>, AllocError> {
         if let Some(place) = self.place_of(unit) {
             return Ok(Some(place));
         }
@@ -327,7 +338,7 @@ impl Picture {
         }
         let place = self.lanes.len();
         self.lanes.reserve(1)?;
-        let lane = Lane::new(self.alloc, unit);
+        let lane = UnitLane::new(self.alloc, unit);
         self.lanes.push_reserved(lane);
         Ok(Some(place))
     }

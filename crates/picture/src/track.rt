@@ -46,7 +46,8 @@ impl Track {
         self.spans.as_slice()
     }
 
-    /// Takes a span that comes behind all others. Where there are as many as may be, neighbours are joined first that are short together.
+    /// Takes a span that comes behind all others. Where there are as many as may be, neighbours are joined first that are short
+    /// together.
     ///
     /// # Errors
     /// Memory was refused; what was told before is still drawn.

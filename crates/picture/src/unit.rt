@@ -2,16 +2,16 @@ use name_field::Name;
 
 /// A unit of a log.
 #[derive(Clone, Copy, Debug, PartialEq, Eq)]
-pub struct Unit {
+pub struct DrawnUnit {
     /// The place of its bus among those that are read, from 0.
     pub bus: u16,
     pub sender: Sender,
 }
 
-impl Unit {
+impl DrawnUnit {
     /// The unit of a NAME on a bus.
-    pub fn named(bus: u16, name: Name) -> Unit {
-        Unit {
+    pub fn named(bus: u16, name: Name) -> DrawnUnit {
+        DrawnUnit {
             bus,
             sender: Sender::Named(name.number()),
         }

@@ -8,8 +8,8 @@ use std::time::Instant;
 
 /// A reader that gives what another one gives, and tells on `errors` how far it is.
 ///
-/// That is a line after two seconds, and one each time twice as many seconds have passed, behind a read. A line that cannot be written is
-/// lost. Nothing is told where the clock cannot be read.
+/// That is a line after two seconds, and one each time twice as many seconds have passed, behind a read. A line that cannot be
+/// written is lost. Nothing is told where the clock cannot be read.
 #[derive(Drop)]
 pub struct TellingReader<'a, R, C, E> {
     reader: R,
@@ -21,7 +21,8 @@ pub struct TellingReader<'a, R, C, E> {
 }
 
 impl<'a, R, C: Clock, E> TellingReader<'a, R, C, E> {
-    /// A reader over this one. Where `is_told`, it is told how far it is: in bytes where a size is given, which is that of a file, else in lines.
+    /// A reader over this one. Where `is_told`, it is told how far it is: in bytes where a size is given, which is that of a file,
+    /// else in lines.
     pub fn new(
         reader: R,
         clock: &'a C,

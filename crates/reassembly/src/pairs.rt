@@ -42,8 +42,8 @@ impl<T: Copy> PairedPartials<T> {
         Ok(PairedPartials { sources })
     }
 
-    /// A message of this size, 9 to 1,785 bytes, and group is announced from this source to this destination: it takes the place of what
-    /// was half read between them. Where memory is refused, nothing changes.
+    /// A message of this size, 9 to 1,785 bytes, and group is announced from this source to this destination: it takes the place of
+    /// what was half read between them. Where memory is refused, nothing changes.
     pub fn start(
         &mut self,
         alloc: Global,
@@ -68,16 +68,16 @@ impl<T: Copy> PairedPartials<T> {
         self.sources[usize::from(source)].get(dest)
     }
 
-    /// What a packet from this source to this destination is to the message half read between them; none where there is none. Nothing
-    /// changes.
+    /// What a packet from this source to this destination is to the message half read between them; none where there is none.
+    /// Nothing changes.
     pub fn answer(&self, source: u8, dest: u8, packet: &[u8]) -> Option<Took>
         ensures { result ≡ answer_to packet.now (pair_at self.now source dest) }
     {
         self.sources[usize::from(source)].answer(dest, packet)
     }
 
-    /// Reads a packet that was answered so: the message grows by it, or is no longer half read where that was its last packet or not the
-    /// next one. It takes no memory.
+    /// Reads a packet that was answered so: the message grows by it, or is no longer half read where that was its last packet or
+    /// not the next one. It takes no memory.
     #[inline]
     pub fn take(&mut self, source: u8, dest: u8, packet: &[u8], took: Took)
         requires { answer_to packet.now (pair_at self.old source dest) ≡ Some took }
@@ -86,8 +86,8 @@ impl<T: Copy> PairedPartials<T> {
         self.sources[usize::from(source)].take(dest, packet, took);
     }
 
-    /// What `read` makes of the payload that the message half read from this source to this destination has with this packet, its last.
-    /// Nothing changes.
+    /// What `read` makes of the payload that the message half read from this source to this destination has with this packet, its
+    /// last. Nothing changes.
     pub fn read_with<R, F: FnOnce(&[u8]) -> R>(
         &mut self,
         source: u8,
@@ -98,7 +98,8 @@ impl<T: Copy> PairedPartials<T> {
         requires callable { F.IsAlwaysCallable read }
         requires whole { answer_to packet.now (pair_at self.old source dest) ≡ Some Took.Whole }
         ensures same { self.new ≡ self.old }
-        ensures made { IfSome (with_packet packet.now (pair_at self.old source dest)) (λ p. FnOnceReturnsAt F.FnOnce read (joined p.size p.pieces) result) }
+        ensures made { IfSome (with_packet packet.now (pair_at self.old source dest))
+            (λ p. FnOnceReturnsAt F.FnOnce read (joined p.size p.pieces) result) }
     {
         self.sources[usize::from(source)].read_with(dest, packet, read)
     }

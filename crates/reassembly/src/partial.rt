@@ -79,7 +79,8 @@ impl<T: Copy> Partial<T> {
         requires callable { F.IsAlwaysCallable read }
         requires whole { took_by (with_packet packet.now (Some self.old)) ≡ Took.Whole }
         ensures same { self.new ≡ self.old }
-        ensures made { IfSome (with_packet packet.now (Some self.old)) (λ p. FnOnceReturnsAt F.FnOnce read (joined p.size p.pieces) result) }
+        ensures made { IfSome (with_packet packet.now (Some self.old))
+            (λ p. FnOnceReturnsAt F.FnOnce read (joined p.size p.pieces) result) }
     {
         self.add(packet);
         let made = read(self.payload());
@@ -98,7 +99,8 @@ impl<T: Copy> Partial<T> {
     /// Gives back the packet that was taken last.
     pub(crate) fn give_back(&mut self)
         requires { 0 < length self.old.pieces }
-        ensures { (before : List (List ℕ)) (piece : List ℕ) → self.old.pieces ≡ before ++ piece ∷ [] → self.new ≡ record self.old { pieces = before } }
+        ensures { (before : List (List ℕ)) (piece : List ℕ) → self.old.pieces ≡ before ++ piece ∷ []
+            → self.new ≡ record self.old { pieces = before } }
     {
         self.assembly.give_back();
     }

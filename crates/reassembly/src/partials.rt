@@ -96,7 +96,8 @@ impl<T: Copy> Partials<T> {
         requires callable { F.IsAlwaysCallable read }
         requires whole { answer_to packet.now (at self.old source) ≡ Some Took.Whole }
         ensures same { self.new ≡ self.old }
-        ensures made { IfSome (with_packet packet.now (at self.old source)) (λ p. FnOnceReturnsAt F.FnOnce read (joined p.size p.pieces) result) }
+        ensures made { IfSome (with_packet packet.now (at self.old source))
+            (λ p. FnOnceReturnsAt F.FnOnce read (joined p.size p.pieces) result) }
     {
         let Some(mut partial) = self.table.take(source) else {
             unreachable!()

@@ -99,7 +99,8 @@ impl<T: Copy> AddressTable<Partial<T>> {
     /// The message half read from an address grows by a packet that is its next one, in its place. It takes no memory.
     pub(crate) fn grow(&mut self, address: u8, packet: &[u8])
         requires { answer_to packet.now (at self.old.slots address) ≡ Some Took.More }
-        ensures { self.new ≡ record self.old { slots = slice_set self.old.slots address (with_packet packet.now (at self.old.slots address)) } }
+        ensures { self.new ≡ record self.old
+            { slots = slice_set self.old.slots address (with_packet packet.now (at self.old.slots address)) } }
     {
         if self.slots.is_empty() {
             return;

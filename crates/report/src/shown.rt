@@ -46,7 +46,8 @@ fn write_end<W: Write>(text: &mut TextBuffer, writer: &mut W) -> io::Result<()>
 /// is made: that halves the time.)
 #[tactic(auto, using(crate::proofs::Held::code_more, crate::proofs::Held::entry_more, crate::proofs::Held::all_entries, crate::proofs::Appending::nothing_yet))]
 fn write_entries<W: Write>(text: &mut TextBuffer, shown: &[Shown], writer: &mut W) -> io::Result<()>
-    ensures { OnOk result (Appends (append_known (W.contents writer.old) text.old) (append_known (W.contents writer.new) text.new) (entries_text 0 shown.now)) }
+    ensures { OnOk result (Appends (append_known (W.contents writer.old) text.old) (append_known (W.contents writer.new) text.new)
+        (entries_text 0 shown.now)) }
 {
     for (place, entry) in shown.iter().enumerate() {
         if !text.has_room(9) {

@@ -22,7 +22,7 @@ pub enum End {
 
 /// What a command gave.
 #[derive(Clone, Copy)]
-pub enum Answer {
+pub enum LineAnswer {
     /// It is done.
     Done,
     /// The seat of the unit that joined.
@@ -63,24 +63,24 @@ impl From<io::Error> for Unwritten {
 pub fn put_answer<W: Write>(
     held: &mut TextBuffer,
     writer: &mut W,
-    answer: Result<Answer, Refusal>,
+    answer: Result<LineAnswer, Refusal>,
 ) -> Result<(), Unwritten> {
     make_room(held, writer)?;
     match answer {
-        Ok(Answer::Done) => held.push_text("ok\n"),
-        Ok(Answer::Heard(count)) => put_count(held, "heard ", count, "\n"),
-        Ok(Answer::Begun) => held.push_text("begun\n"),
-        Ok(Answer::Held) => held.push_text("held\n"),
-        Ok(Answer::Carried { count, end }) => put_count(held, "carried ", count, line_end(end)),
-        Ok(Answer::Read(count)) => put_count(held, "read ", count, "\n"),
-        Ok(Answer::Seat(seat)) => put_count(held, "seat ", seat, "\n"),
-        Ok(Answer::Injected(count)) => put_count(held, "injected ", count, "\n"),
-        Ok(Answer::Row(Some(row))) => put_row(held, row),
-        Ok(Answer::Row(None)) => held.push_text("row unknown\n"),
-        Ok(Answer::Counts(counts)) => put_counts(held, counts),
-        Ok(Answer::Stats { missed, unread }) => put_stats(held, missed, unread),
-        Ok(Answer::Frame(Some(frame))) => write_frame(held, writer, frame)?,
-        Ok(Answer::Frame(None)) => held.push_text("no frame\n"),
+        Ok(LineAnswer::Done) => held.push_text("ok\n"),
+        Ok(LineAnswer::Heard(count)) => put_count(held, "heard ", count, "\n"),
+        Ok(LineAnswer::Begun) => held.push_text("begun\n"),
+        Ok(LineAnswer::Held) => held.push_text("held\n"),
+        Ok(LineAnswer::Carried { count, end }) => put_count(held, "carried ", count, line_end(end)),
+        Ok(LineAnswer::Read(count)) => put_count(held, "read ", count, "\n"),
+        Ok(LineAnswer::Seat(seat)) => put_count(held, "seat ", seat, "\n"),
+        Ok(LineAnswer::Injected(count)) => put_count(held, "injected ", count, "\n"),
+        Ok(LineAnswer::Row(Some(row))) => put_row(held, row),
+        Ok(LineAnswer::Row(None)) => held.push_text("row unknown\n"),
+        Ok(LineAnswer::Counts(counts)) => put_counts(held, counts),
+        Ok(LineAnswer::Stats { missed, unread }) => put_stats(held, missed, unread),
+        Ok(LineAnswer::Frame(Some(frame))) => write_frame(held, writer, frame)?,
+        Ok(LineAnswer::Frame(None)) => held.push_text("no frame\n"),
         Err(refusal) => write_refusal(held, writer, refusal)?,
     }
     Ok(())

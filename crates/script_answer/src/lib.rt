@@ -4,5 +4,5 @@
 mod answer;
 mod refusal;
 
-pub use answer::{Answer, End, Unwritten, put_answer};
+pub use answer::{End, LineAnswer, Unwritten, put_answer};
 pub use refusal::Refusal;

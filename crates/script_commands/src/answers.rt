@@ -3,9 +3,9 @@ ghost use Rattle.program_io.specs.Fault.{IsOfInput};
 ghost use Rattle.program_io.specs.Input.{input_limit};
 
 use program_io::{Fault, read_text};
-use script_answer::{Answer, Refusal, Unwritten, put_answer};
+use script_answer::{LineAnswer, Refusal, Unwritten, put_answer};
 use script_line::is_silent;
-use script_run::{Bench, Listener, answer_lines};
+use script_run::{AnswerSink, Bench, answer_lines};
 use std::alloc::Global;
 use std::io;
 use std::io::{BufWriter, Read, Write};
@@ -80,21 +80,21 @@ impl<W: Write> Write for Answers<W> {
 }
 
 /// It is given each answer, and nothing else.
-impl<W: Write> Listener for Answers<W> {
+impl<W: Write> AnswerSink for Answers<W> {
     ghost use Rattle.std.specs.Prelude.{◌≡◌};
     ghost use Rattle.program_io.specs.declared.fault.Fault.TheVariants as fault;
 
     ghost ends_by = { λ f. f ≡ fault.Write };
 
-    fn passes(&mut self, line: &str) -> bool {
+    fn begin_line(&mut self, line: &str) -> bool {
         is_silent(line)
     }
 
-    fn put(&mut self, answer: Result<Answer, Refusal>) -> Result<(), Unwritten> {
+    fn answer(&mut self, answer: Result<LineAnswer, Refusal>) -> Result<(), Unwritten> {
         put_answer(&mut self.held, &mut self.writer, answer)
     }
 
-    fn hear(
+    fn end_line(
         &mut self,
         _line: &str,
         _has_garage: bool,
@@ -106,7 +106,7 @@ impl<W: Write> Listener for Answers<W> {
         }
     }
 
-    fn end(&mut self, _bench: &Bench) -> Result<(), Fault> {
+    fn finish(&mut self, _bench: &Bench) -> Result<(), Fault> {
         Ok(())
     }
 }

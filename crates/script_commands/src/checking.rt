@@ -1,4 +1,4 @@
-use crate::teller::{Teller, Telling};
+use crate::line_reporter::{LineForm, LineReporter};
 use program_io::{Fault, read_text};
 use std::alloc::Global;
 use std::io::{BufWriter, Read, Write};
@@ -20,5 +20,5 @@ pub fn check<R: Read, W: Write + Drop>(
         return Err(Fault::Memory);
     };
     let nothing: Vec<u8> = Vec::new(alloc);
-    Teller::new(Telling::Reason, writer, None, nothing).tell_lines(alloc, text.as_str())
+    LineReporter::new(LineForm::Reason, writer, None, nothing).report_lines(alloc, text.as_str())
 }

@@ -4,8 +4,8 @@
 
 mod answers;
 mod checking;
+mod line_reporter;
 mod logging;
-mod teller;
 mod wire;
 
 pub use answers::script;

@@ -1,6 +1,6 @@
-use crate::teller::{Teller, Telling};
+use crate::line_reporter::{LineForm, LineReporter};
 use crate::wire::Wire;
-use command_words::LogWords;
+use command_words::LogArguments;
 use program_io::{Failure, Fault, Messages, read_text};
 use std::alloc::Global;
 use std::io::{BufWriter, LineWriter, Read, Write};
@@ -17,7 +17,7 @@ use std::io::{BufWriter, LineWriter, Read, Write};
 /// - `BadLines`: all is written, but there were lines that are not accepted.
 pub fn log<R: Read, W: Write + Drop, E: Write + Drop>(
     alloc: Global,
-    words: LogWords<'_>,
+    words: LogArguments<'_>,
     reader: &mut R,
     writer: W,
     errors: E,
@@ -44,5 +44,8 @@ fn write_log<R: Read, W: Write + Drop, E: Write + Drop>(
     let Ok(writer) = BufWriter::new(alloc, writer) else {
         return Err(Fault::Memory);
     };
-    Teller::new(Telling::Answer, errors, Some(wire), writer).tell_lines(alloc, text.as_str())
+    LineReporter::new(LineForm::Answer, errors, Some(wire), writer).report_lines(
+        alloc,
+        text.as_str(),
+    )
 }

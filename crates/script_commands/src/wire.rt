@@ -1,7 +1,7 @@
 ghost use Rattle.std.specs.Prelude.{◌≡◌, ◌≤◌, IfErr};
 
 use candump_line::{Time, write_line};
-use command_words::{LogWords, Slip, is_bus};
+use command_words::{LogArguments, Slip, is_bus};
 use program_io::Fault;
 use script_run::Bench;
 use std::io::Write;
@@ -25,7 +25,7 @@ impl<'a> Wire<'a> {
     ///
     /// # Errors
     /// A word is none that its option takes.
-    pub(crate) fn of(words: LogWords<'a>) -> Result<Wire<'a>, Slip<'a>> {
+    pub(crate) fn of(words: LogArguments<'a>) -> Result<Wire<'a>, Slip<'a>> {
         let bus = words.bus.unwrap_or("can0");
         if !is_bus(bus) {
             return Err(Slip {

@@ -79,7 +79,7 @@ pub struct StationWords {
 
 /// A line of a script that has an answer: a command, and the station that it is of.
 #[derive(Clone, Copy, Debug, PartialEq, Eq)]
-pub struct Line {
+pub struct ScriptLine {
     /// The number of the station, from 0: `at S` before the command names it; 0 where the line does not. Whether there is a
     /// station of that number is not known here.
     pub station: u32,

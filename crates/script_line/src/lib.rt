@@ -14,9 +14,9 @@ mod reasons;
 mod words;
 
 pub use command::{
-    Asked, CodeChange, Command, FrameWords, Line, NameWord, Receiver, StationWords, UnitKind,
+    Asked, CodeChange, Command, FrameWords, NameWord, Receiver, ScriptLine, StationWords, UnitKind,
 };
 pub use numbers::{read_lamps, read_number, read_small_number};
 pub use read::{is_silent, read_line};
-pub use reasons::{LineReason, Wanted, reason};
+pub use reasons::{ExpectedWord, LineReason, reason};
 pub use words::Words;

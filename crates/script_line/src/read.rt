@@ -4,7 +4,7 @@ ghost use Rattle.script_line.specs.Numbers.{SpellsNumber};
 ghost use Rattle.script_line.specs.Station.{NamesStation, is_of_station, station_word};
 
 use crate::command::{
-    Asked, CodeChange, Command, Line, NameWord, Receiver, StationWords, UnitKind,
+    Asked, CodeChange, Command, NameWord, Receiver, ScriptLine, StationWords, UnitKind,
 };
 use crate::frames::read_frame;
 use crate::numbers::{read_lamps, read_number, read_small_number};
@@ -25,7 +25,7 @@ pub fn is_silent(line: &str) -> bool
 
 /// The line that words spell: a command, and before it `at` and the number of a station where it is one of a station. `None`
 /// for an unknown word, a missing or an extra one, a number out of its range, or `at` before any other command.
-pub fn read_line(line: &str) -> Option<Line>
+pub fn read_line(line: &str) -> Option<ScriptLine>
     ensures station { IfSome result (λ read. NamesStation line.now → SpellsNumber (station_word line.now) read.station) }
     ensures of_station { IfSome result (λ read. NamesStation line.now → is_of_station read.command ≡ true) }
     ensures first { IfSome result (λ read. ¬ NamesStation line.now → read.station ≡ 0) }
@@ -43,7 +43,7 @@ pub fn read_line(line: &str) -> Option<Line>
     if words.next_word().is_some() || (names_station && !command.is_of_station()) {
         return None;
     }
-    Some(Line { station, command })
+    Some(ScriptLine { station, command })
 }
 
 /// The command of a first word and those behind it, which may be followed by others. The commands of which scripts have most

@@ -5,7 +5,7 @@ use std::fmt;
 
 /// What is wanted at a place of a command.
 #[derive(Clone, Copy, Debug, PartialEq, Eq)]
-pub enum Wanted {
+pub enum ExpectedWord {
     /// Any word: whether it is a NAME is seen when the command is carried out.
     Name,
     /// A decimal number below 2^32.
@@ -29,7 +29,7 @@ pub enum Wanted {
 }
 
 /// Follows `is`, and tells what a word should be.
-impl fmt::Display for Wanted {
+impl fmt::Display for ExpectedWord {
     fn fmt<W: fmt::Write>(&self, f: &mut fmt::Formatter<W>) -> fmt::Result {
         let words = words_of(*self);
         write!(f, "{words}")
@@ -37,17 +37,17 @@ impl fmt::Display for Wanted {
 }
 
 /// What a word is that is not what is wanted.
-fn words_of(wanted: Wanted) -> &'static str {
+fn words_of(wanted: ExpectedWord) -> &'static str {
     match wanted {
-        Wanted::Name => "no NAME",
-        Wanted::Number | Wanted::Count => "no decimal number from 0 to 4294967295",
-        Wanted::Small => "no decimal number from 0 to 255",
-        Wanted::Lamps => "not four hexadecimal digits",
-        Wanted::Identifier => "not eight hexadecimal digits",
-        Wanted::Bytes => "not two hexadecimal digits",
-        Wanted::Kind => "not plain, guarded or flicker",
-        Wanted::What => "not dm1, dm2, dm3, dm6, dm11, claim or a decimal number",
-        Wanted::Which => "not dm1, dm2 or dm6",
+        ExpectedWord::Name => "no NAME",
+        ExpectedWord::Number | ExpectedWord::Count => "no decimal number from 0 to 4294967295",
+        ExpectedWord::Small => "no decimal number from 0 to 255",
+        ExpectedWord::Lamps => "not four hexadecimal digits",
+        ExpectedWord::Identifier => "not eight hexadecimal digits",
+        ExpectedWord::Bytes => "not two hexadecimal digits",
+        ExpectedWord::Kind => "not plain, guarded or flicker",
+        ExpectedWord::What => "not dm1, dm2, dm3, dm6, dm11, claim or a decimal number",
+        ExpectedWord::Which => "not dm1, dm2 or dm6",
     }
 }
 
@@ -68,7 +68,7 @@ pub enum LineReason<'a> {
     Unfit {
         place: &'static str,
         word: &'a str,
-        wanted: Wanted,
+        wanted: ExpectedWord,
     },
     /// It names a station before this word, with which no command of a station begins.
     NoStation {
@@ -101,25 +101,25 @@ impl fmt::Display for LineReason<'_> {
 }
 
 /// A place of a command: its name, and what is wanted there.
-type Place = (&'static str, Wanted);
+type Place = (&'static str, ExpectedWord);
 
-const NAME: Place = ("NAME", Wanted::Name);
+const NAME: Place = ("NAME", ExpectedWord::Name);
 
-const ADDRESS: Place = ("ADDRESS", Wanted::Small);
+const ADDRESS: Place = ("ADDRESS", ExpectedWord::Small);
 
-const WINDOW: Place = ("WINDOW", Wanted::Number);
+const WINDOW: Place = ("WINDOW", ExpectedWord::Number);
 
-const GRANT: Place = ("GRANT", Wanted::Small);
+const GRANT: Place = ("GRANT", ExpectedWord::Small);
 
-const LIMIT: Place = ("LIMIT", Wanted::Number);
+const LIMIT: Place = ("LIMIT", ExpectedWord::Number);
 
-const SEAT: Place = ("SEAT", Wanted::Number);
+const SEAT: Place = ("SEAT", ExpectedWord::Number);
 
-const SPN: Place = ("SPN", Wanted::Number);
+const SPN: Place = ("SPN", ExpectedWord::Number);
 
-const FMI: Place = ("FMI", Wanted::Small);
+const FMI: Place = ("FMI", ExpectedWord::Small);
 
-const COUNT: Place = ("N", Wanted::Count);
+const COUNT: Place = ("N", ExpectedWord::Count);
 
 /// The places of a command behind its first word.
 fn places_of(word: &str) -> Option<&'static [Place]> {
@@ -130,25 +130,28 @@ fn places_of(word: &str) -> Option<&'static [Place]> {
             ADDRESS,
             WINDOW,
             GRANT,
-            ("second NAME", Wanted::Name),
-            ("second ADDRESS", Wanted::Small),
-            ("second WINDOW", Wanted::Number),
-            ("second GRANT", Wanted::Small),
+            ("second NAME", ExpectedWord::Name),
+            ("second ADDRESS", ExpectedWord::Small),
+            ("second WINDOW", ExpectedWord::Number),
+            ("second GRANT", ExpectedWord::Small),
             LIMIT,
         ]),
-        "join" => Some(&[NAME, ADDRESS, ("KIND", Wanted::Kind)]),
+        "join" => Some(&[NAME, ADDRESS, ("KIND", ExpectedWord::Kind)]),
         "set" | "heal" | "pend" | "unpend" => Some(&[SEAT, SPN, FMI, COUNT]),
-        "lamps" => Some(&[SEAT, ("HHHH", Wanted::Lamps)]),
+        "lamps" => Some(&[SEAT, ("HHHH", ExpectedWord::Lamps)]),
         "think" | "turn" | "leave" | "dm1" | "counts" => Some(&[SEAT]),
         "hear" => Some(&[SEAT, COUNT]),
         "carry" | "read" => Some(&[COUNT]),
-        "round" => Some(&[("N", Wanted::Number)]),
-        "ask" => Some(&[NAME, ("WHAT", Wanted::What)]),
+        "round" => Some(&[("N", ExpectedWord::Number)]),
+        "ask" => Some(&[NAME, ("WHAT", ExpectedWord::What)]),
         "command" => Some(&[NAME, ADDRESS]),
-        "shown" => Some(&[NAME, ("KIND", Wanted::Which)]),
+        "shown" => Some(&[NAME, ("KIND", ExpectedWord::Which)]),
         "row" => Some(&[NAME]),
-        "frame" => Some(&[("I", Wanted::Number)]),
-        "inject" => Some(&[("IIIIIIII", Wanted::Identifier), ("BB", Wanted::Bytes)]),
+        "frame" => Some(&[("I", ExpectedWord::Number)]),
+        "inject" => Some(&[
+            ("IIIIIIII", ExpectedWord::Identifier),
+            ("BB", ExpectedWord::Bytes),
+        ]),
         "stats" | "report" | "injected" => Some(&[]),
         _ => None,
     }
@@ -176,7 +179,7 @@ pub fn reason(line: &str) -> Option<LineReason<'_>> {
 
 /// Why the words behind `at` are no station's number and a command of it; none where they are.
 fn unfit_at_station<'a>(words: &mut Words<'a>) -> Option<LineReason<'a>> {
-    if let Some(reason) = unfit_number(words, "S", Wanted::Number) {
+    if let Some(reason) = unfit_number(words, "S", ExpectedWord::Number) {
         return Some(reason);
     }
     let Some(first) = words.next_word() else {
@@ -207,11 +210,11 @@ fn unfit_behind<'a>(first: &'a str, words: &mut Words<'a>) -> Option<LineReason<
 /// Why the next word does not fit this place; none where it does.
 fn unfit_at<'a>(words: &mut Words<'a>, place: Place) -> Option<LineReason<'a>> {
     let (name, wanted) = place;
-    if wanted == Wanted::Bytes {
+    if wanted == ExpectedWord::Bytes {
         return unfit_byte(words, name);
     }
     let Some(word) = words.next_word() else {
-        if wanted == Wanted::Count {
+        if wanted == ExpectedWord::Count {
             return None;
         }
         return Some(LineReason::Missing { place: name });
@@ -223,11 +226,11 @@ fn unfit_at<'a>(words: &mut Words<'a>, place: Place) -> Option<LineReason<'a>> {
             wanted,
         });
     }
-    if wanted == Wanted::Kind && word == "flicker" {
-        if let Some(reason) = unfit_number(words, "SPN", Wanted::Number) {
+    if wanted == ExpectedWord::Kind && word == "flicker" {
+        if let Some(reason) = unfit_number(words, "SPN", ExpectedWord::Number) {
             return Some(reason);
         }
-        return unfit_number(words, "FMI", Wanted::Small);
+        return unfit_number(words, "FMI", ExpectedWord::Small);
     }
     None
 }
@@ -236,11 +239,11 @@ fn unfit_at<'a>(words: &mut Words<'a>, place: Place) -> Option<LineReason<'a>> {
 fn unfit_byte<'a>(words: &mut Words<'a>, place: &'static str) -> Option<LineReason<'a>> {
     for _ in 0..words.most_left() {
         let word = words.next_word()?;
-        if !fits(word, Wanted::Bytes) {
+        if !fits(word, ExpectedWord::Bytes) {
             return Some(LineReason::Unfit {
                 place,
                 word,
-                wanted: Wanted::Bytes,
+                wanted: ExpectedWord::Bytes,
             });
         }
     }
@@ -251,7 +254,7 @@ fn unfit_byte<'a>(words: &mut Words<'a>, place: &'static str) -> Option<LineReas
 fn unfit_number<'a>(
     words: &mut Words<'a>,
     place: &'static str,
-    wanted: Wanted,
+    wanted: ExpectedWord,
 ) -> Option<LineReason<'a>> {
     match words.next_word() {
         Some(word) if fits(word, wanted) => None,
@@ -265,17 +268,17 @@ fn unfit_number<'a>(
 }
 
 /// Whether a word is what is wanted.
-fn fits(word: &str, wanted: Wanted) -> bool {
+fn fits(word: &str, wanted: ExpectedWord) -> bool {
     match wanted {
-        Wanted::Name => true,
-        Wanted::Number | Wanted::Count => read_number(word).is_some(),
-        Wanted::Small => read_small_number(word).is_some(),
-        Wanted::Lamps => read_lamps(word).is_some(),
-        Wanted::Identifier => read_hex(word, 8).is_some(),
-        Wanted::Bytes => read_hex(word, 2).is_some(),
-        Wanted::Kind => is_kind(word),
-        Wanted::What => is_what(word),
-        Wanted::Which => is_which(word),
+        ExpectedWord::Name => true,
+        ExpectedWord::Number | ExpectedWord::Count => read_number(word).is_some(),
+        ExpectedWord::Small => read_small_number(word).is_some(),
+        ExpectedWord::Lamps => read_lamps(word).is_some(),
+        ExpectedWord::Identifier => read_hex(word, 8).is_some(),
+        ExpectedWord::Bytes => read_hex(word, 2).is_some(),
+        ExpectedWord::Kind => is_kind(word),
+        ExpectedWord::What => is_what(word),
+        ExpectedWord::Which => is_which(word),
     }
 }
 

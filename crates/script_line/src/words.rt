@@ -34,7 +34,8 @@ impl<'a> Words<'a> {
     #[inline]
     #[tactic(auto, using(crate::proofs::WordLemmas::after_space, crate::proofs::WordLemmas::run_none, crate::proofs::WordLemmas::one_more_space, crate::proofs::WordLemmas::one_more_character))]
     pub fn next_word(&mut self) -> Option<&'a str>
-        ensures word { MatchOption result (first_word self.old.rest.now ≡ []) (λ word. (word.now ≡ first_word self.old.rest.now) × (0 < length word.now)) }
+        ensures word { MatchOption result (first_word self.old.rest.now ≡ [])
+            (λ word. (word.now ≡ first_word self.old.rest.now) × (0 < length word.now)) }
         ensures rest { self.new.rest.now ≡ behind_word self.old.rest.now }
     {
         let bytes = self.rest.as_bytes();

@@ -1,13 +1,13 @@
 ghost use Rattle.std.specs.Prelude.{◌<◌, length};
 
-use crate::listener::Listener;
+use crate::answer_sink::AnswerSink;
 use crate::place::place_of;
 use crate::task::{Task, carry_out};
 use bus_ledger::Carried;
 use can_frame::{Frame, PgnTooLarge, Reading};
 use garage::{Garage, GarageError, Parked};
-use script_answer::{Answer, End, Refusal, Unwritten};
-use script_line::{Asked, Command, Line, NameWord, Receiver};
+use script_answer::{End, LineAnswer, Refusal, Unwritten};
+use script_line::{Asked, Command, NameWord, Receiver, ScriptLine};
 use station_table::Ask;
 use std::alloc::Global;
 use unit_trait::Unit;
@@ -30,7 +30,7 @@ impl Bench {
     }
 
     /// Puts a unit on the bus, which wants this address.
-    pub fn join(&mut self, unit: Box<dyn Unit>, address: u8) -> Result<Answer, Refusal> {
+    pub fn join(&mut self, unit: Box<dyn Unit>, address: u8) -> Result<LineAnswer, Refusal> {
         if self.units.reserve(1).is_err() {
             return Err(Refusal::Garage(GarageError::OutOfMemory));
         }
@@ -38,7 +38,7 @@ impl Bench {
             Ok(parked) => {
                 let seat = parked.seat();
                 self.units.push_reserved(parked);
-                Ok(Answer::Seat(seat))
+                Ok(LineAnswer::Seat(seat))
             }
             Err((unit, error)) => {
                 drop(unit);
@@ -68,65 +68,65 @@ impl Bench {
 
     /// Carries the command of a line out, and answers it. What is no command, and one of a station that is not there, is refused,
     /// and nothing is done.
-    pub fn answer<L: Listener>(
+    pub fn answer<L: AnswerSink>(
         &mut self,
-        read: &Option<Line>,
-        listener: &mut L,
+        read: &Option<ScriptLine>,
+        sink: &mut L,
     ) -> Result<(), Unwritten> {
-        let Some(Line { station, command }) = read else {
-            return listener.put(Err(Refusal::BadLine));
+        let Some(ScriptLine { station, command }) = read else {
+            return sink.answer(Err(Refusal::BadLine));
         };
         if *station >= self.garage.stations() {
-            return listener.put(Err(Refusal::BadLine));
+            return sink.answer(Err(Refusal::BadLine));
         }
         match command {
             Command::Shown {
                 name: Ok(name),
                 kind,
             } => {
-                report::write_shown(self.garage.shown_at(*station, *name, *kind), listener)?;
+                report::write_shown(self.garage.shown_at(*station, *name, *kind), sink)?;
                 Ok(())
             }
-            Command::Report => self.report(*station, listener),
-            command => listener.put(self.carry_out(*station, command)),
+            Command::Report => self.report(*station, sink),
+            command => sink.answer(self.carry_out(*station, command)),
         }
     }
 
     /// Writes the report of a station.
-    fn report<L: Listener>(&self, station: u32, listener: &mut L) -> Result<(), Unwritten>
+    fn report<L: AnswerSink>(&self, station: u32, sink: &mut L) -> Result<(), Unwritten>
         requires { station < length self.now.garage.settings.stations }
     {
         match self.garage.snapshot_at(self.alloc, station) {
             Ok(snapshot) => {
-                report::write(&snapshot, listener)?;
+                report::write(&snapshot, sink)?;
                 Ok(())
             }
-            Err(error) => listener.put(Err(Refusal::Garage(error))),
+            Err(error) => sink.answer(Err(Refusal::Garage(error))),
         }
     }
 
     /// Carries a command out; one of a station has this station do it.
-    fn carry_out(&mut self, station: u32, command: &Command) -> Result<Answer, Refusal>
+    fn carry_out(&mut self, station: u32, command: &Command) -> Result<LineAnswer, Refusal>
         requires { station < length self.old.garage.settings.stations }
     {
         match command {
             Command::Carry { most } => self.carry(*most),
-            Command::Read { most } => Ok(Answer::Read(self.read(station, *most)?)),
+            Command::Read { most } => Ok(LineAnswer::Read(self.read(station, *most)?)),
             Command::Round { count } => self.round(*count),
             Command::Ask { receiver, asked } => self.ask(station, *receiver, *asked),
             Command::Command { name, address } => self.command(station, *name, *address),
-            Command::Row { name } => Ok(Answer::Row(self.garage.row_at(station, (*name)?))),
+            Command::Row { name } => Ok(LineAnswer::Row(self.garage.row_at(station, (*name)?))),
             Command::Counts { seat } => self.counts(*seat),
-            Command::Stats => Ok(Answer::Stats {
+            Command::Stats => Ok(LineAnswer::Stats {
                 missed: self.garage.missed_at(station),
                 unread: self.garage.unread_at(station),
             }),
             Command::Inject { frame } => {
                 self.garage.inject((*frame)?)?;
-                Ok(Answer::Done)
+                Ok(LineAnswer::Done)
             }
-            Command::Injected => Ok(Answer::Injected(self.garage.injected())),
-            Command::Frame { index } => Ok(Answer::Frame(self.garage.wire_frame(*index))),
+            Command::Injected => Ok(LineAnswer::Injected(self.garage.injected())),
+            Command::Frame { index } => Ok(LineAnswer::Frame(self.garage.wire_frame(*index))),
             Command::Leave { seat } => self.dismiss(*seat),
             Command::Change {
                 seat,
@@ -159,22 +159,22 @@ impl Bench {
     }
 
     /// Has a station command a unit to another address.
-    fn command(&mut self, station: u32, name: NameWord, address: u8) -> Result<Answer, Refusal>
+    fn command(&mut self, station: u32, name: NameWord, address: u8) -> Result<LineAnswer, Refusal>
         requires { station < length self.old.garage.settings.stations }
     {
         self.garage.command_at(self.alloc, station, name?, address)?;
-        Ok(Answer::Done)
+        Ok(LineAnswer::Done)
     }
 
-    fn counts(&self, seat: u32) -> Result<Answer, Refusal> {
+    fn counts(&self, seat: u32) -> Result<LineAnswer, Refusal> {
         match self.garage.counts(seat) {
-            Some(counts) => Ok(Answer::Counts(counts)),
+            Some(counts) => Ok(LineAnswer::Counts(counts)),
             None => Err(Refusal::NoSeat),
         }
     }
 
     /// Does a task with the unit of a seat where it stands. One that the garage does not know leaves the bench then, and is let go.
-    fn act(&mut self, seat: u32, task: Task) -> Result<Answer, Refusal> {
+    fn act(&mut self, seat: u32, task: Task) -> Result<LineAnswer, Refusal> {
         let Some(place) = place_of(self.units.as_slice(), seat) else {
             return Err(Refusal::NoSeat);
         };
@@ -187,16 +187,16 @@ impl Bench {
     }
 
     /// Takes the unit of a seat off the bus.
-    fn dismiss(&mut self, seat: u32) -> Result<Answer, Refusal> {
+    fn dismiss(&mut self, seat: u32) -> Result<LineAnswer, Refusal> {
         let Some(place) = place_of(self.units.as_slice(), seat) else {
             return Err(Refusal::NoSeat);
         };
         self.garage.dismiss(self.units.remove(place))?;
-        Ok(Answer::Done)
+        Ok(LineAnswer::Done)
     }
 
     /// Has a station ask a unit, or all.
-    fn ask(&mut self, station: u32, receiver: Receiver, asked: Asked) -> Result<Answer, Refusal>
+    fn ask(&mut self, station: u32, receiver: Receiver, asked: Asked) -> Result<LineAnswer, Refusal>
         requires { station < length self.old.garage.settings.stations }
     {
         match receiver {
@@ -207,19 +207,19 @@ impl Bench {
                     .ask_at(self.alloc, station, name, ask_of(asked)?)?;
             }
         }
-        Ok(Answer::Done)
+        Ok(LineAnswer::Done)
     }
 
-    fn carry(&mut self, most: u32) -> Result<Answer, Refusal> {
+    fn carry(&mut self, most: u32) -> Result<LineAnswer, Refusal> {
         for count in 0..most {
             if let Some(end) = self.carry_one()? {
-                return Ok(Answer::Carried {
+                return Ok(LineAnswer::Carried {
                     count,
                     end: Some(end),
                 });
             }
         }
-        Ok(Answer::Carried {
+        Ok(LineAnswer::Carried {
             count: most,
             end: None,
         })
@@ -246,9 +246,9 @@ impl Bench {
 
     /// Runs rounds, so many at most and fewer where no frame can be carried: each unit hears all that it has not heard, the
     /// stations read all, and one frame is carried.
-    fn round(&mut self, most: u32) -> Result<Answer, Refusal> {
+    fn round(&mut self, most: u32) -> Result<LineAnswer, Refusal> {
         let rounds = self.garage.round(self.alloc, &mut self.units, most)?;
-        Ok(Answer::Carried {
+        Ok(LineAnswer::Carried {
             count: rounds.carried,
             end: end_of(rounds.end),
         })

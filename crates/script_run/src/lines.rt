@@ -1,27 +1,27 @@
 ghost use Rattle.std.specs.Prelude.{IfErr};
 
+use crate::answer_sink::AnswerSink;
 use crate::bench::Bench;
-use crate::listener::Listener;
 use garage::{Garage, GarageError, Setting};
 use name_field::{Name, NameError};
 use program_io::Fault;
-use script_answer::{Answer, Refusal, Unwritten};
-use script_line::{Command, Line, StationWords, UnitKind, read_line};
+use script_answer::{LineAnswer, Refusal, Unwritten};
+use script_line::{Command, ScriptLine, StationWords, UnitKind, read_line};
 use simulated_unit::Simulated;
 use std::alloc::Global;
 use std::str::Lines;
 
 /// Answers the lines of a script. At the end each unit that is left on the bus is taken off.
-pub fn answer_lines<L: Listener>(alloc: Global, text: &str, listener: &mut L) -> Result<(), Fault>
+pub fn answer_lines<L: AnswerSink>(alloc: Global, text: &str, sink: &mut L) -> Result<(), Fault>
     ensures { IfErr result L.ends_by }
 {
     let mut lines = text.lines();
-    let Some(mut bench) = opened(alloc, &mut lines, listener)? else {
+    let Some(mut bench) = opened(alloc, &mut lines, sink)? else {
         return Ok(());
     };
     let mut heard = Ok(());
     for line in lines {
-        if listener.passes(line) {
+        if sink.begin_line(line) {
             continue;
         }
         let read = read_line(line);
@@ -32,26 +32,26 @@ pub fn answer_lines<L: Listener>(alloc: Global, text: &str, listener: &mut L) ->
                     Ok(unit) => bench.join(unit, address),
                     Err(_) => Err(Refusal::Garage(GarageError::OutOfMemory)),
                 };
-                listener.put(joined)
+                sink.answer(joined)
             }
-            None => bench.answer(&read, listener),
+            None => bench.answer(&read, sink),
         };
-        heard = listener.hear(line, true, answered);
+        heard = sink.end_line(line, true, answered);
         if heard.is_err() {
             break;
         }
     }
     if heard.is_ok() {
-        heard = listener.end(&bench);
+        heard = sink.finish(&bench);
     }
     bench.close();
     heard
 }
 
 /// The NAME, the address and the kind of the unit that a line has join, where it has one join.
-fn joining(read: &Option<Line>) -> Option<(Name, u8, UnitKind)> {
+fn joining(read: &Option<ScriptLine>) -> Option<(Name, u8, UnitKind)> {
     let Some(
-        Line {
+        ScriptLine {
             command: Command::Join {
                 name: Ok(name),
                 address,
@@ -67,32 +67,32 @@ fn joining(read: &Option<Line>) -> Option<(Name, u8, UnitKind)> {
 }
 
 /// Answers lines up to the one that makes a garage, where there is such a line.
-fn opened<L: Listener>(
+fn opened<L: AnswerSink>(
     alloc: Global,
     lines: &mut Lines<'_>,
-    listener: &mut L,
+    sink: &mut L,
 ) -> Result<Option<Bench>, Fault>
     ensures { IfErr result L.ends_by }
 {
     for line in lines {
-        if listener.passes(line) {
+        if sink.begin_line(line) {
             continue;
         }
-        let answered = match answer_before(alloc, line, listener) {
+        let answered = match answer_before(alloc, line, sink) {
             Ok(Some(bench)) => return Ok(Some(bench)),
             Ok(None) => Ok(()),
             Err(error) => Err(error),
         };
-        listener.hear(line, false, answered)?;
+        sink.end_line(line, false, answered)?;
     }
     Ok(None)
 }
 
 /// Answers a line of a script that has no garage yet; it may make one.
-fn answer_before<L: Listener>(
+fn answer_before<L: AnswerSink>(
     alloc: Global,
     line: &str,
-    listener: &mut L,
+    sink: &mut L,
 ) -> Result<Option<Bench>, Unwritten> {
     let made = match read_line(line) {
         Some(read) => garage_of(alloc, read.command),
@@ -101,7 +101,7 @@ fn answer_before<L: Listener>(
     match made {
         Ok(garage) => {
             let bench = Bench::new(alloc, garage);
-            match listener.put(Ok(Answer::Done)) {
+            match sink.answer(Ok(LineAnswer::Done)) {
                 Ok(()) => Ok(Some(bench)),
                 Err(error) => {
                     bench.close();
@@ -110,7 +110,7 @@ fn answer_before<L: Listener>(
             }
         }
         Err(refusal) => {
-            listener.put(Err(refusal))?;
+            sink.answer(Err(refusal))?;
             Ok(None)
         }
     }

@@ -3,7 +3,7 @@ ghost use Rattle.journal.specs.Journal.{IsSeated};
 
 use fault_memory::{FaultChange, FaultError};
 use garage::{Begin, Garage, GarageError, Parked};
-use script_answer::{Answer, Refusal};
+use script_answer::{LineAnswer, Refusal};
 use script_line::CodeChange;
 use std::alloc::Global;
 use trouble_code::Lamps;
@@ -43,18 +43,20 @@ pub(crate) fn carry_out(
     garage: &mut Garage,
     parked: &mut Parked,
     task: Task,
-) -> Result<Answer, Refusal>
-    ensures stranger { result ≡ Err (Refusal.Garage GarageError.Stranger) → ¬ IsSeated garage.new parked.new.seat ((⟦<dyn Unit as Unit>⟧ parked.new.unit.vtable).name_of parked.new.unit.value) parked.new.events }
+) -> Result<LineAnswer, Refusal>
+    ensures stranger { result ≡ Err (Refusal.Garage GarageError.Stranger)
+        → ¬ IsSeated garage.new parked.new.seat ((⟦<dyn Unit as Unit>⟧ parked.new.unit.vtable).name_of parked.new.unit.value)
+        parked.new.events }
 {
     match task {
-        Task::Hear { most } => Ok(Answer::Heard(garage.let_hear(alloc, parked, most)?)),
+        Task::Hear { most } => Ok(LineAnswer::Heard(garage.let_hear(alloc, parked, most)?)),
         Task::Dm1 => match garage.let_begin(alloc, parked)? {
-            Begin::Begun => Ok(Answer::Begun),
-            Begin::Held => Ok(Answer::Held),
+            Begin::Begun => Ok(LineAnswer::Begun),
+            Begin::Held => Ok(LineAnswer::Held),
         },
         Task::Turn => {
             garage.let_turn(parked)?;
-            Ok(Answer::Done)
+            Ok(LineAnswer::Done)
         }
         Task::Change {
             change,
@@ -63,15 +65,15 @@ pub(crate) fn carry_out(
             count,
         } => {
             change_codes(parked, change, spn, fmi, count)?;
-            Ok(Answer::Done)
+            Ok(LineAnswer::Done)
         }
         Task::Lamps { lamps } => {
             parked.apply(FaultChange::Lamp { lamps })?;
-            Ok(Answer::Done)
+            Ok(LineAnswer::Done)
         }
         Task::Think => {
             parked.think();
-            Ok(Answer::Done)
+            Ok(LineAnswer::Done)
         }
     }
 }

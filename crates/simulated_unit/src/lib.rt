@@ -2,6 +2,7 @@
 #![tactic(auto)]
 
 ghost use Rattle.std.specs.Prelude.{◌≡◌};
+ghost use Rattle.fault_memory.specs.Memory.{new_memory};
 ghost use Rattle.simulated_unit.specs.Kinds.{is_willing, MayWork};
 
 use fault_memory::{FaultChange, FaultError, FaultMemory};
@@ -24,7 +25,11 @@ pub struct Simulated {
 
 impl Simulated {
     /// A unit with an empty fault memory. Takes no memory.
-    pub fn new(alloc: Global, name: Name, kind: UnitKind) -> Simulated {
+    pub fn new(alloc: Global, name: Name, kind: UnitKind) -> Simulated
+        ensures name { result.name ≡ name }
+        ensures memory { result.memory ≡ new_memory }
+        ensures kind { result.kind ≡ kind }
+    {
         Simulated {
             name,
             memory: FaultMemory::new(alloc),

@@ -7,3 +7,4 @@ pub mod Named
 pub mod Taken
 pub mod SeriesLemmas
 pub mod ThreeFrames
+pub mod UnitHandleValues

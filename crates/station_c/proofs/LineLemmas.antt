@@ -6,7 +6,7 @@ use Rattle.station_c.specs.Lines.{ReadsLines, ReadsFrame, TellsAt}
 use Rattle.station_c.specs.Records.{frame_recorded}
 use Rattle.station_c.specs.declared.log_records.LoggedRecord.{LoggedRecord}
 use Rattle.station_c.specs.declared.records.FrameRecord.{FrameRecord}
-use Rattle.station_c.specs.declared.told.Told.TheVariants as told
+use Rattle.station_c.specs.declared.told.LineContent.TheVariants as told
 
 -- the frame of one more line stands behind those of the lines before
 pub one_frame_more : (text wanted : List ℕ) (from to lines time i : ℕ) (fs : List FrameRecord) (ls : List LoggedRecord) (f : FrameValue) (r : FrameRecord)

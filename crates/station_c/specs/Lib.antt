@@ -1,5 +1,6 @@
 pub mod Handles
 pub mod Held
+pub mod HeldUnits
 pub mod Lines
 pub mod ListedPosts
 pub mod Orders
@@ -7,3 +8,4 @@ pub mod Places
 pub mod Records
 pub mod Series
 pub mod Statuses
+pub mod UnitHandles

@@ -13,8 +13,8 @@ use Rattle.station_c.specs.Records.{frame_recorded}
 use Rattle.station_c.specs.declared.log_records.LoggedRecord.{LoggedRecord}
 use Rattle.station_c.specs.declared.log_records.ReadRecord.{ReadRecord}
 use Rattle.station_c.specs.declared.records.FrameRecord.{FrameRecord}
-use Rattle.station_c.specs.declared.told.Told.{Told}
-use Rattle.station_c.specs.declared.told.Told.TheVariants as told
+use Rattle.station_c.specs.declared.told.LineContent.{LineContent}
+use Rattle.station_c.specs.declared.told.LineContent.TheVariants as told
 use Rattle.station_c.specs.declared.told.TheConstants.{NO_TIME}
 
 -- the number of the reason why a line is bad
@@ -50,12 +50,12 @@ IsOf wanted None = Unit {0}
 IsOf wanted (Some bus) = (wanted ≡ []) ⊎ (bus.now ≡ wanted)
 
 -- what is told of a line of a bus: this, where it is wanted, else nothing
-pub record IsToldOfBus (wanted : List ℕ) (bus : Option (Bor (List ℕ))) (it result : Told) : Type 0 where
+pub record IsToldOfBus (wanted : List ℕ) (bus : Option (Bor (List ℕ))) (it result : LineContent) : Type 0 where
   pub of : IsOf wanted bus → result ≡ it
   pub other : ¬ IsOf wanted bus → result ≡ told.Nothing
 
 -- what a line tells of a bus
-abbrev pub LineTells : List ℕ → Line → Told → Type 0
+abbrev pub LineTells : List ℕ → Line → LineContent → Type 0
 LineTells wanted (line.Frame time bus f) result = IsToldOfBus wanted bus (told.Frame (micros_told time) f) result
 LineTells wanted (line.Dropped bus count) result = IsToldOfBus wanted bus (told.Missed count) result
 LineTells wanted (line.Overflow time bus) result = IsToldOfBus wanted bus (told.Missed 1) result
@@ -64,7 +64,7 @@ LineTells wanted line.Note result = result ≡ told.Nothing
 LineTells wanted (line.Bad reason) result = result ≡ told.Bad (why_told reason)
 
 -- the line that begins at a place of a text and ends before another one, with its end, which is the first line feed there, tells this
-pub record TellsAt (text wanted : List ℕ) (from to : ℕ) (result : Told) : Type 0 where
+pub record TellsAt (text wanted : List ℕ) (from to : ℕ) (result : LineContent) : Type 0 where
   pub end : ℕ
   pub first : IsFirstByte (is_byte 10) (drop from text) (Some end)
   pub behind : to ≡ from + end + 1
@@ -77,23 +77,23 @@ abbrev pub HasNoLine : List ℕ → ℕ → Type 0
 HasNoLine text from = IsFirstByte (is_byte 10) (drop from text) None
 
 -- it is no frame
-abbrev pub IsNoFrame : Told → Type 0
+abbrev pub IsNoFrame : LineContent → Type 0
 IsNoFrame (told.Frame time f) = ⊥
 IsNoFrame _ = Unit {0}
 
 -- so many bytes of a text were read, of so many lines, one after the other, with the frames that they told, when and in which line; and
 -- what the last one told beside: each line is read once, in its order, and none behind one that told of missed frames or was bad
-pub data ReadsLines : List ℕ → List ℕ → ℕ → ℕ → List FrameRecord → List LoggedRecord → Told → Type 0 where
+pub data ReadsLines : List ℕ → List ℕ → ℕ → ℕ → List FrameRecord → List LoggedRecord → LineContent → Type 0 where
   ReadsNone : (text wanted : List ℕ) → ReadsLines text wanted 0 0 [] [] told.Nothing
   ReadsFrame : (text wanted : List ℕ) (from to lines time : ℕ) (fs : List FrameRecord) (ls : List LoggedRecord) (f : FrameValue) (r : FrameRecord)
       → ReadsLines text wanted from lines fs ls told.Nothing → TellsAt text wanted from to (told.Frame time f) → frame_recorded r ≡ f
       → ReadsLines text wanted to (lines + 1) (fs ++ r ∷ []) (ls ++ (record { time = time; line = lines + 1 }) ∷ []) told.Nothing
-  ReadsOther : (text wanted : List ℕ) (from to lines : ℕ) (fs : List FrameRecord) (ls : List LoggedRecord) (result : Told)
+  ReadsOther : (text wanted : List ℕ) (from to lines : ℕ) (fs : List FrameRecord) (ls : List LoggedRecord) (result : LineContent)
       → ReadsLines text wanted from lines fs ls told.Nothing → TellsAt text wanted from to result → IsNoFrame result
       → ReadsLines text wanted to (lines + 1) fs ls result
 
 -- what a record says that the last line told beside frames
-abbrev pub told_beside : ReadRecord → Told
+abbrev pub told_beside : ReadRecord → LineContent
 told_beside read = if read.what == 1 then told.Missed read.missed else (if read.what == 2 then told.Bad read.why else told.Nothing)
 
 -- lines with so many frames were read, and the last one told nothing beside

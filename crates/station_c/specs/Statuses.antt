@@ -2,10 +2,14 @@
 use Rattle.std.specs.Prelude.{◌≡◌, ◌⊎◌, ℕ}
 use Rattle.can_frame.specs.declared.frame.FrameError.{FrameError}
 use Rattle.can_frame.specs.declared.frame.FrameError.TheVariants as frame
+use Rattle.fault_memory.specs.declared.error.FaultError.{FaultError}
+use Rattle.fault_memory.specs.declared.error.FaultError.TheVariants as fault
+use Rattle.live_unit.specs.declared.error.LiveError.{LiveError}
+use Rattle.live_unit.specs.declared.error.LiveError.TheVariants as live
 use Rattle.station_table.specs.declared.error.StationError.{StationError}
 use Rattle.station_table.specs.declared.error.StationError.TheVariants as station
 use Rattle.station_c.specs.declared.status.Status.{Status}
-use Rattle.station_c.specs.declared.status.Status.TheVariants.{Done, IdTooLarge, TooLong, NotAnAddress, NoAddress, NotHeld, BadSetting, PgnTooLarge, NoStation, HasStation, NoPlace, NoKind, OutOfMemory, NotKept}
+use Rattle.station_c.specs.declared.status.Status.TheVariants.{Done, IdTooLarge, TooLong, NotAnAddress, NoAddress, NotHeld, BadSetting, PgnTooLarge, NoStation, HasStation, NoPlace, NoKind, OutOfMemory, NotKept, SpnTooLarge, FmiTooLarge, MemoryFull, NotActive, NoUnit, HasUnit, QueueFull, SessionOpen, NotPending}
 
 -- the number of each
 abbrev pub status_number : Status → ℕ
@@ -23,6 +27,15 @@ status_number NoPlace = 31
 status_number NoKind = 32
 status_number OutOfMemory = 33
 status_number NotKept = 34
+status_number SpnTooLarge = 9
+status_number FmiTooLarge = 10
+status_number MemoryFull = 13
+status_number NotActive = 14
+status_number NoUnit = 35
+status_number HasUnit = 36
+status_number QueueFull = 37
+status_number SessionOpen = 38
+status_number NotPending = 39
 
 -- the refusal of a frame
 abbrev pub status_of_frame : FrameError → Status
@@ -35,6 +48,21 @@ status_of_station station.OutOfMemory = OutOfMemory
 status_of_station station.NotAnAddress = NotAnAddress
 status_of_station station.NoAddress = NoAddress
 status_of_station station.NotHeld = NotHeld
+
+-- the refusal of a change by a fault memory
+abbrev pub status_of_fault : FaultError → Status
+status_of_fault fault.OutOfMemory = OutOfMemory
+status_of_fault fault.SpnTooLarge = SpnTooLarge
+status_of_fault fault.FmiTooLarge = FmiTooLarge
+status_of_fault fault.Full = MemoryFull
+status_of_fault fault.NotActive = NotActive
+status_of_fault fault.NotPending = NotPending
+
+-- a refusal of a unit that takes part in a bus
+abbrev pub status_of_live : LiveError → Status
+status_of_live live.OutOfMemory = OutOfMemory
+status_of_live live.Unclaimed = NotHeld
+status_of_live live.Full = QueueFull
 
 -- the number that a call answered is this one's
 abbrev pub Answers : ℕ → Status → Type 0

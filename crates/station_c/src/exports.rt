@@ -6,4 +6,5 @@ mod open;
 mod orders;
 mod readings;
 mod series;
+mod simulated;
 mod units;

@@ -1,8 +1,8 @@
-//! The diagnostic station for programs in C and C++, as a static library.
+//! The diagnostic station and simulated units for programs in C and C++, as a static library.
 //!
-//! A C program holds a `StationHandle`, which is empty at first, and gives it to one call at a time: `exports` has a function
-//! for each. Each answers the number of a `Status`; a call that is not done changes nothing. `c/hidzgula_station.h` tells the
-//! C side's half.
+//! A C program holds a `StationHandle`, or a `UnitHandle`, which is empty at first, and gives it to one call at a time: `exports`
+//! has a function for each. Each answers the number of a `Status`; a call that is not done changes nothing. `c/hidzgula_station.h`
+//! tells the C side's half.
 #![tactic(auto)]
 
 mod absent;
@@ -16,9 +16,13 @@ mod records;
 mod replies;
 mod status;
 mod told;
+mod unit_handle;
+mod unit_records;
 
 pub use changes::ChangeRecord;
 pub use handle::StationHandle;
 pub use log_records::{LoggedRecord, ReadRecord};
 pub use records::{CodeRecord, EntryRecord, FrameRecord, ReplyRecord, RowRecord};
 pub use status::Status;
+pub use unit_handle::UnitHandle;
+pub use unit_records::{UnitCountsRecord, UnitSettingsRecord};

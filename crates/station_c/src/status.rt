@@ -1,6 +1,8 @@
 ghost use Rattle.std.specs.Prelude.{◌≡◌};
 
 use can_frame::FrameError;
+use fault_memory::FaultError;
+use live_unit::LiveError;
 use station_table::StationError;
 
 /// What a call from C answers.
@@ -16,9 +18,9 @@ pub enum Status {
     NotAnAddress,
     /// The station knows no address of that NAME.
     NoAddress,
-    /// The station holds no address.
+    /// The station, or the unit, holds no address.
     NotHeld,
-    /// An address above 253, or a grant of 0.
+    /// An address above 253, a grant of 0, or a setting of a unit that is out of its range.
     BadSetting,
     /// The parameter group number is 2^24 or more.
     PgnTooLarge,
@@ -34,13 +36,31 @@ pub enum Status {
     OutOfMemory,
     /// The entry at that place is none of the newest, and is kept no longer.
     NotKept,
+    /// The SPN is above 524,287.
+    SpnTooLarge,
+    /// The FMI is above 31.
+    FmiTooLarge,
+    /// A fault memory holds 445 codes, and no more.
+    MemoryFull,
+    /// The code that is to be healed is not active.
+    NotActive,
+    /// The handle has no unit.
+    NoUnit,
+    /// The handle has a unit already.
+    HasUnit,
+    /// As much waits to be written as there is room for.
+    QueueFull,
+    /// A session of that kind is open.
+    SessionOpen,
+    /// The code that is to go away is not pending.
+    NotPending,
 }
 
 impl Status {
-    ghost use Rattle.station_c.specs.Statuses.{status_number, status_of_frame, status_of_station};
+    ghost use Rattle.station_c.specs.Statuses.{status_number, status_of_fault, status_of_frame, status_of_live, status_of_station};
 
-    /// The number that C sees: 0 where it was done; of a refusal that other crates give too, theirs; 33 where memory was
-    /// refused.
+    /// The number that C sees: 0 where it was done; of a refusal that other crates give too, theirs, but for `NotPending`, whose
+    /// number there is that of `NoStation` here; 33 where memory was refused.
     pub fn number(self) -> u32
         ensures { result ≡ status_number self }
     {
@@ -59,6 +79,15 @@ impl Status {
             Status::NoKind => 32,
             Status::OutOfMemory => 33,
             Status::NotKept => 34,
+            Status::SpnTooLarge => 9,
+            Status::FmiTooLarge => 10,
+            Status::MemoryFull => 13,
+            Status::NotActive => 14,
+            Status::NoUnit => 35,
+            Status::HasUnit => 36,
+            Status::QueueFull => 37,
+            Status::SessionOpen => 38,
+            Status::NotPending => 39,
         }
     }
 
@@ -81,6 +110,31 @@ impl Status {
             StationError::NotAnAddress => Status::NotAnAddress,
             StationError::NoAddress => Status::NoAddress,
             StationError::NotHeld => Status::NotHeld,
+        }
+    }
+
+    /// What stands for the refusal of a change by a fault memory.
+    pub fn of_fault(refusal: FaultError) -> Status
+        ensures { result ≡ status_of_fault refusal }
+    {
+        match refusal {
+            FaultError::OutOfMemory => Status::OutOfMemory,
+            FaultError::SpnTooLarge => Status::SpnTooLarge,
+            FaultError::FmiTooLarge => Status::FmiTooLarge,
+            FaultError::Full => Status::MemoryFull,
+            FaultError::NotActive => Status::NotActive,
+            FaultError::NotPending => Status::NotPending,
+        }
+    }
+
+    /// What stands for a refusal of a unit that takes part in a bus.
+    pub fn of_live(refusal: LiveError) -> Status
+        ensures { result ≡ status_of_live refusal }
+    {
+        match refusal {
+            LiveError::OutOfMemory => Status::OutOfMemory,
+            LiveError::Unclaimed => Status::NotHeld,
+            LiveError::Full => Status::QueueFull,
         }
     }
 }

@@ -10,7 +10,7 @@ const NO_TIME: u64 = u64::MAX;
 
 /// What a line of a log tells a station of a bus.
 #[derive(Clone, Copy, Debug, PartialEq, Eq)]
-pub(crate) enum Told {
+pub(crate) enum LineContent {
     /// Nothing: it is no frame of SAE J1939, or is of another bus.
     Nothing,
     /// A frame, and when it was seen: in microseconds, or `NO_TIME`.
@@ -21,38 +21,40 @@ pub(crate) enum Told {
     Bad { why: u8 },
 }
 
-impl Told {
+impl LineContent {
     /// What a line tells of this bus; of every bus where that is empty. A line that names no bus is of every bus.
-    pub(crate) fn of(line: &Line<'_>, wanted: &[u8]) -> Told
+    pub(crate) fn of(line: &Line<'_>, wanted: &[u8]) -> LineContent
         ensures { LineTells wanted.now line.now result }
     {
         match line {
             Line::Frame { time, bus, frame } => {
-                let told = Told::Frame {
+                let told = LineContent::Frame {
                     time: micros_of(*time),
                     frame: *frame,
                 };
                 told.where_of(*bus, wanted)
             }
-            Line::Dropped { bus, count } => Told::Missed { count: *count }.where_of(*bus, wanted),
-            Line::Overflow { bus, .. } => Told::Missed { count: 1 }.where_of(*bus, wanted),
-            Line::Foreign { .. } => Told::Nothing,
-            Line::Note => Told::Nothing,
-            Line::Bad(reason) => Told::Bad {
+            Line::Dropped { bus, count } => LineContent::Missed { count: *count }.where_of(
+                *bus, wanted,
+            ),
+            Line::Overflow { bus, .. } => LineContent::Missed { count: 1 }.where_of(*bus, wanted),
+            Line::Foreign { .. } => LineContent::Nothing,
+            Line::Note => LineContent::Nothing,
+            Line::Bad(reason) => LineContent::Bad {
                 why: why_of(*reason),
             },
         }
     }
 
     /// The same where the line is of a bus that is wanted, else nothing.
-    fn where_of(self, bus: Option<&str>, wanted: &[u8]) -> Told
+    fn where_of(self, bus: Option<&str>, wanted: &[u8]) -> LineContent
         ensures wanted { IsOf wanted.now bus.entry → result ≡ self }
-        ensures other { ¬ IsOf wanted.now bus.entry → result ≡ Told.Nothing }
+        ensures other { ¬ IsOf wanted.now bus.entry → result ≡ LineContent.Nothing }
     {
         if is_of(bus, wanted) {
             self
         } else {
-            Told::Nothing
+            LineContent::Nothing
         }
     }
 }

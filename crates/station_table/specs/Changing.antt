@@ -12,7 +12,7 @@ use Rattle.parameter_group.specs.Group.{Group, AddressClaimed, CannotClaim, Ackn
 use Rattle.reassembly.specs.Partials.{with_packet}
 use Rattle.reassembly.specs.Tables.{at}
 use Rattle.transport.specs.declared.control.Control.TheVariants.{Bam}
-use Rattle.station_table.specs.declared.ended.Ended.{Ended}
+use Rattle.station_table.specs.declared.ended.ReadMessage.{ReadMessage}
 use Rattle.station_table.specs.KeptValue.{kept_under}
 use Rattle.station_table.specs.Orders.{address_in}
 use Rattle.station_table.specs.StandsFor.{row_known, row_of}
@@ -34,7 +34,7 @@ ended_by_packet s source destination bytes =
     else (if is_held s.claimer.held destination then finished (with_packet bytes (at s.sessions source)) else None)
 
 -- what is kept of a message from an address that ended, if one did
-abbrev pub read_change : ℕ → Option Ended → Change
+abbrev pub read_change : ℕ → Option ReadMessage → Change
 read_change source None = Nothing
 read_change source (Some e) = if is_some e.shown then Listed e.origin.owner e.origin.kind source else Unreadable e.origin.owner e.origin.kind source
 

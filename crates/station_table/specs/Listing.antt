@@ -13,7 +13,7 @@ use Rattle.parameter_group.specs.Group.{Group, Diagnostic, DataTransfer, group_o
 use Rattle.reassembly.specs.Tables.{at}
 use Rattle.station_table.specs.Changing.{ended_by_packet}
 use Rattle.station_table.specs.StationValue.{StationValue}
-use Rattle.station_table.specs.declared.ended.Ended.{Ended}
+use Rattle.station_table.specs.declared.ended.ReadMessage.{ReadMessage}
 
 -- the entry of a message of this NAME and kind from this address, where it can be read
 abbrev pub entry_if_read : ℕ → ℕ → Kind → Option Shown → Option NewEntry
@@ -25,7 +25,7 @@ abbrev pub entry_of_ended : ℕ → Option Entry → Option NewEntry
 entry_of_ended source None = None
 entry_of_ended source (Some e) = entry_if_read source e.name e.kind (decoding e.bytes)
 
-abbrev pub entry_of_read : ℕ → Option Ended → Option NewEntry
+abbrev pub entry_of_read : ℕ → Option ReadMessage → Option NewEntry
 entry_of_read source None = None
 entry_of_read source (Some e) = entry_if_read source e.origin.owner e.origin.kind e.shown
 

@@ -16,7 +16,7 @@ use Rattle.reassembly.specs.Partials.{with_packet, after_packet}
 use Rattle.reassembly.specs.Tables.{at, empty_table}
 use Rattle.bus_model.specs.Heard.{Joining, Origin, Entry, kind_of, started, finished, entry_under, without_kind, counted, kept_by_owner as joining_under}
 use Rattle.station_table.specs.declared.row.AckSeen.{AckSeen}
-use Rattle.station_table.specs.declared.ended.Ended.{Ended}
+use Rattle.station_table.specs.declared.ended.ReadMessage.{ReadMessage}
 use Rattle.station_table.specs.KeptValue.{with_claimed, with_ack, with_row, changed_under}
 use Rattle.station_table.specs.StationValue.{StationValue}
 
@@ -45,12 +45,12 @@ with_ended s None = s
 with_ended s (Some e) = with_reading s (decoding e.bytes)
 
 -- what a message that ended shows, if one did
-abbrev pub ended_shown : Option Entry → Option Ended
+abbrev pub ended_shown : Option Entry → Option ReadMessage
 ended_shown None = None
 ended_shown (Some e) = Some (record { origin = record { owner = e.name; kind = e.kind }; shown = decoding e.bytes })
 
 -- and what it shows is read
-abbrev pub with_read : StationValue → Option Ended → StationValue
+abbrev pub with_read : StationValue → Option ReadMessage → StationValue
 with_read s None = s
 with_read s (Some e) = with_reading s e.shown
 

@@ -14,7 +14,7 @@ use transport::Took;
 
 /// A message that ended: whose it is and of which kind, and what it shows; nothing where it cannot be read.
 #[derive(Debug, Drop)]
-pub struct Ended {
+pub struct ReadMessage {
     pub origin: Origin,
     pub shown: Option<Shown>,
 }
@@ -37,7 +37,7 @@ pub fn ended_with(
     messages: &mut Partials<Origin>,
     source: u8,
     packet: &[u8],
-) -> Result<Option<Ended>, StationError>
+) -> Result<Option<ReadMessage>, StationError>
     requires { answer_to packet.now (at messages.old source) ≡ Some Took.Whole }
     ensures same { messages.new ≡ messages.old }
     ensures ok { IfOk result (λ o. o ≡ ended_shown (finished (with_packet packet.now (at messages.old source)))) }
@@ -48,5 +48,5 @@ pub fn ended_with(
     };
     let origin = partial.tag();
     let shown = messages.read_with(source, packet, |payload: &[u8]| shown_by(alloc, payload))?;
-    Ok(Some(Ended { origin, shown }))
+    Ok(Some(ReadMessage { origin, shown }))
 }

@@ -103,7 +103,8 @@ impl Station {
     #[tactic(auto, using(crate::proofs::Queries::held_as_heard))]
     pub fn held(&self) -> Option<u8>
         ensures value { result ≡ self.now.claimer.held }
-        ensures heard { (r : StationSettings) (grant : ℕ) (h : List AnyReading) → StandsFor r grant self.now h → result ≡ address_heard r h }
+        ensures heard { (r : StationSettings) (grant : ℕ) (h : List AnyReading) → StandsFor r grant self.now h
+            → result ≡ address_heard r h }
         ensures bound { IfSome result (λ a. a ≤ GREATEST_ADDRESS) }
     {
         self.claimer.held()
@@ -113,7 +114,8 @@ impl Station {
     #[tactic(auto, using(crate::proofs::Queries::names_as_heard))]
     pub fn names(&self) -> usize
         ensures value { result ≡ length self.now.rows }
-        ensures heard { (r : StationSettings) (grant : ℕ) (h : List AnyReading) → StandsFor r grant self.now h → result ≡ length (names_heard h) }
+        ensures heard { (r : StationSettings) (grant : ℕ) (h : List AnyReading) → StandsFor r grant self.now h
+            → result ≡ length (names_heard h) }
     {
         self.rows.len()
     }
@@ -122,7 +124,8 @@ impl Station {
     #[tactic(auto, using(crate::proofs::Queries::name_as_heard))]
     pub fn name_at(&self, place: usize) -> Option<Name>
         ensures value { result ≡ slice_get (map (λ e. e.0) self.now.rows) place }
-        ensures heard { (r : StationSettings) (grant : ℕ) (h : List AnyReading) → StandsFor r grant self.now h → result ≡ slice_get (names_heard h) place }
+        ensures heard { (r : StationSettings) (grant : ℕ) (h : List AnyReading) → StandsFor r grant self.now h
+            → result ≡ slice_get (names_heard h) place }
     {
         self.rows.name_at(place)
     }
@@ -131,7 +134,8 @@ impl Station {
     #[tactic(auto, using(crate::proofs::Queries::row_as_heard))]
     pub fn row(&self, name: Name) -> Option<Row>
         ensures value { result ≡ row_of self.now.owners name (kept_under self.now.rows name) }
-        ensures heard { (r : StationSettings) (grant : ℕ) (h : List AnyReading) → StandsFor r grant self.now h → option_map row_heard_as result ≡ row_heard r name h }
+        ensures heard { (r : StationSettings) (grant : ℕ) (h : List AnyReading) → StandsFor r grant self.now h
+            → option_map row_heard_as result ≡ row_heard r name h }
     {
         let (claimed, ack) = self.rows.get(name)?;
         let address = match claimed {
@@ -152,7 +156,8 @@ impl Station {
     #[tactic(auto, using(crate::proofs::Queries::missed_as_heard))]
     pub fn missed(&self) -> u64
         ensures value { result ≡ self.now.missed }
-        ensures heard { (r : StationSettings) (grant : ℕ) (h : List AnyReading) → StandsFor r grant self.now h → result ≡ missed_count h }
+        ensures heard { (r : StationSettings) (grant : ℕ) (h : List AnyReading) → StandsFor r grant self.now h
+            → result ≡ missed_count h }
     {
         self.missed
     }
@@ -161,7 +166,8 @@ impl Station {
     #[tactic(auto, using(crate::proofs::Queries::unread_as_heard))]
     pub fn unread(&self) -> u64
         ensures value { result ≡ self.now.unread }
-        ensures heard { (r : StationSettings) (grant : ℕ) (h : List AnyReading) → StandsFor r grant self.now h → result ≡ unread_count r h }
+        ensures heard { (r : StationSettings) (grant : ℕ) (h : List AnyReading) → StandsFor r grant self.now h
+            → result ≡ unread_count r h }
     {
         self.unread
     }

@@ -132,7 +132,8 @@ impl TextBuffer {
     pub fn make_room<W: Write>(&mut self, count: usize, writer: &mut W) -> io::Result<()>
         requires { count ≤ 256 }
         ensures room { OnOk result (length self.new + count ≤ 256) }
-        ensures written { OnOk result (Keeps (append_known (W.contents writer.old) self.old) (append_known (W.contents writer.new) self.new)) }
+        ensures written { OnOk result
+            (Keeps (append_known (W.contents writer.old) self.old) (append_known (W.contents writer.new) self.new)) }
     {
         if self.has_room(count) {
             return Ok(());

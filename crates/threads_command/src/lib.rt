@@ -18,7 +18,7 @@ use std::sync::Wait;
 use std::thread::Threads;
 use unit_threads::{Ended, Gate, Ran, run};
 use unit_trait::Unit;
-use vehicle::{Second, Station, UnitLine, Vehicle, VehicleFault, read_vehicle};
+use vehicle::{Second, StationTable, UnitLine, Vehicle, VehicleFault, read_vehicle};
 
 /// More units than this a run cannot number. No input of the greatest size has so many.
 const MOST_UNITS: usize = 4_294_967_295;
@@ -51,7 +51,8 @@ pub fn threads<R: Threads + Wait + Sync, I: Read, W: Write>(
     writer: &mut W,
 ) -> Result<(), Failure>
     ensures unanswered { IfErr result (λ failure. IsOfInput failure.fault → writer.new ≡ writer.old) }
-    ensures too_long { IfErr result (λ failure. failure.fault ≡ Fault.InputTooLong → IfSome (I.remaining reader.old) (λ bytes. input_limit < length bytes)) }
+    ensures too_long { IfErr result
+        (λ failure. failure.fault ≡ Fault.InputTooLong → IfSome (I.remaining reader.old) (λ bytes. input_limit < length bytes)) }
 {
     let vehicle = vehicle_of(alloc, reader)?;
     match run_vehicle(rt, alloc, &vehicle, turns, reads, report, writer) {
@@ -83,7 +84,8 @@ fn run_vehicle<R: Threads + Wait + Sync, W: Write>(
 /// The vehicle that an input describes.
 fn vehicle_of<I: Read>(alloc: Global, reader: &mut I) -> Result<Vehicle, Failure>
     ensures few { IfOk result (λ vehicle. vec_len vehicle.units < 4294967296) }
-    ensures too_long { IfErr result (λ failure. failure.fault ≡ Fault.InputTooLong → IfSome (I.remaining reader.old) (λ bytes. input_limit < length bytes)) }
+    ensures too_long { IfErr result
+        (λ failure. failure.fault ≡ Fault.InputTooLong → IfSome (I.remaining reader.old) (λ bytes. input_limit < length bytes)) }
 {
     let text = match read_text(alloc, reader) {
         Ok(text) => text,
@@ -101,11 +103,11 @@ fn vehicle_of<I: Read>(alloc: Global, reader: &mut I) -> Result<Vehicle, Failure
 }
 
 /// The garage of a vehicle's station, and of a second one where there is one.
-fn garage_of(alloc: Global, station: Station, second: Option<Second>) -> Result<Garage, Fault>
+fn garage_of(alloc: Global, station: StationTable, second: Option<Second>) -> Result<Garage, Fault>
     ensures opened { IfOk result (λ garage. garage ≡ new_garage (settings_wanted station second)) }
     ensures faults { IfErr result (λ fault. (fault ≡ Fault.Memory) ⊎ (fault ≡ Fault.Vehicle)) }
 {
-    let Station {
+    let StationTable {
         name,
         address,
         window,

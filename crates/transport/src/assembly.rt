@@ -45,8 +45,10 @@ impl Assembly {
         requires most { size ≤ 1785 }
         ensures value { IfOk result (λ a. a ≡ new_assembly size pgn) }
         ensures whole { (parts : List (List ℕ)) → (took_after size pgn parts ≡ Took.Whole) ↔ AreAllPackets size parts }
-        ensures broken { (parts : List (List ℕ)) → (took_after size pgn parts ≡ Took.Broken) ↔ (¬ AreInOrder (packet_count size) 0 parts) }
-        ensures packets { (payload : List ℕ) → length payload ≡ size → (after_parts (new_assembly size pgn) (packets_of payload)).taken ≡ Some (pieces payload) }
+        ensures broken { (parts : List (List ℕ))
+            → (took_after size pgn parts ≡ Took.Broken) ↔ (¬ AreInOrder (packet_count size) 0 parts) }
+        ensures packets { (payload : List ℕ) → length payload ≡ size
+            → (after_parts (new_assembly size pgn) (packets_of payload)).taken ≡ Some (pieces payload) }
     {
         Ok(Assembly {
             size,
@@ -99,7 +101,8 @@ impl Assembly {
     /// Gives back the packet that was taken last.
     pub fn give_back(&mut self)
         requires { IsSomeAnd self.old.taken (λ taken. 0 < length taken) }
-        ensures { (before : List (List ℕ)) (part : List ℕ) → self.old.taken ≡ Some (before ++ part ∷ []) → self.new ≡ record self.old { taken = Some before } }
+        ensures { (before : List (List ℕ)) (part : List ℕ) → self.old.taken ≡ Some (before ++ part ∷ [])
+            → self.new ≡ record self.old { taken = Some before } }
     {
         self.bytes.truncate(self.bytes.len() - 7);
     }

@@ -110,7 +110,8 @@ fn is_mount_refusal(error: GarageError) -> bool
 fn compared(turns: u32, tally: Tally, end: Ended) -> Option<EndReason>
     ensures agrees { AgreesAt turns tally tally.events result }
     ensures whole { end.refusal ≡ None → IsWhole turns tally end.events → result ≡ None }
-    ensures cut { (e : AnyError) → end.refusal ≡ Some (EndReason.Garage e) → IsWant e → IsCutShort turns tally tally.events → result ≡ end.refusal }
+    ensures cut { (e : AnyError) → end.refusal ≡ Some (EndReason.Garage e) → IsWant e → IsCutShort turns tally tally.events
+        → result ≡ end.refusal }
 {
     let left = tally.joined == 1 && tally.left == 1;
     match end.refusal {

@@ -23,12 +23,21 @@ const MOST_CARRIED: u32 = 8;
 /// - `BookFull`, `OutOfMemory`: a step was refused. What was done before stays, and the unit left the bus.
 #[tactic(auto, using(crate::proofs::Turning::left_after, crate::proofs::Turning::one_turn_of))]
 pub fn one_turn(alloc: Global, garage: &mut Garage, parked: Parked) -> Result<Parked, GarageError>
-    ensures ok { IfOk result (λ p. IsOneTurn parked.seat ((⟦<dyn Unit as Unit>⟧ p.unit.vtable).wants p.unit.value) ((⟦<dyn Unit as Unit>⟧ p.unit.vtable).memory_of p.unit.value) garage.old garage.new) }
-    ensures parked { IfOk result (λ p. (p.seat ≡ parked.seat) × IsSeated garage.new p.seat ((⟦<dyn Unit as Unit>⟧ p.unit.vtable).name_of p.unit.value) p.events) }
-    ensures named { IfOk result (λ p. ((⟦<dyn Unit as Unit>⟧ p.unit.vtable).name_of p.unit.value) ≡ ((⟦<dyn Unit as Unit>⟧ parked.unit.vtable).name_of parked.unit.value)) }
-    ensures unit { IfOk result (λ p. (turned : GarageValue) × IsTurnInBox (λ i. (⟦<dyn Unit as Unit>⟧ i).name_of) (λ i. (⟦<dyn Unit as Unit>⟧ i).wants) (λ i. (⟦<dyn Unit as Unit>⟧ i).memory_of) (λ i. (⟦<dyn Unit as Unit>⟧ i).Answers) parked.seat garage.old parked.unit parked.events turned p.unit × CarriesAll turned garage.new) }
-    ensures stranger { (result ≡ Err GarageError.Stranger) ↔ (¬ IsSeated garage.old parked.seat ((⟦<dyn Unit as Unit>⟧ parked.unit.vtable).name_of parked.unit.value) parked.events) }
-    ensures err { IfErr result (λ e. ((e ≡ GarageError.Stranger) × (garage.new ≡ garage.old)) ⊎ (IsWant e × LeftTurn parked.seat garage.old garage.new)) }
+    ensures ok { IfOk result (λ p. IsOneTurn parked.seat ((⟦<dyn Unit as Unit>⟧ p.unit.vtable).wants p.unit.value)
+        ((⟦<dyn Unit as Unit>⟧ p.unit.vtable).memory_of p.unit.value) garage.old garage.new) }
+    ensures parked { IfOk result (λ p. (p.seat ≡ parked.seat)
+        × IsSeated garage.new p.seat ((⟦<dyn Unit as Unit>⟧ p.unit.vtable).name_of p.unit.value) p.events) }
+    ensures named { IfOk result (λ p. ((⟦<dyn Unit as Unit>⟧ p.unit.vtable).name_of p.unit.value) ≡ ((⟦<dyn Unit as Unit>⟧
+        parked.unit.vtable).name_of parked.unit.value)) }
+    ensures unit { IfOk result (λ p. (turned : GarageValue)
+        × IsTurnInBox (λ i. (⟦<dyn Unit as Unit>⟧ i).name_of) (λ i. (⟦<dyn Unit as Unit>⟧ i).wants)
+        (λ i. (⟦<dyn Unit as Unit>⟧ i).memory_of) (λ i. (⟦<dyn Unit as Unit>⟧ i).Answers) parked.seat garage.old parked.unit
+        parked.events turned p.unit
+        × CarriesAll turned garage.new) }
+    ensures stranger { (result ≡ Err GarageError.Stranger)
+        ↔ (¬ IsSeated garage.old parked.seat ((⟦<dyn Unit as Unit>⟧ parked.unit.vtable).name_of parked.unit.value) parked.events) }
+    ensures err { IfErr result
+        (λ e. ((e ≡ GarageError.Stranger) × (garage.new ≡ garage.old)) ⊎ (IsWant e × LeftTurn parked.seat garage.old garage.new)) }
 {
     match turned_in_seat(alloc, garage, parked) {
         Ok(Ok(parked)) => carried_after(garage, parked),
@@ -123,10 +132,18 @@ fn turned_in_seat(
     garage: &mut Garage,
     parked: Parked,
 ) -> Result<Result<Parked, GarageError>, (Parked, GarageError)>
-    ensures stranger { IsErr result ↔ (¬ IsSeated garage.old parked.seat ((⟦<dyn Unit as Unit>⟧ parked.unit.vtable).name_of parked.unit.value) parked.events) }
-    ensures turned { IfOk result (λ r. IfOk r (λ p. IsTurnInSeat parked.seat ((⟦<dyn Unit as Unit>⟧ p.unit.vtable).wants p.unit.value) ((⟦<dyn Unit as Unit>⟧ p.unit.vtable).memory_of p.unit.value) garage.old garage.new)) }
-    ensures seated { IfOk result (λ r. IfOk r (λ p. (p.seat ≡ parked.seat) × (((⟦<dyn Unit as Unit>⟧ p.unit.vtable).name_of p.unit.value) ≡ ((⟦<dyn Unit as Unit>⟧ parked.unit.vtable).name_of parked.unit.value)) × IsSeated garage.new p.seat ((⟦<dyn Unit as Unit>⟧ p.unit.vtable).name_of p.unit.value) p.events)) }
-    ensures unit { IfOk result (λ r. IfOk r (λ p. IsTurnInBox (λ i. (⟦<dyn Unit as Unit>⟧ i).name_of) (λ i. (⟦<dyn Unit as Unit>⟧ i).wants) (λ i. (⟦<dyn Unit as Unit>⟧ i).memory_of) (λ i. (⟦<dyn Unit as Unit>⟧ i).Answers) parked.seat garage.old parked.unit parked.events garage.new p.unit)) }
+    ensures stranger { IsErr result
+        ↔ (¬ IsSeated garage.old parked.seat ((⟦<dyn Unit as Unit>⟧ parked.unit.vtable).name_of parked.unit.value) parked.events) }
+    ensures turned { IfOk result (λ r. IfOk r (λ p. IsTurnInSeat parked.seat
+        ((⟦<dyn Unit as Unit>⟧ p.unit.vtable).wants p.unit.value) ((⟦<dyn Unit as Unit>⟧ p.unit.vtable).memory_of p.unit.value)
+        garage.old garage.new)) }
+    ensures seated { IfOk result (λ r. IfOk r (λ p. (p.seat ≡ parked.seat)
+        × (((⟦<dyn Unit as Unit>⟧ p.unit.vtable).name_of p.unit.value) ≡ ((⟦<dyn Unit as Unit>⟧ parked.unit.vtable).name_of
+        parked.unit.value))
+        × IsSeated garage.new p.seat ((⟦<dyn Unit as Unit>⟧ p.unit.vtable).name_of p.unit.value) p.events)) }
+    ensures unit { IfOk result (λ r. IfOk r (λ p. IsTurnInBox (λ i. (⟦<dyn Unit as Unit>⟧ i).name_of)
+        (λ i. (⟦<dyn Unit as Unit>⟧ i).wants) (λ i. (⟦<dyn Unit as Unit>⟧ i).memory_of) (λ i. (⟦<dyn Unit as Unit>⟧ i).Answers)
+        parked.seat garage.old parked.unit parked.events garage.new p.unit)) }
     ensures left { IfOk result (λ r. IfErr r (λ e. IsWant e × LeftTurn parked.seat garage.old garage.new)) }
     ensures err { IfErr result (λ e. (e.0 ≡ parked) × (e.1 ≡ GarageError.Stranger) × (garage.new ≡ garage.old)) }
 {
@@ -142,9 +159,13 @@ fn turned_in_seat(
 fn steps(alloc: Global, plug: &mut Plug<'_>) -> Result<(), GarageError>
     requires { Unit {0} }
     ensures same { plug.new.garage.ghost_name ≡ plug.old.garage.ghost_name }
-    ensures kept { (plug.new.seat ≡ plug.old.seat) × (plug.new.name ≡ plug.old.name) × (((⟦<dyn Unit as Unit>⟧ plug.new.unit.vtable).name_of plug.new.unit.value) ≡ ((⟦<dyn Unit as Unit>⟧ plug.old.unit.vtable).name_of plug.old.unit.value)) }
-    ensures ok { OnOk result (IsTurnInSeat plug.old.seat ((⟦<dyn Unit as Unit>⟧ plug.new.unit.vtable).wants plug.new.unit.value) ((⟦<dyn Unit as Unit>⟧ plug.new.unit.vtable).memory_of plug.new.unit.value) plug.old.garage.now plug.new.garage.now) }
-    ensures unit { OnOk result (IsTurnInBox (λ i. (⟦<dyn Unit as Unit>⟧ i).name_of) (λ i. (⟦<dyn Unit as Unit>⟧ i).wants) (λ i. (⟦<dyn Unit as Unit>⟧ i).memory_of) (λ i. (⟦<dyn Unit as Unit>⟧ i).Answers) plug.old.seat plug.old.garage.now plug.old.unit plug.old.events plug.new.garage.now plug.new.unit) }
+    ensures kept { (plug.new.seat ≡ plug.old.seat) × (plug.new.name ≡ plug.old.name)
+        × (((⟦<dyn Unit as Unit>⟧ plug.new.unit.vtable).name_of plug.new.unit.value) ≡ ((⟦<dyn Unit as Unit>⟧ plug.old.unit.vtable).name_of plug.old.unit.value)) }
+    ensures ok { OnOk result (IsTurnInSeat plug.old.seat ((⟦<dyn Unit as Unit>⟧ plug.new.unit.vtable).wants plug.new.unit.value)
+        ((⟦<dyn Unit as Unit>⟧ plug.new.unit.vtable).memory_of plug.new.unit.value) plug.old.garage.now plug.new.garage.now) }
+    ensures unit { OnOk result (IsTurnInBox (λ i. (⟦<dyn Unit as Unit>⟧ i).name_of) (λ i. (⟦<dyn Unit as Unit>⟧ i).wants)
+        (λ i. (⟦<dyn Unit as Unit>⟧ i).memory_of) (λ i. (⟦<dyn Unit as Unit>⟧ i).Answers) plug.old.seat plug.old.garage.now
+        plug.old.unit plug.old.events plug.new.garage.now plug.new.unit) }
     ensures err { IfErr result (λ e. IsWant e × IsPartOfTurn plug.old.seat plug.old.garage.now plug.new.garage.now) }
 {
     hear_all(alloc, plug)?;
@@ -158,9 +179,12 @@ fn steps(alloc: Global, plug: &mut Plug<'_>) -> Result<(), GarageError>
 fn hear_all(alloc: Global, plug: &mut Plug<'_>) -> Result<(), GarageError>
     requires { Unit {0} }
     ensures same { plug.new.garage.ghost_name ≡ plug.old.garage.ghost_name }
-    ensures kept { (plug.new.seat ≡ plug.old.seat) × (plug.new.name ≡ plug.old.name) × (((⟦<dyn Unit as Unit>⟧ plug.new.unit.vtable).name_of plug.new.unit.value) ≡ ((⟦<dyn Unit as Unit>⟧ plug.old.unit.vtable).name_of plug.old.unit.value)) }
+    ensures kept { (plug.new.seat ≡ plug.old.seat) × (plug.new.name ≡ plug.old.name)
+        × (((⟦<dyn Unit as Unit>⟧ plug.new.unit.vtable).name_of plug.new.unit.value) ≡ ((⟦<dyn Unit as Unit>⟧ plug.old.unit.vtable).name_of plug.old.unit.value)) }
     ensures heard { GrowsBy (IsHearOf plug.old.seat) plug.old.garage.now plug.new.garage.now }
-    ensures unit { BoxHeard (λ i. (⟦<dyn Unit as Unit>⟧ i).name_of) (λ i. (⟦<dyn Unit as Unit>⟧ i).memory_of) (λ i. (⟦<dyn Unit as Unit>⟧ i).Answers) plug.old.seat plug.old.garage.now plug.old.unit plug.old.events plug.new.garage.now plug.new.unit plug.new.events }
+    ensures unit { BoxHeard (λ i. (⟦<dyn Unit as Unit>⟧ i).name_of) (λ i. (⟦<dyn Unit as Unit>⟧ i).memory_of)
+        (λ i. (⟦<dyn Unit as Unit>⟧ i).Answers) plug.old.seat plug.old.garage.now plug.old.unit plug.old.events plug.new.garage.now
+        plug.new.unit plug.new.events }
     ensures all { OnOk result (HasHeardAll plug.old.seat plug.new.garage.now) }
     ensures want { IfErr result IsWant }
 {
@@ -178,7 +202,9 @@ fn begin_wanted(alloc: Global, plug: &mut Plug<'_>) -> Result<(), GarageError>
     requires { Unit {0} }
     ensures same { plug.new.garage.ghost_name ≡ plug.old.garage.ghost_name }
     ensures kept { (plug.new.seat ≡ plug.old.seat) × (plug.new.name ≡ plug.old.name) × (plug.new.unit ≡ plug.old.unit) }
-    ensures ok { OnOk result (plug.new.garage.now ≡ begun_by plug.old.seat ((⟦<dyn Unit as Unit>⟧ plug.old.unit.vtable).wants plug.old.unit.value) ((⟦<dyn Unit as Unit>⟧ plug.old.unit.vtable).memory_of plug.old.unit.value) plug.old.garage.now) }
+    ensures ok { OnOk result (plug.new.garage.now ≡ begun_by plug.old.seat
+        ((⟦<dyn Unit as Unit>⟧ plug.old.unit.vtable).wants plug.old.unit.value)
+        ((⟦<dyn Unit as Unit>⟧ plug.old.unit.vtable).memory_of plug.old.unit.value) plug.old.garage.now) }
     ensures err { IfErr result (λ e. IsWant e × (plug.new.garage.now ≡ plug.old.garage.now)) }
 {
     if !plug.wants_dm1() {

@@ -51,7 +51,9 @@ pub trait Unit: Send + Drop {
         ensures name { name_of self.new ≡ name_of self.old }
         ensures ok { OnOk result (changed (memory_of self.old) change ≡ Ok (memory_of self.new)) }
         ensures refused { (e : FaultError) → changed (memory_of self.old) change ≡ Err e → result ≡ Err e }
-        ensures why { IfErr result (λ e. ((e ≡ FaultError.OutOfMemory) × Grows (changed (memory_of self.old) change) (memory_of self.old)) ⊎ (changed (memory_of self.old) change ≡ Err e)) }
+        ensures why { IfErr result (λ e. ((e ≡ FaultError.OutOfMemory)
+            × Grows (changed (memory_of self.old) change) (memory_of self.old))
+            ⊎ (changed (memory_of self.old) change ≡ Err e)) }
         ensures err { OnErr result (memory_of self.new ≡ memory_of self.old) }
         ensures takes { Takes self.old change self.new };
 

@@ -1,5 +1,5 @@
 use crate::fault::Wrong;
-use csv_rows::Row;
+use csv_rows::CsvRow;
 
 /// What a column of the file has.
 #[derive(Clone, Copy, PartialEq, Eq)]
@@ -55,7 +55,7 @@ pub(crate) struct Columns {
 
 impl Columns {
     /// The columns that the first line names.
-    pub(crate) fn read(first: &Row) -> Result<Columns, Wrong<'_>> {
+    pub(crate) fn read(first: &CsvRow) -> Result<Columns, Wrong<'_>> {
         let mut columns = Columns::default();
         for place in 0..first.len() {
             let word = word_at(first, place, Column::Text)?;
@@ -109,7 +109,7 @@ impl Columns {
 
 /// The word of a row at this place, without the blanks around it; an empty one where the row has none there.
 pub(crate) fn word_at<'a>(
-    row: &'a Row,
+    row: &'a CsvRow,
     place: usize,
     column: Column,
 ) -> Result<&'a str, Wrong<'a>> {

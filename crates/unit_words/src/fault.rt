@@ -5,7 +5,8 @@ use std::fmt;
 /// Why texts for units were refused.
 #[derive(Debug, Drop)]
 pub enum UnitsFault {
-    /// A line of them is wrong. Each is told by its number and with its end, `units, line 7: function: 300 is not 0 to 255`; of many the first ten.
+    /// A line of them is wrong. Each is told by its number and with its end, `units, line 7: function: 300 is not 0 to 255`; of
+    /// many the first ten.
     Refused(String),
     /// Memory was refused.
     Memory,
@@ -76,15 +77,15 @@ const TOLD: u64 = 10;
 
 /// What is told of wrong lines.
 #[derive(Drop)]
-pub(crate) struct Telling {
+pub(crate) struct WrongLines {
     words: String,
     count: u64,
 }
 
-impl Telling {
+impl WrongLines {
     /// Of none.
-    pub(crate) fn new(alloc: Global) -> Telling {
-        Telling {
+    pub(crate) fn new(alloc: Global) -> WrongLines {
+        WrongLines {
             words: String::new(alloc),
             count: 0,
         }
@@ -107,7 +108,7 @@ impl Telling {
 
     /// The fault, where a line was wrong.
     pub(crate) fn ended(self, alloc: Global) -> Result<(), UnitsFault> {
-        let Telling { words, count } = self;
+        let WrongLines { words, count } = self;
         if count == 0 {
             return Ok(());
         }

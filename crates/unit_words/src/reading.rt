@@ -1,24 +1,25 @@
 use crate::columns::{Column, Columns, word_at};
-use crate::fault::{Telling, UnitsFault, Wrong};
+use crate::fault::{UnitsFault, Wrong, WrongLines};
 use crate::row::UnitRow;
 use crate::texts::UnitTexts;
-use csv_rows::{Row, Rows};
+use csv_rows::{CsvRow, CsvRows};
 use name_field::Name;
 use std::alloc::{AllocError, Global};
 
 impl UnitTexts {
     /// The texts of comma-separated values.
     ///
-    /// The first line names the columns, in any order: `text`, and one or more of `name` (16 hexadecimal digits), `function` (0 to 255) and
-    /// `manufacturer` (0 to 2047). Each line behind it is a text for the units that have what it gives; a value that is empty gives nothing.
+    /// The first line names the columns, in any order: `text`, and one or more of `name` (16 hexadecimal digits), `function` (0 to
+    /// 255) and `manufacturer` (0 to 2047). Each line behind it is a text for the units that have what it gives; a value that is
+    /// empty gives nothing.
     ///
     /// # Errors
-    /// - `Refused`: the first line names other columns; or a line has another number of values, a value that its column does not take, an
-    ///   empty text, or nothing that it is for. Each is told.
+    /// - `Refused`: the first line names other columns; or a line has another number of values, a value that its column does not
+    ///   take, an empty text, or nothing that it is for. Each is told.
     /// - `Memory`: memory was refused.
     pub fn read(alloc: Global, text: &[u8]) -> Result<UnitTexts, UnitsFault> {
         let mut texts = UnitTexts::new(alloc);
-        let mut telling = Telling::new(alloc);
+        let mut telling = WrongLines::new(alloc);
         read_all(alloc, text, &mut texts, &mut telling)?;
         match telling.ended(alloc) {
             Ok(()) => Ok(texts),
@@ -32,10 +33,10 @@ fn read_all(
     alloc: Global,
     text: &[u8],
     texts: &mut UnitTexts,
-    telling: &mut Telling,
+    telling: &mut WrongLines,
 ) -> Result<(), AllocError> {
-    let mut rows = Rows::of(text);
-    let mut row = Row::new(alloc);
+    let mut rows = CsvRows::of(text);
+    let mut row = CsvRow::new(alloc);
     if !rows.read(&mut row)? {
         return telling.tell(alloc, 1, Wrong::TooFewColumns);
     }
@@ -55,10 +56,10 @@ fn read_all(
 /// Adds the text of a row, or tells what is wrong with it.
 fn add_row(
     alloc: Global,
-    row: &Row,
+    row: &CsvRow,
     columns: &Columns,
     texts: &mut UnitTexts,
-    telling: &mut Telling,
+    telling: &mut WrongLines,
 ) -> Result<(), AllocError> {
     match values_of(row, columns) {
         Ok(values) => {
@@ -83,7 +84,7 @@ struct Values<'a> {
     text: &'a str,
 }
 
-fn values_of<'a>(row: &'a Row, columns: &Columns) -> Result<Values<'a>, Wrong<'a>> {
+fn values_of<'a>(row: &'a CsvRow, columns: &Columns) -> Result<Values<'a>, Wrong<'a>> {
     if row.len() != columns.count() {
         return Err(Wrong::Values(row.len(), columns.count()));
     }
@@ -106,7 +107,7 @@ fn values_of<'a>(row: &'a Row, columns: &Columns) -> Result<Values<'a>, Wrong<'a
 }
 
 /// The word of a row in this column; an empty one where there is no such column.
-fn word_of<'a>(row: &'a Row, columns: &Columns, column: Column) -> Result<&'a str, Wrong<'a>> {
+fn word_of<'a>(row: &'a CsvRow, columns: &Columns, column: Column) -> Result<&'a str, Wrong<'a>> {
     word_at(row, columns.place_of(column).unwrap_or(usize::MAX), column)
 }
 

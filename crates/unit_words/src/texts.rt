@@ -44,7 +44,8 @@ impl UnitTexts {
         Ok(())
     }
 
-    /// The text of a unit: that of the most exact row that is for it, and of equally exact ones that of the last; none where no row is for it.
+    /// The text of a unit: that of the most exact row that is for it, and of equally exact ones that of the last; none where no row
+    /// is for it.
     ///
     /// A NAME is more exact than function and manufacturer together, these more than a function, and that more than a manufacturer.
     #[tactic(auto, using(crate::proofs::Exact::text_found))]

@@ -11,7 +11,7 @@ use Rattle.trouble_code.specs.declared.dtc.TheConstants.{GREATEST_SPN, GREATEST_
 use Rattle.bus_ledger.specs.declared.bus.TheConstants.{MOST_UNREAD}
 use Rattle.garage.specs.declared.garage.TheConstants.{MOST_EVENTS}
 use Rattle.vehicle.specs.declared.read.TheConstants.{MOST_GRANTED}
-use Rattle.vehicle.specs.declared.Station.{Station}
+use Rattle.vehicle.specs.declared.StationTable.{StationTable}
 use Rattle.vehicle.specs.declared.Second.{Second}
 use Rattle.vehicle.specs.declared.UnitLine.{UnitLine}
 use Rattle.vehicle.specs.declared.Vehicle.{Vehicle}
@@ -42,7 +42,7 @@ abbrev pub HasOnly : List (List ℕ) → Data → Type 0
 HasOnly keys d = (ms : Members) × (as_table d ≡ Some ms) × AreAmong keys ms
 
 -- the station's NAME, and four numbers in their ranges; nothing else
-pub record HoldsStation (d : Data) (s : Station) : Type 0 where
+pub record HoldsStation (d : Data) (s : StationTable) : Type 0 where
   pub only : HasOnly (codes "name" ∷ codes "address" ∷ codes "window" ∷ codes "grant" ∷ codes "limit" ∷ []) d
   pub name : HasName d s.name
   pub address : HasNumber d (codes "address") s.address 0 GREATEST_ADDRESS

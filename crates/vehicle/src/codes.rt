@@ -5,7 +5,7 @@ ghost use Rattle.toml.specs.View.{view, items_view};
 ghost use Rattle.vehicle.specs.Holding.{EachHolds};
 ghost use Rattle.vehicle.specs.Live.{HoldsCode, HoldsCodesAt, HoldsLampsAt, SpellsCode, SpellsMode};
 
-use crate::misfit::{Place, Unread, Wrong};
+use crate::misfit::{KeyPlace, Unread, Wrong};
 use script_line::{read_lamps, read_number, read_small_number};
 use std::alloc::Global;
 use toml::Value;
@@ -15,7 +15,7 @@ use trouble_code::{Dtc, Lamps};
 const MOST_OCCURRENCES: u8 = 126;
 
 /// The lamps of a unit; off where it has no such key.
-pub(crate) fn read_lamps_of(place: Place, value: &Value) -> Result<Lamps, Unread<'_>>
+pub(crate) fn read_lamps_of(place: KeyPlace, value: &Value) -> Result<Lamps, Unread<'_>>
     ensures { IfOk result (HoldsLampsAt (get (codes "lamps") (view value.now))) }
 {
     let Some(found) = value.get("lamps") else {
@@ -39,7 +39,7 @@ pub(crate) fn read_lamps_of(place: Place, value: &Value) -> Result<Lamps, Unread
 /// The codes at a key of a unit; none where it has no such key.
 pub(crate) fn read_codes<'a>(
     alloc: Global,
-    place: Place,
+    place: KeyPlace,
     value: &'a Value,
     key: &'a str,
 ) -> Result<Vec<Dtc>, Unread<'a>>
@@ -57,7 +57,7 @@ pub(crate) fn read_codes<'a>(
 /// The code of each text.
 fn codes_of<'a>(
     alloc: Global,
-    place: Place,
+    place: KeyPlace,
     key: &'a str,
     items: &'a [Value],
 ) -> Result<Vec<Dtc>, Unread<'a>>
@@ -70,7 +70,7 @@ fn codes_of<'a>(
     Ok(codes)
 }
 
-fn code_of<'a>(place: Place, key: &'a str, value: &'a Value) -> Result<Dtc, Unread<'a>>
+fn code_of<'a>(place: KeyPlace, key: &'a str, value: &'a Value) -> Result<Dtc, Unread<'a>>
     ensures { IfOk result (HoldsCode (view value.now)) }
 {
     let Some(text) = value.as_str() else {

@@ -65,7 +65,7 @@ pub use send_line::SendLine;
 
 /// The station of a vehicle, and the settings of its bus.
 #[derive(Clone, Copy, Debug, PartialEq, Eq)]
-pub struct Station {
+pub struct StationTable {
     /// Its NAME.
     pub name: Name,
     /// The address that it claims, 0 to 253.
@@ -106,7 +106,7 @@ pub struct UnitLine {
 #[derive(Debug, Drop)]
 pub struct Vehicle {
     /// Its station.
-    pub station: Station,
+    pub station: StationTable,
     /// Its second station, where it has one.
     pub second: Option<Second>,
     /// Its units, in the order of the text.

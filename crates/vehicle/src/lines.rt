@@ -1,12 +1,12 @@
 //! The line of a vehicle's text at which a key stands. It is looked for in the forms of a table with a header and a line for each
 //! key; a text may have others, and then it is told without its line.
 
-use crate::misfit::Place;
+use crate::misfit::KeyPlace;
 
 /// The number, from 1 on, of the line at which a key of a table stands; that of the table's header where the key has none, or
 /// where the table itself is asked for.
-pub(crate) fn line_of(text: &str, place: Place, key: Option<&str>) -> Option<u64> {
-    let mut here = Some(Place::Whole);
+pub(crate) fn line_of(text: &str, place: KeyPlace, key: Option<&str>) -> Option<u64> {
+    let mut here = Some(KeyPlace::Whole);
     let mut units = 0usize;
     let mut sends = 0usize;
     let mut header = None;
@@ -26,7 +26,7 @@ pub(crate) fn line_of(text: &str, place: Place, key: Option<&str>) -> Option<u64
         } else if name == "unit.sends" {
             sends = sends.saturating_add(1);
         }
-        if place == Place::Whole && key == Some(name) {
+        if place == KeyPlace::Whole && key == Some(name) {
             return Some(number);
         }
         if here == Some(place) {
@@ -37,12 +37,12 @@ pub(crate) fn line_of(text: &str, place: Place, key: Option<&str>) -> Option<u64
 }
 
 /// The table that a header begins, where so many units stand before it, and so many groups that the last of them sends.
-fn place_of(name: &str, units: usize, sends: usize) -> Option<Place> {
+fn place_of(name: &str, units: usize, sends: usize) -> Option<KeyPlace> {
     match name {
-        "station" => Some(Place::Station),
-        "second" => Some(Place::Second),
-        "unit" => Some(Place::Unit(units)),
-        "unit.sends" => Some(Place::Send {
+        "station" => Some(KeyPlace::StationTable),
+        "second" => Some(KeyPlace::Second),
+        "unit" => Some(KeyPlace::Unit(units)),
+        "unit.sends" => Some(KeyPlace::Send {
             unit: units.saturating_sub(1),
             number: sends,
         }),

@@ -9,7 +9,7 @@ ghost use Rattle.vehicle.specs.Live.{HoldsLiveUnit, HoldsLiveUnits};
 use crate::UnitLine;
 use crate::codes::{read_codes, read_lamps_of};
 use crate::fault::VehicleFault;
-use crate::misfit::{Place, Unread, Wrong};
+use crate::misfit::{KeyPlace, Unread, Wrong};
 use crate::read::{
     fault_of, has_only, read_address, read_kind, read_name, read_second, read_station,
 };
@@ -38,10 +38,10 @@ pub struct LiveLine {
 
 /// Reads the units of a vehicle's text, a TOML document, as they take part in a real bus.
 ///
-/// The tables `station` and `second` are those that [`read_vehicle`](crate::read_vehicle) reads; here they may both be left out. Each table
-/// of the array `unit` may have, beside the keys that it reads, `lamps`, `active`, `previous` and `pending`, and an array of tables `sends` with
-/// the keys `pgn`, `bytes` and `period`, and `priority`, which may be left out. No other key may stand anywhere. Whether a unit can
-/// hold its codes together is not looked at: that no code stands twice, and that they are 445 at most.
+/// The tables `station` and `second` are those that [`read_vehicle`](crate::read_vehicle) reads; here they may both be left out.
+/// Each table of the array `unit` may have, beside the keys that it reads, `lamps`, `active`, `previous` and `pending`, and an
+/// array of tables `sends` with the keys `pgn`, `bytes` and `period`, and `priority`, which may be left out. No other key may stand
+/// anywhere. Whether a unit can hold its codes together is not looked at: that no code stands twice, and that they are 445 at most.
 ///
 /// # Errors
 /// - `Refused`: the text is no TOML, a key is missing or not known, a value is of another type or out of its range, or both
@@ -64,14 +64,14 @@ pub fn read_live_units(alloc: Global, text: &str) -> Result<Vec<LiveLine>, Vehic
 fn units_of(alloc: Global, root: &Value) -> Result<Vec<LiveLine>, Unread<'_>>
     ensures { IfOk result (λ units. HoldsLiveUnits (view root.now) units.items) }
 {
-    has_only(Place::Whole, root, &["station", "second", "unit"])?;
+    has_only(KeyPlace::Whole, root, &["station", "second", "unit"])?;
     look_at_stations(root)?;
     let Some(value) = root.get("unit") else {
         return Ok(Vec::new(alloc));
     };
     match value.as_array() {
         Some(lines) => read_units(alloc, lines.as_slice()),
-        None => Err(Unread::at(Place::Whole, "unit", Wrong::NoSuch("array of tables"))),
+        None => Err(Unread::at(KeyPlace::Whole, "unit", Wrong::NoSuch("array of tables"))),
     }
 }
 
@@ -101,7 +101,7 @@ fn read_units(alloc: Global, lines: &[Value]) -> Result<Vec<LiveLine>, Unread<'_
 fn read_unit(alloc: Global, number: usize, value: &Value) -> Result<LiveLine, Unread<'_>>
     ensures { IfOk result (HoldsLiveUnit (view value.now)) }
 {
-    let place = Place::Unit(number);
+    let place = KeyPlace::Unit(number);
     let unit = UnitLine {
         name: read_name(place, value)?,
         address: read_address(place, value)?,

@@ -5,10 +5,10 @@ use std::fmt;
 
 /// A table of a vehicle's text.
 #[derive(Clone, Copy, Debug, PartialEq, Eq)]
-pub(crate) enum Place {
+pub(crate) enum KeyPlace {
     /// All of it.
     Whole,
-    Station,
+    StationTable,
     Second,
     /// That of a unit, which is this one from 0 on.
     Unit(usize),
@@ -40,7 +40,7 @@ pub(crate) enum Wrong<'a> {
 /// Where a text is no vehicle's, and why.
 #[derive(Clone, Copy, Debug)]
 pub(crate) struct Misfit<'a> {
-    pub(crate) place: Place,
+    pub(crate) place: KeyPlace,
     /// The key in its table; none for the table itself.
     pub(crate) key: Option<&'a str>,
     pub(crate) wrong: Wrong<'a>,
@@ -68,7 +68,7 @@ impl From<AllocError> for Unread<'_> {
 
 impl<'a> Unread<'a> {
     /// At this key of a table something is wrong.
-    pub(crate) fn at(place: Place, key: &'a str, wrong: Wrong<'a>) -> Unread<'a> {
+    pub(crate) fn at(place: KeyPlace, key: &'a str, wrong: Wrong<'a>) -> Unread<'a> {
         Unread::At(Misfit {
             place,
             key: Some(key),
@@ -77,7 +77,7 @@ impl<'a> Unread<'a> {
     }
 
     /// A table is of another type than this.
-    pub(crate) fn of_type(place: Place, wanted: &'a str) -> Unread<'a> {
+    pub(crate) fn of_type(place: KeyPlace, wanted: &'a str) -> Unread<'a> {
         Unread::At(Misfit {
             place,
             key: None,
@@ -110,11 +110,11 @@ impl fmt::Display for Misfit<'_> {
     fn fmt<W: fmt::Write>(&self, f: &mut fmt::Formatter<W>) -> fmt::Result {
         let wrong = self.wrong;
         let table = match self.place {
-            Place::Whole => "",
-            Place::Station => "station",
-            Place::Second => "second",
-            Place::Unit(_) => "unit",
-            Place::Send { .. } => "unit.sends",
+            KeyPlace::Whole => "",
+            KeyPlace::StationTable => "station",
+            KeyPlace::Second => "second",
+            KeyPlace::Unit(_) => "unit",
+            KeyPlace::Send { .. } => "unit.sends",
         };
         match self.key {
             Some(key) if table.is_empty() => write!(f, "{key}: {wrong}"),

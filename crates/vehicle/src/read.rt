@@ -8,8 +8,8 @@ ghost use Rattle.toml.specs.View.{view, items_view};
 ghost use Rattle.vehicle.specs.Holding.{number_at, text_at, HasName, HasNumber, HasOnly, HoldsStation, HoldsSecond, HoldsUnit, HoldsKind, HoldsVehicle, HoldsUnits, keys_by};
 
 use crate::fault::VehicleFault;
-use crate::misfit::{Place, Unread, Wrong};
-use crate::{Second, Station, UnitKind, UnitLine, Vehicle};
+use crate::misfit::{KeyPlace, Unread, Wrong};
+use crate::{Second, StationTable, UnitKind, UnitLine, Vehicle};
 use bus_ledger::MOST_UNREAD;
 use can_frame::GREATEST_ADDRESS;
 use garage::MOST_EVENTS;
@@ -66,10 +66,10 @@ pub(crate) fn fault_of(alloc: Global, text: &str, error: &Error) -> VehicleFault
 fn vehicle_of(alloc: Global, root: &Value) -> Result<Vehicle, Unread<'_>>
     ensures { IfOk result (HoldsVehicle (view root.now)) }
 {
-    has_only(Place::Whole, root, &["station", "second", "unit"])?;
+    has_only(KeyPlace::Whole, root, &["station", "second", "unit"])?;
     let station = match root.get("station") {
         Some(value) => read_station(value)?,
-        None => return Err(Unread::at(Place::Whole, "station", Wrong::Missing)),
+        None => return Err(Unread::at(KeyPlace::Whole, "station", Wrong::Missing)),
     };
     let second = match root.get("second") {
         Some(value) => Some(read_second(value, station.name)?),
@@ -78,7 +78,11 @@ fn vehicle_of(alloc: Global, root: &Value) -> Result<Vehicle, Unread<'_>>
     let units = match root.get("unit") {
         Some(value) => match value.as_array() {
             Some(lines) => read_units(alloc, lines.as_slice())?,
-            None => return Err(Unread::at(Place::Whole, "unit", Wrong::NoSuch("array of tables"))),
+            None => return Err(Unread::at(
+                KeyPlace::Whole,
+                "unit",
+                Wrong::NoSuch("array of tables"),
+            )),
         },
         None => Vec::new(alloc),
     };
@@ -89,10 +93,10 @@ fn vehicle_of(alloc: Global, root: &Value) -> Result<Vehicle, Unread<'_>>
     })
 }
 
-pub(crate) fn read_station(value: &Value) -> Result<Station, Unread<'_>>
+pub(crate) fn read_station(value: &Value) -> Result<StationTable, Unread<'_>>
     ensures { IfOk result (HoldsStation (view value.now)) }
 {
-    let place = Place::Station;
+    let place = KeyPlace::StationTable;
     has_only(
         place,
         value,
@@ -103,7 +107,7 @@ pub(crate) fn read_station(value: &Value) -> Result<Station, Unread<'_>>
     let window = read_window(place, value)?;
     let grant = read_grant(place, value)?;
     let limit = read_number(place, value, "limit", 1, MOST_EVENTS)?;
-    Ok(Station {
+    Ok(StationTable {
         name,
         address,
         window,
@@ -117,7 +121,7 @@ pub(crate) fn read_second(value: &Value, first: Name) -> Result<Second, Unread<'
     ensures holds { IfOk result (HoldsSecond (view value.now)) }
     ensures apart { IfOk result (λ s. s.name ≢ first) }
 {
-    let place = Place::Second;
+    let place = KeyPlace::Second;
     has_only(place, value, &["name", "address", "window", "grant"])?;
     let name = read_name(place, value)?;
     if name == first {
@@ -139,13 +143,13 @@ fn read_units(alloc: Global, lines: &[Value]) -> Result<Vec<UnitLine>, Unread<'_
 {
     let mut units = Vec::new(alloc);
     for line in lines {
-        let place = Place::Unit(units.len());
+        let place = KeyPlace::Unit(units.len());
         units.push(read_unit(place, line)?)?;
     }
     Ok(units)
 }
 
-fn read_unit(place: Place, value: &Value) -> Result<UnitLine, Unread<'_>>
+fn read_unit(place: KeyPlace, value: &Value) -> Result<UnitLine, Unread<'_>>
     ensures { IfOk result (HoldsUnit (view value.now)) }
 {
     Ok(UnitLine {
@@ -162,13 +166,14 @@ fn read_unit(place: Place, value: &Value) -> Result<UnitLine, Unread<'_>>
 
 /// The kind of a unit whose table has these keys alone, those for a flicker where it is one.
 pub(crate) fn read_kind<'a>(
-    place: Place,
+    place: KeyPlace,
     value: &'a Value,
     keys: &[&str],
     flicker_keys: &[&str],
 ) -> Result<UnitKind, Unread<'a>>
     ensures holds { IfOk result (HoldsKind (view value.now)) }
-    ensures only { IfOk result (λ kind. HasOnly (keys_by kind (map (λ k. k.now) keys.now) (map (λ k. k.now) flicker_keys.now)) (view value.now)) }
+    ensures only { IfOk result
+        (λ kind. HasOnly (keys_by kind (map (λ k. k.now) keys.now) (map (λ k. k.now) flicker_keys.now)) (view value.now)) }
 {
     let word = read_text(place, value, "kind")?;
     if word == "flicker" {
@@ -191,7 +196,7 @@ pub(crate) fn read_kind<'a>(
     }
 }
 
-pub(crate) fn read_name(place: Place, value: &Value) -> Result<Name, Unread<'_>>
+pub(crate) fn read_name(place: KeyPlace, value: &Value) -> Result<Name, Unread<'_>>
     ensures { IfOk result (HasName (view value.now)) }
 {
     let word = read_text(place, value, "name")?;
@@ -207,26 +212,26 @@ pub(crate) fn read_name(place: Place, value: &Value) -> Result<Name, Unread<'_>>
     }
 }
 
-pub(crate) fn read_address(place: Place, value: &Value) -> Result<u8, Unread<'_>>
+pub(crate) fn read_address(place: KeyPlace, value: &Value) -> Result<u8, Unread<'_>>
     ensures { IfOk result (λ a. HasNumber (view value.now) (codes "address") a 0 GREATEST_ADDRESS) }
 {
     Ok(read_number(place, value, "address", 0, u32::from(GREATEST_ADDRESS))? as u8)
 }
 
-fn read_window(place: Place, value: &Value) -> Result<u32, Unread<'_>>
+fn read_window(place: KeyPlace, value: &Value) -> Result<u32, Unread<'_>>
     ensures { IfOk result (λ n. HasNumber (view value.now) (codes "window") n 1 MOST_UNREAD) }
 {
     read_number(place, value, "window", 1, MOST_UNREAD)
 }
 
-fn read_grant(place: Place, value: &Value) -> Result<u8, Unread<'_>>
+fn read_grant(place: KeyPlace, value: &Value) -> Result<u8, Unread<'_>>
     ensures { IfOk result (λ n. HasNumber (view value.now) (codes "grant") n 1 MOST_GRANTED) }
 {
     Ok(read_number(place, value, "grant", 1, MOST_GRANTED)? as u8)
 }
 
 pub(crate) fn read_text<'a>(
-    place: Place,
+    place: KeyPlace,
     value: &'a Value,
     key: &'a str,
 ) -> Result<&'a str, Unread<'a>>
@@ -242,7 +247,7 @@ pub(crate) fn read_text<'a>(
 }
 
 pub(crate) fn read_number<'a>(
-    place: Place,
+    place: KeyPlace,
     value: &Value,
     key: &'a str,
     least: u32,
@@ -261,7 +266,11 @@ pub(crate) fn read_number<'a>(
 }
 
 /// Accepts a table with these keys alone, or some of them.
-pub(crate) fn has_only<'a>(place: Place, value: &'a Value, keys: &[&str]) -> Result<(), Unread<'a>>
+pub(crate) fn has_only<'a>(
+    place: KeyPlace,
+    value: &'a Value,
+    keys: &[&str],
+) -> Result<(), Unread<'a>>
     ensures { IfOk result (λ _. HasOnly (map (λ k. k.now) keys.now) (view value.now)) }
 {
     let table: &Table = value.as_table().ok_or(Unread::of_type(place, "table"))?;
@@ -274,9 +283,9 @@ pub(crate) fn has_only<'a>(place: Place, value: &'a Value, keys: &[&str]) -> Res
 }
 
 /// Why a key may not stand in a table.
-fn why_not<'a>(place: Place, key: &str) -> Wrong<'a> {
+fn why_not<'a>(place: KeyPlace, key: &str) -> Wrong<'a> {
     match (place, key) {
-        (Place::Unit(_), "lamps" | "active" | "previous" | "pending" | "sends") => Wrong::OfLive,
+        (KeyPlace::Unit(_), "lamps" | "active" | "previous" | "pending" | "sends") => Wrong::OfLive,
         _ => Wrong::NotKnown,
     }
 }

@@ -7,7 +7,7 @@ ghost use Rattle.vehicle.specs.Live.{HasBytes, HoldsPriorityAt, HoldsSend, Holds
 ghost use Rattle.vehicle.specs.Sending.{SpellsBytes};
 ghost use Rattle.vehicle.specs.Sending as sending;
 
-use crate::misfit::{Place, Unread, Wrong};
+use crate::misfit::{KeyPlace, Unread, Wrong};
 use crate::read::{has_only, read_number, read_text};
 use crate::send_line::{GREATEST_PGN, LOWEST_PRIORITY, SendLine};
 use can_frame::Pgn;
@@ -36,7 +36,11 @@ pub(crate) fn read_sends(
     };
     match found.as_array() {
         Some(items) => sends_of(alloc, unit, items.as_slice()),
-        None => Err(Unread::at(Place::Unit(unit), "sends", Wrong::NoSuch("array of tables"))),
+        None => Err(Unread::at(
+            KeyPlace::Unit(unit),
+            "sends",
+            Wrong::NoSuch("array of tables"),
+        )),
     }
 }
 
@@ -45,7 +49,7 @@ fn sends_of(alloc: Global, unit: usize, items: &[Value]) -> Result<Vec<SendLine>
 {
     let mut sends = Vec::new(alloc);
     for item in items {
-        let place = Place::Send {
+        let place = KeyPlace::Send {
             unit,
             number: sends.len(),
         };
@@ -54,7 +58,7 @@ fn sends_of(alloc: Global, unit: usize, items: &[Value]) -> Result<Vec<SendLine>
     Ok(sends)
 }
 
-fn read_send(alloc: Global, place: Place, value: &Value) -> Result<SendLine, Unread<'_>>
+fn read_send(alloc: Global, place: KeyPlace, value: &Value) -> Result<SendLine, Unread<'_>>
     ensures { IfOk result (HoldsSend (view value.now)) }
 {
     has_only(place, value, &["pgn", "priority", "period", "bytes"])?;
@@ -70,7 +74,7 @@ fn read_send(alloc: Global, place: Place, value: &Value) -> Result<SendLine, Unr
     })
 }
 
-fn read_pgn(place: Place, value: &Value) -> Result<u32, Unread<'_>>
+fn read_pgn(place: KeyPlace, value: &Value) -> Result<u32, Unread<'_>>
     ensures number { IfOk result (λ n. HasNumber (view value.now) (codes "pgn") n 0 GREATEST_PGN) }
     ensures free { IfOk result (λ n. sending.is_free_group n ≡ true) }
 {
@@ -101,7 +105,7 @@ fn is_ruled_group(number: u32) -> bool
         || number == Pgn::COMMANDED_ADDRESS.number()
 }
 
-fn read_priority(place: Place, value: &Value) -> Result<u8, Unread<'_>>
+fn read_priority(place: KeyPlace, value: &Value) -> Result<u8, Unread<'_>>
     ensures { IfOk result (HoldsPriorityAt (view value.now)) }
 {
     match value.get("priority") {
@@ -110,7 +114,7 @@ fn read_priority(place: Place, value: &Value) -> Result<u8, Unread<'_>>
     }
 }
 
-fn read_bytes(alloc: Global, place: Place, value: &Value) -> Result<Vec<u8>, Unread<'_>>
+fn read_bytes(alloc: Global, place: KeyPlace, value: &Value) -> Result<Vec<u8>, Unread<'_>>
     ensures { IfOk result (λ bytes. HasBytes (view value.now) bytes.items) }
 {
     let text = read_text(place, value, "bytes")?;

@@ -1,10 +1,10 @@
-use crate::kept::Kept;
-use crate::objects::change_object;
-use crate::run::Options;
-use crate::{report_object, rows, text};
-use bus_watch::{BusWatch, Buses, Change, Changes};
+use crate::kept::PageHistory;
+use crate::report_writer::ReportWriter;
+use crate::run::WatchOptions;
+use crate::{objects, report_object, rows, text};
+use bus_watch::{BusWatch, Buses, Changes, WatchChange};
 use candump_line::Time;
-use clock_words::Clock;
+use clock_words::ClockForm;
 use log_lines::LogFault;
 use std::alloc::Global;
 use std::io::Write;
@@ -12,7 +12,7 @@ use watch_page::{PageFault, View};
 
 /// How changes and the report are written.
 #[derive(Clone, Copy, Debug, PartialEq, Eq)]
-pub enum Form {
+pub enum WatchForm {
     /// For people.
     Text,
     /// A JSON object a line.
@@ -25,7 +25,7 @@ pub enum Form {
 
 /// What a report is of.
 #[derive(Clone, Copy, Debug, PartialEq, Eq)]
-pub(crate) enum Part {
+pub(crate) enum TextPart {
     /// What was heard before the line of this number, at which it is begun anew; whether it is the first such part.
     Before { line: u64, is_first: bool },
     /// What was heard to the end; whether that is all.
@@ -35,43 +35,36 @@ pub(crate) enum Part {
 /// Writes what is told of the line of this number: of a NAME that lost its address before the change that took it.
 pub(crate) fn write_changes<W: Write>(
     writer: &mut W,
-    alloc: Global,
     one: &BusWatch,
-    options: &Options<'_>,
+    options: &WatchOptions<'_>,
     start: &Option<Time>,
     number: u64,
     changes: &Changes,
 ) -> Result<(), LogFault> {
+    let mut report = ReportWriter::new(writer);
     if let Some(name) = &changes.lost {
-        let lost = Change::NoAddress { name: *name };
-        write_change(writer, alloc, one, options, start, number, &lost)?;
+        let lost = WatchChange::NoAddress { name: *name };
+        write_change(&mut report, one, options, start, number, &lost);
     }
-    match &changes.change {
-        Some(change) => write_change(writer, alloc, one, options, start, number, change),
-        None => Ok(()),
+    if let Some(change) = &changes.change {
+        write_change(&mut report, one, options, start, number, change);
     }
+    report.end()
 }
 
 /// Writes a change that the line of this number made.
 fn write_change<W: Write>(
-    writer: &mut W,
-    alloc: Global,
+    report: &mut ReportWriter<'_, W>,
     one: &BusWatch,
-    options: &Options<'_>,
+    options: &WatchOptions<'_>,
     start: &Option<Time>,
     number: u64,
-    change: &Change,
-) -> Result<(), LogFault> {
+    change: &WatchChange,
+) {
     match options.form {
-        Form::Text => match text::write_change(writer, one, options, *start, *change) {
-            Ok(()) => Ok(()),
-            Err(_) => Err(LogFault::Write),
-        },
-        Form::Json => {
-            let object = change_object(alloc, one, options, number, change)?;
-            write_object(writer, object)
-        }
-        Form::Csv | Form::Html => Ok(()),
+        WatchForm::Text => text::write_change(report, one, options, *start, *change),
+        WatchForm::Json => objects::write_change(report, one, options, number, change),
+        WatchForm::Csv | WatchForm::Html => {}
     }
 }
 
@@ -81,19 +74,17 @@ fn write_change<W: Write>(
 pub(crate) fn write_report<W: Write>(
     writer: &mut W,
     buses: &Buses,
-    options: &Options<'_>,
-    part: Part,
+    options: &WatchOptions<'_>,
+    part: TextPart,
 ) -> Result<(), LogFault> {
-    let written = match options.form {
-        Form::Text => text::write_report(writer, buses, options, part),
-        Form::Json => report_object::write_object(writer, buses, options, part),
-        Form::Csv => rows::write_rows(writer, buses, options, part),
-        Form::Html => Ok(()),
-    };
-    match written {
-        Ok(()) => Ok(()),
-        Err(_) => Err(LogFault::Write),
+    let mut report = ReportWriter::new(writer);
+    match options.form {
+        WatchForm::Text => text::write_report(&mut report, buses, options, part),
+        WatchForm::Json => report_object::write_report(&mut report, buses, options, part),
+        WatchForm::Csv => rows::write_rows(&mut report, buses, options, part),
+        WatchForm::Html => {}
     }
+    report.end()
 }
 
 /// Writes the report as a page.
@@ -101,8 +92,8 @@ pub(crate) fn write_page<W: Write>(
     writer: &mut W,
     alloc: Global,
     buses: &Buses,
-    kept: &mut Kept,
-    options: &Options<'_>,
+    kept: &mut PageHistory,
+    options: &WatchOptions<'_>,
 ) -> Result<(), LogFault> {
     kept.finish(buses)?;
     let Some(picture) = kept.picture() else {
@@ -129,19 +120,10 @@ pub(crate) fn write_page<W: Write>(
 const LEAST_DATE: u64 = 1_000_000_000_000_000;
 
 /// The clock for a page whose times begin so, where none is asked for.
-fn clock_for(start: u64) -> Clock {
+fn clock_for(start: u64) -> ClockForm {
     if start >= LEAST_DATE {
-        Clock::Utc
+        ClockForm::Utc
     } else {
-        Clock::Relative
-    }
-}
-
-fn write_object<W: Write>(writer: &mut W, object: Vec<u8>) -> Result<(), LogFault> {
-    let mut line = object;
-    line.push(b'\n')?;
-    match writer.write_all(line.as_slice()) {
-        Ok(()) => Ok(()),
-        Err(_) => Err(LogFault::Write),
+        ClockForm::Relative
     }
 }

@@ -1,6 +1,6 @@
 use crate::form::write_changes;
-use crate::kept::Kept;
-use crate::run::{Assumed, Options};
+use crate::kept::PageHistory;
+use crate::run::{Assumed, WatchOptions};
 use bus_watch::{BusWatch, Buses, Hearers};
 use candump_line::Line;
 use log_lines::LogFault;
@@ -12,8 +12,8 @@ pub(crate) fn hear_line<W: Write>(
     alloc: Global,
     writer: &mut W,
     buses: &mut Buses,
-    kept: &mut Kept,
-    options: &Options<'_>,
+    kept: &mut PageHistory,
+    options: &WatchOptions<'_>,
     number: u64,
     line: &Line<'_>,
 ) -> Result<(), LogFault> {
@@ -39,9 +39,9 @@ fn hear_at<W: Write>(
     alloc: Global,
     writer: &mut W,
     buses: &mut Buses,
-    kept: &mut Kept,
+    kept: &mut PageHistory,
     place: usize,
-    options: &Options<'_>,
+    options: &WatchOptions<'_>,
     number: u64,
     line: &Line<'_>,
 ) -> Result<(), LogFault> {
@@ -50,18 +50,19 @@ fn hear_at<W: Write>(
     };
     let changes = one.watch.hear(alloc, line)?;
     let start = kept.start();
-    write_changes(writer, alloc, one, options, &start, number, &changes)?;
+    write_changes(writer, one, options, &start, number, &changes)?;
     kept.tell(place, one, &changes)
 }
 
-/// Has the watch at this place take in the assumed owners, and writes each as a change of the line 0. Where there is none, nothing happens.
+/// Has the watch at this place take in the assumed owners, and writes each as a change of the line 0. Where there is none, nothing
+/// happens.
 pub(crate) fn assume_owners<W: Write>(
     alloc: Global,
     writer: &mut W,
     buses: &mut Buses,
-    kept: &mut Kept,
+    kept: &mut PageHistory,
     place: usize,
-    options: &Options<'_>,
+    options: &WatchOptions<'_>,
 ) -> Result<(), LogFault> {
     let Some(one) = buses.watch_at(place) else {
         return Ok(());
@@ -76,13 +77,13 @@ fn assume_owner<W: Write>(
     alloc: Global,
     writer: &mut W,
     one: &mut BusWatch,
-    kept: &mut Kept,
+    kept: &mut PageHistory,
     place: usize,
-    options: &Options<'_>,
+    options: &WatchOptions<'_>,
     assumed: &Assumed,
 ) -> Result<(), LogFault> {
     let changes = one.watch.assume(alloc, assumed.name, assumed.address)?;
     let start = kept.start();
-    write_changes(writer, alloc, one, options, &start, 0, &changes)?;
+    write_changes(writer, one, options, &start, 0, &changes)?;
     kept.tell(place, one, &changes)
 }

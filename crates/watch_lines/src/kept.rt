@@ -1,32 +1,32 @@
-use crate::form::Form;
+use crate::form::WatchForm;
 use crate::units::KINDS;
-use bus_watch::{BusWatch, Buses, Change, Changes, Run, Watch, Who};
+use bus_watch::{BusWatch, Buses, Changes, EntryRun, Watch, WatchChange, Who};
 use candump_line::{Line, Time};
 use dm_messages::Kind;
 use log_lines::LogFault;
 use name_field::Name;
-use picture::{Brief, Picture, RunEnd, Sender, Told, Unit};
+use picture::{Brief, DrawnUnit, Occurrence, Picture, RunEnd, Sender};
 use std::alloc::{AllocError, Global};
 
 /// What is kept beside the watches while lines are read: when the first of them was, and for a page its picture.
 #[derive(Drop)]
-pub(crate) struct Kept {
+pub(crate) struct PageHistory {
     start: Option<Time>,
     picture: Option<Picture>,
     anew_at: Option<u64>,
 }
 
-impl Kept {
+impl PageHistory {
     /// Nothing yet, in this form.
     ///
     /// # Errors
     /// Memory was refused.
-    pub(crate) fn new(alloc: Global, form: Form) -> Result<Kept, AllocError> {
+    pub(crate) fn new(alloc: Global, form: WatchForm) -> Result<PageHistory, AllocError> {
         let picture = match form {
-            Form::Html => Some(Picture::new(alloc)?),
+            WatchForm::Html => Some(Picture::new(alloc)?),
             _ => None,
         };
-        Ok(Kept {
+        Ok(PageHistory {
             start: None,
             picture,
             anew_at: None,
@@ -139,7 +139,7 @@ fn end_messages(picture: &mut Picture, buses: &Buses, place: usize) -> Result<()
 }
 
 /// How equal messages in a row ended.
-fn end_of(run: Option<&Run>) -> Option<RunEnd> {
+fn end_of(run: Option<&EntryRun>) -> Option<RunEnd> {
     match run {
         Some(run) => Some(RunEnd {
             micros: match run.last {
@@ -157,56 +157,49 @@ fn tell_change(
     picture: &mut Picture,
     watch: &Watch,
     bus: u16,
-    change: Change,
-    lost_by: Option<Unit>,
+    change: WatchChange,
+    lost_by: Option<DrawnUnit>,
 ) -> Result<(), AllocError> {
+    if let WatchChange::Entry { who, kind } = change {
+        return tell_entry(picture, watch, bus, &who, kind);
+    }
+    match occurrence_of(bus, change, lost_by) {
+        Some(occurrence) => picture.tell(&occurrence, None),
+        None => Ok(()),
+    }
+}
+
+/// What a change is in the picture. None for an entry, which `tell_entry` tells.
+fn occurrence_of(bus: u16, change: WatchChange, lost_by: Option<DrawnUnit>) -> Option<Occurrence> {
     match change {
-        Change::Entry { who, kind } => tell_entry(picture, watch, bus, &who, kind),
-        Change::At { name, address } => {
-            let unit = Unit::named(bus, name);
-            picture.tell(
-                &Told::At {
-                    unit,
-                    address,
-                    lost_by,
-                },
-                None,
-            )
-        }
-        Change::NoAddress { name } => picture.tell(
-            &Told::NoAddress {
-                unit: Unit::named(bus, name),
-            },
-            None,
-        ),
-        Change::Missed { count } => picture.tell(
-            &Told::Missed {
-                bus,
-                count: u64::from(count),
-            },
-            None,
-        ),
-        Change::Unowned { source } => picture.tell(&Told::Unowned { bus, source }, None),
-        Change::Ack {
+        WatchChange::Entry { .. } => None,
+        WatchChange::At { name, address } => Some(Occurrence::At {
+            unit: DrawnUnit::named(bus, name),
+            address,
+            lost_by,
+        }),
+        WatchChange::NoAddress { name } => Some(Occurrence::NoAddress {
+            unit: DrawnUnit::named(bus, name),
+        }),
+        WatchChange::Missed { count } => Some(Occurrence::Missed {
+            bus,
+            count: u64::from(count),
+        }),
+        WatchChange::Unowned { source } => Some(Occurrence::Unowned { bus, source }),
+        WatchChange::Ack {
             name,
             control,
             pgn,
             ..
-        } => picture.tell(
-            &Told::Acknowledged {
-                unit: Unit::named(bus, name),
-                control,
-                pgn: pgn.number(),
-            },
-            None,
-        ),
-        Change::Unread { who, kind, .. } => picture.tell(
-            &Told::Unread {
-                unit: unit_of(bus, who),
-                kind,
-            },
-            None,
-        ),
+        } => Some(Occurrence::Acknowledged {
+            unit: DrawnUnit::named(bus, name),
+            control,
+            pgn: pgn.number(),
+        }),
+        WatchChange::Unread { who, kind, .. } => Some(Occurrence::Unread {
+            unit: unit_of(bus, who),
+            kind,
+        }),
     }
 }
 
@@ -233,7 +226,7 @@ fn tell_entry(
         run.contested,
     );
     picture.tell(
-        &Told::Message {
+        &Occurrence::Message {
             unit: unit_of(bus, *who),
             kind,
             brief,
@@ -248,18 +241,18 @@ fn bus_at(place: usize) -> u16 {
 }
 
 /// The unit of a bus that sends so.
-fn unit_of(bus: u16, who: Who) -> Unit {
+fn unit_of(bus: u16, who: Who) -> DrawnUnit {
     let sender = match who {
         Who::Named(name) => Sender::Named(name.number()),
         Who::Unclaimed { address, gaps } => Sender::Unclaimed { address, gaps },
     };
-    Unit { bus, sender }
+    DrawnUnit { bus, sender }
 }
 
 /// The unit of a bus that lost its address, where one did.
-fn lost_unit(bus: u16, lost: &Option<Name>) -> Option<Unit> {
+fn lost_unit(bus: u16, lost: &Option<Name>) -> Option<DrawnUnit> {
     match lost {
-        Some(name) => Some(Unit::named(bus, *name)),
+        Some(name) => Some(DrawnUnit::named(bus, *name)),
         None => None,
     }
 }

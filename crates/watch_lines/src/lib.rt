@@ -6,13 +6,15 @@ mod form;
 mod hearing;
 mod kept;
 mod lines;
+mod object_parts;
 mod objects;
 mod over;
 mod report_object;
+mod report_writer;
 mod rows;
 mod run;
 mod text;
 mod units;
 
-pub use form::Form;
-pub use run::{Assumed, Options, Watched, watch};
+pub use form::WatchForm;
+pub use run::{Assumed, WatchOptions, Watched, watch};

@@ -1,23 +1,23 @@
 use crate::hearing::hear_line;
-use crate::kept::Kept;
+use crate::kept::PageHistory;
 use crate::over::Over;
-use crate::run::{Options, Watched};
+use crate::run::{WatchOptions, Watched};
 use bus_watch::Buses;
 use candump_line::read_line;
-use log_lines::{Clock, Ended, LogFault, Notices, next_line};
+use log_lines::{LineClock, LinesEnd, LogFault, Notices, next_line};
 use std::alloc::Global;
 use std::io::{BufReader, BufWriter, Read, Write};
 
-/// Reads all lines. What they change is written before the program waits for another; of bad lines, of times that do not count, and of an input
-/// without frames is told on `errors`. A strict run ends at the first bad line.
+/// Reads all lines. What they change is written before the program waits for another; of bad lines, of times that do not count, and
+/// of an input without frames is told on `errors`. A strict run ends at the first bad line.
 pub(crate) fn read_lines<R: Read + Drop, W: Write + Drop, E: Write>(
     alloc: Global,
     reader: &mut BufReader<R>,
     writer: &mut BufWriter<W>,
     errors: &mut E,
     buses: &mut Buses,
-    kept: &mut Kept,
-    options: &Options<'_>,
+    kept: &mut PageHistory,
+    options: &WatchOptions<'_>,
 ) -> Watched {
     let mut notices = Notices::new();
     let mut over = Over::new();
@@ -45,13 +45,13 @@ fn hear_lines<R: Read + Drop, W: Write + Drop, E: Write>(
     writer: &mut BufWriter<W>,
     errors: &mut E,
     buses: &mut Buses,
-    kept: &mut Kept,
-    options: &Options<'_>,
+    kept: &mut PageHistory,
+    options: &WatchOptions<'_>,
     notices: &mut Notices,
     over: &mut Over,
 ) -> Result<bool, LogFault> {
     let mut line = Vec::new(alloc);
-    let mut clock = Clock::new();
+    let mut clock = LineClock::new();
     for number in 1..u64::MAX {
         if !next_line(reader, writer, &mut line)? {
             break;

@@ -1,8 +1,8 @@
 //! What becomes of a watch of which as much is kept as may be: what was heard so far is reported, and it is begun anew.
 
-use crate::form::{Part, write_report};
-use crate::kept::Kept;
-use crate::run::Options;
+use crate::form::{TextPart, write_report};
+use crate::kept::PageHistory;
+use crate::run::WatchOptions;
 use bus_watch::{Buses, Limits};
 use log_lines::LogFault;
 use std::alloc::Global;
@@ -25,16 +25,16 @@ impl Over {
         self.is_anew
     }
 
-    /// Makes room before the line of this number is heard, where there is none: all that was heard so far is reported, and each bus is begun
-    /// anew with the units that hold addresses. That is told on `errors` once.
+    /// Makes room before the line of this number is heard, where there is none: all that was heard so far is reported, and each bus
+    /// is begun anew with the units that hold addresses. That is told on `errors` once.
     pub(crate) fn make_room<W: Write, E: Write>(
         &mut self,
         alloc: Global,
         writer: &mut W,
         errors: &mut E,
         buses: &mut Buses,
-        kept: &mut Kept,
-        options: &Options<'_>,
+        kept: &mut PageHistory,
+        options: &WatchOptions<'_>,
         number: u64,
     ) -> Result<(), LogFault> {
         if is_full(buses, options.limits) {
@@ -50,8 +50,8 @@ impl Over {
         writer: &mut W,
         errors: &mut E,
         buses: &mut Buses,
-        kept: &mut Kept,
-        options: &Options<'_>,
+        kept: &mut PageHistory,
+        options: &WatchOptions<'_>,
         number: u64,
     ) -> Result<(), LogFault> {
         if !self.is_anew
@@ -59,7 +59,7 @@ impl Over {
         {
             return Err(LogFault::of_write(error));
         }
-        let part = Part::Before {
+        let part = TextPart::Before {
             line: number,
             is_first: !self.is_anew,
         };

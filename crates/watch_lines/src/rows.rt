@@ -1,15 +1,15 @@
 //! The report as comma-separated values, written as it goes: nothing of it is held, and no memory is asked for.
 
-use crate::form::Part;
-use crate::run::Options;
+use crate::form::TextPart;
+use crate::report_writer::ReportWriter;
+use crate::run::WatchOptions;
 use crate::units::{KINDS, WhoValue, address_of, has_entries, kind_word, row_at, row_places};
-use bus_watch::{BusWatch, Buses, Run, Who};
+use bus_watch::{BusWatch, Buses, EntryRun, Who};
 use can_frame::GLOBAL_ADDRESS;
 use candump_line::Time;
 use dm_messages::Kind;
 use dm_words::{LampBytes, NO_COUNT};
 use name_field::Name;
-use std::io;
 use std::io::Write;
 use trouble_code::Dtc;
 
@@ -18,236 +18,238 @@ const HEADER: &str =
     "name,address,kind,first_time,last_time,entries,lamps,spn,fmi,count,contested,to";
 
 /// Writes the report: a row for each code of each run of equal entries, one without a code for a run without codes, and one
-/// without a kind for a unit without entries. Where each bus is watched, the bus follows; the last values are what the NAME says of the unit, and the
-/// shop's texts for the unit and for the code.
+/// without a kind for a unit without entries. Where each bus is watched, the bus follows; the last values are what the NAME says of
+/// the unit, and the shop's texts for the unit and for the code.
 /// The names of the values stand before the first part.
 pub(crate) fn write_rows<W: Write>(
-    writer: &mut W,
+    report: &mut ReportWriter<'_, W>,
     buses: &Buses,
-    options: &Options<'_>,
-    part: Part,
-) -> io::Result<()> {
+    options: &WatchOptions<'_>,
+    part: TextPart,
+) {
     if is_first(part) {
-        write_header(writer, buses.are_each())?;
+        write_header(report, buses.are_each());
     }
     for one in buses.watches() {
-        write_bus_rows(writer, one, options)?;
+        write_bus_rows(report, one, options);
     }
-    Ok(())
 }
 
 /// Whether no rows stand before this part.
-fn is_first(part: Part) -> bool {
+fn is_first(part: TextPart) -> bool {
     match part {
-        Part::Before { is_first, .. } => is_first,
-        Part::Last { is_all } => is_all,
+        TextPart::Before { is_first, .. } => is_first,
+        TextPart::Last { is_all } => is_all,
     }
 }
 
 /// The names of the values.
-fn write_header<W: Write>(writer: &mut W, names_bus: bool) -> io::Result<()> {
-    write!(writer, "{HEADER}")?;
+fn write_header<W: Write>(report: &mut ReportWriter<'_, W>, names_bus: bool) {
+    report.text(HEADER);
     if names_bus {
-        write!(writer, ",bus")?;
+        report.text(",bus");
     }
-    writeln!(
-        writer,
-        ",function,instance,manufacturer,identity,unit_text,code_text"
-    )
+    report.text(",function,instance,manufacturer,identity,unit_text,code_text\n");
 }
 
 /// The rows of a bus.
 fn write_bus_rows<W: Write>(
-    writer: &mut W,
+    report: &mut ReportWriter<'_, W>,
     one: &BusWatch,
-    options: &Options<'_>,
-) -> io::Result<()> {
+    options: &WatchOptions<'_>,
+) {
     for place in 0..row_places(&one.watch) {
+        if report.has_failed() {
+            return;
+        }
         if let Some(who) = &row_at(&one.watch, place) {
-            write_unit(writer, one, options, who)?;
+            write_unit(report, one, options, who);
         }
     }
-    Ok(())
 }
 
 /// The rows of a unit.
 fn write_unit<W: Write>(
-    writer: &mut W,
+    report: &mut ReportWriter<'_, W>,
     one: &BusWatch,
-    options: &Options<'_>,
+    options: &WatchOptions<'_>,
     who: &Who,
-) -> io::Result<()> {
+) {
     if !has_entries(&one.watch, who) {
-        write_front(writer, one, who)?;
-        write!(writer, ",,,,,,,,,,")?;
-        return end_row(writer, one, options, who, None);
+        write_front(report, one, who);
+        report.text(",,,,,,,,,,");
+        end_row(report, one, options, who, None);
+        return;
     }
     for kind in KINDS {
         for run in one.watch.runs(*who, kind) {
-            write_run(writer, one, options, who, kind, run)?;
+            write_run(report, one, options, who, kind, run);
         }
     }
-    Ok(())
 }
 
-/// The first two values of a row: the unit, and its address. In the place of a NAME stands that nobody has claimed its address, so that no two
-/// units have the same there; that has a comma.
-fn write_front<W: Write>(writer: &mut W, one: &BusWatch, who: &Who) -> io::Result<()> {
+/// The first two values of a row: the unit, and its address. In the place of a NAME stands that nobody has claimed its address, so
+/// that no two units have the same there; that has a comma.
+fn write_front<W: Write>(report: &mut ReportWriter<'_, W>, one: &BusWatch, who: &Who) {
     let unit = WhoValue(*who);
     match *who {
-        Who::Named(_) => write!(writer, "{unit},")?,
-        Who::Unclaimed { .. } => write!(writer, "\"{unit}\",")?,
+        Who::Named(_) => write!(report, "{unit},"),
+        Who::Unclaimed { .. } => write!(report, "\"{unit}\","),
     }
-    match address_of(&one.watch, who) {
-        Some(address) => write!(writer, "{address}"),
-        None => Ok(()),
+    if let Some(address) = address_of(&one.watch, who) {
+        write!(report, "{address}");
     }
 }
 
 /// The rows of a run of equal entries: one for each code, or one without a code where there are none.
 fn write_run<W: Write>(
-    writer: &mut W,
+    report: &mut ReportWriter<'_, W>,
     one: &BusWatch,
-    options: &Options<'_>,
+    options: &WatchOptions<'_>,
     who: &Who,
     kind: Kind,
-    run: &Run,
-) -> io::Result<()> {
+    run: &EntryRun,
+) {
     let codes = run.shown.codes.as_slice();
     if codes.is_empty() {
-        return write_row(writer, one, options, who, kind, run, None);
+        write_row(report, one, options, who, kind, run, None);
+        return;
     }
     for code in codes {
-        write_row(writer, one, options, who, kind, run, Some(code))?;
+        write_row(report, one, options, who, kind, run, Some(code));
     }
-    Ok(())
 }
 
 fn write_row<W: Write>(
-    writer: &mut W,
+    report: &mut ReportWriter<'_, W>,
     one: &BusWatch,
-    options: &Options<'_>,
+    options: &WatchOptions<'_>,
     who: &Who,
     kind: Kind,
-    run: &Run,
+    run: &EntryRun,
     code: Option<&Dtc>,
-) -> io::Result<()> {
-    write_front(writer, one, who)?;
+) {
+    write_front(report, one, who);
     let kind = kind_word(kind);
-    write!(writer, ",{kind},")?;
-    write_time(writer, &run.first)?;
-    write_time(writer, &run.last)?;
+    write!(report, ",{kind},");
+    write_time(report, &run.first);
+    write_time(report, &run.last);
     let times = run.times;
     let lamps = LampBytes(run.shown.lamps);
-    write!(writer, "{times},{lamps},")?;
-    write_code(writer, code)?;
+    write!(report, "{times},{lamps},");
+    write_code(report, code);
     let contested = run.contested;
-    write!(writer, "{contested},")?;
+    write!(report, "{contested},");
     if run.to != GLOBAL_ADDRESS {
         let to = run.to;
-        write!(writer, "{to}")?;
+        write!(report, "{to}");
     }
-    end_row(writer, one, options, who, code)
+    end_row(report, one, options, who, code);
 }
 
 /// A time and a comma; the comma alone where the line told none.
-fn write_time<W: Write>(writer: &mut W, time: &Option<Time>) -> io::Result<()> {
+fn write_time<W: Write>(report: &mut ReportWriter<'_, W>, time: &Option<Time>) {
     match time {
-        Some(time) => write!(writer, "{time},"),
-        None => write!(writer, ","),
+        Some(time) => write!(report, "{time},"),
+        None => report.text(","),
     }
 }
 
-/// The SPN, the FMI and the count of a code, each with a comma; the count is empty where it is not available, and all are without a code.
-fn write_code<W: Write>(writer: &mut W, code: Option<&Dtc>) -> io::Result<()> {
+/// The SPN, the FMI and the count of a code, each with a comma; the count is empty where it is not available, and all are without a
+/// code.
+fn write_code<W: Write>(report: &mut ReportWriter<'_, W>, code: Option<&Dtc>) {
     let Some(code) = code else {
-        return write!(writer, ",,,");
+        report.text(",,,");
+        return;
     };
     let spn = code.spn();
     let fmi = code.fmi();
-    write!(writer, "{spn},{fmi},")?;
+    write!(report, "{spn},{fmi},");
     let count = code.count();
     if count != NO_COUNT {
-        write!(writer, "{count}")?;
+        write!(report, "{count}");
     }
-    write!(writer, ",")
+    report.text(",");
 }
 
 /// The bus behind a row, where each is watched; the unit and the code in words, and the end of the row.
 fn end_row<W: Write>(
-    writer: &mut W,
+    report: &mut ReportWriter<'_, W>,
     one: &BusWatch,
-    options: &Options<'_>,
+    options: &WatchOptions<'_>,
     who: &Who,
     code: Option<&Dtc>,
-) -> io::Result<()> {
+) {
     if let Some(bus) = &one.bus {
-        write!(writer, ",")?;
-        write_text(writer, bus.as_str())?;
+        report.text(",");
+        write_text(report, bus.as_str());
     }
     match *who {
-        Who::Named(name) => write_fields(writer, options, name)?,
-        Who::Unclaimed { .. } => write!(writer, ",,,,,")?,
+        Who::Named(name) => write_fields(report, options, name),
+        Who::Unclaimed { .. } => report.text(",,,,,"),
     }
-    write!(writer, ",")?;
+    report.text(",");
     if let Some(code) = code {
-        write_code_text(writer, options, code.spn(), code.fmi())?;
+        write_code_text(report, options, code.spn(), code.fmi());
     }
-    writeln!(writer)
+    report.text("\n");
 }
 
 /// What a NAME says of its unit (SAE J1939-81), and the shop's text for it, each behind a comma.
-fn write_fields<W: Write>(writer: &mut W, options: &Options<'_>, name: Name) -> io::Result<()> {
+fn write_fields<W: Write>(
+    report: &mut ReportWriter<'_, W>,
+    options: &WatchOptions<'_>,
+    name: Name,
+) {
     let fields = name.fields();
     let (function, instance) = (fields.function, fields.function_instance);
     let (manufacturer, identity) = (fields.manufacturer, fields.identity);
-    write!(writer, ",{function},{instance},{manufacturer},{identity},")?;
-    match options.units.text_of(name) {
-        Some(text) => write_text(writer, text),
-        None => Ok(()),
+    write!(report, ",{function},{instance},{manufacturer},{identity},");
+    if let Some(text) = options.units.text_of(name) {
+        write_text(report, text);
     }
 }
 
 /// The shop's text for a code.
 fn write_code_text<W: Write>(
-    writer: &mut W,
-    options: &Options<'_>,
+    report: &mut ReportWriter<'_, W>,
+    options: &WatchOptions<'_>,
     spn: u32,
     fmi: u8,
-) -> io::Result<()> {
+) {
     match options.texts.parts_of(spn, fmi) {
         Some((text, Some(more))) => {
-            write!(writer, "\"")?;
-            write_quoted(writer, text)?;
-            write!(writer, ", ")?;
-            write_quoted(writer, more)?;
-            write!(writer, "\"")
+            report.text("\"");
+            write_quoted(report, text);
+            report.text(", ");
+            write_quoted(report, more);
+            report.text("\"");
         }
-        Some((text, None)) => write_text(writer, text),
-        None => Ok(()),
+        Some((text, None)) => write_text(report, text),
+        None => {}
     }
 }
 
 /// A text, in quotes where it has a comma, a quote or an end of a line.
-fn write_text<W: Write>(writer: &mut W, text: &str) -> io::Result<()> {
+fn write_text<W: Write>(report: &mut ReportWriter<'_, W>, text: &str) {
     if !text
         .bytes()
         .any(|byte| matches!(byte, b',' | b'"' | b'\r' | b'\n'))
     {
-        return write!(writer, "{text}");
+        report.text(text);
+        return;
     }
-    write!(writer, "\"")?;
-    write_quoted(writer, text)?;
-    write!(writer, "\"")
+    report.text("\"");
+    write_quoted(report, text);
+    report.text("\"");
 }
 
 /// A text in quotes, each of its own twice.
-fn write_quoted<W: Write>(writer: &mut W, text: &str) -> io::Result<()> {
+fn write_quoted<W: Write>(report: &mut ReportWriter<'_, W>, text: &str) {
     for letter in text.chars() {
         if letter == '"' {
-            write!(writer, "\"")?;
+            report.text("\"");
         }
-        write!(writer, "{letter}")?;
+        write!(report, "{letter}");
     }
-    Ok(())
 }

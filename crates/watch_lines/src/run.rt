@@ -1,14 +1,14 @@
 ghost use Rattle.std.specs.Prelude.{◌≤◌};
 ghost use Rattle.can_frame.specs.declared.address.TheConstants.{GREATEST_ADDRESS};
 
-use crate::form::{Form, Part, write_page, write_report};
+use crate::form::{TextPart, WatchForm, write_page, write_report};
 use crate::hearing::assume_owners;
-use crate::kept::Kept;
+use crate::kept::PageHistory;
 use crate::lines::read_lines;
-use bus_watch::{BusShown, Buses, Limits, Settings};
-use clock_words::Clock;
+use bus_watch::{BusShown, Buses, Limits, WatchSettings};
+use clock_words::ClockForm;
 use code_texts::Texts;
-use log_lines::{Ended, LogFault, ROOM};
+use log_lines::{LinesEnd, LogFault, ROOM};
 use name_field::Name;
 use std::alloc::Global;
 use std::io::{BufReader, BufWriter, Read, Write};
@@ -25,9 +25,9 @@ pub struct Assumed {
 
 /// How a log or a live bus is watched.
 #[derive(Clone, Copy)]
-pub struct Options<'a> {
+pub struct WatchOptions<'a> {
     /// What of the bus is shown, and how its lines are read.
-    pub settings: Settings,
+    pub settings: WatchSettings,
     /// Which buses are watched.
     pub bus: BusShown<'a>,
     /// Who holds an address before the first line, on each bus.
@@ -35,15 +35,15 @@ pub struct Options<'a> {
     /// How much is kept at once.
     pub limits: Limits,
     /// How changes and report are written.
-    pub form: Form,
+    pub form: WatchForm,
     /// What is read: a file's name, or words for it.
     pub title: &'a str,
     /// A shop's texts for units, and for codes.
     pub units: &'a UnitTexts,
     pub texts: &'a Texts,
-    /// How times are told to people; where that is not said, in text as the log has them, and on a page by UTC where they count from the
-    /// start of 1970, else since the first.
-    pub clock: Option<Clock>,
+    /// How times are told to people; where that is not said, in text as the log has them, and on a page by UTC where they count
+    /// from the start of 1970, else since the first.
+    pub clock: Option<ClockForm>,
     /// Whether the first bad line ends the run.
     pub strict: bool,
 }
@@ -51,7 +51,7 @@ pub struct Options<'a> {
 /// How a run ended that watched lines.
 #[derive(Clone, Copy, Debug)]
 pub struct Watched {
-    pub ended: Ended,
+    pub ended: LinesEnd,
     /// Whether it was begun anew, since as much was kept as may be.
     pub is_anew: bool,
 }
@@ -60,7 +60,7 @@ impl Watched {
     /// It ended by this fault before any line.
     fn failed(fault: LogFault) -> Watched {
         Watched {
-            ended: Ended::failed(fault),
+            ended: LinesEnd::failed(fault),
             is_anew: false,
         }
     }
@@ -78,15 +78,15 @@ pub(crate) fn is_assumed(assumed: &[Assumed], name: Name) -> bool {
 
 /// Reads lines to their end, writes what each of them changes, and then the report.
 ///
-/// What a line changed is written before the program waits for another. Of bad lines the first ten of each kind are told on `errors`, with their
-/// numbers, and how many further ones there were; so are times that do not count, and that no line is a frame.
+/// What a line changed is written before the program waits for another. Of bad lines the first ten of each kind are told on
+/// `errors`, with their numbers, and how many further ones there were; so are times that do not count, and that no line is a frame.
 /// Where a read failed, or memory was refused, what was found until then is reported.
 pub fn watch<R: Read + Drop, W: Write + Drop, E: Write>(
     alloc: Global,
     reader: R,
     writer: W,
     errors: &mut E,
-    options: &Options<'_>,
+    options: &WatchOptions<'_>,
 ) -> Watched {
     let (Ok(mut reader), Ok(mut writer)) = (
         BufReader::with_capacity(alloc, ROOM, reader),
@@ -103,11 +103,11 @@ fn watch_from<R: Read + Drop, W: Write + Drop, E: Write>(
     reader: &mut BufReader<R>,
     writer: &mut BufWriter<W>,
     errors: &mut E,
-    options: &Options<'_>,
+    options: &WatchOptions<'_>,
 ) -> Watched {
     match (
         Buses::new(alloc, options.settings, options.bus),
-        Kept::new(alloc, options.form),
+        PageHistory::new(alloc, options.form),
     ) {
         (Ok(mut buses), Ok(mut kept)) => {
             watch_with(
@@ -125,8 +125,8 @@ fn watch_with<R: Read + Drop, W: Write + Drop, E: Write>(
     writer: &mut BufWriter<W>,
     errors: &mut E,
     buses: &mut Buses,
-    kept: &mut Kept,
-    options: &Options<'_>,
+    kept: &mut PageHistory,
+    options: &WatchOptions<'_>,
 ) -> Watched {
     match assume_owners(alloc, writer, buses, kept, 0, options) {
         Ok(()) => read_and_report(alloc, reader, writer, errors, buses, kept, options),
@@ -141,8 +141,8 @@ fn read_and_report<R: Read + Drop, W: Write + Drop, E: Write>(
     writer: &mut BufWriter<W>,
     errors: &mut E,
     buses: &mut Buses,
-    kept: &mut Kept,
-    options: &Options<'_>,
+    kept: &mut PageHistory,
+    options: &WatchOptions<'_>,
 ) -> Watched {
     let watched = read_lines(alloc, reader, writer, errors, buses, kept, options);
     Watched {
@@ -156,10 +156,10 @@ fn reported<W: Write>(
     alloc: Global,
     writer: &mut W,
     buses: &Buses,
-    kept: &mut Kept,
-    options: &Options<'_>,
+    kept: &mut PageHistory,
+    options: &WatchOptions<'_>,
     watched: Watched,
-) -> Ended {
+) -> LinesEnd {
     let Watched { ended, is_anew } = watched;
     if ended.fault == Some(LogFault::Write) {
         return ended;
@@ -168,7 +168,7 @@ fn reported<W: Write>(
         Ok(()) => ended.fault,
         Err(fault) => Some(fault),
     };
-    Ended { fault, ..ended }
+    LinesEnd { fault, ..ended }
 }
 
 /// Writes the report, and what is still to be written.
@@ -176,13 +176,13 @@ fn written_out<W: Write>(
     alloc: Global,
     writer: &mut W,
     buses: &Buses,
-    kept: &mut Kept,
-    options: &Options<'_>,
+    kept: &mut PageHistory,
+    options: &WatchOptions<'_>,
     is_all: bool,
 ) -> Result<(), LogFault> {
     match options.form {
-        Form::Html => write_page(writer, alloc, buses, kept, options)?,
-        _ => write_report(writer, buses, options, Part::Last { is_all })?,
+        WatchForm::Html => write_page(writer, alloc, buses, kept, options)?,
+        _ => write_report(writer, buses, options, TextPart::Last { is_all })?,
     }
     match writer.flush() {
         Ok(()) => Ok(()),

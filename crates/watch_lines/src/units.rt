@@ -37,8 +37,8 @@ impl fmt::Display for NameWords<'_> {
     }
 }
 
-/// A unit for people: its NAME, with the shop's text for it, where there is one; or its address, with the gap of missed frames since which
-/// nobody was seen to claim it, counted from 1.
+/// A unit for people: its NAME, with the shop's text for it, where there is one; or its address, with the gap of missed frames
+/// since which nobody was seen to claim it, counted from 1.
 #[derive(Clone, Copy)]
 pub(crate) struct WhoWords<'a>(pub(crate) Who, pub(crate) &'a UnitTexts);
 
@@ -161,8 +161,8 @@ pub(crate) fn row_at(watch: &Watch, place: usize) -> Option<Who> {
     }
 }
 
-/// The unit of this place: first all NAMEs, in the order of their first claims, then the addresses that nobody has claimed, in the order of
-/// their first entries. A place behind the NAMEs where the entry was one of a NAME stays empty.
+/// The unit of this place: first all NAMEs, in the order of their first claims, then the addresses that nobody has claimed, in the
+/// order of their first entries. A place behind the NAMEs where the entry was one of a NAME stays empty.
 fn unit_at(watch: &Watch, place: usize) -> Option<Who> {
     let names = watch.names();
     if place < names {

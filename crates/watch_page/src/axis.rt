@@ -1,9 +1,8 @@
 ghost use Rattle.std.specs.Prelude.{◌≤◌};
 
-use crate::fault::PageFault;
 use crate::moment::{write_moment, write_time};
 use crate::view::View;
-use clock_words::{Clock, Fraction};
+use clock_words::{ClockForm, Fraction};
 use page_text::Page;
 use picture::{Axis, Picture};
 use std::io::Write;
@@ -104,7 +103,7 @@ const MOST: u64 = 10;
 impl Marks {
     /// The marks of the axis of a picture: at round times of the clock, or at round lines.
     pub(crate) fn of(view: &View<'_>, scale: Scale) -> Marks {
-        let with_date = scale.span > DAY && view.clock == Clock::Utc;
+        let with_date = scale.span > DAY && view.clock == ClockForm::Utc;
         let most = if with_date { 4 } else { 8 };
         let step = match view.picture.axis() {
             Axis::Times => time_step(scale.span, most),
@@ -138,8 +137,8 @@ impl Marks {
 }
 
 /// The first mark from the start on.
-fn first_mark(start: u64, step: u64, clock: Clock) -> u64 {
-    if clock == Clock::Relative || step == 0 {
+fn first_mark(start: u64, step: u64, clock: ClockForm) -> u64 {
+    if clock == ClockForm::Relative || step == 0 {
         return start;
     }
     let before = start / step * step;
@@ -173,36 +172,28 @@ fn line_step(span: u64) -> u64 {
 }
 
 /// Writes an attribute whose value is a part of the width. The name stands with the mark that begins the value.
-pub(crate) fn write_part<W: Write>(
-    page: &mut Page<W>,
-    name: &'static str,
-    place: u64,
-) -> Result<(), PageFault> {
-    page.markup(name)?;
-    page.number(place / 100)?;
-    page.markup(if place % 100 < 10 { ".0" } else { "." })?;
-    page.number(place % 100)?;
-    page.markup("%\"")?;
-    Ok(())
+pub(crate) fn write_part<W: Write>(page: &mut Page<W>, name: &'static str, place: u64) {
+    page.markup(name);
+    page.number(place / 100);
+    page.markup(if place % 100 < 10 { ".0" } else { "." });
+    page.number(place % 100);
+    page.markup("%\"");
 }
 
 /// Writes the axis: its marks in words.
-pub(crate) fn write_axis<W: Write>(
-    page: &mut Page<W>,
-    view: &View<'_>,
-    scale: Scale,
-) -> Result<(), PageFault> {
+pub(crate) fn write_axis<W: Write>(page: &mut Page<W>, view: &View<'_>, scale: Scale) {
     let marks = Marks::of(view, scale);
-    page.markup(
-        "<svg xmlns=\"http://www.w3.org/2000/svg\" class=\"axis\" width=\"100%\" height=\"20\" aria-hidden=\"true\">",
-    )?;
+    page.markup(axis_begin());
     for number in 0..MOST {
         if let Some(moment) = marks.at(number) {
-            write_mark(page, view, scale.place(moment), number, moment, marks)?;
+            write_mark(page, view, scale.place(moment), number, moment, marks);
         }
     }
-    page.markup("</svg>\n")?;
-    Ok(())
+    page.markup("</svg>\n");
+}
+
+fn axis_begin() -> &'static str {
+    "<svg xmlns=\"http://www.w3.org/2000/svg\" class=\"axis\" width=\"100%\" height=\"20\" aria-hidden=\"true\">"
 }
 
 /// Writes a mark in words. Each second one is left out of a narrow page.
@@ -213,17 +204,16 @@ fn write_mark<W: Write>(
     number: u64,
     moment: u64,
     marks: Marks,
-) -> Result<(), PageFault> {
-    write_part(page, "<text x=\"", place)?;
-    page.markup(" y=\"14\" class=\"mark")?;
-    page.markup(if number % 2 == 1 { " odd" } else { "" })?;
-    page.markup(side_of(place))?;
+) {
+    write_part(page, "<text x=\"", place);
+    page.markup(" y=\"14\" class=\"mark");
+    page.markup(if number % 2 == 1 { " odd" } else { "" });
+    page.markup(side_of(place));
     match view.picture.axis() {
-        Axis::Times => write_time(page, view, moment, marks.fraction(), marks.with_date)?,
-        Axis::Lines => write_moment(page, view, moment, Fraction::Seconds)?,
+        Axis::Times => write_time(page, view, moment, marks.fraction(), marks.with_date),
+        Axis::Lines => write_moment(page, view, moment, Fraction::Seconds),
     }
-    page.markup("</text>")?;
-    Ok(())
+    page.markup("</text>");
 }
 
 /// On which side of its place a mark's words stand, so that they are on the page.
@@ -238,19 +228,17 @@ fn side_of(place: u64) -> &'static str {
 }
 
 /// Writes the lines of the marks through a lane.
-pub(crate) fn write_lines<W: Write>(
-    page: &mut Page<W>,
-    view: &View<'_>,
-    scale: Scale,
-) -> Result<(), PageFault> {
+pub(crate) fn write_lines<W: Write>(page: &mut Page<W>, view: &View<'_>, scale: Scale) {
     let marks = Marks::of(view, scale);
     for number in 0..MOST {
         if let Some(moment) = marks.at(number) {
-            let place = scale.place(moment);
-            write_part(page, "<line x1=\"", place)?;
-            write_part(page, " x2=\"", place)?;
-            page.markup(" y1=\"0\" y2=\"100%\" class=\"mark\"/>")?;
+            write_line(page, scale.place(moment));
         }
     }
-    Ok(())
+}
+
+fn write_line<W: Write>(page: &mut Page<W>, place: u64) {
+    write_part(page, "<line x1=\"", place);
+    write_part(page, " x2=\"", place);
+    page.markup(" y1=\"0\" y2=\"100%\" class=\"mark\"/>");
 }

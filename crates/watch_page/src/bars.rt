@@ -2,7 +2,6 @@ ghost use Rattle.std.specs.Prelude.{◌+◌, ◌≤◌};
 ghost use Rattle.watch_page.specs.declared.axis.TheConstants.{FULL};
 
 use crate::axis::{FULL, Scale, write_part};
-use crate::fault::PageFault;
 use crate::message_words::{class_of, kind_word, severity_word, write_brief, write_numbers};
 use crate::moment::write_range;
 use crate::view::View;
@@ -17,7 +16,7 @@ const LEAST: u64 = 30;
 
 /// A row of bars in a lane: where its bars stand, and where their words.
 #[derive(Clone, Copy)]
-pub(crate) struct Row {
+pub(crate) struct BarRow {
     /// The attributes of a bar.
     pub(crate) bar: &'static str,
     /// Those of its words.
@@ -25,22 +24,22 @@ pub(crate) struct Row {
 }
 
 /// The rows of a lane.
-pub(crate) const ADDRESSES: Row = Row {
+pub(crate) const ADDRESSES: BarRow = BarRow {
     bar: " y=\"2\" height=\"16\" role=\"img\"><title>",
     words: "<text x=\"4\" y=\"12\">",
 };
 
-pub(crate) const DM1: Row = Row {
+pub(crate) const DM1: BarRow = BarRow {
     bar: " y=\"21\" height=\"22\" role=\"img\"><title>",
     words: "<text x=\"4\" y=\"15\">",
 };
 
-pub(crate) const DM2: Row = Row {
+pub(crate) const DM2: BarRow = BarRow {
     bar: " y=\"46\" height=\"14\" role=\"img\"><title>",
     words: "<text x=\"4\" y=\"11\">",
 };
 
-pub(crate) const DM6: Row = Row {
+pub(crate) const DM6: BarRow = BarRow {
     bar: " y=\"62\" height=\"14\" role=\"img\"><title>",
     words: "<text x=\"4\" y=\"11\">",
 };
@@ -71,20 +70,18 @@ pub(crate) fn begin_bar<W: Write>(
     from: u64,
     to: u64,
     bar: &'static str,
-) -> Result<(), PageFault> {
+) {
     let (place, width) = bar_of(scale, from, to);
-    write_part(page, "<svg x=\"", place)?;
-    write_part(page, " width=\"", width)?;
-    page.markup(bar)?;
-    Ok(())
+    write_part(page, "<svg x=\"", place);
+    write_part(page, " width=\"", width);
+    page.markup(bar);
 }
 
 /// Ends the title of a bar, and gives it a class.
-pub(crate) fn fill_bar<W: Write>(page: &mut Page<W>, class: &'static str) -> Result<(), PageFault> {
-    page.markup("</title><rect width=\"100%\" height=\"100%\" class=\"")?;
-    page.markup(class)?;
-    page.markup("\"/>")?;
-    Ok(())
+pub(crate) fn fill_bar<W: Write>(page: &mut Page<W>, class: &'static str) {
+    page.markup("</title><rect width=\"100%\" height=\"100%\" class=\"");
+    page.markup(class);
+    page.markup("\"/>");
 }
 
 /// Draws when an address was held.
@@ -93,7 +90,7 @@ pub(crate) fn write_address_bar<W: Write>(
     view: &View<'_>,
     scale: Scale,
     span: &Span,
-) -> Result<(), PageFault> {
+) {
     match &span.shows {
         Shows::Address(address) => write_held(page, view, scale, span, *address),
         _ => write_changing(
@@ -114,18 +111,17 @@ fn write_held<W: Write>(
     scale: Scale,
     span: &Span,
     address: u8,
-) -> Result<(), PageFault> {
-    begin_bar(page, scale, span.from, span.to, ADDRESSES.bar)?;
-    page.markup("address ")?;
-    page.number(u64::from(address))?;
-    page.markup(", ")?;
-    write_range(page, view, span.from, span.to)?;
-    fill_bar(page, "held")?;
-    page.markup(ADDRESSES.words)?;
-    page.markup("address ")?;
-    page.number(u64::from(address))?;
-    page.markup("</text></svg>")?;
-    Ok(())
+) {
+    begin_bar(page, scale, span.from, span.to, ADDRESSES.bar);
+    page.markup("address ");
+    page.number(u64::from(address));
+    page.markup(", ");
+    write_range(page, view, span.from, span.to);
+    fill_bar(page, "held");
+    page.markup(ADDRESSES.words);
+    page.markup("address ");
+    page.number(u64::from(address));
+    page.markup("</text></svg>");
 }
 
 /// Draws several spans that were joined.
@@ -134,25 +130,24 @@ fn write_changing<W: Write>(
     view: &View<'_>,
     scale: Scale,
     span: &Span,
-    row: Row,
+    row: BarRow,
     what: &'static str,
     severity: Severity,
-) -> Result<(), PageFault> {
-    begin_bar(page, scale, span.from, span.to, row.bar)?;
-    page.number(span.told)?;
-    page.markup(" changes of ")?;
-    page.markup(what)?;
-    page.markup(", ")?;
-    write_range(page, view, span.from, span.to)?;
+) {
+    begin_bar(page, scale, span.from, span.to, row.bar);
+    page.number(span.told);
+    page.markup(" changes of ");
+    page.markup(what);
+    page.markup(", ");
+    write_range(page, view, span.from, span.to);
     if severity != Severity::Fine {
-        page.markup("; at worst ")?;
-        page.markup(severity_word(severity))?;
+        page.markup("; at worst ");
+        page.markup(severity_word(severity));
     }
-    fill_bar(page, "changing")?;
-    page.markup(row.words)?;
-    page.number(span.told)?;
-    page.markup(" changes</text></svg>")?;
-    Ok(())
+    fill_bar(page, "changing");
+    page.markup(row.words);
+    page.number(span.told);
+    page.markup(" changes</text></svg>");
 }
 
 /// Draws what messages of a kind told.
@@ -162,19 +157,19 @@ pub(crate) fn write_message_bar<W: Write>(
     scale: Scale,
     span: &Span,
     kind: Kind,
-    row: Row,
-) -> Result<(), PageFault> {
+    row: BarRow,
+) {
     match &span.shows {
         Shows::Message {
             brief,
             severity,
             times,
         } => {
-            begin_bar(page, scale, span.from, span.to, row.bar)?;
-            write_title(page, view, span, kind, *times)?;
-            write_brief(page, view, brief)?;
-            fill_bar(page, class_of(*severity))?;
-            write_words(page, row, kind, brief)
+            begin_bar(page, scale, span.from, span.to, row.bar);
+            write_title(page, view, span, kind, *times);
+            write_brief(page, view, brief);
+            fill_bar(page, class_of(*severity));
+            write_words(page, row, kind, brief);
         }
         _ => write_changing(
             page,
@@ -189,64 +184,47 @@ pub(crate) fn write_message_bar<W: Write>(
 }
 
 /// Writes when messages came and how many they were.
-fn write_title<W: Write>(
-    page: &mut Page<W>,
-    view: &View<'_>,
-    span: &Span,
-    kind: Kind,
-    times: u64,
-) -> Result<(), PageFault> {
-    page.markup(kind_word(kind))?;
-    page.markup(", ")?;
-    write_range(page, view, span.from, span.to)?;
+fn write_title<W: Write>(page: &mut Page<W>, view: &View<'_>, span: &Span, kind: Kind, times: u64) {
+    page.markup(kind_word(kind));
+    page.markup(", ");
+    write_range(page, view, span.from, span.to);
     if times > 1 {
-        page.markup(", ")?;
-        page.number(times)?;
-        page.markup(" times")?;
+        page.markup(", ");
+        page.number(times);
+        page.markup(" times");
     }
-    page.markup(": ")?;
-    Ok(())
+    page.markup(": ");
 }
 
 /// Writes the words in a bar: its codes; and the sign of doubt.
-fn write_words<W: Write>(
-    page: &mut Page<W>,
-    row: Row,
-    kind: Kind,
-    brief: &Brief,
-) -> Result<(), PageFault> {
+fn write_words<W: Write>(page: &mut Page<W>, row: BarRow, kind: Kind, brief: &Brief) {
     if brief.contested {
-        page.markup("<rect width=\"100%\" height=\"100%\" class=\"doubt\"/>")?;
+        page.markup("<rect width=\"100%\" height=\"100%\" class=\"doubt\"/>");
     }
-    page.markup(row.words)?;
-    match kind {
-        Kind::Dm1 => {}
-        Kind::Dm2 | Kind::Dm6 => {
-            page.markup(kind_word(kind))?;
-            page.markup(" ")?;
-        }
+    page.markup(row.words);
+    if kind != Kind::Dm1 {
+        page.markup(kind_word(kind));
+        page.markup(" ");
     }
-    write_codes(page, brief)?;
-    page.markup("</text></svg>")?;
-    Ok(())
+    write_codes(page, brief);
+    page.markup("</text></svg>");
 }
 
-fn write_codes<W: Write>(page: &mut Page<W>, brief: &Brief) -> Result<(), PageFault> {
+fn write_codes<W: Write>(page: &mut Page<W>, brief: &Brief) {
     if brief.count == 0 {
-        page.markup(severity_word(brief.severity()))?;
-        return Ok(());
+        page.markup(severity_word(brief.severity()));
+        return;
     }
     let mut listed = 0u16;
     for code in &brief.codes {
         if let Some(code) = code {
-            write_numbers(page, code.spn, code.fmi)?;
-            page.markup(" ")?;
+            write_numbers(page, code.spn, code.fmi);
+            page.markup(" ");
             listed = listed.saturating_add(1);
         }
     }
     if brief.count > listed {
-        page.markup("+")?;
-        page.number(u64::from(brief.count.saturating_sub(listed)))?;
+        page.markup("+");
+        page.number(u64::from(brief.count.saturating_sub(listed)));
     }
-    Ok(())
 }

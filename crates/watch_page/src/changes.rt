@@ -1,11 +1,11 @@
-use crate::fault::PageFault;
 use crate::labels::{write_bus, write_identity, write_label};
 use crate::message_words::{kind_word, write_brief};
 use crate::moment::write_moment;
 use crate::view::View;
 use clock_words::Fraction;
+use dm_messages::Kind;
 use page_text::Page;
-use picture::{Handover, Happened, Told, Unit};
+use picture::{Brief, DrawnUnit, Handover, Happened, Occurrence};
 use std::io::Write;
 
 /// How large the page may be when a further row is begun, in bytes.
@@ -15,204 +15,190 @@ const ROOM: u64 = 4_600_000;
 const HANDOVERS: usize = 50;
 
 /// Writes which addresses changed hands, each with who lost it and who took it.
-pub(crate) fn write_handovers<W: Write>(
-    page: &mut Page<W>,
-    view: &View<'_>,
-) -> Result<(), PageFault> {
+pub(crate) fn write_handovers<W: Write>(page: &mut Page<W>, view: &View<'_>) {
     let handovers = view.picture.handovers();
     if handovers.is_empty() {
-        return Ok(());
+        return;
     }
-    page.markup("<h2>Addresses that changed hands</h2>\n<ol class=\"handed\">\n")?;
+    page.markup("<h2>Addresses that changed hands</h2>\n<ol class=\"handed\">\n");
     for handover in handovers.iter().take(HANDOVERS) {
-        write_handover(page, view, handover)?;
+        write_handover(page, view, handover);
     }
-    page.markup("</ol>\n")?;
+    page.markup("</ol>\n");
     let more = (handovers.len().saturating_sub(HANDOVERS) as u64).saturating_add(
         view.picture.handovers_left_out(),
     );
     if more > 0 {
-        page.markup("<p>and ")?;
-        page.number(more)?;
-        page.markup(" more times</p>\n")?;
+        page.markup("<p>and ");
+        page.number(more);
+        page.markup(" more times</p>\n");
     }
-    Ok(())
 }
 
-fn write_handover<W: Write>(
-    page: &mut Page<W>,
-    view: &View<'_>,
-    handover: &Handover,
-) -> Result<(), PageFault> {
-    page.markup("<li>")?;
-    write_moment(page, view, handover.moment, Fraction::Millis)?;
-    page.markup(": ")?;
-    write_unit(page, view, &handover.from)?;
-    page.markup(" lost address <b>")?;
-    page.number(u64::from(handover.address))?;
-    page.markup("</b> to ")?;
-    write_unit(page, view, &handover.to)?;
-    page.markup("</li>\n")?;
-    Ok(())
+fn write_handover<W: Write>(page: &mut Page<W>, view: &View<'_>, handover: &Handover) {
+    page.markup("<li>");
+    write_moment(page, view, handover.moment, Fraction::Millis);
+    page.markup(": ");
+    write_unit(page, view, &handover.from);
+    page.markup(" lost address <b>");
+    page.number(u64::from(handover.address));
+    page.markup("</b> to ");
+    write_unit(page, view, &handover.to);
+    page.markup("</li>\n");
 }
 
-fn write_unit<W: Write>(page: &mut Page<W>, view: &View<'_>, unit: &Unit) -> Result<(), PageFault> {
-    page.markup("<span class=\"text\">")?;
-    write_label(page, view, unit)?;
-    page.markup("</span> <span class=\"name\">")?;
-    write_identity(page, view, unit)?;
-    page.markup("</span>")?;
-    Ok(())
+fn write_unit<W: Write>(page: &mut Page<W>, view: &View<'_>, unit: &DrawnUnit) {
+    page.markup("<span class=\"text\">");
+    write_label(page, view, unit);
+    page.markup("</span> <span class=\"name\">");
+    write_identity(page, view, unit);
+    page.markup("</span>");
 }
 
 /// Writes each change in a row, folded: the first, how many are left out, and the last.
-pub(crate) fn write_changes<W: Write>(
-    page: &mut Page<W>,
-    view: &View<'_>,
-) -> Result<(), PageFault> {
+pub(crate) fn write_changes<W: Write>(page: &mut Page<W>, view: &View<'_>) {
     let history = view.picture.history();
     let (last, later) = history.last();
     let count = (history.first().len() as u64)
         .saturating_add(history.left_out())
         .saturating_add(last.len() as u64)
         .saturating_add(later.len() as u64);
-    page.markup("<details><summary>Each change, in order (")?;
-    page.number(count)?;
-    page.markup(HEAD)?;
-    let mut skipped = write_rows(page, view, history.first())?;
-    skipped = skipped.saturating_add(history.left_out());
-    write_left_out(page, history.left_out())?;
-    write_rows(page, view, last)?;
-    write_rows(page, view, later)?;
-    page.markup("</tbody></table></details>\n")?;
-    Ok(())
+    page.markup("<details><summary>Each change, in order (");
+    page.number(count);
+    page.markup(head());
+    write_rows(page, view, history.first());
+    write_left_out(page, history.left_out());
+    write_rows(page, view, last);
+    write_rows(page, view, later);
+    page.markup("</tbody></table></details>\n");
 }
 
-const HEAD: &str =
+/// The head of the rows.
+fn head() -> &'static str {
     ")</summary><table role=\"table\"><thead role=\"rowgroup\"><tr role=\"row\"><th role=\"columnheader\" class=\"num\">Time</th>\
-<th role=\"columnheader\" class=\"num\">Line</th><th role=\"columnheader\">Unit</th><th role=\"columnheader\">What</th></tr></thead><tbody role=\"rowgroup\">\n";
-
-fn write_left_out<W: Write>(page: &mut Page<W>, left_out: u64) -> Result<(), PageFault> {
-    if left_out == 0 {
-        return Ok(());
-    }
-    page.markup("<tr role=\"row\"><td role=\"cell\" colspan=\"4\">")?;
-    page.number(left_out)?;
-    page.markup(" changes are left out here</td></tr>\n")?;
-    Ok(())
+<th role=\"columnheader\" class=\"num\">Line</th><th role=\"columnheader\">Unit</th><th role=\"columnheader\">What</th></tr></thead><tbody role=\"rowgroup\">\n"
 }
 
-/// Writes rows as long as the page has room. Answers how many were left out.
-fn write_rows<W: Write>(
-    page: &mut Page<W>,
-    view: &View<'_>,
-    changes: &[Happened],
-) -> Result<u64, PageFault> {
+fn write_left_out<W: Write>(page: &mut Page<W>, left_out: u64) {
+    if left_out == 0 {
+        return;
+    }
+    page.markup("<tr role=\"row\"><td role=\"cell\" colspan=\"4\">");
+    page.number(left_out);
+    page.markup(" changes are left out here</td></tr>\n");
+}
+
+/// Writes rows as long as the page has room.
+fn write_rows<W: Write>(page: &mut Page<W>, view: &View<'_>, changes: &[Happened]) {
     let mut skipped = 0u64;
     for change in changes {
-        if page.size() < ROOM {
-            write_row(page, view, change)?;
+        if page.has_room(ROOM) {
+            write_row(page, view, change);
         } else {
             skipped = skipped.saturating_add(1);
         }
     }
-    write_left_out(page, skipped)?;
-    Ok(skipped)
+    write_left_out(page, skipped);
 }
 
-fn write_row<W: Write>(
-    page: &mut Page<W>,
-    view: &View<'_>,
-    change: &Happened,
-) -> Result<(), PageFault> {
-    page.markup("<tr role=\"row\"><td role=\"cell\" class=\"num\" data-l=\"Time\">")?;
-    write_moment(page, view, change.moment, Fraction::Millis)?;
-    page.markup("</td><td role=\"cell\" class=\"num\" data-l=\"Line\">")?;
-    page.number(change.line)?;
-    page.markup("</td><td role=\"cell\" data-l=\"Unit\">")?;
-    write_whose(page, view, &change.told)?;
-    page.markup("</td><td role=\"cell\" data-l=\"What\">")?;
-    write_what(page, view, &change.told)?;
-    page.markup("</td></tr>\n")?;
-    Ok(())
+fn write_row<W: Write>(page: &mut Page<W>, view: &View<'_>, change: &Happened) {
+    page.markup(time_cell());
+    write_moment(page, view, change.moment, Fraction::Millis);
+    page.markup("</td><td role=\"cell\" class=\"num\" data-l=\"Line\">");
+    page.number(change.line);
+    page.markup("</td><td role=\"cell\" data-l=\"Unit\">");
+    write_whose(page, view, &change.told);
+    page.markup("</td><td role=\"cell\" data-l=\"What\">");
+    write_what(page, view, &change.told);
+    page.markup("</td></tr>\n");
 }
 
-fn write_whose<W: Write>(
-    page: &mut Page<W>,
-    view: &View<'_>,
-    told: &Told,
-) -> Result<(), PageFault> {
+fn time_cell() -> &'static str {
+    "<tr role=\"row\"><td role=\"cell\" class=\"num\" data-l=\"Time\">"
+}
+
+fn write_whose<W: Write>(page: &mut Page<W>, view: &View<'_>, told: &Occurrence) {
     match told {
-        Told::At { unit, .. }
-        | Told::NoAddress { unit }
-        | Told::Message { unit, .. }
-        | Told::Acknowledged { unit, .. }
-        | Told::Unread { unit, .. } => write_unit(page, view, unit),
-        Told::Missed { bus, .. } | Told::Unowned { bus, .. } => write_bus(page, view, *bus),
+        Occurrence::At { unit, .. }
+        | Occurrence::NoAddress { unit }
+        | Occurrence::Message { unit, .. }
+        | Occurrence::Acknowledged { unit, .. }
+        | Occurrence::Unread { unit, .. } => write_unit(page, view, unit),
+        Occurrence::Missed { bus, .. } | Occurrence::Unowned { bus, .. } => write_bus(
+            page, view, *bus,
+        ),
     }
 }
 
-fn write_what<W: Write>(page: &mut Page<W>, view: &View<'_>, told: &Told) -> Result<(), PageFault> {
+fn write_what<W: Write>(page: &mut Page<W>, view: &View<'_>, told: &Occurrence) {
     match told {
-        Told::At {
+        Occurrence::At {
             address,
             lost_by,
             ..
         } => write_held(page, view, *address, lost_by),
-        Told::NoAddress { .. } => Ok(page.markup("holds no address")?),
-        Told::Message { kind, brief, .. } => {
-            page.markup(kind_word(*kind))?;
-            page.markup(": ")?;
-            write_brief(page, view, brief)
-        }
-        Told::Missed { count, .. } => {
-            page.number(*count)?;
-            Ok(page.markup(
-                " frames missed: who holds which address is not known until units claim again",
-            )?)
-        }
-        Told::Unowned { source, .. } => {
-            page.markup("a diagnostic message from address ")?;
-            page.number(u64::from(*source))?;
-            Ok(page.markup(", which nobody has claimed in what was read")?)
-        }
-        Told::Acknowledged { control, pgn, .. } => write_acknowledged(page, *control, *pgn),
-        Told::Unread { kind, .. } => {
-            page.markup("a ")?;
-            page.markup(kind_word(*kind))?;
-            Ok(page.markup(" that could not be read")?)
-        }
+        Occurrence::NoAddress { .. } => page.markup("holds no address"),
+        Occurrence::Message { kind, brief, .. } => write_message(page, view, *kind, brief),
+        Occurrence::Missed { count, .. } => write_missed(page, *count),
+        Occurrence::Unowned { source, .. } => write_unowned(page, *source),
+        Occurrence::Acknowledged { control, pgn, .. } => write_acknowledged(page, *control, *pgn),
+        Occurrence::Unread { kind, .. } => write_unread(page, *kind),
     }
+}
+
+fn write_message<W: Write>(page: &mut Page<W>, view: &View<'_>, kind: Kind, brief: &Brief) {
+    page.markup(kind_word(kind));
+    page.markup(": ");
+    write_brief(page, view, brief);
+}
+
+fn write_missed<W: Write>(page: &mut Page<W>, count: u64) {
+    page.number(count);
+    page.markup(missed_words());
+}
+
+fn missed_words() -> &'static str {
+    " frames missed: who holds which address is not known until units claim again"
+}
+
+fn write_unowned<W: Write>(page: &mut Page<W>, source: u8) {
+    page.markup("a diagnostic message from address ");
+    page.number(u64::from(source));
+    page.markup(", which nobody has claimed in what was read");
+}
+
+fn write_unread<W: Write>(page: &mut Page<W>, kind: Kind) {
+    page.markup("a ");
+    page.markup(kind_word(kind));
+    page.markup(" that could not be read");
 }
 
 fn write_held<W: Write>(
     page: &mut Page<W>,
     view: &View<'_>,
     address: u8,
-    lost_by: &Option<Unit>,
-) -> Result<(), PageFault> {
-    page.markup("holds address ")?;
-    page.number(u64::from(address))?;
+    lost_by: &Option<DrawnUnit>,
+) {
+    page.markup("holds address ");
+    page.number(u64::from(address));
     if let Some(unit) = lost_by {
-        page.markup(", which was lost by ")?;
-        write_unit(page, view, unit)?;
+        page.markup(", which was lost by ");
+        write_unit(page, view, unit);
     }
-    Ok(())
 }
 
 /// An acknowledgment of a request (SAE J1939-21, 5.4.4).
-fn write_acknowledged<W: Write>(
-    page: &mut Page<W>,
-    control: u8,
-    pgn: u32,
-) -> Result<(), PageFault> {
-    page.markup(match control {
+fn write_acknowledged<W: Write>(page: &mut Page<W>, control: u8, pgn: u32) {
+    page.markup(control_words(control));
+    page.number(u64::from(pgn));
+}
+
+fn control_words(control: u8) -> &'static str {
+    match control {
         0 => "acknowledged a request of group ",
         1 => "refused a request of group ",
         2 => "denied access to group ",
         3 => "cannot respond now to a request of group ",
         _ => "answered in another way to a request of group ",
-    })?;
-    page.number(u64::from(pgn))?;
-    Ok(())
+    }
 }

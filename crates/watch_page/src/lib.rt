@@ -1,13 +1,13 @@
 //! What a log told, as a page of HTML: how it stands, each unit, a lane for each in time, and each change.
 //!
-//! The page has no script and asks for nothing from a network. Text from outside goes through the one escape of `page_text`. It is also XML.
+//! The page has no script and asks for nothing from a network. Text from outside goes through the one escape of `page_text`. It is
+//! also XML.
 #![tactic(auto)]
 
 mod axis;
 mod bars;
 mod changes;
 mod chips;
-mod fault;
 mod labels;
 mod lanes;
 mod message_words;
@@ -19,6 +19,6 @@ mod style;
 mod table;
 mod view;
 
-pub use fault::PageFault;
 pub use page::write_page;
+pub use page_text::PageFault;
 pub use view::View;

@@ -1,4 +1,3 @@
-use crate::fault::PageFault;
 use crate::view::View;
 use dm_messages::Kind;
 use page_text::Page;
@@ -70,18 +69,17 @@ pub(crate) fn flash_word(lamps: Lamps, lamp: LampName) -> &'static str {
 }
 
 /// Writes the lamps that are on, or that none is.
-pub(crate) fn write_lamps<W: Write>(page: &mut Page<W>, lamps: Lamps) -> Result<(), PageFault> {
+pub(crate) fn write_lamps<W: Write>(page: &mut Page<W>, lamps: Lamps) {
     let mut is_first = true;
     for (lamp, word, _, _) in LAMPS {
         if is_on(lamps, lamp) {
-            write_lamp(page, is_first, word, flash_word(lamps, lamp))?;
+            write_lamp(page, is_first, word, flash_word(lamps, lamp));
             is_first = false;
         }
     }
     if is_first {
-        page.markup("no lamp")?;
+        page.markup("no lamp");
     }
-    Ok(())
 }
 
 fn write_lamp<W: Write>(
@@ -89,25 +87,19 @@ fn write_lamp<W: Write>(
     is_first: bool,
     word: &'static str,
     flash: &'static str,
-) -> Result<(), PageFault> {
+) {
     if !is_first {
-        page.markup(", ")?;
+        page.markup(", ");
     }
-    page.markup(word)?;
-    page.markup(flash)?;
-    Ok(())
+    page.markup(word);
+    page.markup(flash);
 }
 
 /// Writes a code as `SPN/FMI`.
-pub(crate) fn write_numbers<W: Write>(
-    page: &mut Page<W>,
-    spn: u32,
-    fmi: u8,
-) -> Result<(), PageFault> {
-    page.number(u64::from(spn))?;
-    page.markup("/")?;
-    page.number(u64::from(fmi))?;
-    Ok(())
+pub(crate) fn write_numbers<W: Write>(page: &mut Page<W>, spn: u32, fmi: u8) {
+    page.number(u64::from(spn));
+    page.markup("/");
+    page.number(u64::from(fmi));
 }
 
 /// Writes the text of a code behind this, where it has one. Tells whether it has.
@@ -117,72 +109,64 @@ pub(crate) fn write_text<W: Write>(
     before: &'static str,
     spn: u32,
     fmi: u8,
-) -> Result<bool, PageFault> {
-    let Some(text) = view.texts.text_of(view.alloc, spn, fmi)? else {
-        return Ok(false);
+) -> bool {
+    let text = match view.texts.text_of(view.alloc, spn, fmi) {
+        Ok(Some(text)) => text,
+        Ok(None) => return false,
+        Err(_) => {
+            page.refuse_memory();
+            return false;
+        }
     };
-    page.markup(before)?;
-    page.short_text(text.as_str(), MOST)?;
-    Ok(true)
+    page.markup(before);
+    page.short_text(text.as_str(), MOST);
+    true
 }
 
 /// Writes how often a code was seen, where that is told.
-pub(crate) fn write_seen<W: Write>(page: &mut Page<W>, code: Dtc) -> Result<(), PageFault> {
+pub(crate) fn write_seen<W: Write>(page: &mut Page<W>, code: Dtc) {
     let count = code.count();
     if count == NO_COUNT {
-        return Ok(());
+        return;
     }
-    page.markup("seen ")?;
-    page.number(u64::from(count))?;
-    page.markup(if count == 1 { " time" } else { " times" })?;
-    Ok(())
+    page.markup("seen ");
+    page.number(u64::from(count));
+    page.markup(if count == 1 { " time" } else { " times" });
 }
 
 /// Writes a message in a line: its lamps, and its first codes with their texts.
-pub(crate) fn write_brief<W: Write>(
-    page: &mut Page<W>,
-    view: &View<'_>,
-    brief: &Brief,
-) -> Result<(), PageFault> {
-    write_lamps(page, brief.lamps())?;
-    page.markup("; ")?;
+pub(crate) fn write_brief<W: Write>(page: &mut Page<W>, view: &View<'_>, brief: &Brief) {
+    write_lamps(page, brief.lamps());
+    page.markup("; ");
     if brief.count == 0 {
-        page.markup("no code")?;
+        page.markup("no code");
     }
     let mut listed = 0u16;
     for code in &brief.codes {
         if let Some(code) = code {
-            write_listed(page, view, listed == 0, code)?;
+            write_listed(page, view, listed == 0, code);
             listed = listed.saturating_add(1);
         }
     }
-    write_more(page, brief.count.saturating_sub(listed))?;
+    write_more(page, brief.count.saturating_sub(listed));
     if brief.contested {
-        page.markup(" (in doubt)")?;
+        page.markup(" (in doubt)");
     }
-    Ok(())
 }
 
-fn write_listed<W: Write>(
-    page: &mut Page<W>,
-    view: &View<'_>,
-    is_first: bool,
-    code: &BriefCode,
-) -> Result<(), PageFault> {
+fn write_listed<W: Write>(page: &mut Page<W>, view: &View<'_>, is_first: bool, code: &BriefCode) {
     if !is_first {
-        page.markup(", ")?;
+        page.markup(", ");
     }
-    write_numbers(page, code.spn, code.fmi)?;
-    write_text(page, view, " ", code.spn, code.fmi)?;
-    Ok(())
+    write_numbers(page, code.spn, code.fmi);
+    write_text(page, view, " ", code.spn, code.fmi);
 }
 
-fn write_more<W: Write>(page: &mut Page<W>, more: u16) -> Result<(), PageFault> {
+fn write_more<W: Write>(page: &mut Page<W>, more: u16) {
     if more == 0 {
-        return Ok(());
+        return;
     }
-    page.markup(" and ")?;
-    page.number(u64::from(more))?;
-    page.markup(" more")?;
-    Ok(())
+    page.markup(" and ");
+    page.number(u64::from(more));
+    page.markup(" more");
 }

@@ -1,4 +1,4 @@
-use bus_watch::Run;
+use bus_watch::EntryRun;
 use std::alloc::{AllocError, Global};
 use trouble_code::Dtc;
 
@@ -16,7 +16,7 @@ pub(crate) struct Past {
 
 impl Past {
     /// Of these runs of equal messages, oldest first.
-    pub(crate) fn of(alloc: Global, runs: &[Run]) -> Result<Past, AllocError> {
+    pub(crate) fn of(alloc: Global, runs: &[EntryRun]) -> Result<Past, AllocError> {
         let mut past = Past {
             codes: Vec::new(alloc),
             is_cut: runs.len() > RUNS,
@@ -30,7 +30,7 @@ impl Past {
         Ok(past)
     }
 
-    fn add_all(&mut self, newest: &Run, run: &Run) -> Result<(), AllocError> {
+    fn add_all(&mut self, newest: &EntryRun, run: &EntryRun) -> Result<(), AllocError> {
         for code in run.shown.codes.as_slice() {
             if !has(newest.shown.codes.as_slice(), *code) {
                 self.add(*code)?;

@@ -1,10 +1,10 @@
-use crate::fault::PageFault;
 use crate::message_words::{LAMPS, is_on};
 use crate::view::{View, places_of, sender_at, who_of};
-use bus_watch::{Run, Watch};
+use bus_watch::{EntryRun, Watch};
 use dm_messages::Kind;
 use name_field::Name;
-use picture::{Holding, Sender, Severity, Unit};
+use picture::{DrawnUnit, Holding, Sender, Severity};
+use std::alloc::AllocError;
 
 /// How many units of each order are listed.
 const MOST: usize = 1_000;
@@ -29,7 +29,7 @@ pub(crate) enum Presence {
 #[derive(Clone, Copy, Debug)]
 pub(crate) struct Listed {
     pub(crate) order: usize,
-    pub(crate) unit: Unit,
+    pub(crate) unit: DrawnUnit,
     pub(crate) presence: Presence,
 }
 
@@ -50,7 +50,7 @@ pub(crate) struct Standing {
 
 impl Standing {
     /// How the units of all buses stand.
-    pub(crate) fn of(view: &View<'_>) -> Result<Standing, PageFault> {
+    pub(crate) fn of(view: &View<'_>) -> Result<Standing, AllocError> {
         let mut standing = Standing {
             all: 0,
             on: 0,
@@ -65,13 +65,13 @@ impl Standing {
         Ok(standing)
     }
 
-    fn add_bus(&mut self, view: &View<'_>, number: usize) -> Result<(), PageFault> {
+    fn add_bus(&mut self, view: &View<'_>, number: usize) -> Result<(), AllocError> {
         let Some(bus) = view.buses.get(number) else {
             return Ok(());
         };
         for place in 0..places_of(&bus.watch) {
             if let Some(sender) = sender_at(&bus.watch, place) {
-                let unit = Unit {
+                let unit = DrawnUnit {
                     bus: number.min(usize::from(u16::MAX)) as u16,
                     sender,
                 };
@@ -81,7 +81,7 @@ impl Standing {
         Ok(())
     }
 
-    fn add(&mut self, view: &View<'_>, watch: &Watch, unit: &Unit) -> Result<(), PageFault> {
+    fn add(&mut self, view: &View<'_>, watch: &Watch, unit: &DrawnUnit) -> Result<(), AllocError> {
         let presence = presence_of(view, watch, unit);
         let newest = watch.runs(who_of(&unit.sender), Kind::Dm1).last();
         let severity = severity_of(newest);
@@ -93,7 +93,7 @@ impl Standing {
         self.list(order_of(presence, severity), unit, presence)
     }
 
-    fn count_faults(&mut self, newest: Option<&Run>, severity: Severity) {
+    fn count_faults(&mut self, newest: Option<&EntryRun>, severity: Severity) {
         if severity == Severity::Fine {
             return;
         }
@@ -109,7 +109,12 @@ impl Standing {
         }
     }
 
-    fn list(&mut self, order: usize, unit: &Unit, presence: Presence) -> Result<(), PageFault> {
+    fn list(
+        &mut self,
+        order: usize,
+        unit: &DrawnUnit,
+        presence: Presence,
+    ) -> Result<(), AllocError> {
         let count = self.counts[order.min(ORDERS - 1)];
         if count >= MOST {
             return Ok(());
@@ -127,7 +132,7 @@ impl Standing {
 }
 
 /// Whether a unit is on the bus.
-pub(crate) fn presence_of(view: &View<'_>, watch: &Watch, unit: &Unit) -> Presence {
+pub(crate) fn presence_of(view: &View<'_>, watch: &Watch, unit: &DrawnUnit) -> Presence {
     let Sender::Named(name) = unit.sender else {
         return match view.picture.lane_of(unit) {
             Some(lane) if lane.is_past() => Presence::Past,
@@ -150,7 +155,7 @@ pub(crate) fn presence_of(view: &View<'_>, watch: &Watch, unit: &Unit) -> Presen
 }
 
 /// How bad it is what the newest of some equal messages tells.
-pub(crate) fn severity_of(newest: Option<&Run>) -> Severity {
+pub(crate) fn severity_of(newest: Option<&EntryRun>) -> Severity {
     match newest {
         Some(run) => Severity::of(run.shown.lamps, run.shown.codes.as_slice().len()),
         None => Severity::Fine,

@@ -1,8 +1,7 @@
-/// What stands between the title and the style.
-pub(crate) const BEFORE_STYLE: &str = "</title>\n<style>\n";
-
-/// How the page looks: light or dark as its reader's machine has it, on A4, and 360 pixels wide. Signs of markup stand nowhere in it.
-pub(crate) const STYLE: &str = "\
+/// How the page looks: light or dark as its reader's machine has it, on A4, and 360 pixels wide. Signs of markup stand nowhere in
+/// it.
+pub(crate) fn style() -> &'static str {
+    "\
 :root{color-scheme:light dark;--ground:#fff;--text:#1c2430;--quiet:#556070;--line:#d5dbe3;--even:#f6f8fa;--held:#cfd8e6;--onheld:#26344a;\
 --fine:#dff2e2;--onfine:#14552a;--codes:#fff3c4;--oncodes:#4a3a00;--protect:#2f66b5;--onprotect:#fff;--mil:#ff8a3c;--onmil:#2b1300;\
 --amber:#ffb300;--onamber:#2e2100;--red:#c4241a;--onred:#fff;--changing:#b9bec8;--onchanging:#1c2430;--gap:#d9d4e6;--ongap:#33295a;--hatch:#a79dc2;--moved:#dfe3ff;--onmoved:#2b2f86;--shade:#0007;--doubt:#8c1d0d}\n\
@@ -31,4 +30,5 @@ ul.key{list-style:none;margin:8px 0;padding:0;font-size:.8em;color:var(--quiet)}
 .gapped{background:repeating-linear-gradient(45deg,var(--gap) 0 3px,var(--hatch) 3px 6px)}.doubted{background:repeating-linear-gradient(45deg,transparent 0 3px,var(--shade) 3px 5px)}\n\
 @media (max-width:640px){text.odd{display:none}main{padding:10px}table,thead,tbody,tr,td{display:block}thead{position:absolute;left:-9999px}tr{border-bottom:2px solid var(--line);padding:6px 0}\
 td{border:0;padding:2px 0}td:empty{display:none}td.num{text-align:left}td.num[data-l^=DM]{display:inline-block;margin-right:14px}td[data-l]::before{content:attr(data-l) ': ';color:var(--quiet);font-size:.85em}}\n\
-@media (min-width:641px){td[data-l=Faults]{width:44%}}@page{size:A4;margin:12mm}@media print{:root{color-scheme:light}body{font-size:11pt}*{print-color-adjust:exact;-webkit-print-color-adjust:exact}details{display:none}tr,h3{break-inside:avoid}h2,h3{break-after:avoid}}\n";
+@media (min-width:641px){td[data-l=Faults]{width:44%}}@page{size:A4;margin:12mm}@media print{:root{color-scheme:light}body{font-size:11pt}*{print-color-adjust:exact;-webkit-print-color-adjust:exact}details{display:none}tr,h3{break-inside:avoid}h2,h3{break-after:avoid}}\n"
+}

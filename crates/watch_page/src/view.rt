@@ -1,8 +1,8 @@
 use bus_watch::{BusWatch, Watch, Who};
-use clock_words::Clock;
+use clock_words::ClockForm;
 use code_texts::Texts;
 use name_field::Name;
-use picture::{Picture, Sender, Unit};
+use picture::{DrawnUnit, Picture, Sender};
 use std::alloc::Global;
 use unit_words::UnitTexts;
 
@@ -18,14 +18,15 @@ pub struct View<'a> {
     pub units: &'a UnitTexts,
     pub texts: &'a Texts,
     /// How times are told.
-    pub clock: Clock,
-    /// The line before which the watches were last begun anew, since as much was kept as may be: they know of what came from there on.
+    pub clock: ClockForm,
+    /// The line before which the watches were last begun anew, since as much was kept as may be: they know of what came from there
+    /// on.
     pub anew_at: Option<u64>,
 }
 
 impl<'a> View<'a> {
     /// The watch of a unit's bus, and whom it has there.
-    pub(crate) fn watched(&self, unit: &Unit) -> Option<(&'a Watch, Who)> {
+    pub(crate) fn watched(&self, unit: &DrawnUnit) -> Option<(&'a Watch, Who)> {
         let bus = self.buses.get(usize::from(unit.bus))?;
         Some((&bus.watch, who_of(&unit.sender)))
     }
@@ -53,8 +54,8 @@ pub(crate) fn places_of(watch: &Watch) -> usize {
     watch.names().saturating_add(watch.units())
 }
 
-/// The sender at this place: first all NAMEs, in the order of their first claims, then the addresses that nobody has claimed. A place
-/// behind the NAMEs where the entry was one of a NAME stays empty.
+/// The sender at this place: first all NAMEs, in the order of their first claims, then the addresses that nobody has claimed. A
+/// place behind the NAMEs where the entry was one of a NAME stays empty.
 pub(crate) fn sender_at(watch: &Watch, place: usize) -> Option<Sender> {
     let names = watch.names();
     if place < names {

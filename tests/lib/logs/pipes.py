@@ -56,8 +56,8 @@ def signalled_wrapper():
     found = []
     with tempfile.TemporaryDirectory() as room:
         top = pathlib.Path(room)
-        (top / "crates/bench/out").mkdir(parents=True)
-        (top / "crates/bench/out/bench").symlink_to(PROGRAM)
+        (top / "crates/j1939bench/out").mkdir(parents=True)
+        (top / "crates/j1939bench/out/j1939bench").symlink_to(PROGRAM)
         for name in ("j1939bench", "run_program"):
             shutil.copy(TOP / name, top)
         for number in (signal.SIGTERM, signal.SIGHUP, signal.SIGINT):

@@ -6,7 +6,7 @@ ghost use Rattle.bus_ledger.specs.Changes.{injected};
 use crate::bus::Bus;
 use crate::error::BusError;
 use crate::offers::{best_offer, best_seat, is_any_waiting};
-use crate::tap;
+use crate::receive_window;
 use crate::traffic::{Carried, QueuedFrame};
 use crate::wire_frame::WireFrame;
 use can_frame::Frame;
@@ -29,7 +29,7 @@ impl Bus {
         self.wire.reserve(1)?;
         let place = &mut self.seats[seat as usize];
         let sent = place.send();
-        tap::take_in(self.taps.as_mut_slice(), seat, sent.frame);
+        receive_window::receive(self.receive_windows.as_mut_slice(), seat, sent.frame);
         self.wire.push_reserved(WireFrame::sent(seat, &sent));
         Ok(Carried::Frame {
             seat,
@@ -49,7 +49,7 @@ impl Bus {
     {
         self.wire.reserve(1)?;
         self.wire.push_reserved(WireFrame::stray(frame));
-        tap::push(self.taps.as_mut_slice(), frame);
+        receive_window::push(self.receive_windows.as_mut_slice(), frame);
         Ok(())
     }
 
@@ -68,7 +68,8 @@ impl Bus {
 
     /// The seat that carries next. No frame is made for it.
     fn next_seat(&self) -> Option<u32>
-        ensures { MatchOption result ((k : ℕ) → offer self.now.traffic k ≡ None) (λ k. (q : QueuedFrame) × IsCarriedNext self.now.traffic k q) }
+        ensures { MatchOption result ((k : ℕ) → offer self.now.traffic k ≡ None)
+            (λ k. (q : QueuedFrame) × IsCarriedNext self.now.traffic k q) }
     {
         let wire_len = self.wire.len() as u32;
         best_seat(self.seats.as_slice(), self.live.as_slice(), wire_len)

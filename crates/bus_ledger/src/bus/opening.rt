@@ -6,8 +6,8 @@ ghost use Rattle.bus_ledger.specs.Inside.{AreNumbers, AreSeatsOf, AreTapsOf};
 
 use crate::bus::{Bus, MOST_STATIONS};
 use crate::error::BusError;
+use crate::receive_window::ReceiveWindow;
 use crate::seat::Seat;
-use crate::tap::Tap;
 use crate::traffic::StationSeat;
 use name_field::Name;
 use std::alloc::Global;
@@ -47,7 +47,7 @@ impl Bus {
             wire: Vec::new(alloc),
             seats: seats_of(alloc, stations)?,
             live: numbers_below(alloc, stations.len() as u32)?,
-            taps: taps_of(alloc, stations)?,
+            receive_windows: receive_windows_of(alloc, stations)?,
         })
     }
 }
@@ -77,14 +77,17 @@ fn numbers_below(alloc: Global, end: u32) -> Result<Vec<u32>, BusError>
 }
 
 /// The windows of these stations, into which no frame has come yet.
-fn taps_of(alloc: Global, stations: &[StationSeat]) -> Result<Vec<Tap>, BusError>
+fn receive_windows_of(
+    alloc: Global,
+    stations: &[StationSeat],
+) -> Result<Vec<ReceiveWindow>, BusError>
     requires { All (λ s. HasWindow s.window) stations.now }
     ensures ok { IfOk result (λ v. AreTapsOf v.items stations.now (length stations.now)) }
     ensures err { IfErr result (λ e. e ≡ BusError.OutOfMemory) }
 {
-    let mut taps = Vec::with_capacity(alloc, stations.len())?;
+    let mut receive_windows = Vec::with_capacity(alloc, stations.len())?;
     for station in stations {
-        taps.push(Tap::new(alloc, station.window)?)?;
+        receive_windows.push(ReceiveWindow::new(alloc, station.window)?)?;
     }
-    Ok(taps)
+    Ok(receive_windows)
 }

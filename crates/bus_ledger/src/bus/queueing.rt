@@ -34,7 +34,8 @@ impl Bus {
         requires live { IsLive self.old.traffic seat }
         requires few { (seat_at self.old.traffic seat).queued + 1 < 2 ^ 32 }
         ensures ok { OnOk result (self.new.traffic ≡ queued seat (queued_frame frame tag) self.old.traffic) }
-        ensures err { IfErr result (λ e. (e ≡ BusError.OutOfMemory) × (spare_at self.old seat ≡ 0) × (self.new.traffic ≡ self.old.traffic)) }
+        ensures err { IfErr result
+            (λ e. (e ≡ BusError.OutOfMemory) × (spare_at self.old seat ≡ 0) × (self.new.traffic ≡ self.old.traffic)) }
         ensures spare { spare_at self.old seat ≤ spare_at self.new seat + 1 }
         ensures spares { (k : ℕ) → k ≢ seat → spare_at self.old k ≤ spare_at self.new k }
     {

@@ -51,7 +51,7 @@ impl Bus {
         ensures others { All (λ c. c.seat ≢ Some 0) (not_yet_read self.now.traffic 0) }
         ensures sound { IsSound self.now.traffic }
     {
-        self.taps[0].peek()
+        self.receive_windows[0].peek()
     }
 
     /// A station's next reading, which stays: a gap where more frames are unread than its window has room for, else the
@@ -63,16 +63,17 @@ impl Bus {
         ensures others { All (λ c. c.seat ≢ Some station) (not_yet_read self.now.traffic station) }
         ensures sound { IsSound self.now.traffic }
     {
-        self.taps[station as usize].peek()
+        self.receive_windows[station as usize].peek()
     }
 
     /// Whether a station has nothing to read.
     #[inline]
     pub fn is_tap_empty_at(&self, station: u32) -> bool
         requires { IsStation self.now.traffic station }
-        ensures { MatchBool result (next_reading self.now.traffic station ≡ Reading.Empty) (next_reading self.now.traffic station ≢ Reading.Empty) }
+        ensures { MatchBool result (next_reading self.now.traffic station ≡ Reading.Empty)
+            (next_reading self.now.traffic station ≢ Reading.Empty) }
     {
-        self.taps[station as usize].is_empty()
+        self.receive_windows[station as usize].is_empty()
     }
 
     /// Passes over a station's next reading, which `tap_peek_at` gives, and over the frames of a gap. The readings of the
@@ -82,8 +83,8 @@ impl Bus {
         ensures traffic { self.new.traffic ≡ reading_taken station (next_reading self.old.traffic station) self.old.traffic }
         ensures spares { KeepsSpares self.old self.new }
     {
-        let tap = &mut self.taps[station as usize];
-        let passed = tap.pass();
+        let receive_window = &mut self.receive_windows[station as usize];
+        let passed = receive_window.pass();
         let place = &mut self.seats[station as usize];
         place.hear(passed);
     }

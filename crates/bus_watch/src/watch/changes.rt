@@ -16,8 +16,8 @@ use parameter_group::ParameterGroup;
 use std::alloc::{AllocError, Global};
 
 impl Watch {
-    /// Has the listener take a reading of a line with this time, or with none, and tells what it changed. Where memory is refused, nothing
-    /// changes.
+    /// Has the listener take a reading of a line with this time, or with none, and tells what it changed. Where memory is refused,
+    /// nothing changes.
     pub(super) fn take(
         &mut self,
         alloc: Global,
@@ -48,7 +48,8 @@ impl Watch {
         time: Option<Time>,
     ) -> Result<Changes, AllocError>
         requires { IsLawfulGroup group.now }
-        ensures takes { OnOk result ((f : FrameValue) → group_of f ≡ said group.now → Takes self.old self.new (FrameRead f) time self.old.followed) }
+        ensures takes { OnOk result
+            ((f : FrameValue) → group_of f ≡ said group.now → Takes self.old self.new (FrameRead f) time self.old.followed) }
         ensures tells { IfOk result (λ c. (f : FrameValue) → group_of f ≡ said group.now → Tells self.old self.new (FrameRead f) c) }
         ensures err { OnErr result (self.new ≡ self.old) }
     {
@@ -68,8 +69,10 @@ impl Watch {
 
     /// Tells of what the listener heard, of a diagnostic message in one frame or not, and takes note of it.
     fn tell(&mut self, heard: &Overheard, single: bool) -> Changes
-        ensures noted { self.new ≡ record self.old { told = told_after (tellings.is_told self.old.lists.selection self.old.lists.time heard.now) heard.now self.old.told } }
-        ensures told { result ≡ told_of self.old.lists.selection.unclaimed (news_by self.old.told self.old.lists.selection self.old.lists.time self.old.lists.began heard.now) heard.now }
+        ensures noted { self.new ≡ record self.old
+            { told = told_after (tellings.is_told self.old.lists.selection self.old.lists.time heard.now) heard.now self.old.told } }
+        ensures told { result ≡ told_of self.old.lists.selection.unclaimed
+            (news_by self.old.told self.old.lists.selection self.old.lists.time self.old.lists.began heard.now) heard.now }
     {
         if let Overheard::Nothing = *heard {
             return nothing();

@@ -3,7 +3,7 @@ ghost use Rattle.bus_watch.specs.Over.{HasOwnersAlone, HoldsAddress, beginning_o
 ghost use Rattle.bus_watch.specs.Told.{StandsForAll};
 ghost use Rattle.can_frame.specs.declared.address.TheConstants.{GREATEST_ADDRESS};
 
-use crate::watch::{Settings, Watch};
+use crate::watch::{Watch, WatchSettings};
 use can_frame::GREATEST_ADDRESS;
 use name_field::Name;
 use std::alloc::{AllocError, Global};
@@ -28,8 +28,8 @@ pub(crate) struct Before {
 }
 
 impl Watch {
-    /// Whether as much is kept as may be, or messages were announced between 4,096 pairs of addresses. Else there is room for a row and a unit
-    /// more.
+    /// Whether as much is kept as may be, or messages were announced between 4,096 pairs of addresses. Else there is room for a row
+    /// and a unit more.
     pub fn is_full(&self, limits: Limits) -> bool
         ensures rows { result ≡ false → length self.entry.now.listener.rows < limits.most }
         ensures units { result ≡ false → length self.entry.now.lists.units.order < limits.most }
@@ -52,8 +52,8 @@ impl Watch {
 
     /// Starts over: all that was heard is let go, but for who holds which address.
     ///
-    /// It stands then as a watch that began so, of which these owners were assumed, and that has heard nothing else. So what stands in it
-    /// is still exactly what was heard, since then. What is half joined is let go too. Counts go on.
+    /// It stands then as a watch that began so, of which these owners were assumed, and that has heard nothing else. So what stands
+    /// in it is still exactly what was heard, since then. What is half joined is let go too. Counts go on.
     ///
     /// # Errors
     /// Memory was refused. The watch is as it was.
@@ -85,7 +85,7 @@ impl Watch {
     fn anew(&self, alloc: Global) -> Result<Watch, AllocError>
         ensures { IfOk result (λ w. StandsForAll (beginning_of self.now) [] w) }
     {
-        let settings = Settings {
+        let settings = WatchSettings {
             selection: self.lists.selection(),
             ..self.settings
         };

@@ -28,14 +28,15 @@ impl Watch {
     /// missed frames where the line tells of them, and one where it is bad and bad lines count; else the empty reading.
     /// An entry that it lists by it goes to the runs, where it is shown.
     ///
-    /// What is told is what that reading changed of what the listener shows (`bus_model`): an entry where it begins a run, an acknowledgment
-    /// where it is another one than the last, and of an address without owner once.
+    /// What is told is what that reading changed of what the listener shows (`bus_model`): an entry where it begins a run, an
+    /// acknowledgment where it is another one than the last, and of an address without owner once.
     ///
     /// # Errors
     /// Memory was refused. The watch is as it was before the line, but that `counts` may have it.
     pub fn hear(&mut self, alloc: Global, line: &Line<'_>) -> Result<Changes, AllocError>
         ensures told { IfOk result (λ c. IsToldAs (told.Read line.now) self.old self.new c) }
-        ensures stands { OnOk result ((b : Beginning) (ts : List Told) → StandsForAll b ts self.old → StandsForAll b (told.Read line.now ∷ ts) self.new) }
+        ensures stands { OnOk result
+            ((b : Beginning) (ts : List Told) → StandsForAll b ts self.old → StandsForAll b (told.Read line.now ∷ ts) self.new) }
         ensures err { OnErr result (self.new ≡ self.old) }
     {
         self.counts.lines = self.counts.lines.saturating_add(1);
@@ -49,7 +50,8 @@ impl Watch {
     pub fn assume(&mut self, alloc: Global, name: Name, address: u8) -> Result<Changes, AllocError>
         requires { address ≤ GREATEST_ADDRESS }
         ensures told { IfOk result (λ c. IsToldAs (told.Assumed name address) self.old self.new c) }
-        ensures stands { OnOk result ((b : Beginning) (ts : List Told) → StandsForAll b ts self.old → StandsForAll b (told.Assumed name address ∷ ts) self.new) }
+        ensures stands { OnOk result ((b : Beginning) (ts : List Told) → StandsForAll b ts self.old
+            → StandsForAll b (told.Assumed name address ∷ ts) self.new) }
         ensures err { OnErr result (self.new ≡ self.old) }
     {
         let claim = claim_frame(name, Some(address));
@@ -64,7 +66,8 @@ impl Watch {
         address: u8,
     ) -> Result<(), AllocError>
         requires { address ≤ GREATEST_ADDRESS }
-        ensures { OnOk result ((b : Beginning) (ts : List Told) → StandsForAll b ts self.old → StandsForAll b (told.Assumed name address ∷ ts) self.new) }
+        ensures { OnOk result ((b : Beginning) (ts : List Told) → StandsForAll b ts self.old
+            → StandsForAll b (told.Assumed name address ∷ ts) self.new) }
     {
         match self.assume(alloc, name, address) {
             Ok(_) => Ok(()),
@@ -182,7 +185,8 @@ impl Watch {
 
     /// Takes note of the times of what a frame says.
     fn follow_group(&mut self, time: Option<Time>, group: &ParameterGroup<'_>)
-        ensures { self.new ≡ record self.old { followed = followed.followed_with self.old.followed.silence time (group_said group.now) self.old.followed } }
+        ensures { self.new ≡ record self.old
+            { followed = followed.followed_with self.old.followed.silence time (group_said group.now) self.old.followed } }
     {
         self.note_pair(group);
         if let Some(most) = self.settings.silence {
@@ -206,7 +210,8 @@ impl Watch {
 
     /// Takes note of the times of messages.
     fn follow_packets(&mut self, time: Option<Time>, most: u64, group: &ParameterGroup<'_>)
-        ensures { self.new ≡ record self.old { followed = followed.followed_by_group most time (group_said group.now) self.old.followed } }
+        ensures { self.new ≡ record self.old
+            { followed = followed.followed_by_group most time (group_said group.now) self.old.followed } }
     {
         match *group {
             ParameterGroup::ConnectionManagement {
@@ -223,14 +228,18 @@ impl Watch {
 
     /// Takes note of a packet.
     fn hear_packet(&mut self, time: Option<Time>, most: u64, source: u8, dest: u8)
-        ensures { (bytes : List ℕ) → self.new ≡ record self.old { followed = followed.followed_by_group most time (DataTransfer source dest bytes) self.old.followed } }
+        ensures { (bytes : List ℕ)
+            → self.new ≡ record self.old
+            { followed = followed.followed_by_group most time (DataTransfer source dest bytes) self.old.followed } }
     {
         self.packets.hear(source, dest, time, most);
     }
 
     /// Takes note of a message that is announced, to all or to one address.
     fn hear_control(&mut self, time: Option<Time>, source: u8, dest: u8, control: Control)
-        ensures { (most : ℕ) → self.new ≡ record self.old { followed = followed.followed_by_group most time (ConnectionManagement source dest control) self.old.followed } }
+        ensures { (most : ℕ)
+            → self.new ≡ record self.old
+            { followed = followed.followed_by_group most time (ConnectionManagement source dest control) self.old.followed } }
     {
         match control {
             Control::Bam { .. } if dest == GLOBAL_ADDRESS => {
@@ -355,7 +364,8 @@ impl Watch {
 
     /// The name that a line gives the watched bus, where that has none yet.
     fn bus_named(&self, alloc: Global, bus: Option<&str>) -> Result<Option<String>, AllocError>
-        ensures { IfOk result (λ o. followed.renamed (option_map string_bytes o) self.entry.now.followed.bus ≡ followed.bus_after self.entry.now.followed.bus bus.entry) }
+        ensures { IfOk result (λ o. followed.renamed (option_map string_bytes o) self.entry.now.followed.bus ≡ followed.bus_after
+            self.entry.now.followed.bus bus.entry) }
     {
         match (&self.bus, bus) {
             (None, Some(bus)) => Ok(Some(String::from_str(alloc, bus)?)),

@@ -7,7 +7,7 @@ ghost use Rattle.reassembly.specs.Partials.{answer_to};
 ghost use Rattle.reassembly.specs.Tables.{at};
 ghost use Rattle.listener.specs.SentEntries.{HasTaken};
 
-use crate::ended::{Ended, ended_with, shown_by};
+use crate::ended::{ReadSending, ended_with, shown_by};
 use crate::entry::SentEntry;
 use crate::listener::Listener;
 use crate::lists::SentLists;
@@ -29,7 +29,7 @@ impl Listener {
         alloc: Global,
         source: u8,
         to: u8,
-        ended: Option<Ended>,
+        ended: Option<ReadSending>,
         lists: &mut L,
     ) -> Result<Overheard, AllocError>
         ensures ok { OnOk result (self.new ≡ after_ended self.old ended) }
@@ -39,7 +39,7 @@ impl Listener {
         ensures err_lists { OnErr result (lists.new ≡ lists.old) }
     {
         let Some(
-            Ended {
+            ReadSending {
                 sending,
                 shown,
                 why,
@@ -89,12 +89,13 @@ impl Listener {
     ) -> Result<Overheard, AllocError>
         ensures ok { OnOk result (self.new ≡ group_taken self.old (group.Diagnostic kind source bytes.now)) }
         ensures change { IfOk result (λ c. c ≡ group_told self.old (group.Diagnostic kind source bytes.now)) }
-        ensures lists { OnOk result (HasTaken L.Takes lists.old (group_listed self.old (group.Diagnostic kind source bytes.now)) lists.new) }
+        ensures lists { OnOk result
+            (HasTaken L.Takes lists.old (group_listed self.old (group.Diagnostic kind source bytes.now)) lists.new) }
         ensures err { OnErr result (self.new ≡ self.old) }
         ensures err_lists { OnErr result (lists.new ≡ lists.old) }
     {
         let (shown, why) = shown_by(alloc, bytes)?;
-        let ended = Ended {
+        let ended = ReadSending {
             sending: Sending::new(self.who(source), kind),
             shown,
             why,
@@ -102,7 +103,8 @@ impl Listener {
         self.keep(alloc, source, GLOBAL_ADDRESS, Some(ended), lists)
     }
 
-    /// A message is announced from a source to a destination: what is half sent between them is dropped, and a diagnostic one starts.
+    /// A message is announced from a source to a destination: what is half sent between them is dropped, and a diagnostic one
+    /// starts.
     pub(super) fn announce(
         &mut self,
         alloc: Global,
@@ -138,7 +140,8 @@ impl Listener {
 
     /// An abort by either of two addresses: the sessions between them end, whatever group it names. A message to all does not.
     pub(super) fn hear_abort(&mut self, source: u8, dest: u8)
-        ensures { self.new ≡ record self.old { pairs = without_session_between dest source (without_session_between source dest self.old.pairs) } }
+        ensures { self.new ≡ record self.old
+            { pairs = without_session_between dest source (without_session_between source dest self.old.pairs) } }
     {
         if dest != GLOBAL_ADDRESS {
             self.pairs.forget(source, dest);
@@ -160,7 +163,8 @@ impl Listener {
     ) -> Result<Overheard, AllocError>
         ensures ok { OnOk result (self.new ≡ after_packet_between self.old source dest bytes.now) }
         ensures change { IfOk result (λ c. c ≡ sent_change source (whole_with self.old source dest bytes.now)) }
-        ensures lists { OnOk result (HasTaken L.Takes lists.old (entry_if_sent source (whole_with self.old source dest bytes.now)) lists.new) }
+        ensures lists { OnOk result
+            (HasTaken L.Takes lists.old (entry_if_sent source (whole_with self.old source dest bytes.now)) lists.new) }
         ensures err { OnErr result (self.new ≡ self.old) }
         ensures err_lists { OnErr result (lists.new ≡ lists.old) }
     {
@@ -188,7 +192,8 @@ impl Listener {
         requires whole { answer_to bytes.now (pair_at self.old.pairs source dest) ≡ Some Took.Whole }
         ensures ok { OnOk result (self.new ≡ after_packet_between self.old source dest bytes.now) }
         ensures change { IfOk result (λ c. c ≡ sent_change source (whole_with self.old source dest bytes.now)) }
-        ensures lists { OnOk result (HasTaken L.Takes lists.old (entry_if_sent source (whole_with self.old source dest bytes.now)) lists.new) }
+        ensures lists { OnOk result
+            (HasTaken L.Takes lists.old (entry_if_sent source (whole_with self.old source dest bytes.now)) lists.new) }
         ensures err { OnErr result (self.new ≡ self.old) }
         ensures err_lists { OnErr result (lists.new ≡ lists.old) }
     {

@@ -25,8 +25,8 @@ impl Listener {
 
     /// Takes one reading, and says what changed.
     ///
-    /// A frame tells the listener what it says; a gap makes it forget owners and all that is half sent; empty is nothing. A diagnostic
-    /// message that ends, and can be read, is put into the lists; they are asked before anything is changed.
+    /// A frame tells the listener what it says; a gap makes it forget owners and all that is half sent; empty is nothing. A
+    /// diagnostic message that ends, and can be read, is put into the lists; they are asked before anything is changed.
     ///
     /// # Errors
     /// Memory was refused. The listener and the lists are as they were.
@@ -42,7 +42,8 @@ impl Listener {
         ensures heard { IfOk result (λ c. (h : List AnyReading) → HasOverheard self.old h → c ≡ change_overheard reading h) }
         ensures stands { OnOk result ((h : List AnyReading) → HasOverheard self.old h → HasOverheard self.new (reading ∷ h)) }
         ensures lists { OnOk result (HasTaken L.Takes lists.old (reading_listed self.old reading) lists.new) }
-        ensures listed { OnOk result ((h : List AnyReading) → HasOverheard self.old h → HasTaken L.Takes lists.old (entry_sent reading h) lists.new) }
+        ensures listed { OnOk result
+            ((h : List AnyReading) → HasOverheard self.old h → HasTaken L.Takes lists.old (entry_sent reading h) lists.new) }
         ensures entry { IfOk result (λ c. SaysSent c (reading_listed self.old reading)) }
         ensures err { OnErr result (self.new ≡ self.old) }
         ensures err_lists { OnErr result (lists.new ≡ lists.old) }

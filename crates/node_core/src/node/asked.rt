@@ -11,7 +11,7 @@ use crate::heard::{Answer, Begun, Heard, Withdraw};
 use crate::node::Node;
 use crate::out::Outs;
 use crate::parts::{first_part, parts_to_all};
-use crate::requested::{Wanted, acknowledgment, counts_from, put};
+use crate::requested::{Wanted, acknowledgment, may_answer, put};
 use crate::session::OpenSession;
 use can_frame::{GLOBAL_ADDRESS, Pgn};
 use dm_messages::{Kind, payload};
@@ -23,7 +23,7 @@ use unit_trait::{Clear, Question, Unit};
 
 impl Node {
     ghost use Rattle.node_core.specs.Deed.{after_deed};
-    ghost use Rattle.node_core.specs.Requested.{is_concerned};
+    ghost use Rattle.node_core.specs.Requested.{is_addressed};
     ghost use Rattle.node_core.specs.Reaction.{on_request, put_by_request, asked_of_all, asked_at_address, asked_for_message};
     ghost use Rattle.node_core.specs.declared.requested.Wanted.TheVariants as wanted;
 
@@ -35,17 +35,21 @@ impl Node {
         unit: &mut dyn Unit,
     ) -> Result<Heard, NodeError>
         ensures name { name_of unit.new ≡ name_of unit.old }
-        ensures heard { IfOk result (λ h. h ≡ heard_of h.answer (on_request self.old (memory_of unit.old) h.answer request.pgn request.dest request.source)) }
-        ensures node { IfOk result (λ h. self.new ≡ after_deed self.old (on_request self.old (memory_of unit.old) h.answer request.pgn request.dest request.source)) }
-        ensures memory { IfOk result (λ h. memory_of unit.new ≡ memory_answered (put_by_request self.old request.pgn request.dest request.source) h.answer (memory_of unit.old)) }
+        ensures heard { IfOk result
+            (λ h. h ≡ heard_of h.answer (on_request self.old (memory_of unit.old) h.answer request.pgn request.dest request.source)) }
+        ensures node { IfOk result (λ h. self.new ≡ after_deed self.old
+            (on_request self.old (memory_of unit.old) h.answer request.pgn request.dest request.source)) }
+        ensures memory { IfOk result (λ h. memory_of unit.new ≡ memory_answered
+            (put_by_request self.old request.pgn request.dest request.source) h.answer (memory_of unit.old)) }
         ensures few { IfOk result (λ h. length h.put ≤ 256) }
         ensures refused { IfErr result (λ e. e ≡ NodeError.OutOfMemory) }
         ensures kept { OnErr result (self.new ≡ self.old) }
         ensures unasked { OnErr result (unit.new ≡ unit.old) }
         ensures answer { IfOk result (λ h. IsAnswerTo (put_by_request self.old request.pgn request.dest request.source) h.answer) }
-        ensures asked { IfOk result (λ h. (u : _) × (unit.new ≡ (unit.old.0, u)) × IsAsked (Answers unit.old) (put_by_request self.old request.pgn request.dest request.source) h.answer unit.old.1 u) }
+        ensures asked { IfOk result (λ h. (u : _) × (unit.new ≡ (unit.old.0, u))
+            × IsAsked (Answers unit.old) (put_by_request self.old request.pgn request.dest request.source) h.answer unit.old.1 u) }
     {
-        if !self.is_concerned(request.dest) {
+        if !self.is_addressed(request.dest) {
             return Ok(Heard::nothing());
         }
         if request.pgn == Pgn::ADDRESS_CLAIMED {
@@ -54,7 +58,7 @@ impl Node {
         let Some(address) = self.claimer.held() else {
             return Ok(Heard::nothing());
         };
-        if !counts_from(address, request.source) {
+        if !may_answer(address, request.source) {
             return Ok(Heard::nothing());
         }
         let wanted = Wanted::by(request.pgn);
@@ -66,8 +70,8 @@ impl Node {
     }
 
     /// Whether a frame to this destination goes to all, or to the address held.
-    pub(super) fn is_concerned(&self, destination: u8) -> bool
-        ensures { result ≡ is_concerned self.now.claimer.held destination }
+    pub(super) fn is_addressed(&self, destination: u8) -> bool
+        ensures { result ≡ is_addressed self.now.claimer.held destination }
     {
         destination == GLOBAL_ADDRESS || self.is_held(destination)
     }
@@ -88,7 +92,8 @@ impl Node {
         ensures refused { IfErr result (λ e. e ≡ NodeError.OutOfMemory) }
         ensures unasked { OnErr result (unit.new ≡ unit.old) }
         ensures answer { IfOk result (λ h. IsAnswerTo (put_by wanted) h.answer) }
-        ensures asked { IfOk result (λ h. (u : _) × (unit.new ≡ (unit.old.0, u)) × IsAsked (Answers unit.old) (put_by wanted) h.answer unit.old.1 u) }
+        ensures asked { IfOk result
+            (λ h. (u : _) × (unit.new ≡ (unit.old.0, u)) × IsAsked (Answers unit.old) (put_by wanted) h.answer unit.old.1 u) }
     {
         match wanted {
             Wanted::Message(kind) => self.message_to_all(alloc, kind, address, unit.memory()),
@@ -113,7 +118,8 @@ impl Node {
         address: u8,
         memory: &FaultMemory,
     ) -> Result<Heard, NodeError>
-        ensures heard { IfOk result (λ h. h ≡ heard_of Answer.NotAsked (asked_of_all self.now memory.now address (wanted.Message kind))) }
+        ensures heard { IfOk result
+            (λ h. h ≡ heard_of Answer.NotAsked (asked_of_all self.now memory.now address (wanted.Message kind))) }
         ensures same { self.now ≡ after_deed self.now (asked_of_all self.now memory.now address (wanted.Message kind)) }
         ensures few { IfOk result (λ h. length h.put ≤ 256) }
         ensures refused { IfErr result (λ e. e ≡ NodeError.OutOfMemory) }
@@ -141,15 +147,18 @@ impl Node {
     ) -> Result<Heard, NodeError>
         requires { request.source ≤ GREATEST_ADDRESS }
         ensures name { name_of unit.new ≡ name_of unit.old }
-        ensures heard { IfOk result (λ h. h ≡ heard_of h.answer (asked_at_address self.old (memory_of unit.old) h.answer request.pgn address request.source wanted)) }
-        ensures node { IfOk result (λ h. self.new ≡ after_deed self.old (asked_at_address self.old (memory_of unit.old) h.answer request.pgn address request.source wanted)) }
+        ensures heard { IfOk result (λ h. h ≡ heard_of h.answer
+            (asked_at_address self.old (memory_of unit.old) h.answer request.pgn address request.source wanted)) }
+        ensures node { IfOk result (λ h. self.new ≡ after_deed self.old
+            (asked_at_address self.old (memory_of unit.old) h.answer request.pgn address request.source wanted)) }
         ensures memory { IfOk result (λ h. memory_of unit.new ≡ memory_answered (put_by wanted) h.answer (memory_of unit.old)) }
         ensures few { IfOk result (λ h. length h.put ≤ 256) }
         ensures refused { IfErr result (λ e. e ≡ NodeError.OutOfMemory) }
         ensures kept { OnErr result (self.new ≡ self.old) }
         ensures unasked { OnErr result (unit.new ≡ unit.old) }
         ensures answer { IfOk result (λ h. IsAnswerTo (put_by wanted) h.answer) }
-        ensures asked { IfOk result (λ h. (u : _) × (unit.new ≡ (unit.old.0, u)) × IsAsked (Answers unit.old) (put_by wanted) h.answer unit.old.1 u) }
+        ensures asked { IfOk result
+            (λ h. (u : _) × (unit.new ≡ (unit.old.0, u)) × IsAsked (Answers unit.old) (put_by wanted) h.answer unit.old.1 u) }
     {
         match wanted {
             Wanted::Message(kind) => self.asked_for_message(
@@ -184,8 +193,10 @@ impl Node {
         memory: &FaultMemory,
     ) -> Result<Heard, NodeError>
         requires { request.source ≤ GREATEST_ADDRESS }
-        ensures heard { IfOk result (λ h. h ≡ heard_of Answer.NotAsked (asked_for_message self.old.session kind memory.now request.pgn address request.source)) }
-        ensures node { OnOk result (self.new ≡ after_deed self.old (asked_for_message self.old.session kind memory.now request.pgn address request.source)) }
+        ensures heard { IfOk result (λ h. h ≡ heard_of Answer.NotAsked
+            (asked_for_message self.old.session kind memory.now request.pgn address request.source)) }
+        ensures node { OnOk result
+            (self.new ≡ after_deed self.old (asked_for_message self.old.session kind memory.now request.pgn address request.source)) }
         ensures few { IfOk result (λ h. length h.put ≤ 256) }
         ensures refused { IfErr result (λ e. e ≡ NodeError.OutOfMemory) }
         ensures kept { OnErr result (self.new ≡ self.old) }
@@ -222,10 +233,12 @@ impl Node {
 /// Takes no memory, so nothing is refused once the unit was asked.
 fn asked_to_clear(which: Clear, request: Request, address: u8, unit: &mut dyn Unit) -> Heard
     ensures name { name_of unit.new ≡ name_of unit.old }
-    ensures heard { result ≡ heard_of result.answer (Replies (requested.acknowledgment (if is_agreed result.answer then POSITIVE else NEGATIVE) request.source request.pgn address)) }
+    ensures heard { result ≡ heard_of result.answer (Replies
+        (requested.acknowledgment (if is_agreed result.answer then POSITIVE else NEGATIVE) request.source request.pgn address)) }
     ensures memory { memory_of unit.new ≡ memory_answered (Some (Question.Clear which)) result.answer (memory_of unit.old) }
     ensures answer { IsAnswerTo (Some (Question.Clear which)) result.answer }
-    ensures asked { (u : _) × (unit.new ≡ (unit.old.0, u)) × IsAsked (Answers unit.old) (Some (Question.Clear which)) result.answer unit.old.1 u }
+    ensures asked { (u : _) × (unit.new ≡ (unit.old.0, u))
+        × IsAsked (Answers unit.old) (Some (Question.Clear which)) result.answer unit.old.1 u }
 {
     let answer = put(Question::Clear(which), unit);
     let control = if answer == Answer::Agreed {
@@ -244,7 +257,8 @@ fn asked_to_clear(which: Clear, request: Request, address: u8, unit: &mut dyn Un
 
 /// The unit cannot respond now.
 fn busy(request: Request, address: u8) -> Heard
-    ensures { result ≡ heard_of Answer.NotAsked (Replies (requested.acknowledgment CANNOT_RESPOND request.source request.pgn address)) }
+    ensures { result ≡ heard_of Answer.NotAsked
+        (Replies (requested.acknowledgment CANNOT_RESPOND request.source request.pgn address)) }
 {
     Heard::replies(acknowledgment(Ack::CANNOT_RESPOND, request.source, request.pgn, address))
 }

@@ -22,7 +22,8 @@ impl Node {
     ) -> Result<Heard, AllocError>
         requires { source ≤ GREATEST_ADDRESS }
         ensures heard { IfOk result (λ h. h ≡ heard_of Answer.NotAsked (on_claim self.old source name)) }
-        ensures node { OnOk result (self.new ≡ after_deed (noted_from self.old (AddressClaimed source name)) (on_claim self.old source name)) }
+        ensures node { OnOk result
+            (self.new ≡ after_deed (noted_from self.old (AddressClaimed source name)) (on_claim self.old source name)) }
         ensures few { IfOk result (λ h. length h.put ≤ 256) }
         ensures kept { OnErr result (self.new ≡ self.old) }
     {
@@ -50,7 +51,7 @@ impl Node {
         let is_of_another = self.is_of_another(source, name);
         let _ = self.claimer.hear_claim(alloc, source, name)?;
         if is_of_another {
-            self.half_commands.forget(source);
+            self.partial_commands.forget(source);
         }
         Ok(())
     }

@@ -1,6 +1,6 @@
 ghost use Rattle.std.specs.Prelude.{◌≡◌, ◌≤◌, IfOk, IfErr, OnOk, OnErr, IfSome, Some, length};
 
-use crate::commanding::{HalfCommand, for_name, is_broadcast};
+use crate::commanding::{PartialCommand, for_name, is_broadcast};
 use crate::error::NodeError;
 use crate::heard::{Answer, Heard, Withdraw};
 use crate::node::Node;
@@ -33,8 +33,8 @@ impl Node {
         if !is_broadcast(destination, source) {
             return Ok(());
         }
-        self.half_commands
-            .keep(alloc, source, HalfCommand::started(size, pgn))
+        self.partial_commands
+            .keep(alloc, source, PartialCommand::started(size, pgn))
     }
 
     /// Hears a packet (SAE J1939-21, TP.DT).
@@ -50,14 +50,18 @@ impl Node {
     ) -> Result<Heard, NodeError>
         ensures name { name_of unit.new ≡ name_of unit.old }
         ensures heard { IfOk result (λ h. h ≡ heard_of h.answer (on_packet self.old h.answer source destination bytes.now)) }
-        ensures node { IfOk result (λ h. self.new ≡ after_deed (packet_heard self.old source destination bytes.now) (on_packet self.old h.answer source destination bytes.now)) }
+        ensures node { IfOk result (λ h. self.new ≡ after_deed (packet_heard self.old source destination bytes.now)
+            (on_packet self.old h.answer source destination bytes.now)) }
         ensures memory { memory_of unit.new ≡ memory_of unit.old }
         ensures few { IfOk result (λ h. length h.put ≤ 256) }
         ensures refused { IfErr result (λ e. e ≡ NodeError.OutOfMemory) }
         ensures kept { OnErr result (self.new ≡ self.old) }
         ensures unasked { OnErr result (unit.new ≡ unit.old) }
-        ensures answer { IfOk result (λ h. IsAnswerTo (put_by_command (command_heard self.old source destination bytes.now)) h.answer) }
-        ensures asked { IfOk result (λ h. (u : _) × (unit.new ≡ (unit.old.0, u)) × IsAsked (Answers unit.old) (put_by_command (command_heard self.old source destination bytes.now)) h.answer unit.old.1 u) }
+        ensures answer { IfOk result
+            (λ h. IsAnswerTo (put_by_command (command_heard self.old source destination bytes.now)) h.answer) }
+        ensures asked { IfOk result (λ h. (u : _) × (unit.new ≡ (unit.old.0, u))
+            × IsAsked (Answers unit.old) (put_by_command (command_heard self.old source destination bytes.now)) h.answer unit.old.1
+            u) }
     {
         let command = self.command_heard(source, destination, bytes);
         self.join_packet(alloc, source, destination, bytes)?;
@@ -83,8 +87,8 @@ impl Node {
         if !is_broadcast(destination, source) {
             return None;
         }
-        let half = self.half_commands.from(source);
-        for_name(self.claimer.name(), half.completed(bytes))
+        let partial = self.partial_commands.from(source);
+        for_name(self.claimer.name(), partial.completed(bytes))
     }
 
     /// A broadcast packet goes on with what is half joined from its source.
@@ -101,9 +105,9 @@ impl Node {
         if !is_broadcast(destination, source) {
             return Ok(());
         }
-        let half = self.half_commands.from(source);
-        self.half_commands
-            .keep(alloc, source, half.continued(bytes))
+        let partial = self.partial_commands.from(source);
+        self.partial_commands
+            .keep(alloc, source, partial.continued(bytes))
     }
 
     /// Holds the address from now on, and claims it.

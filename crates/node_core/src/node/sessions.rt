@@ -26,7 +26,8 @@ impl Node {
         control: Control,
     ) -> Result<Heard, AllocError>
         ensures heard { IfOk result (λ h. h ≡ heard_of Answer.NotAsked (on_control self.old source destination control)) }
-        ensures node { OnOk result (self.new ≡ after_deed (noted_from self.old (ConnectionManagement source destination control)) (on_control self.old source destination control)) }
+        ensures node { OnOk result (self.new ≡ after_deed (noted_from self.old (ConnectionManagement source destination control))
+            (on_control self.old source destination control)) }
         ensures few { IfOk result (λ h. length h.put ≤ 256) }
         ensures kept { OnErr result (self.new ≡ self.old) }
     {
@@ -69,7 +70,8 @@ impl Node {
         next: u8,
         pgn: Pgn,
     ) -> Result<Heard, AllocError>
-        ensures heard { IfOk result (λ h. h ≡ heard_of Answer.NotAsked (if is_held self.old.claimer.held destination then on_cts self.old.session destination source granted next pgn else Nothing)) }
+        ensures heard { IfOk result (λ h.
+            h ≡ heard_of Answer.NotAsked (if is_held self.old.claimer.held destination then on_cts self.old.session destination source granted next pgn else Nothing)) }
         ensures node { OnOk result (self.new ≡ after_deed self.old (if is_held self.old.claimer.held destination then on_cts self.old.session destination source granted next pgn else Nothing)) }
         ensures few { IfOk result (λ h. length h.put ≤ 256) }
         ensures kept { OnErr result (self.new ≡ self.old) }
@@ -96,7 +98,8 @@ impl Node {
 
     /// The packets that a clear to send grants count as queued.
     fn grant(&mut self, granted: u8, next: u8)
-        ensures { self.new ≡ record self.old { session = option_map (λ s. further s (packets_granted s.sending granted next)) self.old.session } }
+        ensures { self.new ≡ record self.old
+            { session = option_map (λ s. further s (packets_granted s.sending granted next)) self.old.session } }
     {
         if let Some(session) = &mut self.session {
             let _ = session.sending.grant(granted, next);
@@ -106,8 +109,10 @@ impl Node {
     /// An end of message acknowledgment ends the session once every packet was queued.
     fn hear_end_ack(&mut self, source: u8, destination: u8, pgn: Pgn) -> Heard
         ensures few { length result.put ≤ 256 }
-        ensures heard { result ≡ heard_of Answer.NotAsked (if is_held self.old.claimer.held destination then on_end_ack self.old.session source pgn else Nothing) }
-        ensures node { self.new ≡ after_deed self.old (if is_held self.old.claimer.held destination then on_end_ack self.old.session source pgn else Nothing) }
+        ensures heard { result ≡ heard_of Answer.NotAsked
+            (if is_held self.old.claimer.held destination then on_end_ack self.old.session source pgn else Nothing) }
+        ensures node { self.new ≡ after_deed self.old
+            (if is_held self.old.claimer.held destination then on_end_ack self.old.session source pgn else Nothing) }
     {
         if !self.is_held(destination) || !self.is_all_queued_with(source, pgn) {
             return Heard::nothing();
@@ -118,8 +123,10 @@ impl Node {
     /// An abort ends the session.
     fn hear_abort(&mut self, source: u8, destination: u8, pgn: Pgn) -> Heard
         ensures few { length result.put ≤ 256 }
-        ensures heard { result ≡ heard_of Answer.NotAsked (if is_held self.old.claimer.held destination then on_abort self.old.session source pgn else Nothing) }
-        ensures node { self.new ≡ after_deed self.old (if is_held self.old.claimer.held destination then on_abort self.old.session source pgn else Nothing) }
+        ensures heard { result ≡ heard_of Answer.NotAsked
+            (if is_held self.old.claimer.held destination then on_abort self.old.session source pgn else Nothing) }
+        ensures node { self.new ≡ after_deed self.old
+            (if is_held self.old.claimer.held destination then on_abort self.old.session source pgn else Nothing) }
     {
         if !self.is_held(destination) || !self.is_open_with(source, pgn) {
             return Heard::nothing();

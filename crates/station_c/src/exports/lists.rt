@@ -19,8 +19,8 @@ use entry_lists::NewestEntries;
 use name_field::Name;
 use std::alloc::Global;
 
-/// How many entries of a kind, 1 for DM1, 2 for DM2 and 6 for DM6, came under a NAME, up to the greatest 64-bit number, whatever is kept
-/// of them; 0 for a NAME that has no row.
+/// How many entries of a kind, 1 for DM1, 2 for DM2 and 6 for DM6, came under a NAME, up to the greatest 64-bit number, whatever is
+/// kept of them; 0 for a NAME that has no row.
 ///
 /// Refused, in this order: `NoKind`, `NoStation`; `count` is then as it was.
 #[unsafe(no_mangle)]
@@ -53,8 +53,8 @@ pub extern "C" fn hidzgula_entries(
 
 /// The entry at this place, from 0, the oldest of all that came first.
 ///
-/// Refused, in this order: `NoKind`, `NoStation`, `NotKept` where it came and is none of the newest that are kept, `NoPlace` where no more
-/// than `place` entries came; `entry` is then as it was. Of a list of 2^64 entries or more its clauses say nothing.
+/// Refused, in this order: `NoKind`, `NoStation`, `NotKept` where it came and is none of the newest that are kept, `NoPlace` where
+/// no more than `place` entries came; `entry` is then as it was. Of a list of 2^64 entries or more its clauses say nothing.
 #[unsafe(no_mangle)]
 pub extern "C" fn hidzgula_entry(
     alloc: Global,
@@ -98,10 +98,12 @@ pub extern "C" fn hidzgula_entry(
     }
 }
 
-/// The code at this place of the entry at that place, both from 0, in the order of the message; of all entries that came the oldest first.
+/// The code at this place of the entry at that place, both from 0, in the order of the message; of all entries that came the oldest
+/// first.
 ///
-/// Refused, in this order: `NoKind`, `NoStation`, `NotKept` where the entry came and is none of the newest that are kept, `NoPlace` where no
-/// such entry came, or it has no such code; `code` is then as it was. Of a list of 2^64 entries or more its clauses say nothing.
+/// Refused, in this order: `NoKind`, `NoStation`, `NotKept` where the entry came and is none of the newest that are kept, `NoPlace`
+/// where no such entry came, or it has no such code; `code` is then as it was. Of a list of 2^64 entries or more its clauses say
+/// nothing.
 #[unsafe(no_mangle)]
 pub extern "C" fn hidzgula_code(
     alloc: Global,
@@ -148,7 +150,7 @@ pub extern "C" fn hidzgula_code(
 }
 
 /// The kind of this number, which is that of its message: 1 is DM1, 2 is DM2, 6 is DM6.
-fn kind_of(number: u8) -> Option<Kind>
+pub(crate) fn kind_of(number: u8) -> Option<Kind>
     ensures { result ≡ kind_numbered number }
 {
     match number {

@@ -36,7 +36,8 @@ pub extern "C" fn hidzgula_open(
     ensures keeps { Answers result Status.Done → handle.new.value.lists.keep ≡ keep }
     ensures kept { ¬ Answers result Status.Done → HoldsSame handle.old handle.new }
     ensures bad_setting { Answers result Status.BadSetting ↔ ((GREATEST_ADDRESS < address) ⊎ (grant ≡ 0)) }
-    ensures already_open { Answers result Status.HasStation ↔ ((address ≤ GREATEST_ADDRESS) × (0 < grant) × (has_station handle.old ≡ true)) }
+    ensures already_open { Answers result Status.HasStation
+        ↔ ((address ≤ GREATEST_ADDRESS) × (0 < grant) × (has_station handle.old ≡ true)) }
     ensures done { (address ≤ GREATEST_ADDRESS) → (0 < grant) → (has_station handle.old ≡ false) → DoneUnlessMemory result }
 {
     if address > GREATEST_ADDRESS || grant == 0 {
@@ -47,8 +48,8 @@ pub extern "C" fn hidzgula_open(
 }
 
 /// Opens a station of this NAME that only listens: it joins the sessions of whoever holds this address, 0 to 253, passes over
-/// packets of one that was given up, and replies nothing. Of each list it keeps the newest `keep` entries, none where that is 0. It has
-/// read nothing.
+/// packets of one that was given up, and replies nothing. Of each list it keeps the newest `keep` entries, none where that is 0. It
+/// has read nothing.
 ///
 /// Refused, in this order: `BadSetting` for an address above 253, `HasStation`, `OutOfMemory`; the handle is then as it was.
 #[unsafe(no_mangle)]

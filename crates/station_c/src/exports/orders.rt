@@ -31,7 +31,8 @@ pub extern "C" fn hidzgula_ask(
     pgn: u32,
     reply: &mut ReplyRecord,
 ) -> u32
-    ensures replied { Answers result Status.Done → (x : AnyReaction) × (ask_answer handle.old.value.post.station name (Other pgn) ≡ Ok x) × TellsReaction reply.new x }
+    ensures replied { Answers result Status.Done
+        → (x : AnyReaction) × (ask_answer handle.old.value.post.station name (Other pgn) ≡ Ok x) × TellsReaction reply.new x }
     ensures unanswered { ¬ Answers result Status.Done → reply.new ≡ reply.old }
     ensures kept { HoldsSame handle.old handle.new }
     ensures pgn_too_large { Answers result Status.PgnTooLarge ↔ (2 ^ 24 ≤ pgn) }
@@ -63,7 +64,8 @@ pub extern "C" fn hidzgula_ask_all(
     pgn: u32,
     reply: &mut ReplyRecord,
 ) -> u32
-    ensures replied { Answers result Status.Done → (x : AnyReaction) × (ask_all_answer handle.old.value.post.station (Other pgn) ≡ Ok x) × TellsReaction reply.new x }
+    ensures replied { Answers result Status.Done
+        → (x : AnyReaction) × (ask_all_answer handle.old.value.post.station (Other pgn) ≡ Ok x) × TellsReaction reply.new x }
     ensures unanswered { ¬ Answers result Status.Done → reply.new ≡ reply.old }
     ensures kept { HoldsSame handle.old handle.new }
     ensures pgn_too_large { Answers result Status.PgnTooLarge ↔ (2 ^ 24 ≤ pgn) }
@@ -95,7 +97,8 @@ pub extern "C" fn hidzgula_command(
     address: u8,
     reply: &mut ReplyRecord,
 ) -> u32
-    ensures replied { Answers result Status.Done → (x : AnyReaction) × (command_answer handle.old.value.post.station name address ≡ Ok x) × TellsReaction reply.new x }
+    ensures replied { Answers result Status.Done
+        → (x : AnyReaction) × (command_answer handle.old.value.post.station name address ≡ Ok x) × TellsReaction reply.new x }
     ensures unanswered { ¬ Answers result Status.Done → reply.new ≡ reply.old }
     ensures kept { HoldsSame handle.old handle.new }
     ensures no_station { Answers result Status.NoStation ↔ (has_station handle.old ≡ false) }

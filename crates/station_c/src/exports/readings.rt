@@ -18,8 +18,8 @@ use crate::status::Status;
 use can_frame::{Frame, Reading};
 use std::alloc::Global;
 
-/// The station takes a frame that was read of the bus; `reply` is what it answers, nothing where it only listens, and `change` is what
-/// the frame changed of what it shows. A station that only listens passes over a packet of a session that was given up.
+/// The station takes a frame that was read of the bus; `reply` is what it answers, nothing where it only listens, and `change` is
+/// what the frame changed of what it shows. A station that only listens passes over a packet of a session that was given up.
 ///
 /// Refused, in this order: `IdTooLarge` for an identifier of 2^29 or more, `TooLong` for more than eight bytes, `NoStation`,
 /// `OutOfMemory`; handle, reply and change are then as they were.
@@ -34,9 +34,11 @@ pub extern "C" fn hidzgula_take_frame_telling(
 ) -> u32
     ensures taken { Answers result Status.Done → (r : StationSettings) (grant : ℕ) (h : List AnyReading) → HoldsReadings r grant handle.old h
         → HoldsReadings r grant handle.new (reading_at handle.old.value.post (Reading.Frame (frame id bytes.now)) ∷ h) }
-    ensures noted { Answers result Status.Done → handle.new.value.post.given_up ≡ given_up_at handle.old.value.post (Reading.Frame (frame id bytes.now)) }
+    ensures noted { Answers result Status.Done
+        → handle.new.value.post.given_up ≡ given_up_at handle.old.value.post (Reading.Frame (frame id bytes.now)) }
     ensures keeps { Answers result Status.Done → handle.new.value.lists.keep ≡ handle.old.value.lists.keep }
-    ensures replied { Answers result Status.Done → TellsReaction reply.new (answer_at handle.old.value.post (Reading.Frame (frame id bytes.now))) }
+    ensures replied { Answers result Status.Done
+        → TellsReaction reply.new (answer_at handle.old.value.post (Reading.Frame (frame id bytes.now))) }
     ensures changed { Answers result Status.Done → (r : StationSettings) (grant : ℕ) (h : List AnyReading) → HoldsReadings r grant handle.old h
         → TellsChange change.new (change_heard r (reading_at handle.old.value.post (Reading.Frame (frame id bytes.now))) h) }
     ensures step { Answers result Status.Done
@@ -46,7 +48,8 @@ pub extern "C" fn hidzgula_take_frame_telling(
     ensures untold { ¬ Answers result Status.Done → change.new ≡ change.old }
     ensures id_too_large { Answers result Status.IdTooLarge ↔ (2 ^ 29 ≤ id) }
     ensures too_long { Answers result Status.TooLong ↔ ((id < 2 ^ 29) × (8 < length bytes.now)) }
-    ensures no_station { Answers result Status.NoStation ↔ ((id < 2 ^ 29) × (length bytes.now ≤ 8) × (has_station handle.old ≡ false)) }
+    ensures no_station { Answers result Status.NoStation
+        ↔ ((id < 2 ^ 29) × (length bytes.now ≤ 8) × (has_station handle.old ≡ false)) }
     ensures done { (id < 2 ^ 29) → (length bytes.now ≤ 8) → (has_station handle.old ≡ true) → DoneUnlessMemory result }
 {
     match Frame::new(id, bytes) {
@@ -55,8 +58,8 @@ pub extern "C" fn hidzgula_take_frame_telling(
     }
 }
 
-/// The station is told that this many frames were missed; `reply` is what it answers: its claim, and a request for the claims of all;
-/// nothing, where it only listens. `change` says how many were missed.
+/// The station is told that this many frames were missed; `reply` is what it answers: its claim, and a request for the claims of
+/// all; nothing, where it only listens. `change` says how many were missed.
 ///
 /// Refused, in this order: `NoStation`, `OutOfMemory`; handle, reply and change are then as they were.
 #[unsafe(no_mangle)]
@@ -74,7 +77,8 @@ pub extern "C" fn hidzgula_take_gap_telling(
     ensures replied { Answers result Status.Done → TellsReaction reply.new (answer_at handle.old.value.post (Reading.Gap count)) }
     ensures changed { Answers result Status.Done → (r : StationSettings) (grant : ℕ) (h : List AnyReading) → HoldsReadings r grant handle.old h
         → TellsChange change.new (change_heard r (Reading.Gap count) h) }
-    ensures step { Answers result Status.Done → TakesReading handle.old.value (Reading.Gap count) change.new (reaction_told reply.new) handle.new.value }
+    ensures step { Answers result Status.Done
+        → TakesReading handle.old.value (Reading.Gap count) change.new (reaction_told reply.new) handle.new.value }
     ensures kept { ¬ Answers result Status.Done → HoldsSame handle.old handle.new }
     ensures unanswered { ¬ Answers result Status.Done → reply.new ≡ reply.old }
     ensures untold { ¬ Answers result Status.Done → change.new ≡ change.old }
@@ -99,7 +103,8 @@ fn take(
     ensures replied { result ≡ Status.Done → TellsReaction reply.new (answer_at handle.old.value.post reading) }
     ensures changed { result ≡ Status.Done → (r : StationSettings) (grant : ℕ) (h : List AnyReading) → HoldsReadings r grant handle.old h
         → TellsChange change.new (change_heard r (reading_at handle.old.value.post reading) h) }
-    ensures step { result ≡ Status.Done → TakesReading handle.old.value reading change.new (reaction_told reply.new) handle.new.value }
+    ensures step { result ≡ Status.Done
+        → TakesReading handle.old.value reading change.new (reaction_told reply.new) handle.new.value }
     ensures kept { ¬ (result ≡ Status.Done) → HoldsSame handle.old handle.new }
     ensures unanswered { ¬ (result ≡ Status.Done) → reply.new ≡ reply.old }
     ensures untold { ¬ (result ≡ Status.Done) → change.new ≡ change.old }

@@ -15,14 +15,14 @@ use crate::status::Status;
 use can_frame::Reading;
 use std::alloc::Global;
 
-/// The station takes frames that were read of the bus, in their order, each as the call of one frame takes it. `taken` says how many, and the
-/// change of each stands at its place in `changes`; what is behind those is as it was.
+/// The station takes frames that were read of the bus, in their order, each as the call of one frame takes it. `taken` says how
+/// many, and the change of each stands at its place in `changes`; what is behind those is as it was.
 ///
 /// It stops behind the first frame to which the station replies, where `changes` has no more places, and at the first frame that is
 /// refused; `reply` is the reply to the last one taken, and says nothing where none was.
 ///
-/// Refused: `NoStation`, and then nothing is written; of the frame at `taken`, in this order, `IdTooLarge`, `TooLong`, `OutOfMemory`, and then the
-/// frames before it are taken.
+/// Refused: `NoStation`, and then nothing is written; of the frame at `taken`, in this order, `IdTooLarge`, `TooLong`,
+/// `OutOfMemory`, and then the frames before it are taken.
 #[unsafe(no_mangle)]
 pub extern "C" fn hidzgula_take_frames(
     alloc: Global,
@@ -41,8 +41,10 @@ pub extern "C" fn hidzgula_take_frames(
     ensures refused { ¬ Answers result Status.NoStation → ¬ Answers result Status.Done
         → (taken.new < length changes.old) × (reaction_told reply.new ≡ silent) }
     ensures id_too_large { Answers result Status.IdTooLarge → IsSomeAnd (slice_get frames.now taken.new) (λ f. 2 ^ 29 ≤ f.id) }
-    ensures too_long { Answers result Status.TooLong → IsSomeAnd (slice_get frames.now taken.new) (λ f. (f.id < 2 ^ 29) × (8 < f.len)) }
-    ensures out_of_memory { Answers result Status.OutOfMemory → IsSomeAnd (slice_get frames.now taken.new) (λ f. (f.id < 2 ^ 29) × (f.len ≤ 8)) }
+    ensures too_long { Answers result Status.TooLong
+        → IsSomeAnd (slice_get frames.now taken.new) (λ f. (f.id < 2 ^ 29) × (8 < f.len)) }
+    ensures out_of_memory { Answers result Status.OutOfMemory
+        → IsSomeAnd (slice_get frames.now taken.new) (λ f. (f.id < 2 ^ 29) × (f.len ≤ 8)) }
     ensures no_station { Answers result Status.NoStation ↔ (has_station handle.old ≡ false) }
     ensures unwritten { Answers result Status.NoStation
         → HoldsSame handle.old handle.new × (changes.new ≡ changes.old) × (reply.new ≡ reply.old) × (taken.new ≡ taken.old) }
@@ -58,7 +60,8 @@ pub extern "C" fn hidzgula_take_frames(
     status.number()
 }
 
-/// The station takes frames up to the first that it replies to or that is refused, and no more than there are places for their changes.
+/// The station takes frames up to the first that it replies to or that is refused, and no more than there are places for their
+/// changes.
 fn take_each(
     alloc: Global,
     post: &mut ListedPost,
@@ -74,8 +77,10 @@ fn take_each(
     ensures refused { ¬ (result.1 ≡ Status.Done) → (result.0 < length changes.old) × (reaction_told reply.new ≡ silent) }
     ensures id_too_large { result.1 ≡ Status.IdTooLarge → IsSomeAnd (slice_get frames.now result.0) (λ f. 2 ^ 29 ≤ f.id) }
     ensures too_long { result.1 ≡ Status.TooLong → IsSomeAnd (slice_get frames.now result.0) (λ f. (f.id < 2 ^ 29) × (8 < f.len)) }
-    ensures out_of_memory { result.1 ≡ Status.OutOfMemory → IsSomeAnd (slice_get frames.now result.0) (λ f. (f.id < 2 ^ 29) × (f.len ≤ 8)) }
-    ensures only { (result.1 ≡ Status.Done) ⊎ (result.1 ≡ Status.IdTooLarge) ⊎ (result.1 ≡ Status.TooLong) ⊎ (result.1 ≡ Status.OutOfMemory) }
+    ensures out_of_memory { result.1 ≡ Status.OutOfMemory
+        → IsSomeAnd (slice_get frames.now result.0) (λ f. (f.id < 2 ^ 29) × (f.len ≤ 8)) }
+    ensures only { (result.1 ≡ Status.Done) ⊎ (result.1 ≡ Status.IdTooLarge) ⊎ (result.1 ≡ Status.TooLong)
+        ⊎ (result.1 ≡ Status.OutOfMemory) }
 {
     *reply = ReplyRecord::nothing();
     let most = frames.len().min(changes.len());

@@ -168,7 +168,7 @@ fn row_at(station: &Station, place: usize) -> Option<RowRecord>
 }
 
 /// An address with its flag.
-fn flagged(address: Option<u8>) -> (u8, u8)
+pub(crate) fn flagged(address: Option<u8>) -> (u8, u8)
     ensures { address_under result.0 result.1 ≡ address }
 {
     match address {

@@ -47,7 +47,8 @@ impl Station {
     pub(super) fn hear_acknowledgment(&mut self, ack: Ack, change: &mut Change)
         requires nothing { change.old ≡ Change.Nothing }
         ensures step { self.new ≡ after_group self.old (group.Acknowledgment ack.control ack.requester ack.pgn ack.dest ack.source) }
-        ensures change { change.new ≡ group_changes self.old (group.Acknowledgment ack.control ack.requester ack.pgn ack.dest ack.source) }
+        ensures change { change.new ≡ group_changes self.old
+            (group.Acknowledgment ack.control ack.requester ack.pgn ack.dest ack.source) }
     {
         let held = self.claimer.held();
         if held != Some(ack.requester) && held != Some(ack.dest) {

@@ -39,7 +39,8 @@ impl Station {
     ) -> Result<(), StationError>
         ensures ok { OnOk result (self.new ≡ with_claim self.old source name) }
         ensures change { OnOk result (outcome.new.change ≡ group_changes self.old (group.AddressClaimed source name)) }
-        ensures reaction { OnOk result (outcome.new.reaction ≡ reactions.claim_reaction (claim_step source name self.old.claimer) self.old.claimer) }
+        ensures reaction { OnOk result
+            (outcome.new.reaction ≡ reactions.claim_reaction (claim_step source name self.old.claimer) self.old.claimer) }
         ensures err { OnErr result (self.new ≡ self.old) }
         ensures only_memory { IsOkUnless result StationError.OutOfMemory }
     {

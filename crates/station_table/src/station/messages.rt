@@ -8,7 +8,7 @@ ghost use Rattle.reassembly.specs.Tables.{at};
 ghost use Rattle.station_table.specs.Reactions as reactions;
 ghost use Rattle.transport.specs.Messages as message;
 
-use crate::ended::{Ended, ended_with, shown_by};
+use crate::ended::{ReadMessage, ended_with, shown_by};
 use crate::error::StationError;
 use crate::origin::{Origin, drop_kind, kind_of};
 use crate::outcome::Outcome;
@@ -36,13 +36,13 @@ impl Station {
     ghost use Rattle.station_table.specs.Listing.{entry_of_ended, entry_of_read, group_entry};
     ghost use Rattle.station_table.specs.Steps.{after_group, origin_of, packets_at_once, with_broadcast_packet, with_read, with_session, with_session_packet};
 
-    /// What a message from this address shows that ended goes to the lists: an entry under its owner where it shows something, else it counts
-    /// as unread.
+    /// What a message from this address shows that ended goes to the lists: an entry under its owner where it shows something, else
+    /// it counts as unread.
     fn keep<L: Lists>(
         &mut self,
         alloc: Global,
         source: u8,
-        ended: Option<Ended>,
+        ended: Option<ReadMessage>,
         lists: &mut L,
         change: &mut Change,
     ) -> Result<(), StationError>
@@ -54,7 +54,7 @@ impl Station {
         ensures err_lists { OnErr result (lists.new ≡ lists.old) }
         ensures only_memory { IsOkUnless result StationError.OutOfMemory }
     {
-        let Some(Ended { origin, shown }) = ended else {
+        let Some(ReadMessage { origin, shown }) = ended else {
             return Ok(());
         };
         let name = origin.owner();
@@ -91,7 +91,8 @@ impl Station {
         requires nothing { change.old ≡ Change.Nothing }
         ensures ok { OnOk result (self.new ≡ after_group self.old (group.Diagnostic kind source bytes.now)) }
         ensures change { OnOk result (change.new ≡ group_changes self.old (group.Diagnostic kind source bytes.now)) }
-        ensures lists { OnOk result (HasPut L.Takes lists.old (group_entry self.old (group.Diagnostic kind source bytes.now)) lists.new) }
+        ensures lists { OnOk result
+            (HasPut L.Takes lists.old (group_entry self.old (group.Diagnostic kind source bytes.now)) lists.new) }
         ensures err { OnErr result (self.new ≡ self.old) }
         ensures err_lists { OnErr result (lists.new ≡ lists.old) }
         ensures only_memory { IsOkUnless result StationError.OutOfMemory }
@@ -101,7 +102,7 @@ impl Station {
             return Ok(());
         };
         let shown = shown_by(alloc, bytes)?;
-        let ended = Ended {
+        let ended = ReadMessage {
             origin: Origin::new(owner, kind),
             shown,
         };
@@ -172,7 +173,8 @@ impl Station {
         requires silent { reaction.old ≡ reactions.silent }
         requires least { 9 ≤ announced.size }
         requires most { announced.size ≤ 1785 }
-        ensures ok { OnOk result (self.new ≡ with_session self.old source announced.most (heard.started (heard.kind_of announced.pgn) announced.size (at self.old.owners source))) }
+        ensures ok { OnOk result (self.new ≡ with_session self.old source announced.most
+            (heard.started (heard.kind_of announced.pgn) announced.size (at self.old.owners source))) }
         ensures reaction { OnOk result (reaction.new ≡ (if nat_lt source NULL_ADDRESS then reactions.answering (message.control_frame
             (reactions.start_reaction (heard.started (heard.kind_of announced.pgn) announced.size (at self.old.owners source)) (packets_at_once self.old.grant announced.most) announced.packets announced.pgn)
             dest source) else reactions.silent)) }
@@ -223,8 +225,10 @@ impl Station {
     ) -> Result<(), StationError>
         requires nothing { change.old ≡ Change.Nothing }
         ensures ok { OnOk result (self.new ≡ with_broadcast_packet self.old source bytes.now) }
-        ensures change { OnOk result (change.new ≡ ended_change source (heard.finished (with_packet bytes.now (at self.old.broadcasts source)))) }
-        ensures lists { OnOk result (HasPut L.Takes lists.old (entry_of_ended source (heard.finished (with_packet bytes.now (at self.old.broadcasts source)))) lists.new) }
+        ensures change { OnOk result
+            (change.new ≡ ended_change source (heard.finished (with_packet bytes.now (at self.old.broadcasts source)))) }
+        ensures lists { OnOk result (HasPut L.Takes lists.old
+            (entry_of_ended source (heard.finished (with_packet bytes.now (at self.old.broadcasts source)))) lists.new) }
         ensures err { OnErr result (self.new ≡ self.old) }
         ensures err_lists { OnErr result (lists.new ≡ lists.old) }
         ensures only_memory { IsOkUnless result StationError.OutOfMemory }
@@ -251,8 +255,10 @@ impl Station {
         requires nothing { change.old ≡ Change.Nothing }
         requires whole { answer_to bytes.now (at self.old.broadcasts source) ≡ Some Took.Whole }
         ensures ok { OnOk result (self.new ≡ with_broadcast_packet self.old source bytes.now) }
-        ensures change { OnOk result (change.new ≡ ended_change source (heard.finished (with_packet bytes.now (at self.old.broadcasts source)))) }
-        ensures lists { OnOk result (HasPut L.Takes lists.old (entry_of_ended source (heard.finished (with_packet bytes.now (at self.old.broadcasts source)))) lists.new) }
+        ensures change { OnOk result
+            (change.new ≡ ended_change source (heard.finished (with_packet bytes.now (at self.old.broadcasts source)))) }
+        ensures lists { OnOk result (HasPut L.Takes lists.old
+            (entry_of_ended source (heard.finished (with_packet bytes.now (at self.old.broadcasts source)))) lists.new) }
         ensures err { OnErr result (self.new ≡ self.old) }
         ensures err_lists { OnErr result (lists.new ≡ lists.old) }
         ensures only_memory { IsOkUnless result StationError.OutOfMemory }
@@ -275,9 +281,12 @@ impl Station {
     ) -> Result<(), StationError>
         requires quiet { outcome.old ≡ record { reaction = reactions.silent; change = Change.Nothing } }
         ensures ok { OnOk result (self.new ≡ with_session_packet self.old source bytes.now) }
-        ensures change { OnOk result (outcome.new.change ≡ ended_change source (heard.finished (with_packet bytes.now (at self.old.sessions source)))) }
-        ensures reaction { OnOk result (outcome.new.reaction ≡ reactions.replying (reactions.reply_to (reactions.granted_at_once self.old source) (at self.old.sessions source) bytes.now) dest source) }
-        ensures lists { OnOk result (HasPut L.Takes lists.old (entry_of_ended source (heard.finished (with_packet bytes.now (at self.old.sessions source)))) lists.new) }
+        ensures change { OnOk result
+            (outcome.new.change ≡ ended_change source (heard.finished (with_packet bytes.now (at self.old.sessions source)))) }
+        ensures reaction { OnOk result (outcome.new.reaction ≡ reactions.replying
+            (reactions.reply_to (reactions.granted_at_once self.old source) (at self.old.sessions source) bytes.now) dest source) }
+        ensures lists { OnOk result (HasPut L.Takes lists.old
+            (entry_of_ended source (heard.finished (with_packet bytes.now (at self.old.sessions source)))) lists.new) }
         ensures err { OnErr result (self.new ≡ self.old) }
         ensures err_lists { OnErr result (lists.new ≡ lists.old) }
         ensures only_memory { IsOkUnless result StationError.OutOfMemory }
@@ -305,8 +314,10 @@ impl Station {
         requires nothing { change.old ≡ Change.Nothing }
         requires took { answer_to bytes.now (at self.old.sessions source) ≡ Some took }
         ensures ok { OnOk result (self.new ≡ with_session_packet self.old source bytes.now) }
-        ensures change { OnOk result (change.new ≡ ended_change source (heard.finished (with_packet bytes.now (at self.old.sessions source)))) }
-        ensures lists { OnOk result (HasPut L.Takes lists.old (entry_of_ended source (heard.finished (with_packet bytes.now (at self.old.sessions source)))) lists.new) }
+        ensures change { OnOk result
+            (change.new ≡ ended_change source (heard.finished (with_packet bytes.now (at self.old.sessions source)))) }
+        ensures lists { OnOk result (HasPut L.Takes lists.old
+            (entry_of_ended source (heard.finished (with_packet bytes.now (at self.old.sessions source)))) lists.new) }
         ensures err { OnErr result (self.new ≡ self.old) }
         ensures err_lists { OnErr result (lists.new ≡ lists.old) }
         ensures only_memory { IsOkUnless result StationError.OutOfMemory }
@@ -330,8 +341,10 @@ impl Station {
         requires nothing { change.old ≡ Change.Nothing }
         requires whole { answer_to bytes.now (at self.old.sessions source) ≡ Some Took.Whole }
         ensures ok { OnOk result (self.new ≡ with_session_packet self.old source bytes.now) }
-        ensures change { OnOk result (change.new ≡ ended_change source (heard.finished (with_packet bytes.now (at self.old.sessions source)))) }
-        ensures lists { OnOk result (HasPut L.Takes lists.old (entry_of_ended source (heard.finished (with_packet bytes.now (at self.old.sessions source)))) lists.new) }
+        ensures change { OnOk result
+            (change.new ≡ ended_change source (heard.finished (with_packet bytes.now (at self.old.sessions source)))) }
+        ensures lists { OnOk result (HasPut L.Takes lists.old
+            (entry_of_ended source (heard.finished (with_packet bytes.now (at self.old.sessions source)))) lists.new) }
         ensures err { OnErr result (self.new ≡ self.old) }
         ensures err_lists { OnErr result (lists.new ≡ lists.old) }
         ensures only_memory { IsOkUnless result StationError.OutOfMemory }

@@ -27,7 +27,8 @@ impl Station {
         ensures ok { IfOk result (λ x. ask_answer self.now name ask ≡ Ok x) }
         ensures refused { (e : AnyRefusal) → ask_answer self.now name ask ≡ Err e → result ≡ Err e }
         ensures why { IfErr result (λ e. (e ≡ StationError.OutOfMemory) ⊎ (ask_answer self.now name ask ≡ Err e)) }
-        ensures heard { (r : StationSettings) (grant : ℕ) (h : List AnyReading) → StandsFor r grant self.now h → AnswersAsk r h name (ask_answer self.now name ask) }
+        ensures heard { (r : StationSettings) (grant : ℕ) (h : List AnyReading) → StandsFor r grant self.now h
+            → AnswersAsk r h name (ask_answer self.now name ask) }
     {
         let Some(own) = self.held() else {
             return Err(StationError::NotHeld);
@@ -49,7 +50,8 @@ impl Station {
         ensures ok { IfOk result (λ x. ask_all_answer self.now ask ≡ Ok x) }
         ensures refused { (e : AnyRefusal) → ask_all_answer self.now ask ≡ Err e → result ≡ Err e }
         ensures why { IfErr result (λ e. (e ≡ StationError.OutOfMemory) ⊎ (ask_all_answer self.now ask ≡ Err e)) }
-        ensures heard { (r : StationSettings) (grant : ℕ) (h : List AnyReading) → StandsFor r grant self.now h → AnswersAskAll r h (ask_all_answer self.now ask) }
+        ensures heard { (r : StationSettings) (grant : ℕ) (h : List AnyReading) → StandsFor r grant self.now h
+            → AnswersAskAll r h (ask_all_answer self.now ask) }
     {
         let Some(own) = self.held() else {
             return Err(StationError::NotHeld);
@@ -65,7 +67,8 @@ impl Station {
         ensures ok { IfOk result (λ x. command_answer self.now name address ≡ Ok x) }
         ensures refused { (e : AnyRefusal) → command_answer self.now name address ≡ Err e → result ≡ Err e }
         ensures why { IfErr result (λ e. (e ≡ StationError.OutOfMemory) ⊎ (command_answer self.now name address ≡ Err e)) }
-        ensures heard { (r : StationSettings) (grant : ℕ) (h : List AnyReading) → StandsFor r grant self.now h → AnswersCommand r h address (command_answer self.now name address) }
+        ensures heard { (r : StationSettings) (grant : ℕ) (h : List AnyReading) → StandsFor r grant self.now h
+            → AnswersCommand r h address (command_answer self.now name address) }
     {
         if address > GREATEST_ADDRESS {
             return Err(StationError::NotAnAddress);

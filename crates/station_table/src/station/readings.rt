@@ -33,8 +33,8 @@ impl Station {
     /// A frame tells the station what it says; a gap makes it forget owners and all that is half joined; empty is nothing.
     /// `OutOfMemory` leaves the station and the lists as they were, and is never the answer to an empty reading.
     ///
-    /// The change is all that the reading does to rows, NAMEs, lists and counts (`bus_model`): who follows the changes need not ask for them.
-    /// A diagnostic message that ends, and can be read, is put into the lists; they are asked before anything is changed.
+    /// The change is all that the reading does to rows, NAMEs, lists and counts (`bus_model`): who follows the changes need not ask
+    /// for them. A diagnostic message that ends, and can be read, is put into the lists; they are asked before anything is changed.
     #[inline]
     #[tactic(auto, using(crate::proofs::Few::few_frames))]
     pub fn take<L: Lists>(
@@ -48,10 +48,12 @@ impl Station {
         ensures change { IfOk result (λ x. x.change ≡ reading_changes self.old reading) }
         ensures heard { IfOk result (λ x. (r : StationSettings) (grant : ℕ) (h : List AnyReading) → StandsFor r grant self.old h
             → x.change ≡ change_heard r reading h) }
-        ensures stands { OnOk result ((r : StationSettings) (grant : ℕ) (h : List AnyReading) → StandsFor r grant self.old h → StandsFor r grant self.new (reading ∷ h)) }
+        ensures stands { OnOk result ((r : StationSettings) (grant : ℕ) (h : List AnyReading) → StandsFor r grant self.old h
+            → StandsFor r grant self.new (reading ∷ h)) }
         ensures few { IfOk result (λ x. length x.reaction.put ≤ 2) }
         ensures lists { OnOk result (HasPut L.Takes lists.old (reading_entry self.old reading) lists.new) }
-        ensures listed { OnOk result ((r : StationSettings) (grant : ℕ) (h : List AnyReading) → StandsFor r grant self.old h → HasPut L.Takes lists.old (entry_heard r reading h) lists.new) }
+        ensures listed { OnOk result ((r : StationSettings) (grant : ℕ) (h : List AnyReading) → StandsFor r grant self.old h
+            → HasPut L.Takes lists.old (entry_heard r reading h) lists.new) }
         ensures entry { IfOk result (λ x. SaysEntry x.change (reading_entry self.old reading)) }
         ensures err { OnErr result (self.new ≡ self.old) }
         ensures err_lists { OnErr result (lists.new ≡ lists.old) }
@@ -92,7 +94,8 @@ impl Station {
         Ok(outcome)
     }
 
-    /// A reading. What comes of it is put into the outcome, which is quiet before: if it were returned, each call on the way would copy it.
+    /// A reading. What comes of it is put into the outcome, which is quiet before: if it were returned, each call on the way would
+    /// copy it.
     #[inline(never)]
     fn hear<L: Lists>(
         &mut self,
@@ -204,7 +207,8 @@ impl Station {
         requires size { HasLawfulSize control }
         requires quiet { outcome.old ≡ record { reaction = reactions.silent; change = Change.Nothing } }
         ensures ok { OnOk result (self.new ≡ after_group self.old (group.ConnectionManagement source dest control)) }
-        ensures reaction { OnOk result (outcome.new.reaction ≡ reactions.group_reaction self.old (group.ConnectionManagement source dest control)) }
+        ensures reaction { OnOk result
+            (outcome.new.reaction ≡ reactions.group_reaction self.old (group.ConnectionManagement source dest control)) }
         ensures change { OnOk result (outcome.new.change ≡ group_changes self.old (group.ConnectionManagement source dest control)) }
         ensures err { OnErr result (self.new ≡ self.old) }
         ensures only_memory { IsOkUnless result StationError.OutOfMemory }
@@ -248,9 +252,11 @@ impl Station {
     ) -> Result<(), StationError>
         requires quiet { outcome.old ≡ record { reaction = reactions.silent; change = Change.Nothing } }
         ensures ok { OnOk result (self.new ≡ after_group self.old (group.DataTransfer source dest bytes.now)) }
-        ensures reaction { OnOk result (outcome.new.reaction ≡ reactions.group_reaction self.old (group.DataTransfer source dest bytes.now)) }
+        ensures reaction { OnOk result
+            (outcome.new.reaction ≡ reactions.group_reaction self.old (group.DataTransfer source dest bytes.now)) }
         ensures change { OnOk result (outcome.new.change ≡ group_changes self.old (group.DataTransfer source dest bytes.now)) }
-        ensures lists { OnOk result (HasPut L.Takes lists.old (group_entry self.old (group.DataTransfer source dest bytes.now)) lists.new) }
+        ensures lists { OnOk result
+            (HasPut L.Takes lists.old (group_entry self.old (group.DataTransfer source dest bytes.now)) lists.new) }
         ensures err { OnErr result (self.new ≡ self.old) }
         ensures err_lists { OnErr result (lists.new ≡ lists.old) }
         ensures only_memory { IsOkUnless result StationError.OutOfMemory }

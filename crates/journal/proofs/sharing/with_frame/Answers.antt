@@ -11,5 +11,5 @@ pub returns-clause-events : goal.returns-clause-events
 returns-clause-events c =
     let same : c.in_ok-seat-2.seat ≡ c.in-Carry.seat = search (rules) in
     let zero : c.args.station ≡ 0 = search (rules) in
-    subst (λ (station : ℕ). TellsOver c.args.run.now c.args.notes.now (event.Read station (reading.Frame (frame c.args.id c.args.bytes.now))) (note.Relayed c.copy.result c.in_ok-seat-2.seat c.args.id)) (sym zero)
+    subst (λ (station : ℕ). TellsOver c.args.run.now c.args.notes.now (event.Read station (reading.Frame (frame c.args.id c.args.bytes.now))) (note.CarryRead c.copy.result c.in_ok-seat-2.seat c.args.id)) (sym zero)
     (over_carry c.args.run.now c.args.notes.now c.args.bytes.now c.copy.result c.args.id c.in-Carry.seat c.in_ok-seat-2.seat c.in_ok-seat.ensures.none (c.in_ok-seat.ensures.last ∙ ap Some c.in-Carry.is) same c.copy.ensures)

@@ -20,7 +20,7 @@ invariant_of-self-2 c =
     let sent = sent_is c.self.inside c.args.self.now c.in-Some.seat c.in-Some.ensures.0 c.send-sent.result c.index_mut-place.result.now c.self.view_is c.in-Some.ensures.1 c.index_mut-place.ensures.value c.send-sent.ensures.first in
     carry_kept c.self.inside _ c.args.self.now c.in-Some.seat c.send-sent.result c.index_mut-place.result.now c.send-sent.new.self c.self.view_is c.self.invariant sent c.index_mut-place.ensures.value c.send-sent.ensures.seat
     (grind (arith, common_steps)) refl refl
-    (takes_of _ c.as_mut_slice.result.now c.take_in.new.taps _ c.in-Some.seat c.send-sent.result.frame c.as_mut_slice.ensures.value c.take_in.auto.taps (grind (arith, common_steps)) c.take_in.ensures) c.requires
+    (takes_of _ c.as_mut_slice.result.now c.receive.new.receive_windows _ c.in-Some.seat c.send-sent.result.frame c.as_mut_slice.ensures.value c.receive.auto.receive_windows (grind (arith, common_steps)) c.receive.ensures) c.requires
 
 pub returns-clause-ok : goal.returns-clause-ok
 returns-clause-ok c =
@@ -28,9 +28,9 @@ returns-clause-ok c =
       c.send-sent.result,
       sent,
       refl,
-      carry_traffic c.self.inside (record { wire = c.push_reserved.new.self; seats = with_item c.self.inside.seats c.in-Some.seat c.send-sent.new.self; live = c.self.inside.live; taps = with_items c.self.inside.taps c.take_in.new.taps }) c.args.self.now c.in-Some.seat c.send-sent.result c.index_mut-place.result.now c.send-sent.new.self c.self.view_is
+      carry_traffic c.self.inside (record { wire = c.push_reserved.new.self; seats = with_item c.self.inside.seats c.in-Some.seat c.send-sent.new.self; live = c.self.inside.live; receive_windows = with_items c.self.inside.receive_windows c.receive.new.receive_windows }) c.args.self.now c.in-Some.seat c.send-sent.result c.index_mut-place.result.now c.send-sent.new.self c.self.view_is
           (next_within c.args.self.now.traffic c.in-Some.seat c.send-sent.result sent) c.index_mut-place.ensures.value c.send-sent.ensures.seat (grind (arith, common_steps)) refl
-          (takes_of _ c.as_mut_slice.result.now c.take_in.new.taps _ c.in-Some.seat c.send-sent.result.frame c.as_mut_slice.ensures.value c.take_in.auto.taps (grind (arith, common_steps)) c.take_in.ensures),
+          (takes_of _ c.as_mut_slice.result.now c.receive.new.receive_windows _ c.in-Some.seat c.send-sent.result.frame c.as_mut_slice.ensures.value c.receive.auto.receive_windows (grind (arith, common_steps)) c.receive.ensures),
     )
 
 pub returns-clause-spares : goal.returns-clause-spares

@@ -28,7 +28,7 @@ returns-then-passes_over-clause-full g c = (λ e. absurd (search rules), λ f. a
 
 pub returns-clause-ok : goal.returns-clause-ok
 returns-clause-ok g c =
-    let same : c.match-sifted.self ≡ c.args.self.now = elim c.match-sifted.branch [
+    let same : c.match-acceptance.self ≡ c.args.self.now = elim c.match-acceptance.branch [
       | in-Some+else-is_current w ↦ w.self-is ∙ elim w.else-is_current.branch [
         | else-is_current-via-then-is_current+else-passes_over v ↦ v.self-is ∙ v.passes_over.ensures.left v.if-passes_over.false
         | else-is_current-via-else-is_current v ↦ v.self-is

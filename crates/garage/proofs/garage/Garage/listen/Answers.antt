@@ -59,7 +59,7 @@ loop-next-preserved-then-next-units g c =
           (record { before = (get_or c.pass_in_turn-next.new.units c.pass_in_turn-next.result c.index-units-next.result); after = c.catch_up.new.parked; there = (slice_get-get_or c.pass_in_turn-next.new.units c.pass_in_turn-next.result c.index-units-next.result c.if-next-units.true); put = refl; heard = out }),
       crew_after _ _ c.pass_in_turn-next.result c.pass_in_turn-next.new.self c.catch_up.new.self c.pass_in_turn-next.new.units c.pass_in_turn-next.new.recorded c.keep.new.recorded (get_or c.pass_in_turn-next.new.units c.pass_in_turn-next.result c.index-units-next.result) c.catch_up.new.parked c.in_ok-known.known c.pass_in_turn-next.ensures.crew (slice_get-get_or c.pass_in_turn-next.new.units c.pass_in_turn-next.result c.index-units-next.result c.if-next-units.true) out c.in_ok-known.ensures.recorded
           c.keep.ensures.others c.keep.ensures.this,
-      last_after _ c.in-Some.last.frame c.in-Some.last.sifted c.pass_in_turn-next.new.self c.catch_up.new.self c.pass_in_turn-next.new.units _ moved c.pass_in_turn-next.ensures.last,
+      last_after _ c.in-Some.last.frame c.in-Some.last.acceptance c.pass_in_turn-next.new.self c.catch_up.new.self c.pass_in_turn-next.new.units _ moved c.pass_in_turn-next.ensures.last,
       (let n = moved.count in let l = c.if-next-units.true in omega arith),
     )
 

@@ -10,7 +10,7 @@ invariant-loop-next g l =
     HearInTurn (λ p. record { seat = p.seat; name = (goal.Unit-dyn g (p.unit.vtable, p.unit.value)).name_of p.unit.value; events = p.events; memory = (goal.Unit-dyn g (p.unit.vtable, p.unit.value)).memory_of p.unit.value })
     (λ p q o a. (u : _) × (q.unit ≡ record p.unit { value = u }) × IsAsked ((goal.Unit-dyn g (p.unit.vtable, p.unit.value)).Answers p.unit.value) o a p.unit.value u) l.next l.fn.self l.fn.units l.self l.units
     × IsCrew (λ p. record { seat = p.seat; name = (goal.Unit-dyn g (p.unit.vtable, p.unit.value)).name_of p.unit.value; events = p.events; memory = (goal.Unit-dyn g (p.unit.vtable, p.unit.value)).memory_of p.unit.value }) l.self l.units l.recorded
-    × IsLast l.last.frame l.last.sifted l.self
+    × IsLast l.last.frame l.last.acceptance l.self
     × l.next ≤ length l.units
 
 abbrev pub decreases-loop-next : goal.decreases-loop-next

@@ -31,7 +31,7 @@ loop-i-init g c =
       record {
         stands = c.self.invariant;
         crew = subst (λ (v : GarageValue). IsCrew (λ p. record { seat = p.seat; name = (goal.Unit-dyn g (p.unit.vtable, p.unit.value)).name_of p.unit.value; events = p.events; memory = (goal.Unit-dyn g (p.unit.vtable, p.unit.value)).memory_of p.unit.value }) v c.args.units.now c.args.recorded.now) (sym c.self.view_is) c.requires.crew;
-        last = subst (λ (v : GarageValue). IsLast c.args.last.now.frame c.args.last.now.sifted v) (sym c.self.view_is) c.requires.last;
+        last = subst (λ (v : GarageValue). IsLast c.args.last.now.frame c.args.last.now.acceptance v) (sym c.self.view_is) c.requires.last;
         heard = subst (λ (v : GarageValue). HearOnward (λ p. record { seat = p.seat; name = (goal.Unit-dyn g (p.unit.vtable, p.unit.value)).name_of p.unit.value; events = p.events; memory = (goal.Unit-dyn g (p.unit.vtable, p.unit.value)).memory_of p.unit.value }) (λ p q o a. (u : _) × (q.unit ≡ record p.unit { value = u }) × IsAsked ((goal.Unit-dyn g (p.unit.vtable, p.unit.value)).Answers p.unit.value) o a p.unit.value u) c.args.first c.args.first c.args.self.now c.args.units.now v c.args.units.now) (sym c.self.view_is) (λ v vs h. h);
         count = refl;
         within = omega arith;
@@ -45,7 +45,7 @@ unheard-behind-requires g c = bus_unit c.loop-i.self-inside _ c.loop-i.invariant
 
 pub loop-i-preserved-then-behind-eq0 : goal.loop-i-preserved-then-behind-eq0
 loop-i-preserved-then-behind-eq0 g c = (
-  turn_still (λ p. record { seat = p.seat; name = (goal.Unit-dyn g (p.unit.vtable, p.unit.value)).name_of p.unit.value; events = p.events; memory = (goal.Unit-dyn g (p.unit.vtable, p.unit.value)).memory_of p.unit.value }) (λ p q o a. (u : _) × (q.unit ≡ record p.unit { value = u }) × IsAsked ((goal.Unit-dyn g (p.unit.vtable, p.unit.value)).Answers p.unit.value) o a p.unit.value u) c.args.first c.args.self.now c.args.units.now c.args.last.now.frame c.args.last.now.sifted c.loop-i.self-inside c.loop-i.units c.loop-i.recorded c.loop-i.i _ (length c.loop-i.units - c.loop-i.i) _ (get_or c.loop-i.units c.loop-i.i c.index-units-i.result)
+  turn_still (λ p. record { seat = p.seat; name = (goal.Unit-dyn g (p.unit.vtable, p.unit.value)).name_of p.unit.value; events = p.events; memory = (goal.Unit-dyn g (p.unit.vtable, p.unit.value)).memory_of p.unit.value }) (λ p q o a. (u : _) × (q.unit ≡ record p.unit { value = u }) × IsAsked ((goal.Unit-dyn g (p.unit.vtable, p.unit.value)).Answers p.unit.value) o a p.unit.value u) c.args.first c.args.self.now c.args.units.now c.args.last.now.frame c.args.last.now.acceptance c.loop-i.self-inside c.loop-i.units c.loop-i.recorded c.loop-i.i _ (length c.loop-i.units - c.loop-i.i) _ (get_or c.loop-i.units c.loop-i.i c.index-units-i.result)
       c.loop-i.invariant.0 refl (omega arith) (slice_get-get_or c.loop-i.units c.loop-i.i c.index-units-i.result (let e = c.loop-i.auto.units in let t = c.loop-i-test.true in omega arith)) (let k = c.unheard-behind.ensures.count in let e = c.if-behind-eq0.true in omega arith),
   c.loop-i.invariant.1,
 )
@@ -109,27 +109,27 @@ loop-i-preserved g c =
     } in
     let there' = slice_get-get_or c.loop-i.units i c.index-units-i-in-loop-i.result inside in
     let again : p ≡ get_or c.loop-i.units i c.index-units-i-in-loop-i.result = (let e = sym there ∙ there' in cc) in (
-      subst (λ y. InTurn (λ p. record { seat = p.seat; name = (goal.Unit-dyn g (p.unit.vtable, p.unit.value)).name_of p.unit.value; events = p.events; memory = (goal.Unit-dyn g (p.unit.vtable, p.unit.value)).memory_of p.unit.value }) (λ p q o a. (u : _) × (q.unit ≡ record p.unit { value = u }) × IsAsked ((goal.Unit-dyn g (p.unit.vtable, p.unit.value)).Answers p.unit.value) o a p.unit.value u) c.args.first c.args.self.now c.args.units.now c.args.last.now.frame c.args.last.now.sifted b (set c.loop-i.units i (record y { events = c.pass_over.new.place.tally.events })) c.is_recorded.new.recorded (i + 1) (length (set c.loop-i.units i (record y { events = c.pass_over.new.place.tally.events })) - (i + 1))) again
-          (turn_passed (λ p. record { seat = p.seat; name = (goal.Unit-dyn g (p.unit.vtable, p.unit.value)).name_of p.unit.value; events = p.events; memory = (goal.Unit-dyn g (p.unit.vtable, p.unit.value)).memory_of p.unit.value }) (λ p q o a. (u : _) × (q.unit ≡ record p.unit { value = u }) × IsAsked ((goal.Unit-dyn g (p.unit.vtable, p.unit.value)).Answers p.unit.value) o a p.unit.value u) c.args.first c.args.self.now c.args.units.now c.args.last.now.frame c.args.last.now.sifted a b c.loop-i.units c.loop-i.recorded c.is_recorded.new.recorded i (i + 1) (n - i) (length (set c.loop-i.units i p') - (i + 1)) c.pass_over.new.place.tally.events p p' x c.settle.new.self so refl (omega arith) there known c.is_recorded.ensures.others
+      subst (λ y. InTurn (λ p. record { seat = p.seat; name = (goal.Unit-dyn g (p.unit.vtable, p.unit.value)).name_of p.unit.value; events = p.events; memory = (goal.Unit-dyn g (p.unit.vtable, p.unit.value)).memory_of p.unit.value }) (λ p q o a. (u : _) × (q.unit ≡ record p.unit { value = u }) × IsAsked ((goal.Unit-dyn g (p.unit.vtable, p.unit.value)).Answers p.unit.value) o a p.unit.value u) c.args.first c.args.self.now c.args.units.now c.args.last.now.frame c.args.last.now.acceptance b (set c.loop-i.units i (record y { events = c.pass_over.new.place.tally.events })) c.is_recorded.new.recorded (i + 1) (length (set c.loop-i.units i (record y { events = c.pass_over.new.place.tally.events })) - (i + 1))) again
+          (turn_passed (λ p. record { seat = p.seat; name = (goal.Unit-dyn g (p.unit.vtable, p.unit.value)).name_of p.unit.value; events = p.events; memory = (goal.Unit-dyn g (p.unit.vtable, p.unit.value)).memory_of p.unit.value }) (λ p q o a. (u : _) × (q.unit ≡ record p.unit { value = u }) × IsAsked ((goal.Unit-dyn g (p.unit.vtable, p.unit.value)).Answers p.unit.value) o a p.unit.value u) c.args.first c.args.self.now c.args.units.now c.args.last.now.frame c.args.last.now.acceptance a b c.loop-i.units c.loop-i.recorded c.is_recorded.new.recorded i (i + 1) (n - i) (length (set c.loop-i.units i p') - (i + 1)) c.pass_over.new.place.tally.events p p' x c.absorb.new.self so refl (omega arith) there known c.is_recorded.ensures.others
           (let k = c.unheard-behind.ensures.count in let w = c.unheard-behind.ensures.within in let e = c.if-behind-ne1.false in omega arith)
-          (subst (λ (n : ℕ). x ≡ get_or a.places.items (p.seat - n) x) c.loop-i.invariant.1 c.index_mut-place.ensures.value) (c.settle.ensures.settled c.if-not-settle.false) refl (ap (λ (y : Place). y.tally.events) did) (p.unit.value, refl, refl) refl gains.items c.pass_over.ensures.traffic
+          (subst (λ (n : ℕ). x ≡ get_or a.places.items (p.seat - n) x) c.loop-i.invariant.1 c.index_mut-place.ensures.value) (c.absorb.ensures.absorbed c.if-not-absorb.false) refl (ap (λ (y : Place). y.tally.events) did) (p.unit.value, refl, refl) refl gains.items c.pass_over.ensures.traffic
           (record { posts = refl; stations = refl })
-          (ap (λ (y : Place). set a.places.items (p.seat - c.self.inside.stations) y) did ∙ ap (λ (n : ℕ). set a.places.items (p.seat - n) (record x { node = c.settle.new.self; tally = one_more x.tally })) c.loop-i.invariant.1) refl refl refl ready),
+          (ap (λ (y : Place). set a.places.items (p.seat - c.self.inside.stations) y) did ∙ ap (λ (n : ℕ). set a.places.items (p.seat - n) (record x { node = c.absorb.new.self; tally = one_more x.tally })) c.loop-i.invariant.1) refl refl refl ready),
       c.loop-i.invariant.1,
     )
 
 pub is_recorded-requires-clause-known : goal.is_recorded-requires-clause-known
 is_recorded-requires-clause-known g c = λ t. c.loop-i.invariant.0.crew.told c.loop-i.i (get_or c.loop-i.units c.loop-i.i c.index-units-i-else-behind-ne1.result) (slice_get-get_or c.loop-i.units c.loop-i.i c.index-units-i-else-behind-ne1.result (let e = c.loop-i.auto.units in let t = c.loop-i-test.true in omega arith)) t
 
-pub returns-then-not-settle-clause-crew : goal.returns-then-not-settle-clause-crew
-returns-then-not-settle-clause-crew g c = crew_looked (λ p. record { seat = p.seat; name = (goal.Unit-dyn g (p.unit.vtable, p.unit.value)).name_of p.unit.value; events = p.events; memory = (goal.Unit-dyn g (p.unit.vtable, p.unit.value)).memory_of p.unit.value }) (garage_value_of c.loop-i.self-inside) c.loop-i.units c.loop-i.recorded c.is_recorded.new.recorded c.loop-i.i (get_or c.loop-i.units c.loop-i.i c.index-units-i-else-behind-ne1.result) c.loop-i.invariant.0.crew (slice_get-get_or c.loop-i.units c.loop-i.i c.index-units-i-else-behind-ne1.result (let e = c.loop-i.auto.units in let t = c.loop-i-test.true in omega arith)) c.is_recorded.ensures.others c.is_recorded.ensures.this
+pub returns-then-not-absorb-clause-crew : goal.returns-then-not-absorb-clause-crew
+returns-then-not-absorb-clause-crew g c = crew_looked (λ p. record { seat = p.seat; name = (goal.Unit-dyn g (p.unit.vtable, p.unit.value)).name_of p.unit.value; events = p.events; memory = (goal.Unit-dyn g (p.unit.vtable, p.unit.value)).memory_of p.unit.value }) (garage_value_of c.loop-i.self-inside) c.loop-i.units c.loop-i.recorded c.is_recorded.new.recorded c.loop-i.i (get_or c.loop-i.units c.loop-i.i c.index-units-i-else-behind-ne1.result) c.loop-i.invariant.0.crew (slice_get-get_or c.loop-i.units c.loop-i.i c.index-units-i-else-behind-ne1.result (let e = c.loop-i.auto.units in let t = c.loop-i-test.true in omega arith)) c.is_recorded.ensures.others c.is_recorded.ensures.this
 
 pub returns-clause-heard : goal.returns-clause-heard
 returns-clause-heard g c =
     let end : c.loop-i.i ≡ c.min-count.result = (let past = c.loop-i-test.false in let few = c.loop-i.auto.i-end (let within = c.if-first-count.false in omega arith) in omega arith) in
     subst (λ (n : ℕ). HearOnward (λ p. record { seat = p.seat; name = (goal.Unit-dyn g (p.unit.vtable, p.unit.value)).name_of p.unit.value; events = p.events; memory = (goal.Unit-dyn g (p.unit.vtable, p.unit.value)).memory_of p.unit.value }) (λ p q o a. (u : _) × (q.unit ≡ record p.unit { value = u }) × IsAsked ((goal.Unit-dyn g (p.unit.vtable, p.unit.value)).Answers p.unit.value) o a p.unit.value u) c.args.first n c.args.self.now c.args.units.now (garage_value_of c.loop-i.self-inside) c.loop-i.units) end c.loop-i.invariant.0.heard
 
-pub invariant_of-self-then-not-settle : goal.invariant_of-self-then-not-settle
-invariant_of-self-then-not-settle g c =
+pub invariant_of-self-then-not-absorb : goal.invariant_of-self-then-not-absorb
+invariant_of-self-then-not-absorb g c =
     let x = c.index_mut-place.result.now in
-    stands_written c.loop-i.self-inside _ x _ c.loop-i.invariant.0.stands c.index_mut-place.ensures.value (ap (λ (n : NodeValue). record x { node = n }) (c.settle.ensures.left c.if-not-settle.true))
+    stands_written c.loop-i.self-inside _ x _ c.loop-i.invariant.0.stands c.index_mut-place.ensures.value (ap (λ (n : NodeValue). record x { node = n }) (c.absorb.ensures.left c.if-not-absorb.true))

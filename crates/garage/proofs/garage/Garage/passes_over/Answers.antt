@@ -28,8 +28,8 @@ invariant_of-self-2 c =
     let fits = ok.0 in
     let room = ok.1 in
     let n = gains.room in
-    quiet_stands a _ seat m c.requires.next.0 c.index_mut-place.result.now c.settle.new.self c.self.invariant (unit_now a c.args.self.now seat c.self.view_is c.requires.unit) told.1
-    (next_inside a c.args.self.now seat c.requires.next.0 c.self.view_is c.requires.next.1) c.index_mut-place.ensures.value (c.requires.next.2.heard c.index_mut-place.result.now.node c.settle.new.self (c.settle.ensures.settled c.if-not-settle.false))
+    quiet_stands a _ seat m c.requires.next.0 c.index_mut-place.result.now c.absorb.new.self c.self.invariant (unit_now a c.args.self.now seat c.self.view_is c.requires.unit) told.1
+    (next_inside a c.args.self.now seat c.requires.next.0 c.self.view_is c.requires.next.1) c.index_mut-place.ensures.value (c.requires.next.2.heard c.index_mut-place.result.now.node c.absorb.new.self (c.absorb.ensures.absorbed c.if-not-absorb.false))
     refl gains.items c.pass_over.ensures.traffic (record { posts = refl; stations = refl }) (ap (λ (y : Place). set a.places.items (seat - a.stations) y) c.pass_over.ensures.place) refl refl refl (omega arith) (omega arith)
 
 pub returns-clause-passed : goal.returns-clause-passed
@@ -52,7 +52,7 @@ returns-clause-passed c = λ m e t.
         injected = a.injected;
         journal = c.pass_over.new.journal;
       })
-          c.args.self.now seat m m c.requires.next.0 x c.settle.new.self c.self.view_is c.self.invariant refl
+          c.args.self.now seat m m c.requires.next.0 x c.absorb.new.self c.self.view_is c.self.invariant refl
           gains.items refl (unit_now a c.args.self.now seat c.self.view_is c.requires.unit) told.1
-          (next_inside a c.args.self.now seat c.requires.next.0 c.self.view_is c.requires.next.1) c.index_mut-place.ensures.value (c.requires.next.2.heard x.node c.settle.new.self (c.settle.ensures.settled c.if-not-settle.false)),
+          (next_inside a c.args.self.now seat c.requires.next.0 c.self.view_is c.requires.next.1) c.index_mut-place.ensures.value (c.requires.next.2.heard x.node c.absorb.new.self (c.absorb.ensures.absorbed c.if-not-absorb.false)),
     ))

@@ -12,7 +12,7 @@ store_carry-requires-clause-few c = run_few c.self.inside c.self.invariant (omeg
 pub invariant_of-self : goal.invariant_of-self
 invariant_of-self c =
     let a = c.self.inside in
-    let k : Inside = record a { notes = c.store_carry.new.notes; passing = c.store_carry.new.run } in
+    let k : Inside = record a { notes = c.store_carry.new.notes; hear_run = c.store_carry.new.run } in
     let e = c.store_carry.ensures in
     let stores : Stores a k (note.Carry c.args.seat) = record { events = e.events; noted = e.noted; none = e.none; places = e.places; capacity = e.capacity } in
     kept_stored a k c.args.self.now (note.Carry c.args.seat) c.self.view_is c.self.invariant stores c.requires refl refl
@@ -20,7 +20,7 @@ invariant_of-self c =
 pub returns : goal.returns
 returns c =
     let a = c.self.inside in
-    let k : Inside = record a { notes = c.store_carry.new.notes; passing = c.store_carry.new.run } in
+    let k : Inside = record a { notes = c.store_carry.new.notes; hear_run = c.store_carry.new.run } in
     let e = c.store_carry.ensures in
     let stores : Stores a k (note.Carry c.args.seat) = record { events = e.events; noted = e.noted; none = e.none; places = e.places; capacity = e.capacity } in
     gains_stored a k c.args.self.now (note.Carry c.args.seat) (event.Carry c.args.seat) c.self.view_is stores c.requires refl refl

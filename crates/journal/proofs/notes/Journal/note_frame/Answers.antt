@@ -14,7 +14,7 @@ pub invariant_of-self : goal.invariant_of-self
 invariant_of-self c =
     let a = c.self.inside in
     let n = note.Frame c.args.station c.of-bytes.result c.id.result in
-    let k : Inside = record a { notes = c.store_frame.new.notes; passing = c.store_frame.new.run } in
+    let k : Inside = record a { notes = c.store_frame.new.notes; hear_run = c.store_frame.new.run } in
     let e = c.store_frame.ensures in
     let stores : Stores a k n = record { events = e.events; noted = e.noted; none = e.none; places = e.places; capacity = e.capacity } in
     kept_stored a k c.args.self.now n c.self.view_is c.self.invariant stores c.requires refl refl
@@ -23,7 +23,7 @@ pub returns : goal.returns
 returns c =
     let a = c.self.inside in
     let n = note.Frame c.args.station c.of-bytes.result c.id.result in
-    let k : Inside = record a { notes = c.store_frame.new.notes; passing = c.store_frame.new.run } in
+    let k : Inside = record a { notes = c.store_frame.new.notes; hear_run = c.store_frame.new.run } in
     let e = c.store_frame.ensures in
     let stores : Stores a k n = record { events = e.events; noted = e.noted; none = e.none; places = e.places; capacity = e.capacity } in
     gains_stored a k c.args.self.now n (event.Read c.args.station (reading.Frame c.args.frame.now)) c.self.view_is stores c.requires refl (rw (c.of-bytes.ensures ∙ c.bytes.ensures.value, c.id.ensures) refl)

@@ -1,6 +1,6 @@
 use Rattle.std.proofs.Common.{◌-◌, ◌≡◌, ◌≤◌, drop, length, take}
 use Rattle.station_c.specs.Lines.{ReadsLines}
-use Rattle.station_c.specs.declared.told.Told.TheVariants.{Nothing}
+use Rattle.station_c.specs.declared.told.LineContent.TheVariants.{Nothing}
 use Rattle.station_c.proofs.exports.logs.read_lines.Given as goal
 
 -- the lines before the place were read, and the last one told nothing beside; what stands behind their frames is untouched

@@ -38,7 +38,7 @@ told_spec 𝓤 𝓛 𝓜 𝓡 wired =
     let t : (p : Ptr) → _ = λ p. ((rawptr_Lawful 𝓛).typed p (ptr_val p ∷ []) refl).0 in
     qed 𝓛 ((‵ ftrue ⊛ ‵ (owns (types_at ended.signature.params κs) z.0.3 z.0.4)) ∷ raw ((c κs z.0.3).requires z.1) ∷ []) ∵ split ! $ move ! (1 ∷ []) $ fsplit ! $
     handle_out ! d z.0.4.0
-    (λ e ws. let p : Ptr = null_ptr in let w : Val = word p in let Same = made p ≡ d in let Told = true ≡ not (is_there d.at) in
+    (λ e ws. let p : Ptr = null_ptr in let w : Val = word p in let Same = made p ≡ d in let LineContent = true ≡ not (is_there d.at) in
     suffices ! (Run (w ∷ [])) (subst (λ (us : List Val). ent 𝓤 (Run (w ∷ [])) (Run us)) (sym (λ i. ws i ++ [])) (id⊢ 𝓤 (Run (w ∷ [])))) $ keep ! [] $
     enter ! 𝓣.C 𝓣.Λ code.function (w ∷ []) Post $ alloc_all ! (λ l. pass_all ! refl ((tt, ((t p).1, (tt, tt))), tt) $
     sets ! (of_opd ! (get_in ! (fld ! refl (stop !)) (sub ! 0 refl (whole !)))) refl (t p) $ sets ! (of_opd ! (get_in ! (fld ! refl (stop !)) (sub ! 1 refl (whole !)))) refl (tt, tt) $
@@ -46,9 +46,9 @@ told_spec 𝓤 𝓛 𝓜 𝓡 wired =
     sets ! (agg ! (and_then ! (get ! refl) (and_then ! (get ! refl) (no_more !)))) refl (tt, ((t p).1, (tt, tt))) $
     sets ! (agg ! (and_then ! (get ! refl) (and_then ! (get ! refl) (no_more !)))) refl (tt, (((t p).1, (tt, tt)), (tt, tt))) $
     nothing ! $ handle_in ! p d.full d.value $ owned ! bool _ (bool_Makes 𝓛) true (vbool true ∷ []) refl $ move ! (1 ∷ 0 ∷ []) $ pair_in Handle bool ! (made p) true w (vbool true) $
-    use0 𝓛 (raw (fact 𝓤 Told)) (fact_i 𝓤 Told (emp 𝓤) (ap (λ (q : Ptr). not (is_there q)) (sym e))) $ use0 𝓛 (raw (fact 𝓤 Same)) (fact_i 𝓤 Same (emp 𝓤) (ap made (sym e))) $ join ! $ nothing ! $ nothing ! $ nothing ! $ fjoin ! $
+    use0 𝓛 (raw (fact 𝓤 LineContent)) (fact_i 𝓤 LineContent (emp 𝓤) (ap (λ (q : Ptr). not (is_there q)) (sym e))) $ use0 𝓛 (raw (fact 𝓤 Same)) (fact_i 𝓤 Same (emp 𝓤) (ap made (sym e))) $ join ! $ nothing ! $ nothing ! $ nothing ! $ fjoin ! $
     returns ! (look_at ! 0 refl) $ free_all ! refl $ keep ! (1 ∷ 0 ∷ 3 ∷ 2 ∷ []) $ by ! (leaves 𝓛 ended hs c z (both w (vbool true)) (made p, true) (tt, tt) (tt, tt))))
-    (λ b o e far ws. let p : Ptr = block_ptr b o in let w : Val = word p in let Same = made p ≡ d in let Told = false ≡ not (is_there d.at) in
+    (λ b o e far ws. let p : Ptr = block_ptr b o in let w : Val = word p in let Same = made p ≡ d in let LineContent = false ≡ not (is_there d.at) in
     suffices ! (Run (w ∷ [])) (subst (λ (us : List Val). ent 𝓤 (Run (w ∷ [])) (Run us)) (sym (λ i. ws i ++ [])) (id⊢ 𝓤 (Run (w ∷ [])))) $ keep ! (0 ∷ []) $
     enter ! 𝓣.C 𝓣.Λ code.function (w ∷ []) Post $ alloc_all ! (λ l. pass_all ! refl ((tt, ((t p).1, (tt, tt))), tt) $
     sets ! (of_opd ! (get_in ! (fld ! refl (stop !)) (sub ! 0 refl (whole !)))) refl (t p) $ sets ! (of_opd ! (get_in ! (fld ! refl (stop !)) (sub ! 1 refl (whole !)))) refl (tt, tt) $
@@ -56,5 +56,5 @@ told_spec 𝓤 𝓛 𝓜 𝓡 wired =
     sets ! (agg ! (and_then ! (get ! refl) (and_then ! (get ! refl) (no_more !)))) refl (tt, ((t p).1, (tt, tt))) $
     sets ! (agg ! (and_then ! (get ! refl) (and_then ! (get ! refl) (no_more !)))) refl (tt, (((t p).1, (tt, tt)), (tt, tt))) $
     handle_in ! p d.full d.value $ owned ! bool _ (bool_Makes 𝓛) false (vbool false ∷ []) refl $ move ! (1 ∷ 0 ∷ []) $ pair_in Handle bool ! (made p) false w (vbool false) $
-    use0 𝓛 (raw (fact 𝓤 Told)) (fact_i 𝓤 Told (emp 𝓤) (ap (λ (q : Ptr). not (is_there q)) (sym e))) $ use0 𝓛 (raw (fact 𝓤 Same)) (fact_i 𝓤 Same (emp 𝓤) (ap made (sym e))) $ join ! $ nothing ! $ nothing ! $ nothing ! $ fjoin ! $
+    use0 𝓛 (raw (fact 𝓤 LineContent)) (fact_i 𝓤 LineContent (emp 𝓤) (ap (λ (q : Ptr). not (is_there q)) (sym e))) $ use0 𝓛 (raw (fact 𝓤 Same)) (fact_i 𝓤 Same (emp 𝓤) (ap made (sym e))) $ join ! $ nothing ! $ nothing ! $ nothing ! $ fjoin ! $
     returns ! (look_at ! 0 refl) $ free_all ! refl $ keep ! (1 ∷ 0 ∷ 3 ∷ 2 ∷ []) $ by ! (leaves 𝓛 ended hs c z (both w (vbool false)) (made p, false) (tt, tt) (tt, tt)))))

@@ -1,6 +1,0 @@
-use Rattle.bus_ledger.specs.Inside.{AreTapsOf}
-use Rattle.bus_ledger.proofs.bus.opening.taps_of.Given as goal
-
--- one window for each station before the index
-abbrev pub invariant-loop-station : goal.invariant-loop-station
-invariant-loop-station l = AreTapsOf l.taps.items l.stations l.station-index

@@ -1,0 +1,72 @@
+//! `live`: its files are read and opened here.
+
+use crate::errors::Errors;
+use crate::{open, read_file};
+use command_words::LiveArguments;
+use program_io::{Failure, Fault};
+use std::alloc::Global;
+use std::fs::{File, OpenOptions};
+use std::io;
+use std::io::StdinLock;
+use std::rt::{Files, Runtime};
+use std::sync::Wait;
+use std::thread::Threads;
+use vehicle::{LiveLine, VehicleFault, read_live_units};
+
+/// Puts the units of a vehicle file on the bus that standard input tells of.
+#[inline(never)]
+pub(crate) fn live<
+    R: Runtime
+        + AllocGlobal
+        + Threads
+        + Wait
+        + Sync
+        + Send
+        + Input<Reader = StdinLock<'static>>
+        + Files<File = File>
+        + 'static,
+>(rt: &R, words: LiveArguments<'_>) -> Result<(), Failure> {
+    live_command::look_at_live_words(rt.alloc(), &words)?;
+    let Some(path) = words.file else {
+        return Err(Failure::from(Fault::CommandLine));
+    };
+    let units = units_of(rt.alloc(), read_file(rt, path)?.as_slice())?;
+    let orders = match words.control {
+        Some(path) => Some(open_orders(rt, path)?),
+        None => None,
+    };
+    live_command::live(
+        rt,
+        rt.alloc(),
+        &words,
+        units,
+        rt.reader(),
+        orders,
+        &mut io::writer(rt),
+        &mut Errors::new(rt),
+    )
+}
+
+/// The units of a vehicle file.
+fn units_of(alloc: Global, file: &[u8]) -> Result<Vec<LiveLine>, Failure> {
+    let Ok(text) = std::str::from_utf8(file) else {
+        return Err(Failure::from(Fault::NotUtf8));
+    };
+    match read_live_units(alloc, text) {
+        Ok(units) => Ok(units),
+        Err(VehicleFault::Refused(words)) => Err(Failure::told(Fault::Vehicle, Ok(words))),
+        Err(VehicleFault::Memory) => Err(Failure::from(Fault::Memory)),
+    }
+}
+
+/// The file of the orders. A named pipe is opened in both directions, where that may be: then this does not wait for someone who
+/// writes, and the pipe does not end when that one does.
+fn open_orders<R: Runtime + AllocGlobal + Files<File = File>>(
+    rt: &R,
+    path: &str,
+) -> Result<File, Failure> {
+    match OpenOptions::new().read(true).write(true).open(rt, path) {
+        Ok(file) => Ok(file),
+        Err(_) => open(rt, path),
+    }
+}

@@ -78,7 +78,7 @@ impl LiveSimulated {
         self.live.counts()
     }
 
-    /// HasHeardAs a frame of the bus, and does what it owes for it (SAE J1939-21, -73, -81). Asked to clear codes or to hold a
+    /// Hears a frame of the bus, and does what it owes for it (SAE J1939-21, -73, -81). Asked to clear codes or to hold a
     /// commanded address, it agrees exactly if it is willing.
     ///
     /// Refused: `Full`, where as much waits as there is room for and the frame is a request, a request to send or a clear to send;

@@ -2,7 +2,8 @@
 
 A line has the edit and a sum of what its verdict rests on: the edit, its crate's own files, and the definitions of the crates below. (What
 else a crate below is made of can make this one fail its proof, and not an edit of it pass.) Of these files a comment counts for nothing,
-and in one of Rattle neither does where a line ends: so words can be mended, and lines broken, without judging anything again.
+and in one of Rattle neither does where a line ends, or that a type derives `Debug`, on which no contract rests: so words can be mended, and
+lines broken, without judging anything again.
 """
 import hashlib
 import os
@@ -38,11 +39,19 @@ def sums_of(crate, below):
 # In Rattle: a text or a character; or what stands between words, comments among it.
 WORDS = re.compile(r'("(?:\\.|[^"\\])*"|\'(?:\\.|[^\'\\])\')|(?:\s|//[^\n]*)+', re.DOTALL)
 
+DERIVED = re.compile(r"#\[derive\(([^)]*)\)\] ?")
+
+
+def without_debug(derived):
+    """An attribute that derives, without `Debug`, on which no contract rests."""
+    names = [it for it in re.split(r"[\s,]+", derived[1]) if it not in ("", "Debug")]
+    return f"#[derive({', '.join(names)})] " if names else ""
+
 
 def meant(path, content):
     """What of a file counts."""
     if path.endswith(".rt"):
-        return WORDS.sub(lambda it: it[1] or " ", content)
+        return DERIVED.sub(without_debug, WORDS.sub(lambda it: it[1] or " ", content))
     if path.endswith(".antt"):
         return "".join(f"{it}\n" for it in content.split("\n") if it.strip() and not it.lstrip().startswith("-- "))
     return content

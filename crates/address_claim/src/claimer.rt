@@ -22,7 +22,7 @@ pub enum ClaimStep {
 }
 
 /// A NAME with the address that it holds, and the NAMEs of the last claims heard of each address.
-#[derive(Debug, Drop)]
+#[derive(Drop)]
 pub struct Claimer {
     name: Name,
     held: Option<u8>,

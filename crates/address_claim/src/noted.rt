@@ -10,7 +10,7 @@ use std::marker::Model;
 /// The NAMEs of the last claims heard of each address, 0 to 253.
 ///
 /// It takes memory only for addresses of which a claim was heard.
-#[derive(Debug, Drop)]
+#[derive(Drop)]
 pub struct Noted {
     by_address: Option<BTreeMap<u8, Name>>,
 }

@@ -5,7 +5,7 @@ use can_frame::Frame;
 use name_field::Name;
 
 /// Which part of which message a frame is. It travels beside the frame, not in it.
-#[derive(Clone, Copy, Debug, PartialEq, Eq)]
+#[derive(Clone, Copy, PartialEq, Eq)]
 pub struct Tag {
     /// The message's number among all messages begun, from 0.
     pub message: u32,
@@ -16,7 +16,7 @@ pub struct Tag {
 }
 
 /// A station as the bus knows it.
-#[derive(Clone, Copy, Debug, PartialEq, Eq)]
+#[derive(Clone, Copy, PartialEq, Eq)]
 pub struct StationSeat {
     /// Its NAME.
     pub name: Name,
@@ -25,7 +25,7 @@ pub struct StationSeat {
 }
 
 /// A frame that waits in a queue.
-#[derive(Clone, Copy, Debug, PartialEq, Eq)]
+#[derive(Clone, Copy, PartialEq, Eq)]
 pub struct QueuedFrame {
     pub frame: Frame,
     pub tag: Option<Tag>,
@@ -46,7 +46,7 @@ impl QueuedFrame {
 /// A frame on the wire, and the seat that it came from: none where it was put there from outside.
 ///
 /// The bus keeps it in less memory.
-#[derive(Clone, Copy, Debug, PartialEq, Eq)]
+#[derive(Clone, Copy, PartialEq, Eq)]
 pub struct CarriedFrame {
     pub seat: Option<u32>,
     pub frame: Frame,
@@ -54,7 +54,7 @@ pub struct CarriedFrame {
 }
 
 /// Which frames of a queue are withdrawn.
-#[derive(Clone, Copy, Debug, PartialEq, Eq)]
+#[derive(Clone, Copy, PartialEq, Eq)]
 pub enum Which {
     /// Those that are tagged as part of a session.
     Session,

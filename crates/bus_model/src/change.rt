@@ -3,7 +3,7 @@ use dm_messages::Kind;
 use name_field::Name;
 
 /// A NAME whose address another one claimed.
-#[derive(Clone, Copy, Debug, PartialEq, Eq)]
+#[derive(Clone, Copy, PartialEq, Eq)]
 pub struct Displaced {
     /// The NAME.
     pub name: Name,
@@ -12,7 +12,7 @@ pub struct Displaced {
 }
 
 /// What one reading changes of what a station shows.
-#[derive(Clone, Copy, Debug, PartialEq, Eq)]
+#[derive(Clone, Copy, PartialEq, Eq)]
 pub enum Change {
     /// Nothing.
     Nothing,

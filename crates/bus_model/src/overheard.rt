@@ -5,7 +5,7 @@ use dm_messages::{Kind, ReadError};
 use name_field::Name;
 
 /// What one reading changes of what a listener shows: one who hears all messages on a bus, and takes no part.
-#[derive(Clone, Copy, Debug, PartialEq, Eq)]
+#[derive(Clone, Copy, PartialEq, Eq)]
 pub enum Overheard {
     /// Nothing.
     Nothing,

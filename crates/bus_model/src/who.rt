@@ -1,7 +1,7 @@
 use name_field::Name;
 
 /// Whose a diagnostic message is, for one who takes no part on the bus.
-#[derive(Clone, Copy, Debug, PartialEq, Eq)]
+#[derive(Clone, Copy, PartialEq, Eq)]
 pub enum Who {
     /// The NAME's that had claimed the source address last (SAE J1939-81).
     Named(Name),

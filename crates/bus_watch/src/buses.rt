@@ -11,7 +11,7 @@ use std::marker::Model;
 pub const MOST_BUSES: usize = 16;
 
 /// Which buses are watched.
-#[derive(Clone, Copy, Debug, PartialEq, Eq)]
+#[derive(Clone, Copy, PartialEq, Eq)]
 pub enum BusShown<'a> {
     /// The first that a line names.
     First,
@@ -30,7 +30,7 @@ pub struct BusWatch {
 }
 
 /// Which of the watches a line is for.
-#[derive(Clone, Copy, Debug, PartialEq, Eq)]
+#[derive(Clone, Copy, PartialEq, Eq)]
 pub enum Hearers {
     /// None: it is of no bus, or of one too many.
     Nobody,

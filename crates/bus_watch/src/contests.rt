@@ -8,7 +8,7 @@ use candump_line::Time;
 const CONTEST: u64 = 250_000;
 
 /// When a claim of each address last displaced another NAME, since frames were missed; none where the line told no time.
-#[derive(Debug, Drop)]
+#[derive(Drop)]
 pub(crate) struct Contests {
     table: [Option<Time>; 256],
 }

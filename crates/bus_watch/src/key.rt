@@ -5,7 +5,7 @@ use listener::Who;
 use name_field::Name;
 
 /// Whose entries are: what `Who` says, as a key of a map. NAMEs stand before addresses that nobody has claimed.
-#[derive(Clone, Copy, Debug, PartialEq, Eq, PartialOrd, Ord)]
+#[derive(Clone, Copy, PartialEq, Eq, PartialOrd, Ord)]
 pub(crate) enum Key {
     /// A NAME by its number.
     Named(u64),

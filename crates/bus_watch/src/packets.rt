@@ -9,7 +9,7 @@ use std::alloc::{AllocError, Global};
 use std::marker::Model;
 
 /// How the message stands that packets of an address belong to.
-#[derive(Clone, Copy, Debug)]
+#[derive(Clone, Copy)]
 pub(crate) enum Transfer {
     /// Its last frame came at this time, in microseconds.
     Since(u64),
@@ -18,7 +18,7 @@ pub(crate) enum Transfer {
 }
 
 /// How the message stands that packets of a source belong to, by their destination; none where none was announced with a time.
-#[derive(Debug, Drop)]
+#[derive(Drop)]
 struct Destinations {
     table: [Option<Transfer>; 256],
 }
@@ -36,7 +36,7 @@ impl Model for Destinations {
 ///
 /// A packet that comes later than the standard allows (T1, 750 ms, SAE J1939-21) may belong to another message, whose
 /// announcement was lost.
-#[derive(Debug, Drop)]
+#[derive(Drop)]
 pub(crate) struct Packets {
     sources: Vec<Destinations>,
 }

@@ -7,7 +7,7 @@ use std::alloc::AllocError;
 use trouble_code::Codes;
 
 /// Equal entries that came one after the other under a NAME.
-#[derive(Debug, Drop)]
+#[derive(Drop)]
 pub struct EntryRun {
     /// What each of them shows.
     pub shown: Shown,

@@ -9,7 +9,7 @@ use std::alloc::{AllocError, Global};
 use std::marker::Model;
 
 /// The runs of a list of entries, oldest first, and how many entries they are.
-#[derive(Debug, Drop)]
+#[derive(Drop)]
 pub(crate) struct RunList {
     runs: Vec<EntryRun>,
     entries: u64,

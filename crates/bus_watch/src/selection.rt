@@ -8,7 +8,7 @@ use listener::{Displaced, Overheard, SentEntry, Who};
 use name_field::Name;
 
 /// The unit of which alone it is told.
-#[derive(Clone, Copy, Debug, PartialEq, Eq)]
+#[derive(Clone, Copy, PartialEq, Eq)]
 pub enum UnitShown {
     /// The one of this NAME.
     Name(Name),
@@ -17,7 +17,7 @@ pub enum UnitShown {
 }
 
 /// Which of the messages that are heard are shown. All are heard, whatever is shown.
-#[derive(Clone, Copy, Debug)]
+#[derive(Clone, Copy)]
 pub struct Selection {
     /// The address whose messages are shown beside those to all, 0 to 255; none: everybody's.
     pub address: Option<u8>,

@@ -13,7 +13,7 @@ use std::alloc::{AllocError, Global};
 use std::marker::Model;
 
 /// The runs of a unit's entries, of each kind.
-#[derive(Debug, Drop)]
+#[derive(Drop)]
 pub(crate) struct UnitRuns {
     dm1: RunList,
     dm2: RunList,

@@ -6,7 +6,7 @@ use std::marker::Model;
 
 /// Of which addresses it was told that a message came from there without an owner: once, until somebody claims the address or
 /// frames are missed.
-#[derive(Debug, Drop)]
+#[derive(Drop)]
 pub(crate) struct Unowned {
     told: [bool; 256],
 }

@@ -28,7 +28,7 @@ mod readings;
 pub use over::Limits;
 
 /// How a bus is watched.
-#[derive(Clone, Copy, Debug)]
+#[derive(Clone, Copy)]
 pub struct WatchSettings {
     /// Which messages are shown.
     pub selection: Selection,

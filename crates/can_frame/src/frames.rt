@@ -5,14 +5,14 @@ use std::alloc::{AllocError, Global};
 use std::marker::Model;
 
 /// Frames in order. Up to one frame takes no memory.
-#[derive(Debug, Drop)]
+#[derive(Drop)]
 pub struct Frames {
     alloc: Global,
     places: Places,
 }
 
 /// Where the frames of a list stand.
-#[derive(Debug, Drop)]
+#[derive(Drop)]
 enum Places {
     /// There are none.
     None,

@@ -8,7 +8,7 @@ use crate::word::IdWord;
 use can_frame::{Frame, FrameError};
 
 /// What the words of a frame say.
-#[derive(Clone, Copy, Debug, PartialEq, Eq)]
+#[derive(Clone, Copy, PartialEq, Eq)]
 pub(crate) enum Content {
     /// A data frame with a 29-bit identifier.
     Frame(Frame),

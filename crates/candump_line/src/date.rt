@@ -23,13 +23,13 @@ fn leading_days(text: &[u8]) -> Option<(u64, &[u8])>
     ensures days { IfSome result (λ found. found.0 < 4_000_000) }
     ensures too_long { BeginsWithElevenDigits text.now → result ≡ None }
 {
-    let (year, rest) = number_of(text, 4)?;
-    let rest = behind(rest, b'-')?;
-    let (month, rest) = number_of(rest, 2)?;
-    let rest = behind(rest, b'-')?;
+    let (year, rest) = number_before(text, 4, b'-')?;
+    let (month, rest) = number_before(rest, 2, b'-')?;
     let (day, rest) = number_of(rest, 2)?;
-    let days = days_to(year, month, day)?;
-    Some((days, rest))
+    match days_to(year, month, day) {
+        Some(days) => Some((days, rest)),
+        None => None,
+    }
 }
 
 /// The microseconds from midnight to the time of day `HH:MM:SS.` with its fraction at the front of a text, and what stands behind
@@ -37,10 +37,8 @@ fn leading_days(text: &[u8]) -> Option<(u64, &[u8])>
 fn leading_day_micros(text: &[u8]) -> Option<(u64, &[u8])>
     ensures { IfSome result (λ found. found.0 < 2 ^ 40) }
 {
-    let (hours, rest) = number_of(text, 2)?;
-    let rest = behind(rest, b':')?;
-    let (minutes, rest) = number_of(rest, 2)?;
-    let rest = behind(rest, b':')?;
+    let (hours, rest) = number_before(text, 2, b':')?;
+    let (minutes, rest) = number_before(rest, 2, b':')?;
     let _seconds = number_of(rest, 2)?;
     let (micros, rest) = leading_micros(rest)?;
     if hours > 23 {
@@ -53,6 +51,19 @@ fn leading_day_micros(text: &[u8]) -> Option<(u64, &[u8])>
         return None;
     }
     Some(((hours * 60 + minutes) * 60_000_000 + micros, rest))
+}
+
+/// The number that exactly so many decimal digits at the front of a text spell, which this character follows, and what stands behind
+/// it.
+fn number_before(text: &[u8], digits: usize, character: u8) -> Option<(u64, &[u8])>
+    ensures bound { IfSome result (λ found. found.0 < 10 ^ 10) }
+    ensures too_long { BeginsWithElevenDigits text.now → result ≡ None }
+{
+    let (number, rest) = number_of(text, digits)?;
+    match behind(rest, character) {
+        Some(rest) => Some((number, rest)),
+        None => None,
+    }
 }
 
 /// The number that exactly so many decimal digits at the front of a text spell, and what stands behind them.

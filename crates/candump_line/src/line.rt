@@ -7,7 +7,7 @@ use crate::time::Time;
 use can_frame::Frame;
 
 /// A frame that is none of SAE J1939, which has 29-bit data frames of at most eight bytes alone.
-#[derive(Clone, Copy, Debug, PartialEq, Eq)]
+#[derive(Clone, Copy, PartialEq, Eq)]
 pub enum Foreign {
     /// Its identifier has 11 bits: three digits.
     StandardId,
@@ -20,7 +20,7 @@ pub enum Foreign {
 }
 
 /// What a line says.
-#[derive(Clone, Copy, Debug, PartialEq, Eq)]
+#[derive(Clone, Copy, PartialEq, Eq)]
 pub enum Line<'a> {
     /// A data frame with a 29-bit identifier, with the time and the bus where the line has them.
     Frame {

@@ -13,7 +13,7 @@ use std::io::Write;
 use std::{fmt, io};
 
 /// A frame with its time and its bus.
-#[derive(Clone, Copy, Debug)]
+#[derive(Clone, Copy)]
 pub(crate) struct Logged<'a> {
     pub time: Time,
     pub bus: &'a str,

@@ -38,9 +38,7 @@ fn next_behind_direction<'a>(words: &mut SplitAsciiWhitespace<'a>) -> Option<&'a
     if word != "RX" && word != "TX" {
         return Some(word);
     }
-    let _switched_rate = words.next()?;
-    let _error_state = words.next()?;
-    words.next()
+    words.nth(2)
 }
 
 /// Reads a line without a time: plain candump, what cansend takes, a frame that this program answers; else a note.

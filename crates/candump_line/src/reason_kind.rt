@@ -5,7 +5,7 @@ use crate::reason::Reason;
 use std::fmt;
 
 /// What a reason says, but for the numbers and characters in it. `Display` writes it.
-#[derive(Clone, Copy, Debug, PartialEq, Eq)]
+#[derive(Clone, Copy, PartialEq, Eq)]
 pub enum ReasonKind {
     TooLong,
     NotText,

@@ -15,7 +15,7 @@ const ENOUGH: u8 = 10;
 /// Relative times are those since the first line (`candump -tz`), which count, or since the line before (`candump -td`), which say
 /// nothing of lines further apart. One line does not tell which. Of the first kind none is less than the one before it, and they
 /// rise: where the first ten are so, they count, and until then and else they do not.
-#[derive(Clone, Copy, Debug, PartialEq, Eq)]
+#[derive(Clone, Copy, PartialEq, Eq)]
 pub enum Times {
     /// No line had a time yet.
     Unseen,

@@ -4,7 +4,7 @@ use crate::digits::{read_number, read_pairs};
 use crate::reason::Reason;
 
 /// What the word of an identifier says.
-#[derive(Clone, Copy, Debug, PartialEq, Eq)]
+#[derive(Clone, Copy, PartialEq, Eq)]
 pub(crate) enum IdWord {
     /// 11 bits: three digits.
     StandardId,
@@ -53,7 +53,7 @@ pub(crate) fn bad_digit(word: &str) -> Option<Reason> {
 }
 
 /// The data of a frame, as far as it is read.
-#[derive(Clone, Copy, Debug)]
+#[derive(Clone, Copy)]
 pub(crate) struct Bytes {
     room: [u8; 8],
     len: usize,

@@ -3,7 +3,7 @@ use candump_line::Time;
 use std::fmt;
 
 /// How times are told to people.
-#[derive(Clone, Copy, Debug, PartialEq, Eq)]
+#[derive(Clone, Copy, PartialEq, Eq)]
 pub enum ClockForm {
     /// As the log has them: seconds.
     Log,
@@ -14,7 +14,7 @@ pub enum ClockForm {
 }
 
 /// How much of a second is told.
-#[derive(Clone, Copy, Debug, PartialEq, Eq)]
+#[derive(Clone, Copy, PartialEq, Eq)]
 pub enum Fraction {
     /// Whole seconds.
     Seconds,

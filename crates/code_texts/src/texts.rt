@@ -64,7 +64,7 @@ impl<T: Drop> From<AllocFailed<T>> for TextsFault {
 }
 
 /// The texts of a shop for SPNs, for FMIs, and for both together.
-#[derive(Debug, Drop)]
+#[derive(Drop)]
 pub struct Texts {
     spns: Numbered,
     fmis: Numbered,
@@ -72,7 +72,7 @@ pub struct Texts {
 }
 
 /// A text for each of some numbers.
-#[derive(Debug, Drop)]
+#[derive(Drop)]
 struct Numbered {
     texts: IndexMap<u64, String>,
 }

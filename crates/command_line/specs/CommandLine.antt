@@ -79,10 +79,11 @@ live_shape = subcommand_shape (codes "live")
     ∷ value_rule (codes "pace") ∷ value_rule (codes "times") ∷ flag_rule (codes "strict") ∷ place_rule (codes "file") ∷ [])
 
 -- the command `j1939bench`: it has a version, and wants one of its subcommands
+abbrev pub named_app : App
+named_app = on_top (λ s. record s { has_version = true; subcommand_required = true }) (new_app (codes "j1939bench"))
+
 abbrev pub garage_app : App
-garage_app = with_subcommand (with_subcommand
-    (on_top (λ s. record s { has_version = true; subcommand_required = true }) (new_app (codes "j1939bench")))
-    script_shape) threads_shape
+garage_app = with_subcommand (with_subcommand named_app script_shape) threads_shape
 
 abbrev pub wire_app : App
 wire_app = with_subcommand (with_subcommand garage_app log_shape) check_shape

@@ -29,49 +29,51 @@ spn the FMI:
   110,0,Engine coolant temperature above the normal range"
 }
 
+/// Its options.
+const OPTIONS: [CommandOption<'static>; 5] = [
+    CommandOption {
+        name: "format",
+        value: "text|json",
+        help: "How each line is answered [text]",
+        given: Given::Once,
+    },
+    CommandOption {
+        name: "units",
+        value: "FILE",
+        help: "Texts of units, as watch takes them",
+        given: Given::Once,
+    },
+    CommandOption {
+        name: "texts",
+        value: "FILE",
+        help: "Texts of SPNs and FMIs",
+        given: Given::Once,
+    },
+    CommandOption {
+        name: "join",
+        value: "",
+        help: "Joins the packets of a message, which gets a line of its own",
+        given: Given::Flag,
+    },
+    CommandOption {
+        name: "file",
+        value: "FILE",
+        help: "The log to read; standard input where none is given, and for -",
+        given: Given::Alone,
+    },
+];
+
 /// The subcommand `decode`.
 pub(crate) fn command<'a>(alloc: Global) -> Result<Command<'a>, AllocError>
     ensures shape { IfOk result (λ c. shape_of c ≡ decode_shape) }
     ensures local { IfOk result (λ c. (fields_of c).has_globals ≡ false) }
 {
-    let options = [
-        CommandOption {
-            name: "format",
-            value: "text|json",
-            help: "How each line is answered [text]",
-            given: Given::Once,
-        },
-        CommandOption {
-            name: "units",
-            value: "FILE",
-            help: "Texts of units, as watch takes them",
-            given: Given::Once,
-        },
-        CommandOption {
-            name: "texts",
-            value: "FILE",
-            help: "Texts of SPNs and FMIs",
-            given: Given::Once,
-        },
-        CommandOption {
-            name: "join",
-            value: "",
-            help: "Joins the packets of a message, which gets a line of its own",
-            given: Given::Flag,
-        },
-        CommandOption {
-            name: "file",
-            value: "FILE",
-            help: "The log to read; standard input where none is given, and for -",
-            given: Given::Alone,
-        },
-    ];
     subcommand(
         alloc,
         "decode",
         "Writes what each line of a log says, in words",
         input(),
-        &options,
+        &OPTIONS,
     )
 }
 

@@ -41,73 +41,75 @@ A unit of the vehicle file may have, beside name, address and kind:
   priority = 3                      # 0 to 7 [6]"
 }
 
+/// Its options.
+const OPTIONS: [CommandOption<'static>; 9] = [
+    CommandOption {
+        name: "bus",
+        value: "BUS",
+        help: "The bus whose frames are heard, which the lines name [can0]",
+        given: Given::Once,
+    },
+    CommandOption {
+        name: "control",
+        value: "FILE",
+        help: "What is asked of the units while the bus runs",
+        given: Given::Once,
+    },
+    CommandOption {
+        name: "dm1",
+        value: "active|always",
+        help: "Whether DM1 is sent also while there is nothing to tell [active]",
+        given: Given::Once,
+    },
+    CommandOption {
+        name: "gap",
+        value: "MS",
+        help: "Milliseconds from a packet of a broadcast to the next, 10 to 200 [50]",
+        given: Given::Once,
+    },
+    CommandOption {
+        name: "settle",
+        value: "MS",
+        help: "Milliseconds from a claim to anything else, 0 to 1000 [250]",
+        given: Given::Once,
+    },
+    CommandOption {
+        name: "pace",
+        value: "US",
+        help: "Microseconds from a line to the next, 0 to 100000 [1000]",
+        given: Given::Once,
+    },
+    CommandOption {
+        name: "times",
+        value: "clock|lines",
+        help: "Whose times count; with those of the lines nothing waits [clock]",
+        given: Given::Once,
+    },
+    CommandOption {
+        name: "strict",
+        value: "",
+        help: "The first bad line ends the run",
+        given: Given::Flag,
+    },
+    CommandOption {
+        name: "file",
+        value: "VEHICLE",
+        help: "The vehicle file",
+        given: Given::Alone,
+    },
+];
+
 /// The subcommand `live`.
 pub(crate) fn command<'a>(alloc: Global) -> Result<Command<'a>, AllocError>
     ensures shape { IfOk result (λ c. shape_of c ≡ live_shape) }
     ensures local { IfOk result (λ c. (fields_of c).has_globals ≡ false) }
 {
-    let options = [
-        CommandOption {
-            name: "bus",
-            value: "BUS",
-            help: "The bus whose frames are heard, which the lines name [can0]",
-            given: Given::Once,
-        },
-        CommandOption {
-            name: "control",
-            value: "FILE",
-            help: "What is asked of the units while the bus runs",
-            given: Given::Once,
-        },
-        CommandOption {
-            name: "dm1",
-            value: "active|always",
-            help: "Whether DM1 is sent also while there is nothing to tell [active]",
-            given: Given::Once,
-        },
-        CommandOption {
-            name: "gap",
-            value: "MS",
-            help: "Milliseconds from a packet of a broadcast to the next, 10 to 200 [50]",
-            given: Given::Once,
-        },
-        CommandOption {
-            name: "settle",
-            value: "MS",
-            help: "Milliseconds from a claim to anything else, 0 to 1000 [250]",
-            given: Given::Once,
-        },
-        CommandOption {
-            name: "pace",
-            value: "US",
-            help: "Microseconds from a line to the next, 0 to 100000 [1000]",
-            given: Given::Once,
-        },
-        CommandOption {
-            name: "times",
-            value: "clock|lines",
-            help: "Whose times count; with those of the lines nothing waits [clock]",
-            given: Given::Once,
-        },
-        CommandOption {
-            name: "strict",
-            value: "",
-            help: "The first bad line ends the run",
-            given: Given::Flag,
-        },
-        CommandOption {
-            name: "file",
-            value: "VEHICLE",
-            help: "The vehicle file",
-            given: Given::Alone,
-        },
-    ];
     subcommand(
         alloc,
         "live",
         "Puts the units of a vehicle on a real bus, through two pipes",
         pipes(),
-        &options,
+        &OPTIONS,
     )
 }
 

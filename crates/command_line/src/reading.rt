@@ -1,7 +1,8 @@
-ghost use Rattle.std.specs.Prelude.{◌≡◌, ◌⊎◌, ◌↔◌, [], IfErr, IfOk, IsTrue, OnOk, codes, map, string_bytes};
+ghost use Rattle.std.specs.Prelude.{◌≡◌, ◌⊎◌, ◌↔◌, [], IfErr, IfOk, IsTrue, OnOk, codes, false, map, string_bytes};
 ghost use Rattle.clap.specs.Words.{app_of, subcommand_name_of};
-ghost use Rattle.clap.specs.Simple.{new_app};
-ghost use Rattle.command_line.specs.CommandLine.{AsksForHelp, AsksForScript, HasCounts, HasWords, IsHelp, TellsWhy, bench_app, faults_in, garage_app, lines_app, wire_app};
+ghost use Rattle.clap.specs.Simple.{App, Shape, shape_of, with_subcommand};
+ghost use Rattle.clap.specs.declared.builder.command.Command.TheViews.{out-Command as fields_of};
+ghost use Rattle.command_line.specs.CommandLine.{AsksForHelp, AsksForScript, HasCounts, HasWords, IsHelp, TellsWhy, bench_app, faults_in, garage_app, lines_app, named_app, wire_app};
 
 use crate::fault::{LineFault, fault_of};
 use crate::{decode, live, script, threads, watch};
@@ -55,16 +56,26 @@ fn job_of<'a>(alloc: Global, matches: &ArgMatches<'a>) -> Result<Job<'a>, LineFa
     ensures untold { IfErr result (λ fault. HasWords fault → ⊥) }
 {
     match matches.subcommand() {
-        Some(("script", _)) => Ok(Job::Script),
-        Some(("threads", found)) => threads::job(found),
-        Some(("watch", found)) => Ok(Job::Watch {
-            words: watch::words(found),
-            assumed: watch::assumed(alloc, found)?,
-        }),
-        Some(("log", found)) => Ok(Job::Log(script::log_words(found))),
-        Some(("decode", found)) => Ok(Job::Decode(decode::words(found))),
-        Some(("check", _)) => Ok(Job::Check),
-        Some(("live", found)) => Ok(Job::Live(live::words(found))),
+        Some((name, found)) => job_named(alloc, name, found),
+        None => Err(LineFault::Refused(None)),
+    }
+}
+
+/// The job of the subcommand of this name, with the words that are found behind it.
+fn job_named<'a>(alloc: Global, name: &str, found: &ArgMatches<'a>) -> Result<Job<'a>, LineFault>
+    ensures range { IfOk result HasCounts }
+    ensures script { (result ≡ Ok Job.Script) ↔ (name.now ≡ codes "script") }
+    ensures no_help { IfErr result (λ fault. IsHelp fault → ⊥) }
+    ensures untold { IfErr result (λ fault. HasWords fault → ⊥) }
+{
+    match name {
+        "script" => Ok(Job::Script),
+        "threads" => threads::job(found),
+        "watch" => watch::job(alloc, found),
+        "log" => Ok(Job::Log(script::log_words(found))),
+        "decode" => Ok(Job::Decode(decode::words(found))),
+        "check" => Ok(Job::Check),
+        "live" => Ok(Job::Live(live::words(found))),
         _ => Err(LineFault::Refused(None)),
     }
 }
@@ -73,45 +84,55 @@ fn job_of<'a>(alloc: Global, matches: &ArgMatches<'a>) -> Result<Job<'a>, LineFa
 fn bench_command<'a>(alloc: Global) -> Result<Command<'a>, AllocError>
     ensures { IfOk result (λ c. app_of c ≡ bench_app) }
 {
-    with_lines(alloc, with_wire(alloc, with_garage(alloc)?)?)?.subcommand(live::command(alloc)?)
+    with_one_more(with_lines(alloc), live::command(alloc))
 }
 
-/// With those that read the lines of a log.
-fn with_lines<'a>(alloc: Global, command: Command<'a>) -> Result<Command<'a>, AllocError>
-    requires { app_of command ≡ wire_app }
+/// The command with the subcommands that read the lines of a log besides.
+fn with_lines<'a>(alloc: Global) -> Result<Command<'a>, AllocError>
     ensures { IfOk result (λ c. app_of c ≡ lines_app) }
 {
-    command
-        .subcommand(watch::command(alloc)?)?
-        .subcommand(decode::command(alloc)?)
+    let watching = with_one_more(with_wire(alloc), watch::command(alloc));
+    with_one_more(watching, decode::command(alloc))
 }
 
-/// With the subcommands that run a garage.
+/// The command with those that tell of a script's wire and of its lines besides.
+fn with_wire<'a>(alloc: Global) -> Result<Command<'a>, AllocError>
+    ensures { IfOk result (λ c. app_of c ≡ wire_app) }
+{
+    let logging = with_one_more(with_garage(alloc), script::log_command(alloc));
+    with_one_more(logging, script::check_command(alloc))
+}
+
+/// The command with the subcommands that run a garage.
 fn with_garage<'a>(alloc: Global) -> Result<Command<'a>, AllocError>
     ensures { IfOk result (λ c. app_of c ≡ garage_app) }
 {
-    named(alloc)?
-        .version("1.0")
-        .about("A diagnostic station for SAE J1939 with simulated control units")
-        .after_help(threads::vehicle())
-        .subcommand_required(true)
-        .subcommand(script::script_command(alloc)?)?
-        .subcommand(threads::command(alloc)?)
-}
-
-/// With those that tell of a script's wire and of its lines.
-fn with_wire<'a>(alloc: Global, command: Command<'a>) -> Result<Command<'a>, AllocError>
-    requires { app_of command ≡ garage_app }
-    ensures { IfOk result (λ c. app_of c ≡ wire_app) }
-{
-    command
-        .subcommand(script::log_command(alloc)?)?
-        .subcommand(script::check_command(alloc)?)
+    let scripted = with_one_more(named(alloc), script::script_command(alloc));
+    with_one_more(scripted, threads::command(alloc))
 }
 
 /// The command with no subcommand yet, under its own name whatever the first word is.
 fn named<'a>(alloc: Global) -> Result<Command<'a>, AllocError>
-    ensures { IfOk result (λ c. app_of c ≡ new_app (codes "j1939bench")) }
+    ensures { IfOk result (λ c. app_of c ≡ named_app) }
 {
-    Command::new(alloc, PROGRAM).bin_name(PROGRAM)
+    Command::new(alloc, PROGRAM)
+        .version("1.0")
+        .about("A diagnostic station for SAE J1939 with simulated control units")
+        .after_help(threads::vehicle())
+        .subcommand_required(true)
+        .bin_name(PROGRAM)
+}
+
+/// The command with this subcommand besides, where both could be made.
+fn with_one_more<'a>(
+    command: Result<Command<'a>, AllocError>,
+    subcommand: Result<Command<'a>, AllocError>,
+) -> Result<Command<'a>, AllocError>
+    ensures { (app : App) → (shape : Shape)
+        → IfOk command.entry (λ c. app_of c ≡ app)
+        → IfOk subcommand.entry (λ c. shape_of c ≡ shape)
+        → IfOk subcommand.entry (λ c. (fields_of c).has_globals ≡ false)
+        → IfOk result (λ c. app_of c ≡ with_subcommand app shape) }
+{
+    command?.subcommand(subcommand?)
 }

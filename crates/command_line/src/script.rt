@@ -66,27 +66,29 @@ pub(crate) fn script_command<'a>(alloc: Global) -> Result<Command<'a>, AllocErro
     subcommand(alloc, "script", about, lines(), &[])
 }
 
+/// The options of `log`.
+const LOG_OPTIONS: [CommandOption<'static>; 2] = [
+    CommandOption {
+        name: "bus",
+        value: "BUS",
+        help: "The bus that the lines name [can0]",
+        given: Given::Once,
+    },
+    CommandOption {
+        name: "period",
+        value: "US",
+        help: "Microseconds from frame to frame, 1 to 1000000 [540]",
+        given: Given::Once,
+    },
+];
+
 /// The subcommand `log`.
 pub(crate) fn log_command<'a>(alloc: Global) -> Result<Command<'a>, AllocError>
     ensures shape { IfOk result (λ c. shape_of c ≡ log_shape) }
     ensures local { IfOk result (λ c. (fields_of c).has_globals ≡ false) }
 {
     let about = "Runs a script from standard input and writes its wire as a log";
-    let options = [
-        CommandOption {
-            name: "bus",
-            value: "BUS",
-            help: "The bus that the lines name [can0]",
-            given: Given::Once,
-        },
-        CommandOption {
-            name: "period",
-            value: "US",
-            help: "Microseconds from frame to frame, 1 to 1000000 [540]",
-            given: Given::Once,
-        },
-    ];
-    subcommand(alloc, "log", about, uses(), &options)
+    subcommand(alloc, "log", about, uses(), &LOG_OPTIONS)
 }
 
 /// The subcommand `check`.

@@ -43,6 +43,28 @@ A vehicle file:
   fmi = 1                       # 0 to 31"
 }
 
+/// Its options.
+const OPTIONS: [CommandOption<'static>; 3] = [
+    CommandOption {
+        name: "turns",
+        value: "N",
+        help: "How many turns each unit has, 1 to 100000",
+        given: Given::Always,
+    },
+    CommandOption {
+        name: "reads",
+        value: "M",
+        help: "How often the station reads, 1 to 100000",
+        given: Given::Always,
+    },
+    CommandOption {
+        name: "report",
+        value: "",
+        help: "Writes the station's report after the units' lines",
+        given: Given::Flag,
+    },
+];
+
 /// The subcommand `threads`.
 pub(crate) fn command<'a>(alloc: Global) -> Result<Command<'a>, AllocError>
     ensures shape { IfOk result (λ c. shape_of c ≡ threads_shape) }
@@ -50,27 +72,7 @@ pub(crate) fn command<'a>(alloc: Global) -> Result<Command<'a>, AllocError>
 {
     let about =
         "Reads a vehicle from standard input and runs each of its units in a thread of its own";
-    let options = [
-        CommandOption {
-            name: "turns",
-            value: "N",
-            help: "How many turns each unit has, 1 to 100000",
-            given: Given::Always,
-        },
-        CommandOption {
-            name: "reads",
-            value: "M",
-            help: "How often the station reads, 1 to 100000",
-            given: Given::Always,
-        },
-        CommandOption {
-            name: "report",
-            value: "",
-            help: "Writes the station's report after the units' lines",
-            given: Given::Flag,
-        },
-    ];
-    subcommand(alloc, "threads", about, vehicle(), &options)
+    subcommand(alloc, "threads", about, vehicle(), &OPTIONS)
 }
 
 /// The job of the words behind `threads`.

@@ -1,11 +1,12 @@
 ghost use Rattle.std.specs.Prelude.{◌≡◌, IfErr, IfOk, false};
 ghost use Rattle.clap.specs.declared.builder.command.Command.TheViews.{out-Command as fields_of};
 ghost use Rattle.clap.specs.Simple.{shape_of};
-ghost use Rattle.command_line.specs.CommandLine.{watch_shape};
+ghost use Rattle.command_line.specs.CommandLine.{HasCounts, watch_shape};
 
+use crate::fault::LineFault;
 use crate::options::{CommandOption, Given, subcommand};
 use clap::{ArgMatches, Command};
-use command_words::WatchArguments;
+use command_words::{Job, WatchArguments};
 use std::alloc::{AllocError, Global};
 
 /// What is written, and how it is to be read.
@@ -42,132 +43,149 @@ Status: 0 done; 1 a read or write failed, or memory ran out; 2 the command line;
 or none was a frame (what it looks like is told, and what converts it), or more was heard than is kept at once."
 }
 
+/// Its options.
+const OPTIONS: [CommandOption<'static>; 18] = [
+    CommandOption {
+        name: "bus",
+        value: "BUS",
+        help: "The bus to watch; all: each of them; the first in the input where none is given",
+        given: Given::Once,
+    },
+    CommandOption {
+        name: "address",
+        value: "N",
+        help: "Of the sessions those to this address, 0 to 253, are shown; all where none is given",
+        given: Given::Once,
+    },
+    CommandOption {
+        name: "name",
+        value: "NAME",
+        help: "16 hexadecimal digits; says nothing any more, kept for old command lines",
+        given: Given::Once,
+    },
+    CommandOption {
+        name: "assume",
+        value: "ADDRESS=NAME",
+        help: "A unit that holds an address before the first line; may be given again",
+        given: Given::Often,
+    },
+    CommandOption {
+        name: "bad",
+        value: "missed|skip",
+        help: "Whether a bad line is a frame that was missed [missed]",
+        given: Given::Once,
+    },
+    CommandOption {
+        name: "silence",
+        value: "MS",
+        help: "How late a packet may come, 1 to 3600000 milliseconds [750]; 0: any",
+        given: Given::Once,
+    },
+    CommandOption {
+        name: "unclaimed",
+        value: "show|hide",
+        help: "Whether entries of addresses that nobody claimed are shown [show]",
+        given: Given::Once,
+    },
+    CommandOption {
+        name: "most",
+        value: "NAMES",
+        help: "Of how many NAMEs and unclaimed addresses is known at once, 256 to 1000000 [65536]",
+        given: Given::Once,
+    },
+    CommandOption {
+        name: "keep",
+        value: "RUNS",
+        help: "How many runs of equal entries are kept at once, 1 to 100000000 [1000000]",
+        given: Given::Once,
+    },
+    CommandOption {
+        name: "unit",
+        value: "NAME|N",
+        help: "Tells of one unit alone: of this NAME, or of whoever sends from address N, 0 to 253",
+        given: Given::Once,
+    },
+    CommandOption {
+        name: "from",
+        value: "TIME",
+        help: "Tells of what came at this time or later, as the log has it, or a date YYYY-MM-DD HH:MM:SS.mmm",
+        given: Given::Once,
+    },
+    CommandOption {
+        name: "to",
+        value: "TIME",
+        help: "Tells of what came at this time or before",
+        given: Given::Once,
+    },
+    CommandOption {
+        name: "format",
+        value: "text|json|csv|html",
+        help: "How changes and report are written [text]; csv, html: the report alone",
+        given: Given::Once,
+    },
+    CommandOption {
+        name: "units",
+        value: "FILE",
+        help: "Texts of units",
+        given: Given::Once,
+    },
+    CommandOption {
+        name: "texts",
+        value: "FILE",
+        help: "Texts of SPNs and FMIs, as decode takes them",
+        given: Given::Once,
+    },
+    CommandOption {
+        name: "clock",
+        value: "utc|log|relative",
+        help: "How times are told in text and on the page [log; on the page utc where times count from 1970]",
+        given: Given::Once,
+    },
+    CommandOption {
+        name: "strict",
+        value: "",
+        help: "The first bad line ends the run",
+        given: Given::Flag,
+    },
+    CommandOption {
+        name: "file",
+        value: "FILE",
+        help: "The log to read; standard input where none is given, and for -",
+        given: Given::Alone,
+    },
+];
+
 /// The subcommand `watch`.
 pub(crate) fn command<'a>(alloc: Global) -> Result<Command<'a>, AllocError>
     ensures shape { IfOk result (λ c. shape_of c ≡ watch_shape) }
     ensures local { IfOk result (λ c. (fields_of c).has_globals ≡ false) }
 {
-    let options = [
-        CommandOption {
-            name: "bus",
-            value: "BUS",
-            help: "The bus to watch; all: each of them; the first in the input where none is given",
-            given: Given::Once,
-        },
-        CommandOption {
-            name: "address",
-            value: "N",
-            help: "Of the sessions those to this address, 0 to 253, are shown; all where none is given",
-            given: Given::Once,
-        },
-        CommandOption {
-            name: "name",
-            value: "NAME",
-            help: "16 hexadecimal digits; says nothing any more, kept for old command lines",
-            given: Given::Once,
-        },
-        CommandOption {
-            name: "assume",
-            value: "ADDRESS=NAME",
-            help: "A unit that holds an address before the first line; may be given again",
-            given: Given::Often,
-        },
-        CommandOption {
-            name: "bad",
-            value: "missed|skip",
-            help: "Whether a bad line is a frame that was missed [missed]",
-            given: Given::Once,
-        },
-        CommandOption {
-            name: "silence",
-            value: "MS",
-            help: "How late a packet may come, 1 to 3600000 milliseconds [750]; 0: any",
-            given: Given::Once,
-        },
-        CommandOption {
-            name: "unclaimed",
-            value: "show|hide",
-            help: "Whether entries of addresses that nobody claimed are shown [show]",
-            given: Given::Once,
-        },
-        CommandOption {
-            name: "most",
-            value: "NAMES",
-            help: "Of how many NAMEs and unclaimed addresses is known at once, 256 to 1000000 [65536]",
-            given: Given::Once,
-        },
-        CommandOption {
-            name: "keep",
-            value: "RUNS",
-            help: "How many runs of equal entries are kept at once, 1 to 100000000 [1000000]",
-            given: Given::Once,
-        },
-        CommandOption {
-            name: "unit",
-            value: "NAME|N",
-            help: "Tells of one unit alone: of this NAME, or of whoever sends from address N, 0 to 253",
-            given: Given::Once,
-        },
-        CommandOption {
-            name: "from",
-            value: "TIME",
-            help: "Tells of what came at this time or later, as the log has it, or a date YYYY-MM-DD HH:MM:SS.mmm",
-            given: Given::Once,
-        },
-        CommandOption {
-            name: "to",
-            value: "TIME",
-            help: "Tells of what came at this time or before",
-            given: Given::Once,
-        },
-        CommandOption {
-            name: "format",
-            value: "text|json|csv|html",
-            help: "How changes and report are written [text]; csv, html: the report alone",
-            given: Given::Once,
-        },
-        CommandOption {
-            name: "units",
-            value: "FILE",
-            help: "Texts of units",
-            given: Given::Once,
-        },
-        CommandOption {
-            name: "texts",
-            value: "FILE",
-            help: "Texts of SPNs and FMIs, as decode takes them",
-            given: Given::Once,
-        },
-        CommandOption {
-            name: "clock",
-            value: "utc|log|relative",
-            help: "How times are told in text and on the page [log; on the page utc where times count from 1970]",
-            given: Given::Once,
-        },
-        CommandOption {
-            name: "strict",
-            value: "",
-            help: "The first bad line ends the run",
-            given: Given::Flag,
-        },
-        CommandOption {
-            name: "file",
-            value: "FILE",
-            help: "The log to read; standard input where none is given, and for -",
-            given: Given::Alone,
-        },
-    ];
     subcommand(
         alloc,
         "watch",
         "Reads the log of a bus, or a live bus, and writes what its units tell",
         changes(),
-        &options,
+        &OPTIONS,
     )
 }
 
+/// The job of the words behind `watch`.
+pub(crate) fn job<'a>(alloc: Global, found: &ArgMatches<'a>) -> Result<Job<'a>, LineFault>
+    ensures range { IfOk result HasCounts }
+    ensures watching { result ≡ Ok Job.Script → ⊥ }
+    ensures memory { IfErr result (λ fault. fault ≡ LineFault.Memory) }
+{
+    match assumed(alloc, found) {
+        Ok(assumed) => Ok(Job::Watch {
+            words: words(found),
+            assumed,
+        }),
+        Err(_) => Err(LineFault::Memory),
+    }
+}
+
 /// The words behind `watch`, but for the units that it assumes.
-pub(crate) fn words<'a>(found: &ArgMatches<'a>) -> WatchArguments<'a> {
+fn words<'a>(found: &ArgMatches<'a>) -> WatchArguments<'a> {
     WatchArguments {
         bus: found.get_str("bus"),
         address: found.get_str("address"),
@@ -190,10 +208,7 @@ pub(crate) fn words<'a>(found: &ArgMatches<'a>) -> WatchArguments<'a> {
 }
 
 /// The units that it assumes.
-pub(crate) fn assumed<'a>(
-    alloc: Global,
-    found: &ArgMatches<'a>,
-) -> Result<Vec<&'a str>, AllocError> {
+fn assumed<'a>(alloc: Global, found: &ArgMatches<'a>) -> Result<Vec<&'a str>, AllocError> {
     let mut assumed = Vec::new(alloc);
     if let Some(words) = found.get_strs("assume") {
         assumed.extend_from_slice(words)?;

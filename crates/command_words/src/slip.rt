@@ -1,7 +1,7 @@
 use std::fmt;
 
 /// A word that is none of what its option takes. `Display` tells it in the words of the command line's other refusals.
-#[derive(Clone, Copy, Debug, PartialEq, Eq)]
+#[derive(Clone, Copy, PartialEq, Eq)]
 pub struct Slip<'a> {
     /// The option, with what stands for its value on the page of help.
     pub option: &'a str,

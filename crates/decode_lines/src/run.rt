@@ -14,7 +14,7 @@ use trouble_code::Dtc;
 use unit_words::UnitTexts;
 
 /// How a line is answered.
-#[derive(Clone, Copy, Debug, PartialEq, Eq)]
+#[derive(Clone, Copy, PartialEq, Eq)]
 pub enum DecodeForm {
     /// In words.
     Text,

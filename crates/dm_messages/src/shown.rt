@@ -1,7 +1,7 @@
 use trouble_code::{Codes, Lamps};
 
 /// What a diagnostic message shows: the lamps and a list of codes.
-#[derive(Debug, Drop)]
+#[derive(Drop)]
 pub struct Shown {
     /// The lamps, and how they flash.
     pub lamps: Lamps,

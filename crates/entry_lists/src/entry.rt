@@ -2,7 +2,7 @@ use dm_messages::{Kind, Shown};
 use name_field::Name;
 
 /// An entry for a list: a diagnostic message that ended and can be read.
-#[derive(Debug, Drop)]
+#[derive(Drop)]
 pub struct NewEntry {
     /// Whose it is: the owner of its source address when it began.
     pub name: Name,

@@ -5,7 +5,7 @@ use std::alloc::{AllocError, Global};
 use std::marker::Model;
 
 /// The entries of each kind under a NAME, oldest first.
-#[derive(Debug, Drop)]
+#[derive(Drop)]
 pub(crate) struct KindEntries {
     dm1: Vec<Shown>,
     dm2: Vec<Shown>,

@@ -8,7 +8,7 @@ use std::collections::VecDeque;
 use std::marker::Model;
 
 /// The newest entries of a list, oldest first, and how many there were in all.
-#[derive(Debug, Drop)]
+#[derive(Drop)]
 pub(crate) struct NewestList {
     entries: VecDeque<Shown>,
     count: u64,
@@ -80,7 +80,7 @@ impl NewestList {
 }
 
 /// What is kept of the list of each kind under a NAME.
-#[derive(Debug, Drop)]
+#[derive(Drop)]
 pub(crate) struct NewestOfKinds {
     dm1: NewestList,
     dm2: NewestList,

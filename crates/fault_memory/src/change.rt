@@ -1,7 +1,7 @@
 use trouble_code::Lamps;
 
 /// A change of a fault memory.
-#[derive(Clone, Copy, Debug, PartialEq, Eq)]
+#[derive(Clone, Copy, PartialEq, Eq)]
 pub enum FaultChange {
     /// A fault is there: its code becomes active.
     Set { spn: u32, fmi: u8 },

@@ -1,5 +1,5 @@
 /// For whom words are written.
-#[derive(Clone, Copy, Debug, PartialEq, Eq)]
+#[derive(Clone, Copy, PartialEq, Eq)]
 pub enum Audience {
     /// For people: addresses in decimal, with their hexadecimal digits behind, lamps with their bytes, each group with its name.
     People,

@@ -7,7 +7,7 @@ use Rattle.can_frame.specs.declared.address.TheConstants.{GREATEST_ADDRESS}
 use Rattle.journal.specs.State.{Settings, StationSetting, station_seat}
 use Rattle.journal.specs.Journal.{GarageValue}
 use Rattle.journal.specs.declared.tally.Tally.{Tally}
-use Rattle.garage.specs.declared.garage.TheConstants.{MOST_EVENTS}
+use Rattle.journal.specs.declared.notes.TheConstants.{MOST_EVENTS}
 use Rattle.garage.specs.declared.opening.Setting.{Setting}
 
 -- an address that can be held, a window of 1 to 4,096 frames, a grant of at least one packet, a journal of 1 to 2^24 events

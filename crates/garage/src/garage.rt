@@ -9,9 +9,6 @@ use node_core::Node;
 use station_table::Station;
 use std::marker::Model;
 
-/// The most events that a journal may hold.
-pub const MOST_EVENTS: u32 = 1 << 24;
-
 /// A unit's place on the bus.
 ///
 /// It has what the unit keeps there, the number of the message of its last session, and its own events.

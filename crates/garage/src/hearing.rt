@@ -29,7 +29,7 @@ use std::alloc::Global;
 use unit_trait::Unit;
 
 /// What a unit heard.
-#[derive(Clone, Copy, Debug, PartialEq, Eq)]
+#[derive(Clone, Copy, PartialEq, Eq)]
 pub enum HeardOne {
     /// It has heard the whole wire.
     Nothing,
@@ -38,7 +38,7 @@ pub enum HeardOne {
 }
 
 /// What is known of the memory that the journal has of a unit, which is the one of its latest event.
-#[derive(Clone, Copy, Debug, PartialEq, Eq)]
+#[derive(Clone, Copy, PartialEq, Eq)]
 pub(crate) enum Recorded {
     /// It is the one that the unit has now.
     Current,
@@ -47,7 +47,7 @@ pub(crate) enum Recorded {
 }
 
 /// The last frame of the wire, and what it tells the units that it asks nothing of.
-#[derive(Clone, Copy, Debug, PartialEq, Eq)]
+#[derive(Clone, Copy, PartialEq, Eq)]
 pub(crate) struct LastFrame {
     pub(crate) frame: Frame,
     pub(crate) acceptance: Acceptance,

@@ -24,7 +24,7 @@ mod steps;
 
 pub use bus_ledger::{Carried, Counts, MOST_STATIONS};
 pub use error::GarageError;
-pub use garage::{Garage, MOST_EVENTS};
+pub use garage::Garage;
 pub use hearing::HeardOne;
 pub use opening::Setting;
 pub use plug::{Parked, Plug};

@@ -8,17 +8,17 @@ ghost use Rattle.garage.specs.Opening.{new_garage, setting_value, station_seat_o
 ghost use Rattle.garage.specs.Inside.{ArePostsOf};
 
 use crate::error::GarageError;
-use crate::garage::{Garage, MOST_EVENTS, Post};
+use crate::garage::{Garage, Post};
 use bus_ledger::{Bus, MOST_STATIONS, MOST_UNREAD, StationSeat};
 use can_frame::GREATEST_ADDRESS;
 use entry_lists::AllEntries;
-use journal::Journal;
+use journal::{Journal, MOST_EVENTS};
 use name_field::Name;
 use station_table::Station;
 use std::alloc::Global;
 
 /// How a station is opened.
-#[derive(Clone, Copy, Debug, PartialEq, Eq)]
+#[derive(Clone, Copy, PartialEq, Eq)]
 pub struct Setting {
     /// Its NAME.
     pub name: Name,

@@ -13,7 +13,7 @@ use station_table::Reaction;
 use transport::Run;
 
 /// To which messages the frames belong that a unit puts.
-#[derive(Clone, Copy, Debug, PartialEq, Eq)]
+#[derive(Clone, Copy, PartialEq, Eq)]
 pub(crate) struct Numbering {
     /// The number of the message that begins with them.
     pub(crate) begun: u32,

@@ -9,7 +9,7 @@ use std::alloc::Global;
 use trouble_code::Lamps;
 
 /// What the newest DM1 entry of a NAME tells.
-#[derive(Clone, Copy, Debug, PartialEq, Eq)]
+#[derive(Clone, Copy, PartialEq, Eq)]
 pub struct Newest {
     /// Its lamps, and how they flash.
     pub lamps: Lamps,
@@ -18,7 +18,7 @@ pub struct Newest {
 }
 
 /// What a station knows of a NAME, in one line.
-#[derive(Clone, Copy, Debug, PartialEq, Eq)]
+#[derive(Clone, Copy, PartialEq, Eq)]
 pub struct RowLine {
     /// The NAME.
     pub name: Name,
@@ -37,7 +37,7 @@ pub struct RowLine {
 /// What a station knows: a line for each NAME.
 ///
 /// The lines are in the order of the NAMEs' first claims.
-#[derive(Debug, Drop)]
+#[derive(Drop)]
 pub struct Snapshot {
     /// The lines.
     pub rows: Vec<RowLine>,

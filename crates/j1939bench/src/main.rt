@@ -7,12 +7,13 @@ mod live;
 
 use command_line::{LineFault, parse};
 use command_words::{DecodeArguments, Job, LogArguments, WatchArguments, path_of};
+use either::Either;
 use errors::Errors;
 use line_commands::ShopFiles;
 use program_io::{Failure, Fault};
 use reading_progress::TellingReader;
 use std::fs::File;
-use std::io::{IsTerminal, Read, StdinLock};
+use std::io::{IsTerminal, StdinLock};
 use std::process::ExitCode;
 use std::rt::{Files, Runtime};
 use std::sync::Wait;
@@ -54,14 +55,23 @@ fn run<
         + Files<File = File>
         + 'static,
 >(rt: &R, is_terminal: bool) -> Result<(), Failure> {
-    let words = match read_words(rt) {
-        Ok(words) => words,
-        Err(error) if error.kind() == io::ErrorKind::OutOfMemory => {
-            return Err(Failure::from(Fault::Memory));
-        }
-        Err(_) => return Err(Failure::from(Fault::CommandLine)),
-    };
-    match parse(rt.alloc(), words.as_slice()) {
+    let words = read_words(rt)?;
+    do_words(rt, words.as_slice(), is_terminal)
+}
+
+/// Does what these words ask for, the program's name first.
+fn do_words<
+    R: Runtime
+        + AllocGlobal
+        + Threads
+        + Wait
+        + Sync
+        + Send
+        + Input<Reader = StdinLock<'static>>
+        + Files<File = File>
+        + 'static,
+>(rt: &R, words: &[String], is_terminal: bool) -> Result<(), Failure> {
+    match parse(rt.alloc(), words) {
         Ok(job) => do_job(rt, job, is_terminal),
         Err(LineFault::Help(page)) => print_page(rt, page.as_str()),
         Err(LineFault::Refused(words)) => Err(Failure {
@@ -80,8 +90,19 @@ fn print_page<R: Print>(rt: &R, page: &str) -> Result<(), Failure> {
     }
 }
 
+/// The words of the command line.
 #[inline(never)]
-fn read_words<R: Runtime + AllocGlobal>(rt: &R) -> io::Result<Vec<String>> {
+fn read_words<R: Runtime + AllocGlobal>(rt: &R) -> Result<Vec<String>, Failure> {
+    match collected_words(rt) {
+        Ok(words) => Ok(words),
+        Err(error) if error.kind() == io::ErrorKind::OutOfMemory => {
+            Err(Failure::from(Fault::Memory))
+        }
+        Err(_) => Err(Failure::from(Fault::CommandLine)),
+    }
+}
+
+fn collected_words<R: Runtime + AllocGlobal>(rt: &R) -> io::Result<Vec<String>> {
     let words = std::env::args(rt)?.collect(rt.alloc())?;
     Ok(words)
 }
@@ -154,16 +175,50 @@ fn watch<R: Runtime + AllocGlobal>(
         units: named(words.units, &units),
         texts: named(words.texts, &texts),
     };
-    match path_of(words.file) {
+    watch_with(rt, words, assumed, files, is_terminal)
+}
+
+/// Watches with the shop's files.
+#[inline(never)]
+fn watch_with<R: Runtime + AllocGlobal>(
+    rt: &R,
+    words: WatchArguments<'_>,
+    assumed: &[&str],
+    files: ShopFiles<'_>,
+    is_terminal: bool,
+) -> Result<(), Failure> {
+    let mut input = rt.reader();
+    match reader_of(rt, words.file, &mut input, is_terminal) {
+        Ok(reader) => line_commands::watch(
+            rt.alloc(),
+            words,
+            assumed,
+            files,
+            reader,
+            io::writer(rt),
+            Errors::new(rt),
+        ),
+        Err(failure) => Err(failure),
+    }
+}
+
+/// What lines are read of: a file, or standard input, which is lent.
+type Lines<'a, R> = Either<<R as Files>::File, &'a mut <R as Input>::Reader>;
+
+/// A reader of a file, where one is named, or of standard input. Where standard error is a terminal, it tells there how far it is.
+#[inline(never)]
+fn reader_of<'a, R: Runtime + AllocGlobal>(
+    rt: &'a R,
+    file: Option<&str>,
+    input: &'a mut R::Reader,
+    is_terminal: bool,
+) -> Result<TellingReader<'a, Lines<'a, R>, R, Errors<'a, R>>, Failure> {
+    match path_of(file) {
         Some(path) => {
-            let reader = told(rt, open(rt, path)?, size_of(rt, path), is_terminal);
-            watch_from(rt, words, assumed, files, reader)
+            let lines = Either::Left(open(rt, path)?);
+            Ok(told(rt, lines, size_of(rt, path), is_terminal))
         }
-        None => {
-            let mut input = rt.reader();
-            let reader = told(rt, &mut input, None, is_terminal);
-            watch_from(rt, words, assumed, files, reader)
-        }
+        None => Ok(told(rt, Either::Right(input), None, is_terminal)),
     }
 }
 
@@ -205,25 +260,6 @@ fn named<'a>(path: Option<&str>, file: &'a Vec<u8>) -> Option<&'a [u8]> {
 }
 
 #[inline(never)]
-fn watch_from<R: Runtime + AllocGlobal, I: Read + Drop>(
-    rt: &R,
-    words: WatchArguments<'_>,
-    assumed: &[&str],
-    files: ShopFiles<'_>,
-    reader: I,
-) -> Result<(), Failure> {
-    line_commands::watch(
-        rt.alloc(),
-        words,
-        assumed,
-        files,
-        reader,
-        io::writer(rt),
-        Errors::new(rt),
-    )
-}
-
-#[inline(never)]
 fn log<R: Runtime + AllocGlobal>(rt: &R, words: LogArguments<'_>) -> Result<(), Failure> {
     script_commands::log(
         rt.alloc(),
@@ -254,34 +290,29 @@ fn decode<R: Runtime + AllocGlobal>(
         units: named(words.units, &units),
         texts: named(words.texts, &texts),
     };
-    match path_of(words.file) {
-        Some(path) => {
-            let reader = told(rt, open(rt, path)?, size_of(rt, path), is_terminal);
-            decode_from(rt, words, files, reader)
-        }
-        None => {
-            let mut input = rt.reader();
-            let reader = told(rt, &mut input, None, is_terminal);
-            decode_from(rt, words, files, reader)
-        }
-    }
+    decode_with(rt, words, files, is_terminal)
 }
 
+/// Answers lines with the shop's files.
 #[inline(never)]
-fn decode_from<R: Runtime + AllocGlobal, I: Read + Drop>(
+fn decode_with<R: Runtime + AllocGlobal>(
     rt: &R,
     words: DecodeArguments<'_>,
     files: ShopFiles<'_>,
-    reader: I,
+    is_terminal: bool,
 ) -> Result<(), Failure> {
-    line_commands::decode(
-        rt.alloc(),
-        words,
-        files,
-        reader,
-        io::writer(rt),
-        Errors::new(rt),
-    )
+    let mut input = rt.reader();
+    match reader_of(rt, words.file, &mut input, is_terminal) {
+        Ok(reader) => line_commands::decode(
+            rt.alloc(),
+            words,
+            files,
+            reader,
+            io::writer(rt),
+            Errors::new(rt),
+        ),
+        Err(failure) => Err(failure),
+    }
 }
 
 #[inline(never)]

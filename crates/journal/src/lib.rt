@@ -20,7 +20,7 @@ pub use laws::{
     commanded_addresses_can_be_held, journal_is_a_run, nothing_stays_unread, path_is_marked,
     shown_is_expected, station_stands_for_its_readings,
 };
-pub use notes::Journal;
+pub use notes::{Journal, MOST_EVENTS};
 pub use order::Order;
 pub use promises::{
     clear_path_looks_back, lists_only_grow, nothing_missed_shows_all, traffic_is_lawful,

@@ -17,6 +17,9 @@ use node_core::Answer;
 use std::alloc::{AllocError, Global};
 use std::marker::Model;
 
+/// The most events that a journal may hold.
+pub const MOST_EVENTS: u32 = 1 << 24;
+
 /// The number of no copy.
 const NO_COPY: u32 = u32::MAX;
 

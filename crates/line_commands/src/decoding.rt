@@ -1,4 +1,4 @@
-use crate::ending::outcome;
+use crate::ending::end_of;
 use crate::shop::{ShopFiles, ShopTexts};
 use command_words::DecodeArguments;
 use decode_lines::{DecodeForm, DecodeOptions};
@@ -26,21 +26,80 @@ pub fn decode<R: Read + Drop, W: Write + Drop, E: Write + Drop>(
     alloc: Global,
     words: DecodeArguments<'_>,
     files: ShopFiles<'_>,
-    reader: R,
-    writer: W,
-    errors: E,
+    mut reader: R,
+    mut writer: W,
+    mut errors: E,
 ) -> Result<(), Failure> {
-    let form = form_of(words)?;
-    let shop = ShopTexts::read(alloc, files)?;
-    let options = DecodeOptions {
-        form,
-        units: &shop.units,
-        texts: &shop.texts,
-        join: words.join,
-    };
-    let Ok(mut errors) = LineWriter::new(alloc, Messages::new(errors)) else {
-        return Err(Failure::from(Fault::Memory));
-    };
-    outcome(decode_lines::decode(alloc, reader, writer, &mut errors, &options))?;
-    Ok(())
+    let asked = Asked::read(alloc, words, files);
+    decode_asked(alloc, asked, &mut reader, &mut writer, &mut errors)
+}
+
+/// How each line is to be answered.
+#[derive(Drop)]
+struct Asked {
+    form: DecodeForm,
+    join: bool,
+    shop: ShopTexts,
+}
+
+impl Asked {
+    /// What the words ask for, with the texts of these files.
+    fn read(
+        alloc: Global,
+        words: DecodeArguments<'_>,
+        files: ShopFiles<'_>,
+    ) -> Result<Asked, Failure> {
+        let form = form_of(words)?;
+        let shop = ShopTexts::read(alloc, files)?;
+        Ok(Asked {
+            form,
+            join: words.join,
+            shop,
+        })
+    }
+
+    /// The same, lent.
+    fn options(&self) -> DecodeOptions<'_> {
+        DecodeOptions {
+            form: self.form,
+            units: &self.shop.units,
+            texts: &self.shop.texts,
+            join: self.join,
+        }
+    }
+}
+
+/// Answers lines as it is asked for, where anything is.
+fn decode_asked<R: Read, W: Write, E: Write>(
+    alloc: Global,
+    asked: Result<Asked, Failure>,
+    reader: &mut R,
+    writer: &mut W,
+    errors: &mut E,
+) -> Result<(), Failure> {
+    match asked {
+        Ok(asked) => decode_lines_of(alloc, reader, writer, errors, &asked),
+        Err(failure) => Err(failure),
+    }
+}
+
+/// Reads the lines, with room for what is told of them.
+fn decode_lines_of<R: Read, W: Write, E: Write>(
+    alloc: Global,
+    reader: &mut R,
+    writer: &mut W,
+    errors: &mut E,
+    asked: &Asked,
+) -> Result<(), Failure> {
+    let options = asked.options();
+    match LineWriter::new(alloc, Messages::new(errors)) {
+        Ok(mut errors) => end_of(decode_lines::decode(
+            alloc,
+            reader,
+            writer,
+            &mut errors,
+            &options,
+        )),
+        Err(_) => Err(Failure::from(Fault::Memory)),
+    }
 }

@@ -1,7 +1,7 @@
 ghost use Rattle.std.specs.Prelude.{◌≡◌, ◌<◌, None, Err, true};
 
 use log_lines::{LinesEnd, LogFault};
-use program_io::Fault;
+use program_io::{Failure, Fault};
 use watch_lines::Watched;
 
 /// How a run over lines ends the program.
@@ -18,6 +18,12 @@ pub(crate) fn outcome(ended: LinesEnd) -> Result<(), Fault>
     }
 }
 
+/// How such a run ends a subcommand.
+pub(crate) fn end_of(ended: LinesEnd) -> Result<(), Failure> {
+    outcome(ended)?;
+    Ok(())
+}
+
 /// How a run that watches lines ends the program: that it was begun anew is told as bad lines are.
 pub(crate) fn outcome_of(watched: Watched) -> Result<(), Fault>
     ensures bad { watched.ended.fault ≡ None → 0 < watched.ended.bad → result ≡ Err Fault.BadLines }
@@ -26,4 +32,10 @@ pub(crate) fn outcome_of(watched: Watched) -> Result<(), Fault>
     let Watched { mut ended, is_anew } = watched;
     ended.is_unread = ended.is_unread || is_anew;
     outcome(ended)
+}
+
+/// How such a run ends a subcommand.
+pub(crate) fn end_of_watch(watched: Watched) -> Result<(), Failure> {
+    outcome_of(watched)?;
+    Ok(())
 }

@@ -1,11 +1,11 @@
-use crate::ending::outcome_of;
+use crate::ending::end_of_watch;
 use crate::shop::{ShopFiles, ShopTexts};
 use crate::watch_words::{assumed_of, options_of};
 use command_words::WatchArguments;
 use program_io::{Failure, Fault, Messages};
 use std::alloc::Global;
 use std::io::{LineWriter, Read, Write};
-use watch_lines::Assumed;
+use watch_lines::{Assumed, WatchOptions};
 
 /// `watch`: what the lines of a log or of a live bus tell. Each word of `assumed` is the `ADDRESS=NAME` of a unit that holds an
 /// address before the first line.
@@ -21,41 +21,76 @@ pub fn watch<R: Read + Drop, W: Write + Drop, E: Write + Drop>(
     words: WatchArguments<'_>,
     assumed: &[&str],
     files: ShopFiles<'_>,
-    reader: R,
-    writer: W,
-    errors: E,
+    mut reader: R,
+    mut writer: W,
+    mut errors: E,
 ) -> Result<(), Failure> {
-    let assumed = assumed_of(alloc, assumed)?;
-    let shop = ShopTexts::read(alloc, files)?;
-    watch_with(
-        alloc,
-        &words,
-        assumed.as_slice(),
-        &shop,
-        reader,
-        writer,
-        errors,
-    )?;
-    Ok(())
+    let known = Known::read(alloc, assumed, files);
+    watch_known(alloc, &words, known, &mut reader, &mut writer, &mut errors)
 }
 
-/// Watches with a shop's texts.
-fn watch_with<R: Read + Drop, W: Write + Drop, E: Write + Drop>(
+/// What is known before the first line.
+#[derive(Drop)]
+struct Known {
+    assumed: Vec<Assumed>,
+    shop: ShopTexts,
+}
+
+impl Known {
+    /// The units that these words assume, and the texts of these files.
+    fn read(alloc: Global, assumed: &[&str], files: ShopFiles<'_>) -> Result<Known, Failure> {
+        let assumed = assumed_of(alloc, assumed)?;
+        let shop = ShopTexts::read(alloc, files)?;
+        Ok(Known { assumed, shop })
+    }
+}
+
+/// Watches with what is known, where that could be read.
+fn watch_known<R: Read, W: Write, E: Write>(
     alloc: Global,
     words: &WatchArguments<'_>,
-    assumed: &[Assumed],
-    shop: &ShopTexts,
-    reader: R,
-    writer: W,
-    errors: E,
-) -> Result<(), Fault> {
-    let options = match options_of(words, assumed, shop) {
-        Ok(options) => options,
-        Err(fault) => return Err(fault),
-    };
-    let Ok(mut errors) = LineWriter::new(alloc, Messages::new(errors)) else {
-        return Err(Fault::Memory);
-    };
-    let watched = watch_lines::watch(alloc, reader, writer, &mut errors, &options);
-    outcome_of(watched)
+    known: Result<Known, Failure>,
+    reader: &mut R,
+    writer: &mut W,
+    errors: &mut E,
+) -> Result<(), Failure> {
+    match known {
+        Ok(known) => watch_with(alloc, words, &known, reader, writer, errors),
+        Err(failure) => Err(failure),
+    }
+}
+
+/// Watches as the words ask for it.
+fn watch_with<R: Read, W: Write, E: Write>(
+    alloc: Global,
+    words: &WatchArguments<'_>,
+    known: &Known,
+    reader: &mut R,
+    writer: &mut W,
+    errors: &mut E,
+) -> Result<(), Failure> {
+    match options_of(words, known.assumed.as_slice(), &known.shop) {
+        Ok(options) => watch_lines_of(alloc, reader, writer, errors, &options),
+        Err(fault) => Err(Failure::from(fault)),
+    }
+}
+
+/// Reads the lines, with room for what is told of them.
+fn watch_lines_of<R: Read, W: Write, E: Write>(
+    alloc: Global,
+    reader: &mut R,
+    writer: &mut W,
+    errors: &mut E,
+    options: &WatchOptions<'_>,
+) -> Result<(), Failure> {
+    match LineWriter::new(alloc, Messages::new(errors)) {
+        Ok(mut errors) => end_of_watch(watch_lines::watch(
+            alloc,
+            reader,
+            writer,
+            &mut errors,
+            options,
+        )),
+        Err(_) => Err(Failure::from(Fault::Memory)),
+    }
 }

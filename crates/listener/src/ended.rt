@@ -14,7 +14,7 @@ use transport::Took;
 
 /// A message that ended: whose it is and of which kind, and what it shows; or why it cannot be read, which says nothing where it
 /// can.
-#[derive(Debug, Drop)]
+#[derive(Drop)]
 pub struct ReadSending {
     pub sending: Sending,
     pub shown: Option<Shown>,

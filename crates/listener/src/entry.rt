@@ -2,7 +2,7 @@ use bus_model::Who;
 use dm_messages::{Kind, Shown};
 
 /// An entry for a list: a diagnostic message that ended and can be read.
-#[derive(Debug, Drop)]
+#[derive(Drop)]
 pub struct SentEntry {
     /// Whose it is: the owner of its source address when it began, or where that had none, the address itself.
     pub who: Who,

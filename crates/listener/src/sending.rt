@@ -5,7 +5,7 @@ use dm_messages::Kind;
 use std::marker::Model;
 
 /// Whose a message is, and of which kind.
-#[derive(Clone, Copy, Debug)]
+#[derive(Clone, Copy)]
 pub struct Sending {
     who: Who,
     kind: Kind,

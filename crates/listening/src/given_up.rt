@@ -12,7 +12,7 @@ use transport::Control;
 ///
 /// A session that was given up ends what was half joined from its source, until a request to send announces a diagnostic
 /// message again.
-#[derive(Debug, Drop)]
+#[derive(Drop)]
 pub struct GivenUp {
     sources: [bool; 256],
 }

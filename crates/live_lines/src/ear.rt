@@ -8,7 +8,7 @@ use std::alloc::{AllocError, Global};
 use std::io::Write;
 
 /// Who reads the lines of a bus for its units.
-#[derive(Debug, Drop)]
+#[derive(Drop)]
 pub struct Ear {
     bus: String,
     number: u64,
@@ -16,7 +16,7 @@ pub struct Ear {
 }
 
 /// What a line is to the units.
-#[derive(Clone, Copy, Debug)]
+#[derive(Clone, Copy)]
 pub(crate) struct Heard {
     /// A frame of their bus, with its time where the line has one.
     pub(crate) frame: Option<(Option<Time>, Frame)>,

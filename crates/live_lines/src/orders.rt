@@ -9,13 +9,13 @@ use std::alloc::Global;
 use std::fmt;
 
 /// What is asked of a unit.
-#[derive(Clone, Copy, Debug, PartialEq, Eq)]
+#[derive(Clone, Copy, PartialEq, Eq)]
 pub struct ControlOrder {
     command: Command,
 }
 
 /// What came of it. `Display` writes the answer's line without its end, in the words of a script's answers.
-#[derive(Clone, Copy, Debug, PartialEq, Eq)]
+#[derive(Clone, Copy, PartialEq, Eq)]
 pub enum Reply {
     /// It is done.
     Done,

@@ -17,7 +17,7 @@ pub(crate) const DM1_PERIOD: u64 = 1_000_000;
 pub(crate) const LONGEST_PAUSE: u64 = 153;
 
 /// What a unit keeps to, in microseconds.
-#[derive(Clone, Copy, Debug, PartialEq, Eq)]
+#[derive(Clone, Copy, PartialEq, Eq)]
 pub struct UnitSettings {
     /// How long it is at least from a packet of a broadcast to the next: 10,000 to 200,000 (SAE J1939-21).
     pub gap: u64,
@@ -28,7 +28,7 @@ pub struct UnitSettings {
 }
 
 /// From when on a unit may do what, in microseconds of its caller's clock.
-#[derive(Clone, Copy, Debug, PartialEq, Eq)]
+#[derive(Clone, Copy, PartialEq, Eq)]
 pub struct UnitClock {
     /// A claim goes.
     pub claim_from: u64,

@@ -28,7 +28,7 @@ use transport::Control;
 use unit_trait::Unit;
 
 /// What a unit did of its own accord.
-#[derive(Clone, Copy, Debug, PartialEq, Eq)]
+#[derive(Clone, Copy, PartialEq, Eq)]
 pub enum Act {
     /// Nothing is due.
     Nothing,

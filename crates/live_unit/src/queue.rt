@@ -16,7 +16,7 @@ use std::marker::Model;
 pub(crate) const MOST_PUT: u64 = 1 << 63;
 
 /// Where a frame waits.
-#[derive(Clone, Copy, Debug, PartialEq, Eq)]
+#[derive(Clone, Copy, PartialEq, Eq)]
 pub(crate) enum Lane {
     /// Claims of an address, and that none can be claimed.
     Claims,
@@ -29,7 +29,7 @@ pub(crate) enum Lane {
 }
 
 /// What became of the frames that a unit put: `put` is always the sum of the other three.
-#[derive(Clone, Copy, Debug, PartialEq, Eq)]
+#[derive(Clone, Copy, PartialEq, Eq)]
 pub struct QueueCounts {
     pub put: u64,
     pub written: u64,

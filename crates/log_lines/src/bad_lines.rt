@@ -9,7 +9,7 @@ use std::io::Write;
 const TOLD: u64 = 10;
 
 /// How many lines were bad, by the kind of their reasons.
-#[derive(Debug, Drop)]
+#[derive(Drop)]
 pub(crate) struct BadLines {
     counts: [u64; 13],
 }

@@ -7,7 +7,7 @@ use std::io;
 use std::io::Write;
 
 /// The times of a log: those that are since the line before count for nothing.
-#[derive(Clone, Copy, Debug)]
+#[derive(Clone, Copy)]
 pub struct LineClock {
     times: Times,
     /// Whether a frame had no time before any had one.

@@ -53,7 +53,7 @@ impl LogFault {
 }
 
 /// How a run ended.
-#[derive(Clone, Copy, Debug, PartialEq, Eq)]
+#[derive(Clone, Copy, PartialEq, Eq)]
 pub struct LinesEnd {
     /// How many lines were bad.
     pub bad: u64,

@@ -9,7 +9,7 @@ use std::io::Write;
 
 /// What is told beside the output of a run over lines: each of the first ten bad lines of a kind, how many further ones there were,
 /// and that no line is a frame.
-#[derive(Debug, Drop)]
+#[derive(Drop)]
 pub struct Notices {
     bad: BadLines,
     recognised: Recognised,

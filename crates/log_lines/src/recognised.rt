@@ -9,7 +9,7 @@ use std::io;
 use std::io::Write;
 
 /// What was recognised of an input by its lines so far: whether one tells of frames, and which other program's log it looks like.
-#[derive(Clone, Copy, Debug)]
+#[derive(Clone, Copy)]
 pub(crate) struct Recognised {
     lines: u64,
     has_frames: bool,

@@ -14,7 +14,7 @@ use transport::Control;
 ///
 /// It is the acceptance filter of CAN, as far as it is the same for all. By it a unit finds whether the frame asks nothing of it
 /// and makes it do nothing. It absorbs such a frame (`Node::absorb`), and hears any other in full.
-#[derive(Clone, Copy, Debug, PartialEq, Eq)]
+#[derive(Clone, Copy, PartialEq, Eq)]
 pub enum Acceptance {
     /// Nothing: each unit passes it over.
     Ignored,

@@ -18,7 +18,7 @@ pub enum Withdraw {
 /// A message that a unit begins.
 ///
 /// Its payload encodes the view of the unit's fault memory in that very call.
-#[derive(Clone, Copy, Debug, PartialEq, Eq)]
+#[derive(Clone, Copy, PartialEq, Eq)]
 pub struct Begun {
     /// DM1, DM2 or DM6.
     pub kind: Kind,
@@ -42,7 +42,7 @@ pub enum Answer {
 }
 
 /// What a unit does on hearing a frame: first it withdraws, then it queues.
-#[derive(Debug, Drop)]
+#[derive(Drop)]
 pub struct Heard {
     /// What it withdraws.
     pub withdraw: Withdraw,
@@ -83,7 +83,7 @@ impl Heard {
 }
 
 /// What came of beginning a message.
-#[derive(Debug, Drop)]
+#[derive(Drop)]
 pub enum Started {
     /// A session of that kind is open: nothing was begun.
     Held,

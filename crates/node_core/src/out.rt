@@ -27,7 +27,7 @@ pub struct Out {
 }
 
 /// One frame that a unit wants carried, or parts of one message in a row.
-#[derive(Debug, Drop)]
+#[derive(Drop)]
 pub enum Piece {
     /// One frame.
     One(Out),
@@ -38,7 +38,7 @@ pub enum Piece {
 /// Frames that a unit wants carried, in order: none, or one piece.
 ///
 /// A frame of a run is made when it is looked at.
-#[derive(Debug, Drop)]
+#[derive(Drop)]
 pub struct Outs {
     piece: Option<Piece>,
 }

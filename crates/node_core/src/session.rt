@@ -6,7 +6,7 @@ use dm_messages::Kind;
 use transport::Sending;
 
 /// An open session: its kind, and what is still to be sent.
-#[derive(Debug, Drop)]
+#[derive(Drop)]
 pub struct OpenSession {
     /// DM1, DM2 or DM6.
     pub kind: Kind,

@@ -2,7 +2,7 @@ use can_frame::Pgn;
 use std::marker::Model;
 
 /// A message of which all packets came.
-#[derive(Debug, Drop)]
+#[derive(Drop)]
 pub struct Joined {
     pub source: u8,
     /// 255 of a message for all.

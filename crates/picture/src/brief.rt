@@ -5,7 +5,7 @@ use trouble_code::{Dtc, Lamps};
 pub const LISTED: usize = 3;
 
 /// A trouble code in short.
-#[derive(Clone, Copy, Debug, PartialEq, Eq)]
+#[derive(Clone, Copy, PartialEq, Eq)]
 pub struct BriefCode {
     pub spn: u32,
     pub fmi: u8,
@@ -24,7 +24,7 @@ impl BriefCode {
 }
 
 /// A diagnostic message in short: its lamps, how many codes it has, and the first of them.
-#[derive(Clone, Copy, Debug)]
+#[derive(Clone, Copy)]
 pub struct Brief {
     lamps: [u8; 2],
     /// How many codes it has.

@@ -11,7 +11,7 @@ use std::alloc::{AllocError, Global};
 use std::marker::Model;
 
 /// What a line of a log changed.
-#[derive(Clone, Copy, Debug)]
+#[derive(Clone, Copy)]
 pub enum Occurrence {
     /// The unit holds this address, which another one lost by that, if one did.
     At {
@@ -53,7 +53,7 @@ pub enum Occurrence {
 }
 
 /// A change, and where and when it was told.
-#[derive(Clone, Copy, Debug)]
+#[derive(Clone, Copy)]
 pub struct Happened {
     pub line: u64,
     /// Microseconds, or the line of a log that has no times.

@@ -18,7 +18,7 @@ pub const DM1_SPANS: usize = 1024;
 pub const OTHER_SPANS: usize = 64;
 
 /// How equal messages in a row ended.
-#[derive(Clone, Copy, Debug)]
+#[derive(Clone, Copy)]
 pub struct RunEnd {
     /// When the last of them was told, where lines have times.
     pub micros: Option<u64>,
@@ -27,7 +27,7 @@ pub struct RunEnd {
 }
 
 /// A lane of the picture: what one unit held and told.
-#[derive(Debug, Drop)]
+#[derive(Drop)]
 pub struct UnitLane {
     unit: DrawnUnit,
     addresses: Track,
@@ -52,14 +52,14 @@ pub enum Holding {
 }
 
 /// Messages of a kind: those that ended, and those that may go on.
-#[derive(Debug, Drop)]
+#[derive(Drop)]
 struct MessageMarks {
     ended: Track,
     newest: Option<NewestSeen>,
 }
 
 /// The newest message, and when the first equal to it was told.
-#[derive(Clone, Copy, Debug)]
+#[derive(Clone, Copy)]
 struct NewestSeen {
     brief: Brief,
     since: u64,

@@ -5,7 +5,7 @@ use crate::brief::Brief;
 use crate::severity::Severity;
 
 /// What a unit shows for a while.
-#[derive(Clone, Copy, Debug)]
+#[derive(Clone, Copy)]
 pub enum Shows {
     /// It holds this address.
     Address(u8),
@@ -38,7 +38,7 @@ impl Shows {
 }
 
 /// What was shown from one moment to another: microseconds, or lines of a log that has no times.
-#[derive(Clone, Copy, Debug)]
+#[derive(Clone, Copy)]
 pub struct Span {
     pub from: u64,
     pub to: u64,

@@ -8,7 +8,7 @@ use std::alloc::{AllocError, Global};
 use std::marker::Model;
 
 /// Spans one after the other, so many at most, seen as these and how many may be.
-#[derive(Debug, Drop)]
+#[derive(Drop)]
 pub struct Track {
     spans: Vec<Span>,
     most: usize,

@@ -8,7 +8,7 @@ const MEGABYTE: u64 = 1_000_000;
 /// How far an input is read, in words.
 ///
 /// It is written as `read 384 of 1024 MB (37 %)`, or where no size is known as `read 1234567 lines in 12 s`.
-#[derive(Clone, Copy, Debug, PartialEq, Eq)]
+#[derive(Clone, Copy, PartialEq, Eq)]
 pub enum ProgressWords {
     /// So many bytes, of a file that had this size when it was opened.
     Bytes { read: u64, size: u64 },

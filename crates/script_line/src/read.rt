@@ -33,17 +33,37 @@ pub fn read_line(line: &str) -> Option<ScriptLine>
     let mut words = Words::of(line);
     let keyword = words.next_word()?;
     // To compare a `str` is a call, and no command has two characters.
-    let names_station = keyword.len() == 2 && keyword == "at";
-    let (station, keyword) = if names_station {
-        (next_number(&mut words)?, words.next_word()?)
-    } else {
-        (0, keyword)
-    };
-    let command = read_command(keyword, &mut words)?;
-    if words.next_word().is_some() || (names_station && !command.is_of_station()) {
-        return None;
+    if keyword.len() == 2 && keyword == "at" {
+        return read_of_station(&mut words);
     }
-    Some(ScriptLine { station, command })
+    match read_to_end(keyword, &mut words) {
+        Some(command) => Some(ScriptLine {
+            station: 0,
+            command,
+        }),
+        None => None,
+    }
+}
+
+/// The line that the words behind `at` spell: the number of a station, and a command of one.
+fn read_of_station(words: &mut Words<'_>) -> Option<ScriptLine>
+    ensures station { IfSome result (λ read. SpellsNumber (first_word words.old.rest.now) read.station) }
+    ensures of_station { IfSome result (λ read. is_of_station read.command ≡ true) }
+{
+    let station = next_number(words)?;
+    match read_to_end(words.next_word()?, words) {
+        Some(command) if command.is_of_station() => Some(ScriptLine { station, command }),
+        _ => None,
+    }
+}
+
+/// The command of a first word and all those behind it.
+fn read_to_end(keyword: &str, words: &mut Words<'_>) -> Option<Command> {
+    let command = read_command(keyword, words);
+    match words.next_word() {
+        None => command,
+        Some(_) => None,
+    }
 }
 
 /// The command of a first word and those behind it, which may be followed by others. The commands of which scripts have most

@@ -4,7 +4,7 @@ use hex_text::read_hex;
 use std::fmt;
 
 /// What is wanted at a place of a command.
-#[derive(Clone, Copy, Debug, PartialEq, Eq)]
+#[derive(Clone, Copy, PartialEq, Eq)]
 pub enum ExpectedWord {
     /// Any word: whether it is a NAME is seen when the command is carried out.
     Name,
@@ -52,7 +52,7 @@ fn words_of(wanted: ExpectedWord) -> &'static str {
 }
 
 /// Why a line is no command. `Display` writes it.
-#[derive(Clone, Copy, Debug, PartialEq, Eq)]
+#[derive(Clone, Copy, PartialEq, Eq)]
 pub enum LineReason<'a> {
     /// It has spaces alone.
     Blank,
@@ -83,75 +83,143 @@ pub enum LineReason<'a> {
 impl fmt::Display for LineReason<'_> {
     fn fmt<W: fmt::Write>(&self, f: &mut fmt::Formatter<W>) -> fmt::Result {
         match self {
-            LineReason::Blank => write!(f, "no word"),
-            LineReason::Unknown { word } => write!(f, "no command begins with '{word}'"),
-            LineReason::Missing { place } => write!(f, "{place}: missing"),
             LineReason::Unfit {
                 place,
                 word,
                 wanted,
             } => write!(f, "{place}: '{word}' is {wanted}"),
-            LineReason::NoStation { word } => write!(
-                f,
-                "'{word}' takes no station: read, ask, command, shown, row, stats and report do"
-            ),
-            LineReason::Behind { word } => write!(f, "'{word}' stands behind the command"),
+            other => {
+                let (before, told, behind) = parts_of(*other);
+                write!(f, "{before}{told}{behind}")
+            }
         }
     }
 }
 
-/// A place of a command: its name, and what is wanted there.
-type Place = (&'static str, ExpectedWord);
+/// What is told of a reason: the word or the place that it tells, and what stands before and behind that.
+fn parts_of(reason: LineReason<'_>) -> (&str, &str, &str) {
+    match reason {
+        LineReason::Blank => ("no word", "", ""),
+        LineReason::Unknown { word } => ("no command begins with '", word, "'"),
+        LineReason::Missing { place } => ("", place, ": missing"),
+        LineReason::Unfit { place, word, .. } => (place, word, ""),
+        LineReason::NoStation { word } => (
+            "'",
+            word,
+            "' takes no station: read, ask, command, shown, row, stats and report do",
+        ),
+        LineReason::Behind { word } => ("'", word, "' stands behind the command"),
+    }
+}
 
-const NAME: Place = ("NAME", ExpectedWord::Name);
+/// A place of a command.
+#[derive(Clone, Copy)]
+enum Place {
+    Name,
+    Address,
+    Window,
+    Grant,
+    Limit,
+    SecondName,
+    SecondAddress,
+    SecondWindow,
+    SecondGrant,
+    Seat,
+    Spn,
+    Fmi,
+    Count,
+    /// The kind of a unit that joins.
+    UnitKind,
+    Lamps,
+    Rounds,
+    What,
+    /// The kind of the message that is shown.
+    MessageKind,
+    Index,
+    Identifier,
+    Bytes,
+}
 
-const ADDRESS: Place = ("ADDRESS", ExpectedWord::Small);
+impl Place {
+    /// Its name.
+    fn name(self) -> &'static str {
+        match self {
+            Place::Name => "NAME",
+            Place::Address => "ADDRESS",
+            Place::Window => "WINDOW",
+            Place::Grant => "GRANT",
+            Place::Limit => "LIMIT",
+            Place::SecondName => "second NAME",
+            Place::SecondAddress => "second ADDRESS",
+            Place::SecondWindow => "second WINDOW",
+            Place::SecondGrant => "second GRANT",
+            Place::Seat => "SEAT",
+            Place::Spn => "SPN",
+            Place::Fmi => "FMI",
+            Place::Count | Place::Rounds => "N",
+            Place::UnitKind | Place::MessageKind => "KIND",
+            Place::Lamps => "HHHH",
+            Place::What => "WHAT",
+            Place::Index => "I",
+            Place::Identifier => "IIIIIIII",
+            Place::Bytes => "BB",
+        }
+    }
 
-const WINDOW: Place = ("WINDOW", ExpectedWord::Number);
-
-const GRANT: Place = ("GRANT", ExpectedWord::Small);
-
-const LIMIT: Place = ("LIMIT", ExpectedWord::Number);
-
-const SEAT: Place = ("SEAT", ExpectedWord::Number);
-
-const SPN: Place = ("SPN", ExpectedWord::Number);
-
-const FMI: Place = ("FMI", ExpectedWord::Small);
-
-const COUNT: Place = ("N", ExpectedWord::Count);
+    /// What is wanted there.
+    fn wanted(self) -> ExpectedWord {
+        match self {
+            Place::Name | Place::SecondName => ExpectedWord::Name,
+            Place::Address | Place::SecondAddress => ExpectedWord::Small,
+            Place::Grant | Place::SecondGrant | Place::Fmi => ExpectedWord::Small,
+            Place::Count => ExpectedWord::Count,
+            Place::UnitKind => ExpectedWord::Kind,
+            Place::Lamps => ExpectedWord::Lamps,
+            Place::What => ExpectedWord::What,
+            Place::MessageKind => ExpectedWord::Which,
+            Place::Identifier => ExpectedWord::Identifier,
+            Place::Bytes => ExpectedWord::Bytes,
+            _ => ExpectedWord::Number,
+        }
+    }
+}
 
 /// The places of a command behind its first word.
 fn places_of(word: &str) -> Option<&'static [Place]> {
     match word {
-        "garage" => Some(&[NAME, ADDRESS, WINDOW, GRANT, LIMIT]),
+        "garage" => Some(&[
+            Place::Name,
+            Place::Address,
+            Place::Window,
+            Place::Grant,
+            Place::Limit,
+        ]),
         "garage2" => Some(&[
-            NAME,
-            ADDRESS,
-            WINDOW,
-            GRANT,
-            ("second NAME", ExpectedWord::Name),
-            ("second ADDRESS", ExpectedWord::Small),
-            ("second WINDOW", ExpectedWord::Number),
-            ("second GRANT", ExpectedWord::Small),
-            LIMIT,
+            Place::Name,
+            Place::Address,
+            Place::Window,
+            Place::Grant,
+            Place::SecondName,
+            Place::SecondAddress,
+            Place::SecondWindow,
+            Place::SecondGrant,
+            Place::Limit,
         ]),
-        "join" => Some(&[NAME, ADDRESS, ("KIND", ExpectedWord::Kind)]),
-        "set" | "heal" | "pend" | "unpend" => Some(&[SEAT, SPN, FMI, COUNT]),
-        "lamps" => Some(&[SEAT, ("HHHH", ExpectedWord::Lamps)]),
-        "think" | "turn" | "leave" | "dm1" | "counts" => Some(&[SEAT]),
-        "hear" => Some(&[SEAT, COUNT]),
-        "carry" | "read" => Some(&[COUNT]),
-        "round" => Some(&[("N", ExpectedWord::Number)]),
-        "ask" => Some(&[NAME, ("WHAT", ExpectedWord::What)]),
-        "command" => Some(&[NAME, ADDRESS]),
-        "shown" => Some(&[NAME, ("KIND", ExpectedWord::Which)]),
-        "row" => Some(&[NAME]),
-        "frame" => Some(&[("I", ExpectedWord::Number)]),
-        "inject" => Some(&[
-            ("IIIIIIII", ExpectedWord::Identifier),
-            ("BB", ExpectedWord::Bytes),
-        ]),
+        "join" => Some(&[Place::Name, Place::Address, Place::UnitKind]),
+        "set" | "heal" | "pend" | "unpend" => {
+            Some(&[Place::Seat, Place::Spn, Place::Fmi, Place::Count])
+        }
+        "lamps" => Some(&[Place::Seat, Place::Lamps]),
+        "think" | "turn" | "leave" | "dm1" | "counts" => Some(&[Place::Seat]),
+        "hear" => Some(&[Place::Seat, Place::Count]),
+        "carry" | "read" => Some(&[Place::Count]),
+        "round" => Some(&[Place::Rounds]),
+        "ask" => Some(&[Place::Name, Place::What]),
+        "command" => Some(&[Place::Name, Place::Address]),
+        "shown" => Some(&[Place::Name, Place::MessageKind]),
+        "row" => Some(&[Place::Name]),
+        "frame" => Some(&[Place::Index]),
+        "inject" => Some(&[Place::Identifier, Place::Bytes]),
         "stats" | "report" | "injected" => Some(&[]),
         _ => None,
     }
@@ -209,19 +277,21 @@ fn unfit_behind<'a>(first: &'a str, words: &mut Words<'a>) -> Option<LineReason<
 
 /// Why the next word does not fit this place; none where it does.
 fn unfit_at<'a>(words: &mut Words<'a>, place: Place) -> Option<LineReason<'a>> {
-    let (name, wanted) = place;
+    let wanted = place.wanted();
     if wanted == ExpectedWord::Bytes {
-        return unfit_byte(words, name);
+        return unfit_byte(words, place.name());
     }
     let Some(word) = words.next_word() else {
         if wanted == ExpectedWord::Count {
             return None;
         }
-        return Some(LineReason::Missing { place: name });
+        return Some(LineReason::Missing {
+            place: place.name(),
+        });
     };
     if !fits(word, wanted) {
         return Some(LineReason::Unfit {
-            place: name,
+            place: place.name(),
             word,
             wanted,
         });

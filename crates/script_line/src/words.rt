@@ -2,7 +2,7 @@ ghost use Rattle.std.specs.Prelude.{◌≡◌, ◌<◌, [], length, MatchOption}
 ghost use Rattle.script_line.specs.Line.{first_word, behind_word};
 
 /// The words of a line that are still to be read.
-#[derive(Clone, Copy, Debug)]
+#[derive(Clone, Copy)]
 pub struct Words<'a> {
     rest: &'a str,
 }
@@ -32,7 +32,6 @@ impl<'a> Words<'a> {
 
     /// The next word, or `None` where there is none left.
     #[inline]
-    #[tactic(auto, using(crate::proofs::WordLemmas::after_space, crate::proofs::WordLemmas::run_none, crate::proofs::WordLemmas::one_more_space, crate::proofs::WordLemmas::one_more_character))]
     pub fn next_word(&mut self) -> Option<&'a str>
         ensures word { MatchOption result (first_word self.old.rest.now ≡ [])
             (λ word. (word.now ≡ first_word self.old.rest.now) × (0 < length word.now)) }

@@ -8,7 +8,7 @@ use station_table::{Change, Displaced};
 
 /// What a reading changed of what the station shows. A field that `what` does not name is 0.
 #[repr(C)]
-#[derive(Clone, Copy, Debug)]
+#[derive(Clone, Copy)]
 pub struct ChangeRecord {
     /// The NAME that has the address (1), has none (2), acknowledged (3), or whose message it is (4, 5).
     pub name: u64,

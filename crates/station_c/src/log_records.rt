@@ -4,7 +4,7 @@ ghost use Rattle.station_c.specs.Lines.{read_frames};
 
 /// When a frame of a log was seen, and in which line it stands.
 #[repr(C)]
-#[derive(Clone, Copy, Debug)]
+#[derive(Clone, Copy)]
 pub struct LoggedRecord {
     /// The time of the line in microseconds, below 10^16; the greatest 64-bit number where it has none.
     pub time: u64,
@@ -14,7 +14,7 @@ pub struct LoggedRecord {
 
 /// How far lines were read, and what the last of them told beside frames. A field that `what` does not name is 0.
 #[repr(C)]
-#[derive(Clone, Copy, Debug)]
+#[derive(Clone, Copy)]
 pub struct ReadRecord {
     /// How many bytes were read: whole lines, with their ends.
     pub bytes: usize,

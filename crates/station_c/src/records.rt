@@ -7,7 +7,7 @@ use station_table::Reaction;
 
 /// A frame that was read, or is to be sent.
 #[repr(C)]
-#[derive(Clone, Copy, Debug)]
+#[derive(Clone, Copy)]
 pub struct FrameRecord {
     /// The identifier, 29 bits.
     pub id: u32,
@@ -19,7 +19,7 @@ pub struct FrameRecord {
 
 /// What the station does in answer: what is to be withdrawn, and up to three frames to send.
 #[repr(C)]
-#[derive(Clone, Copy, Debug)]
+#[derive(Clone, Copy)]
 pub struct ReplyRecord {
     /// 1 where the frames of earlier replies that were not sent yet are withdrawn, else 0.
     pub withdraw: u8,
@@ -31,7 +31,7 @@ pub struct ReplyRecord {
 
 /// What is known of a NAME.
 #[repr(C)]
-#[derive(Clone, Copy, Debug)]
+#[derive(Clone, Copy)]
 pub struct RowRecord {
     /// The NAME.
     pub name: u64,
@@ -49,7 +49,7 @@ pub struct RowRecord {
 
 /// A message of a NAME: its lamps, and how many codes.
 #[repr(C)]
-#[derive(Clone, Copy, Debug)]
+#[derive(Clone, Copy)]
 pub struct EntryRecord {
     /// The byte of the lamps' states.
     pub lamps: u8,
@@ -61,7 +61,7 @@ pub struct EntryRecord {
 
 /// A trouble code.
 #[repr(C)]
-#[derive(Clone, Copy, Debug)]
+#[derive(Clone, Copy)]
 pub struct CodeRecord {
     /// The suspect parameter number, at most 524,287.
     pub spn: u32,

@@ -6,7 +6,7 @@ use live_unit::LiveError;
 use station_table::StationError;
 
 /// What a call from C answers.
-#[derive(Clone, Copy, Debug, PartialEq, Eq)]
+#[derive(Clone, Copy, PartialEq, Eq)]
 pub enum Status {
     /// It was done.
     Done,

@@ -9,7 +9,7 @@ use candump_line::{Line, Reason, Time};
 const NO_TIME: u64 = u64::MAX;
 
 /// What a line of a log tells a station of a bus.
-#[derive(Clone, Copy, Debug, PartialEq, Eq)]
+#[derive(Clone, Copy, PartialEq, Eq)]
 pub(crate) enum LineContent {
     /// Nothing: it is no frame of SAE J1939, or is of another bus.
     Nothing,

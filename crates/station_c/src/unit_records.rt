@@ -6,7 +6,7 @@ use script_line::UnitKind;
 
 /// What a unit keeps to.
 #[repr(C)]
-#[derive(Clone, Copy, Debug)]
+#[derive(Clone, Copy)]
 pub struct UnitSettingsRecord {
     /// How long it is at least from a packet of a broadcast to the next, in microseconds: 10,000 to 200,000 (SAE J1939-21).
     pub gap: u64,
@@ -21,7 +21,7 @@ pub struct UnitSettingsRecord {
 
 /// What became of the frames that a unit put: `put` is the sum of the other three.
 #[repr(C)]
-#[derive(Clone, Copy, Debug)]
+#[derive(Clone, Copy)]
 pub struct UnitCountsRecord {
     pub put: u64,
     pub written: u64,

@@ -13,7 +13,7 @@ use std::alloc::Global;
 use transport::Took;
 
 /// A message that ended: whose it is and of which kind, and what it shows; nothing where it cannot be read.
-#[derive(Debug, Drop)]
+#[derive(Drop)]
 pub struct ReadMessage {
     pub origin: Origin,
     pub shown: Option<Shown>,

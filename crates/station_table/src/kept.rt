@@ -4,7 +4,7 @@ use crate::row::AckSeen;
 use std::marker::Model;
 
 /// What the station keeps under a NAME.
-#[derive(Debug, Drop)]
+#[derive(Drop)]
 pub struct Kept {
     claimed: Option<u8>,
     ack: Option<AckSeen>,

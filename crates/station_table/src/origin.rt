@@ -10,7 +10,7 @@ use reassembly::Partials;
 use std::marker::Model;
 
 /// Whose a message is, and of which kind.
-#[derive(Clone, Copy, Debug)]
+#[derive(Clone, Copy)]
 pub struct Origin {
     owner: Name,
     kind: Kind,

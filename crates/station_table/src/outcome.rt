@@ -6,7 +6,7 @@ use bus_model::Change;
 use std::alloc::Global;
 
 /// What a reading made the station do, and what it changed of what the station shows.
-#[derive(Debug, Drop)]
+#[derive(Drop)]
 pub struct Outcome {
     /// What the station does in answer.
     pub reaction: Reaction,

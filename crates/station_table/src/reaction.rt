@@ -4,7 +4,7 @@ use can_frame::{Frame, Frames, Pgn};
 use std::alloc::{AllocError, Global};
 
 /// What the station does in answer to a reading or an order.
-#[derive(Debug, Drop)]
+#[derive(Drop)]
 pub struct Reaction {
     /// Whether the frames that wait in its queue are withdrawn first.
     pub withdraw: bool,
@@ -13,7 +13,7 @@ pub struct Reaction {
 }
 
 /// What the station can ask of a unit or of all.
-#[derive(Clone, Copy, Debug, PartialEq, Eq)]
+#[derive(Clone, Copy, PartialEq, Eq)]
 pub enum Ask {
     /// The active codes (group 65226).
     Dm1,

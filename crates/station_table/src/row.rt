@@ -1,7 +1,7 @@
 use can_frame::Pgn;
 
 /// An acknowledgment that the station has kept.
-#[derive(Clone, Copy, Debug, PartialEq, Eq)]
+#[derive(Clone, Copy, PartialEq, Eq)]
 pub struct AckSeen {
     /// 0 positive, 1 negative, 2 access denied, 3 cannot respond now, or another number.
     pub control: u8,
@@ -10,7 +10,7 @@ pub struct AckSeen {
 }
 
 /// What the station knows of a NAME.
-#[derive(Clone, Copy, Debug, PartialEq, Eq)]
+#[derive(Clone, Copy, PartialEq, Eq)]
 pub struct Row {
     /// The address of its last claim, where nothing was missed since and no other NAME has claimed it since.
     pub address: Option<u8>,

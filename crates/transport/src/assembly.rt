@@ -10,7 +10,7 @@ use std::alloc::{AllocError, Global};
 use std::marker::Model;
 
 /// A message that is being joined from its packets.
-#[derive(Debug, Drop)]
+#[derive(Drop)]
 pub struct Assembly {
     size: u16,
     pgn: Pgn,

@@ -11,7 +11,7 @@ use std::marker::Model;
 
 /// Some parts of a message of 9 to 1,785 bytes, one after another (SAE J1939-21, transport protocol): part 0 is the
 /// announcement, part j the packet of number j. It holds the payload, and a frame is made when it is looked at or taken.
-#[derive(Debug, Drop)]
+#[derive(Drop)]
 pub struct Run {
     payload: Payload,
     pgn: Pgn,

@@ -7,7 +7,7 @@ use can_frame::Pgn;
 use std::marker::Model;
 
 /// A session at its sender: a payload of 9 to 1,785 bytes, and how many of its packets were queued.
-#[derive(Debug, Drop)]
+#[derive(Drop)]
 pub struct Sending {
     payload: Payload,
     dest: u8,

@@ -5,7 +5,7 @@ use std::alloc::{AllocError, Global};
 use std::marker::Model;
 
 /// Trouble codes in order, repeats too, seen as a list.
-#[derive(Debug, Drop)]
+#[derive(Drop)]
 pub struct Codes {
     items: Vec<Dtc>,
 }

@@ -4,7 +4,7 @@ ghost use Rattle.trouble_code.specs.LampBytes.{two_bits_of};
 use std::marker::Model;
 
 /// One of the four lamps (SAE J1939-73).
-#[derive(Clone, Copy, Debug, PartialEq, Eq)]
+#[derive(Clone, Copy, PartialEq, Eq)]
 pub enum LampName {
     /// The malfunction indicator lamp, bits 8 and 7.
     Malfunction,

@@ -1,5 +1,5 @@
 /// Which trouble codes are to be cleared.
-#[derive(Clone, Copy, Debug, PartialEq, Eq)]
+#[derive(Clone, Copy, PartialEq, Eq)]
 pub enum Clear {
     /// The active ones, and with them the pending ones (SAE J1939-73, DM11).
     Active,
@@ -8,7 +8,7 @@ pub enum Clear {
 }
 
 /// What the bus may ask of a unit; the unit agrees to it or not.
-#[derive(Clone, Copy, Debug, PartialEq, Eq)]
+#[derive(Clone, Copy, PartialEq, Eq)]
 pub enum Question {
     /// To clear trouble codes.
     Clear(Clear),

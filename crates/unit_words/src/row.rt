@@ -4,7 +4,7 @@ ghost use Rattle.unit_words.specs.Exact as exact;
 use name_field::Name;
 
 /// A text for units: for those that have all that is given.
-#[derive(Debug, Drop)]
+#[derive(Drop)]
 pub struct UnitRow {
     /// The NAME, where that is given.
     pub name: Option<Name>,

@@ -8,7 +8,7 @@ use std::alloc::{AllocError, Global};
 use std::marker::Model;
 
 /// A shop's texts for units, seen as their rows in the order of the file.
-#[derive(Debug, Drop)]
+#[derive(Drop)]
 pub struct UnitTexts {
     rows: Vec<UnitRow>,
 }

@@ -1,10 +1,10 @@
-use Rattle.std.proofs.Common.{◌≡◌, ℕ, ◌+◌, ◌<◌, List, [], ◌∷◌, ◌++◌, take, length, get_or, ap, sym, ◌∙◌}
+use Rattle.std.proofs.Common.{◌≡◌, ℕ, ◌+◌, ◌<◌, List, [], ◌∷◌, ◌++◌, Option, Some, None, take, length, get_or, ap, sym, subst, refl, ◌∙◌}
 use Rattle.std.proofs.lemmas.List.{take_more}
 use Rattle.toml.specs.declared.value.Value.{Value}
 use Rattle.toml.specs.Data.{Data, Items, no_items, item, push_item}
 use Rattle.toml.specs.View.{view, items_view}
 use Rattle.toml.proofs.Views.{items_view-push}
-use Rattle.vehicle.specs.Holding.{EachHolds}
+use Rattle.vehicle.specs.Holding.{EachHolds, EachHoldsAt, HasItemsAt}
 
 pushed : {A : Type 0} (holds : Data → A → Type 0) (ds : Items) (xs : List A) (d : Data) (x : A) → EachHolds holds ds xs → holds d x → EachHolds holds (push_item ds d) (xs ++ x ∷ [])
 pushed holds no_items [] d x h k = (k, tt)
@@ -19,3 +19,12 @@ one_more holds lines i line xs new x l is h k e =
     let all : EachHolds holds (push_item (items_view (take i lines)) (view line)) (xs ++ x ∷ []) = pushed holds _ xs (view line) x h k in
     let here : take (i + 1) lines ≡ take i lines ++ line ∷ [] = take_more lines i line l ∙ ap (λ y. take i lines ++ y ∷ []) (sym is) in
     rw (here, items_view-push (take i lines) line, e) all
+
+none_held : {A : Type 0} (holds : Data → A → Type 0) (xs : List A) → EachHolds holds no_items xs → xs ≡ []
+none_held holds [] h = refl
+none_held holds (x ∷ xs) h = absurd h
+
+-- of each item at a key
+pub held : {A : Type 0} (holds : Data → A → Type 0) (o : Option Data) (ds : Items) (xs : List A) → HasItemsAt o ds → EachHolds holds ds xs → EachHoldsAt holds o xs
+held holds None ds xs e h = none_held holds xs (subst (λ items. EachHolds holds items xs) e h)
+held holds (Some d) ds xs e h = (ds, e, h)

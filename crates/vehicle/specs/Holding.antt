@@ -9,7 +9,7 @@ use Rattle.script_line.specs.declared.command.UnitKind.{UnitKind}
 use Rattle.script_line.specs.declared.command.UnitKind.TheVariants.{Plain, Guarded, Flicker}
 use Rattle.trouble_code.specs.declared.dtc.TheConstants.{GREATEST_SPN, GREATEST_FMI}
 use Rattle.bus_ledger.specs.declared.bus.TheConstants.{MOST_UNREAD}
-use Rattle.garage.specs.declared.garage.TheConstants.{MOST_EVENTS}
+use Rattle.journal.specs.declared.notes.TheConstants.{MOST_EVENTS}
 use Rattle.vehicle.specs.declared.read.TheConstants.{MOST_GRANTED}
 use Rattle.vehicle.specs.declared.StationTable.{StationTable}
 use Rattle.vehicle.specs.declared.Second.{Second}
@@ -50,13 +50,17 @@ pub record HoldsStation (d : Data) (s : StationTable) : Type 0 where
   pub grant : HasNumber d (codes "grant") s.grant 1 MOST_GRANTED
   pub limit : HasNumber d (codes "limit") s.limit 1 MOST_EVENTS
 
--- the second station's NAME, and three numbers in their ranges; nothing else
-pub record HoldsSecond (d : Data) (s : Second) : Type 0 where
-  pub only : HasOnly (codes "name" ∷ codes "address" ∷ codes "window" ∷ codes "grant" ∷ []) d
+-- a station's NAME, and three numbers in their ranges; no key but these
+pub record HoldsTable (keys : List (List ℕ)) (d : Data) (s : Second) : Type 0 where
+  pub only : HasOnly keys d
   pub name : HasName d s.name
   pub address : HasNumber d (codes "address") s.address 0 GREATEST_ADDRESS
   pub window : HasNumber d (codes "window") s.window 1 MOST_UNREAD
   pub grant : HasNumber d (codes "grant") s.grant 1 MOST_GRANTED
+
+-- the second station's NAME, and three numbers in their ranges; nothing else
+abbrev pub HoldsSecond : Data → Second → Type 0
+HoldsSecond d s = HoldsTable (codes "name" ∷ codes "address" ∷ codes "window" ∷ codes "grant" ∷ []) d s
 
 -- the second station at the key "second": there is one exactly where there is such a key
 abbrev pub HoldsSecondAt : Option Data → Option Second → Type 0
@@ -80,12 +84,16 @@ abbrev pub keys_of_kind : UnitKind → List (List ℕ)
 keys_of_kind kind = keys_by kind (codes "name" ∷ codes "address" ∷ codes "kind" ∷ [])
     (codes "name" ∷ codes "address" ∷ codes "kind" ∷ codes "spn" ∷ codes "fmi" ∷ [])
 
--- a unit's NAME, its address and its kind; nothing else
-pub record HoldsUnit (d : Data) (u : UnitLine) : Type 0 where
-  pub only : HasOnly (keys_of_kind u.kind) d
+-- a unit's NAME, its address and its kind; no key but these
+pub record HoldsUnitOf (keys : List (List ℕ)) (d : Data) (u : UnitLine) : Type 0 where
+  pub only : HasOnly keys d
   pub name : HasName d u.name
   pub address : HasNumber d (codes "address") u.address 0 GREATEST_ADDRESS
   pub kind : HoldsKind d u.kind
+
+-- a unit's NAME, its address and its kind; nothing else
+abbrev pub HoldsUnit : Data → UnitLine → Type 0
+HoldsUnit d u = HoldsUnitOf (keys_of_kind u.kind) d u
 
 -- one thing for each item, in order, of which this holds
 abbrev pub EachHolds : {A : Type 0} → (Data → A → Type 0) → Items → List A → Type 0
@@ -94,14 +102,23 @@ EachHolds holds no_items (x ∷ xs) = ⊥
 EachHolds holds (item d ds) [] = ⊥
 EachHolds holds (item d ds) (x ∷ xs) = holds d x × EachHolds holds ds xs
 
+-- the items of the array at a key: none where there is no such key
+abbrev pub HasItemsAt : Option Data → Items → Type 0
+HasItemsAt None ds = ds ≡ no_items
+HasItemsAt (Some d) ds = as_array d ≡ Some ds
+
+-- one thing for each item of the array at a key, in order: none where there is no such key
+abbrev pub EachHoldsAt : {A : Type 0} → (Data → A → Type 0) → Option Data → List A → Type 0
+EachHoldsAt holds None xs = xs ≡ []
+EachHoldsAt holds (Some d) xs = (ds : Items) × (as_array d ≡ Some ds) × EachHolds holds ds xs
+
 -- one unit for each item, in order
 abbrev pub HoldsUnits : Items → List UnitLine → Type 0
 HoldsUnits = EachHolds HoldsUnit
 
 -- the units at the key "unit": none where there is no such key
 abbrev pub HoldsUnitsAt : Option Data → List UnitLine → Type 0
-HoldsUnitsAt None us = us ≡ []
-HoldsUnitsAt (Some d) us = (ds : Items) × (as_array d ≡ Some ds) × HoldsUnits ds us
+HoldsUnitsAt = EachHoldsAt HoldsUnit
 
 -- the document has the values of the vehicle at its keys, and nothing else
 pub record HoldsVehicle (d : Data) (v : Vehicle) : Type 0 where

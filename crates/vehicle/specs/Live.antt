@@ -1,19 +1,19 @@
 -- Which units a TOML document describes, as they take part in a real bus.
 use Rattle.std.specs.Prelude.{ℕ, ◌≡◌, ◌⊎◌, ◌/◌, ◌%◌, ◌≤◌, true, List, [], ◌∷◌, ◌++◌, Option, Some, None, codes}
-use Rattle.can_frame.specs.declared.address.TheConstants.{GREATEST_ADDRESS}
 use Rattle.hex_text.specs.Hex.{IsHexText, hex_value}
-use Rattle.toml.specs.Data.{Data, get, as_str, as_array, Items}
+use Rattle.toml.specs.Data.{Data, get, as_str}
 use Rattle.script_line.specs.Numbers.{IsNumberBelow, SpellsNumber, decimal_value}
 use Rattle.script_line.specs.declared.command.UnitKind.{UnitKind}
 use Rattle.trouble_code.specs.Code.{Code, IsCode}
 use Rattle.trouble_code.specs.LampBytes.{LampsValue, lamps_off, lamps_value}
 use Rattle.vehicle.specs.Sending.{SpellsBytes, is_free_group}
-use Rattle.vehicle.specs.Holding.{EachHolds, HasName, HasNumber, HasOnly, HoldsKind, keys_by, text_at}
+use Rattle.vehicle.specs.Holding.{EachHoldsAt, HasNumber, HasOnly, HoldsUnitOf, keys_by, text_at}
 use Rattle.vehicle.specs.declared.sends.TheConstants.{LEAST_PERIOD, MOST_PERIOD, USUAL_PRIORITY}
 use Rattle.vehicle.specs.declared.send_line.TheConstants.{GREATEST_PGN, LOWEST_PRIORITY}
 use Rattle.vehicle.specs.declared.codes.TheConstants.{MOST_OCCURRENCES}
 use Rattle.vehicle.specs.declared.send_line.SendLine.{SendLine}
 use Rattle.vehicle.specs.declared.live.LiveLine.{LiveLine}
+use Rattle.vehicle.specs.declared.live.Memory.{Memory}
 
 -- ---- lamps and codes
 
@@ -49,8 +49,7 @@ HoldsCode d c = (text : List ℕ) × (as_str d ≡ Some text) × SpellsCode text
 
 -- a code for each text of an array, in order; none where there is no such key
 abbrev pub HoldsCodesAt : Option Data → List Code → Type 0
-HoldsCodesAt None cs = cs ≡ []
-HoldsCodesAt (Some d) cs = (ds : Items) × (as_array d ≡ Some ds) × EachHolds HoldsCode ds cs
+HoldsCodesAt = EachHoldsAt HoldsCode
 
 -- ---- what is sent again and again
 
@@ -73,8 +72,7 @@ pub record HoldsSend (d : Data) (s : SendLine) : Type 0 where
 
 -- one for each table, in order; none where there is no such key
 abbrev pub HoldsSendsAt : Option Data → List SendLine → Type 0
-HoldsSendsAt None ss = ss ≡ []
-HoldsSendsAt (Some d) ss = (ds : Items) × (as_array d ≡ Some ds) × EachHolds HoldsSend ds ss
+HoldsSendsAt = EachHoldsAt HoldsSend
 
 -- ---- units
 
@@ -84,22 +82,28 @@ live_keys_of_kind kind = keys_by kind
     (codes "name" ∷ codes "address" ∷ codes "kind" ∷ codes "lamps" ∷ codes "active" ∷ codes "previous" ∷ codes "pending" ∷ codes "sends" ∷ [])
     (codes "name" ∷ codes "address" ∷ codes "kind" ∷ codes "spn" ∷ codes "fmi" ∷ codes "lamps" ∷ codes "active" ∷ codes "previous" ∷ codes "pending" ∷ codes "sends" ∷ [])
 
--- what a unit is, how it begins and what it sends; nothing else
-pub record HoldsLiveUnit (d : Data) (u : LiveLine) : Type 0 where
-  pub only : HasOnly (live_keys_of_kind u.unit.kind) d
-  pub name : HasName d u.unit.name
-  pub address : HasNumber d (codes "address") u.unit.address 0 GREATEST_ADDRESS
-  pub kind : HoldsKind d u.unit.kind
+-- the codes with which a unit begins
+pub record HoldsMemory (d : Data) (m : Memory) : Type 0 where
+  pub active : HoldsCodesAt (get (codes "active") d) m.active.items
+  pub previous : HoldsCodesAt (get (codes "previous") d) m.previous.items
+  pub pending : HoldsCodesAt (get (codes "pending") d) m.pending.items
+
+-- how a unit begins and what it sends
+pub record HoldsRest (d : Data) (u : LiveLine) : Type 0 where
   pub lamps : HoldsLampsAt (get (codes "lamps") d) u.lamps
   pub active : HoldsCodesAt (get (codes "active") d) u.active.items
   pub previous : HoldsCodesAt (get (codes "previous") d) u.previous.items
   pub pending : HoldsCodesAt (get (codes "pending") d) u.pending.items
   pub sends : HoldsSendsAt (get (codes "sends") d) u.sends.items
 
+-- what a unit is, how it begins and what it sends; nothing else
+pub record HoldsLiveUnit (d : Data) (u : LiveLine) : Type 0 where
+  pub unit : HoldsUnitOf (live_keys_of_kind u.unit.kind) d u.unit
+  pub rest : HoldsRest d u
+
 -- the units at the key "unit", none where there is no such key; beside it stands no other key than those of the stations
 abbrev pub HoldsLiveUnitsAt : Option Data → List LiveLine → Type 0
-HoldsLiveUnitsAt None us = us ≡ []
-HoldsLiveUnitsAt (Some d) us = (ds : Items) × (as_array d ≡ Some ds) × EachHolds HoldsLiveUnit ds us
+HoldsLiveUnitsAt = EachHoldsAt HoldsLiveUnit
 
 pub record HoldsLiveUnits (d : Data) (us : List LiveLine) : Type 0 where
   pub only : HasOnly (codes "station" ∷ codes "second" ∷ codes "unit" ∷ []) d

@@ -6,6 +6,7 @@ ghost use Rattle.vehicle.specs.Holding.{EachHolds};
 ghost use Rattle.vehicle.specs.Live.{HoldsCode, HoldsCodesAt, HoldsLampsAt, SpellsCode, SpellsMode};
 
 use crate::misfit::{KeyPlace, Unread, Wrong};
+use crate::read::items_at;
 use script_line::{read_lamps, read_number, read_small_number};
 use std::alloc::Global;
 use toml::Value;
@@ -22,21 +23,16 @@ pub(crate) fn read_lamps_of(place: KeyPlace, value: &Value) -> Result<Lamps, Unr
         return Ok(Lamps::off());
     };
     let Some(text) = found.as_str() else {
-        return Err(Unread::at(place, "lamps", Wrong::NoSuch("text")));
+        return Err(Unread::at(place, "lamps", Wrong::NoText));
     };
     match read_lamps(text) {
         Some(lamps) => Ok(lamps),
-        None => {
-            let wrong = Wrong::NotOne {
-                found: text,
-                wanted: "4 hexadecimal digits",
-            };
-            Err(Unread::at(place, "lamps", wrong))
-        }
+        None => Err(Unread::of_text(place, "lamps", text, Wrong::NotLamps)),
     }
 }
 
 /// The codes at a key of a unit; none where it has no such key.
+#[tactic(auto, using(crate::proofs::UnitLemmas::held))]
 pub(crate) fn read_codes<'a>(
     alloc: Global,
     place: KeyPlace,
@@ -45,13 +41,8 @@ pub(crate) fn read_codes<'a>(
 ) -> Result<Vec<Dtc>, Unread<'a>>
     ensures { IfOk result (λ codes. HoldsCodesAt (get key.now (view value.now)) codes.items) }
 {
-    let Some(found) = value.get(key) else {
-        return Ok(Vec::new(alloc));
-    };
-    match found.as_array() {
-        Some(items) => codes_of(alloc, place, key, items.as_slice()),
-        None => Err(Unread::at(place, key, Wrong::NoSuch("array of texts"))),
-    }
+    let items = items_at(place, value, key, Wrong::NoTexts)?;
+    codes_of(alloc, place, key, items)
 }
 
 /// The code of each text.
@@ -65,7 +56,10 @@ fn codes_of<'a>(
 {
     let mut codes = Vec::new(alloc);
     for item in items {
-        codes.push(code_of(place, key, item)?)?;
+        match code_of(place, key, item) {
+            Ok(code) => codes.push(code)?,
+            Err(unread) => return Err(unread),
+        }
     }
     Ok(codes)
 }
@@ -74,17 +68,11 @@ fn code_of<'a>(place: KeyPlace, key: &'a str, value: &'a Value) -> Result<Dtc, U
     ensures { IfOk result (HoldsCode (view value.now)) }
 {
     let Some(text) = value.as_str() else {
-        return Err(Unread::at(place, key, Wrong::NoSuch("array of texts")));
+        return Err(Unread::at(place, key, Wrong::NoTexts));
     };
     match read_code(text) {
         Some(code) => Ok(code),
-        None => {
-            let wrong = Wrong::NotOne {
-                found: text,
-                wanted: "SPN/FMI or SPN/FMI/COUNT",
-            };
-            Err(Unread::at(place, key, wrong))
-        }
+        None => Err(Unread::of_text(place, key, text, Wrong::NotCode)),
     }
 }
 

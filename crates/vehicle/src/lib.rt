@@ -64,7 +64,7 @@ pub use script_line::UnitKind;
 pub use send_line::SendLine;
 
 /// The station of a vehicle, and the settings of its bus.
-#[derive(Clone, Copy, Debug, PartialEq, Eq)]
+#[derive(Clone, Copy, PartialEq, Eq)]
 pub struct StationTable {
     /// Its NAME.
     pub name: Name,
@@ -79,7 +79,7 @@ pub struct StationTable {
 }
 
 /// A second station of a vehicle. The limit of the journal is that of its bus, so that it has none of its own.
-#[derive(Clone, Copy, Debug, PartialEq, Eq)]
+#[derive(Clone, Copy, PartialEq, Eq)]
 pub struct Second {
     /// Its NAME, which is not the first station's.
     pub name: Name,
@@ -92,7 +92,7 @@ pub struct Second {
 }
 
 /// A unit of a vehicle.
-#[derive(Clone, Copy, Debug, PartialEq, Eq)]
+#[derive(Clone, Copy, PartialEq, Eq)]
 pub struct UnitLine {
     /// Its NAME.
     pub name: Name,
@@ -103,7 +103,7 @@ pub struct UnitLine {
 }
 
 /// A vehicle.
-#[derive(Debug, Drop)]
+#[derive(Drop)]
 pub struct Vehicle {
     /// Its station.
     pub station: StationTable,

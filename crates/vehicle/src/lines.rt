@@ -6,34 +6,62 @@ use crate::misfit::KeyPlace;
 /// The number, from 1 on, of the line at which a key of a table stands; that of the table's header where the key has none, or
 /// where the table itself is asked for.
 pub(crate) fn line_of(text: &str, place: KeyPlace, key: Option<&str>) -> Option<u64> {
-    let mut here = Some(KeyPlace::Whole);
-    let mut units = 0usize;
-    let mut sends = 0usize;
+    let mut headers = Headers::new();
     let mut header = None;
     let mut number = 0u64;
     for line in text.lines() {
         number = number.saturating_add(1);
-        let Some(name) = header_in(line) else {
-            if here == Some(place) && is_line_of(line, key) {
-                return Some(number);
+        match header_in(line) {
+            Some(name) => {
+                headers.pass(name);
+                if place == KeyPlace::Whole && key == Some(name) {
+                    return Some(number);
+                }
+                if headers.here == Some(place) {
+                    header = Some(number);
+                }
             }
-            continue;
-        };
-        here = place_of(name, units, sends);
-        if name == "unit" {
-            units = units.saturating_add(1);
-            sends = 0;
-        } else if name == "unit.sends" {
-            sends = sends.saturating_add(1);
-        }
-        if place == KeyPlace::Whole && key == Some(name) {
-            return Some(number);
-        }
-        if here == Some(place) {
-            header = Some(number);
+            None => {
+                if headers.here == Some(place) && is_line_of(line, key) {
+                    return Some(number);
+                }
+            }
         }
     }
     header
+}
+
+/// The headers that are passed.
+#[derive(Clone, Copy)]
+struct Headers {
+    /// The table that the last of them begins; none where it is no vehicle's.
+    here: Option<KeyPlace>,
+    /// How many units there were.
+    units: usize,
+    /// How many groups the last unit sends.
+    sends: usize,
+}
+
+impl Headers {
+    /// Those before the first line.
+    fn new() -> Headers {
+        Headers {
+            here: Some(KeyPlace::Whole),
+            units: 0,
+            sends: 0,
+        }
+    }
+
+    /// One more.
+    fn pass(&mut self, name: &str) {
+        self.here = place_of(name, self.units, self.sends);
+        if name == "unit" {
+            self.units = self.units.saturating_add(1);
+            self.sends = 0;
+        } else if name == "unit.sends" {
+            self.sends = self.sends.saturating_add(1);
+        }
+    }
 }
 
 /// The table that a header begins, where so many units stand before it, and so many groups that the last of them sends.

@@ -3,16 +3,14 @@ ghost use Rattle.std.specs.Prelude.{◌≡◌, IfOk, Some, codes};
 ghost use Rattle.toml.specs.Data.{Members, get, table};
 ghost use Rattle.toml.specs.Parse.{parse_document};
 ghost use Rattle.toml.specs.View.{view, items_view};
-ghost use Rattle.vehicle.specs.Holding.{EachHolds};
-ghost use Rattle.vehicle.specs.Live.{HoldsLiveUnit, HoldsLiveUnits};
+ghost use Rattle.vehicle.specs.Holding.{EachHolds, HoldsUnitOf};
+ghost use Rattle.vehicle.specs.Live.{HoldsLiveUnit, HoldsLiveUnits, HoldsMemory, HoldsRest, live_keys_of_kind};
 
 use crate::UnitLine;
 use crate::codes::{read_codes, read_lamps_of};
 use crate::fault::VehicleFault;
 use crate::misfit::{KeyPlace, Unread, Wrong};
-use crate::read::{
-    fault_of, has_only, read_address, read_kind, read_name, read_second, read_station,
-};
+use crate::read::{fault_of, has_document_keys, items_at, read_station, read_unit_of, second_of};
 use crate::send_line::SendLine;
 use crate::sends::read_sends;
 use std::alloc::Global;
@@ -20,7 +18,7 @@ use toml::Value;
 use trouble_code::{Dtc, Lamps};
 
 /// A unit as it takes part in a real bus: how it begins, and what it sends.
-#[derive(Debug, Drop)]
+#[derive(Drop)]
 pub struct LiveLine {
     /// Its NAME, its address and its kind.
     pub unit: UnitLine,
@@ -61,18 +59,14 @@ pub fn read_live_units(alloc: Global, text: &str) -> Result<Vec<LiveLine>, Vehic
 }
 
 /// The units that a document describes.
+#[tactic(auto, using(crate::proofs::UnitLemmas::held))]
 fn units_of(alloc: Global, root: &Value) -> Result<Vec<LiveLine>, Unread<'_>>
     ensures { IfOk result (λ units. HoldsLiveUnits (view root.now) units.items) }
 {
-    has_only(KeyPlace::Whole, root, &["station", "second", "unit"])?;
+    has_document_keys(root)?;
     look_at_stations(root)?;
-    let Some(value) = root.get("unit") else {
-        return Ok(Vec::new(alloc));
-    };
-    match value.as_array() {
-        Some(lines) => read_units(alloc, lines.as_slice()),
-        None => Err(Unread::at(KeyPlace::Whole, "unit", Wrong::NoSuch("array of tables"))),
-    }
+    let lines = items_at(KeyPlace::Whole, root, "unit", Wrong::NoTables)?;
+    read_units(alloc, lines)
 }
 
 /// Looks at the stations of a vehicle, which take no part: they are as they have to be, where they are there.
@@ -81,10 +75,10 @@ fn look_at_stations(root: &Value) -> Result<(), Unread<'_>> {
         return Ok(());
     };
     let station = read_station(value)?;
-    if let Some(value) = root.get("second") {
-        read_second(value, station.name)?;
+    match second_of(root, station.name) {
+        Ok(_) => Ok(()),
+        Err(unread) => Err(unread),
     }
-    Ok(())
 }
 
 fn read_units(alloc: Global, lines: &[Value]) -> Result<Vec<LiveLine>, Unread<'_>>
@@ -102,27 +96,68 @@ fn read_unit(alloc: Global, number: usize, value: &Value) -> Result<LiveLine, Un
     ensures { IfOk result (HoldsLiveUnit (view value.now)) }
 {
     let place = KeyPlace::Unit(number);
-    let unit = UnitLine {
-        name: read_name(place, value)?,
-        address: read_address(place, value)?,
-        kind: read_kind(
-            place,
-            value,
-            &[
-                "name", "address", "kind", "lamps", "active", "previous", "pending", "sends",
-            ],
-            &[
-                "name", "address", "kind", "spn", "fmi", "lamps", "active", "previous", "pending",
-                "sends",
-            ],
-        )?,
-    };
-    Ok(LiveLine {
-        unit,
-        lamps: read_lamps_of(place, value)?,
+    match read_live_unit(place, value) {
+        Ok(unit) => read_rest(alloc, number, unit, value),
+        Err(unread) => Err(unread),
+    }
+}
+
+/// How a unit begins, and what it sends.
+fn read_rest(
+    alloc: Global,
+    number: usize,
+    unit: UnitLine,
+    value: &Value,
+) -> Result<LiveLine, Unread<'_>>
+    ensures { IfOk result (λ u. (u.unit ≡ unit) × HoldsRest (view value.now) u) }
+{
+    let place = KeyPlace::Unit(number);
+    let lamps = read_lamps_of(place, value)?;
+    let memory = read_memory(alloc, place, value)?;
+    match read_sends(alloc, number, value) {
+        Ok(sends) => Ok(LiveLine {
+            unit,
+            lamps,
+            active: memory.active,
+            previous: memory.previous,
+            pending: memory.pending,
+            sends,
+        }),
+        Err(unread) => Err(unread),
+    }
+}
+
+/// What a unit is.
+fn read_live_unit(place: KeyPlace, value: &Value) -> Result<UnitLine, Unread<'_>>
+    ensures { IfOk result (λ u. HoldsUnitOf (live_keys_of_kind u.kind) (view value.now) u) }
+{
+    read_unit_of(
+        place,
+        value,
+        &[
+            "name", "address", "kind", "lamps", "active", "previous", "pending", "sends",
+        ],
+        &[
+            "name", "address", "kind", "spn", "fmi", "lamps", "active", "previous", "pending",
+            "sends",
+        ],
+    )
+}
+
+/// The codes with which a unit begins.
+#[derive(Drop)]
+struct Memory {
+    active: Vec<Dtc>,
+    previous: Vec<Dtc>,
+    pending: Vec<Dtc>,
+}
+
+fn read_memory(alloc: Global, place: KeyPlace, value: &Value) -> Result<Memory, Unread<'_>>
+    ensures { IfOk result (HoldsMemory (view value.now)) }
+{
+    Ok(Memory {
         active: read_codes(alloc, place, value, "active")?,
         previous: read_codes(alloc, place, value, "previous")?,
         pending: read_codes(alloc, place, value, "pending")?,
-        sends: read_sends(alloc, number, value)?,
     })
 }

@@ -4,7 +4,7 @@ use std::alloc::{AllocError, AllocFailed, Global};
 use std::fmt;
 
 /// A table of a vehicle's text.
-#[derive(Clone, Copy, Debug, PartialEq, Eq)]
+#[derive(Clone, Copy, PartialEq, Eq)]
 pub(crate) enum KeyPlace {
     /// All of it.
     Whole,
@@ -17,37 +17,99 @@ pub(crate) enum KeyPlace {
 }
 
 /// What is wrong at a key.
-#[derive(Clone, Copy, Debug)]
-pub(crate) enum Wrong<'a> {
+#[derive(Clone, Copy)]
+pub(crate) enum Wrong {
     /// It is not there.
     Missing,
     /// No such key is known.
     NotKnown,
     /// A unit has it only as it takes part in a real bus.
     OfLive,
-    /// Its value, or that of the table itself, is of another type than this.
-    NoSuch(&'a str),
-    /// Its number is not within these two.
-    Outside { found: i64, least: u32, most: u32 },
-    /// Its text is none of these.
-    NotOne { found: &'a str, wanted: &'a str },
     /// The first station has this NAME.
     InUse,
+    /// It is no key that is wrong: what should be the table itself is none.
+    NoTable,
+    /// It has no text.
+    NoText,
+    /// It has no whole number.
+    NoNumber,
+    /// It has no array of tables.
+    NoTables,
+    /// It has no array of texts.
+    NoTexts,
+    /// Its text is no NAME.
+    NotName,
+    /// Its text is no kind of a unit.
+    NotKind,
+    /// Its text tells no lamps.
+    NotLamps,
+    /// Its text is no code.
+    NotCode,
+    /// Its text spells no bytes.
+    NotBytes,
+    /// Its number is not within these two.
+    Outside { found: i64, least: u32, most: u32 },
     /// No unit sends the group of this number as it likes.
     NotFree(u32),
 }
 
+impl KeyPlace {
+    /// The name of the table; none where it is all of the text.
+    fn table(self) -> &'static str {
+        match self {
+            KeyPlace::Whole => "",
+            KeyPlace::StationTable => "station",
+            KeyPlace::Second => "second",
+            KeyPlace::Unit(_) => "unit",
+            KeyPlace::Send { .. } => "unit.sends",
+        }
+    }
+}
+
+impl Wrong {
+    /// What is told of it, behind the text where one is wrong; none where numbers are told.
+    fn words(self) -> &'static str {
+        match self {
+            Wrong::Missing => "missing",
+            Wrong::NotKnown => "no such key is known",
+            Wrong::OfLive => "only live takes this key",
+            Wrong::InUse => "the first station has this NAME",
+            Wrong::NoTable => "no table",
+            Wrong::NoText => "no text",
+            Wrong::NoNumber => "no whole number",
+            Wrong::NoTables => "no array of tables",
+            Wrong::NoTexts => "no array of texts",
+            Wrong::NotName => "16 hexadecimal digits",
+            Wrong::NotKind => "plain, guarded or flicker",
+            Wrong::NotLamps => "4 hexadecimal digits",
+            Wrong::NotCode => "SPN/FMI or SPN/FMI/COUNT",
+            Wrong::NotBytes => "1 to 8 bytes of two hexadecimal digits each",
+            Wrong::Outside { .. } | Wrong::NotFree(_) => "",
+        }
+    }
+
+    /// Whether it is a text that is wrong.
+    fn is_of_text(self) -> bool {
+        matches!(
+            self,
+            Wrong::NotName | Wrong::NotKind | Wrong::NotLamps | Wrong::NotCode | Wrong::NotBytes
+        )
+    }
+}
+
 /// Where a text is no vehicle's, and why.
-#[derive(Clone, Copy, Debug)]
+#[derive(Clone, Copy)]
 pub(crate) struct Misfit<'a> {
     pub(crate) place: KeyPlace,
-    /// The key in its table; none for the table itself.
-    pub(crate) key: Option<&'a str>,
-    pub(crate) wrong: Wrong<'a>,
+    /// The key in its table.
+    pub(crate) key: &'a str,
+    /// The text that it has, where that is what is wrong.
+    pub(crate) found: &'a str,
+    pub(crate) wrong: Wrong,
 }
 
 /// Why a document gives no vehicle.
-#[derive(Clone, Copy, Debug)]
+#[derive(Clone, Copy)]
 pub(crate) enum Unread<'a> {
     At(Misfit<'a>),
     /// Memory ran out.
@@ -68,20 +130,22 @@ impl From<AllocError> for Unread<'_> {
 
 impl<'a> Unread<'a> {
     /// At this key of a table something is wrong.
-    pub(crate) fn at(place: KeyPlace, key: &'a str, wrong: Wrong<'a>) -> Unread<'a> {
-        Unread::At(Misfit {
-            place,
-            key: Some(key),
-            wrong,
-        })
+    pub(crate) fn at(place: KeyPlace, key: &'a str, wrong: Wrong) -> Unread<'a> {
+        Unread::of_text(place, key, "", wrong)
     }
 
-    /// A table is of another type than this.
-    pub(crate) fn of_type(place: KeyPlace, wanted: &'a str) -> Unread<'a> {
+    /// The text at this key of a table is wrong.
+    pub(crate) fn of_text(
+        place: KeyPlace,
+        key: &'a str,
+        found: &'a str,
+        wrong: Wrong,
+    ) -> Unread<'a> {
         Unread::At(Misfit {
             place,
-            key: None,
-            wrong: Wrong::NoSuch(wanted),
+            key,
+            found,
+            wrong,
         })
     }
 
@@ -99,45 +163,59 @@ impl<'a> Unread<'a> {
 
 impl Misfit<'_> {
     fn words(self, alloc: Global, text: &str) -> Result<String, AllocError> {
-        match line_of(text, self.place, self.key) {
+        match line_of(text, self.place, self.key_of_line()) {
             Some(line) => format!(in alloc; "line {line}: {self}\n"),
             None => format!(in alloc; "{self}\n"),
         }
     }
+
+    /// The key whose line is wrong; none where it is the table.
+    fn key_of_line(&self) -> Option<&str> {
+        match self.wrong {
+            Wrong::NoTable => None,
+            _ => Some(self.key),
+        }
+    }
+
+    /// The table's name, a dot and the key; only one of the two names where the other is not to be told.
+    fn name(&self) -> (&str, &str, &str) {
+        let table = self.place.table();
+        match self.wrong {
+            Wrong::NoTable => (table, "", ""),
+            _ if table.is_empty() => ("", "", self.key),
+            _ => (table, ".", self.key),
+        }
+    }
+
+    /// Writes what is wrong.
+    fn write_wrong<W: fmt::Write>(&self, f: &mut fmt::Formatter<W>) -> fmt::Result {
+        match self.wrong {
+            Wrong::Outside { found, least, most } => write!(f, "{found} is not {least} to {most}"),
+            Wrong::NotFree(pgn) => write_not_free(f, pgn),
+            wrong => self.write_words(f, wrong),
+        }
+    }
+
+    fn write_words<W: fmt::Write>(&self, f: &mut fmt::Formatter<W>, wrong: Wrong) -> fmt::Result {
+        if wrong.is_of_text() {
+            write!(f, "'{}' is not ", self.found)?;
+        }
+        f.write_str(wrong.words())
+    }
+}
+
+/// Writes that no unit sends the group of this number as it likes.
+fn write_not_free<W: fmt::Write>(f: &mut fmt::Formatter<W>, pgn: u32) -> fmt::Result {
+    write!(
+        f,
+        "{pgn} does not go to all, or is of the protocol or of diagnostics"
+    )
 }
 
 impl fmt::Display for Misfit<'_> {
     fn fmt<W: fmt::Write>(&self, f: &mut fmt::Formatter<W>) -> fmt::Result {
-        let wrong = self.wrong;
-        let table = match self.place {
-            KeyPlace::Whole => "",
-            KeyPlace::StationTable => "station",
-            KeyPlace::Second => "second",
-            KeyPlace::Unit(_) => "unit",
-            KeyPlace::Send { .. } => "unit.sends",
-        };
-        match self.key {
-            Some(key) if table.is_empty() => write!(f, "{key}: {wrong}"),
-            Some(key) => write!(f, "{table}.{key}: {wrong}"),
-            None => write!(f, "{table}: {wrong}"),
-        }
-    }
-}
-
-impl fmt::Display for Wrong<'_> {
-    fn fmt<W: fmt::Write>(&self, f: &mut fmt::Formatter<W>) -> fmt::Result {
-        match self {
-            Wrong::Missing => write!(f, "missing"),
-            Wrong::NotKnown => write!(f, "no such key is known"),
-            Wrong::OfLive => write!(f, "only live takes this key"),
-            Wrong::NoSuch(wanted) => write!(f, "no {wanted}"),
-            Wrong::Outside { found, least, most } => write!(f, "{found} is not {least} to {most}"),
-            Wrong::NotOne { found, wanted } => write!(f, "'{found}' is not {wanted}"),
-            Wrong::InUse => write!(f, "the first station has this NAME"),
-            Wrong::NotFree(pgn) => write!(
-                f,
-                "{pgn} does not go to all, or is of the protocol or of diagnostics"
-            ),
-        }
+        let (table, dot, key) = self.name();
+        write!(f, "{table}{dot}{key}: ")?;
+        self.write_wrong(f)
     }
 }

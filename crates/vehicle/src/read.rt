@@ -1,22 +1,23 @@
-ghost use Rattle.std.specs.Prelude.{◌≡◌, ◌≢◌, ◌≤◌, IfOk, pos, Some, codes, map, true};
+ghost use Rattle.std.specs.Prelude.{ℕ, ◌≡◌, ◌≢◌, ◌≤◌, ◌∷◌, [], IfOk, IfSome, pos, Some, codes, map, true};
 ghost use Rattle.std.specs.List.{IsAmong};
+ghost use Rattle.script_line.specs.declared.command.UnitKind.TheVariants.{Flicker};
 ghost use Rattle.name_field.specs.NameText.{IsNameText};
 ghost use Rattle.hex_text.specs.Hex.{hex_value};
-ghost use Rattle.toml.specs.Data.{Members, table};
+ghost use Rattle.toml.specs.Data.{Data, Members, get, table};
 ghost use Rattle.toml.specs.Parse.{parse_document};
 ghost use Rattle.toml.specs.View.{view, items_view};
-ghost use Rattle.vehicle.specs.Holding.{number_at, text_at, HasName, HasNumber, HasOnly, HoldsStation, HoldsSecond, HoldsUnit, HoldsKind, HoldsVehicle, HoldsUnits, keys_by};
+ghost use Rattle.vehicle.specs.Holding.{number_at, text_at, HasItemsAt, HasName, HasNumber, HasOnly, HoldsStation, HoldsSecond, HoldsSecondAt, HoldsTable, HoldsUnitsAt, HoldsUnit, HoldsUnitOf, HoldsKind, HoldsVehicle, HoldsUnits, keys_by};
 
 use crate::fault::VehicleFault;
 use crate::misfit::{KeyPlace, Unread, Wrong};
 use crate::{Second, StationTable, UnitKind, UnitLine, Vehicle};
 use bus_ledger::MOST_UNREAD;
 use can_frame::GREATEST_ADDRESS;
-use garage::MOST_EVENTS;
+use journal::MOST_EVENTS;
 use name_field::Name;
 use std::alloc::Global;
+use toml::Value;
 use toml::de::Error;
-use toml::{Table, Value};
 use trouble_code::{GREATEST_FMI, GREATEST_SPN};
 
 /// The most packets that are asked for at once.
@@ -66,75 +67,139 @@ pub(crate) fn fault_of(alloc: Global, text: &str, error: &Error) -> VehicleFault
 fn vehicle_of(alloc: Global, root: &Value) -> Result<Vehicle, Unread<'_>>
     ensures { IfOk result (HoldsVehicle (view root.now)) }
 {
-    has_only(KeyPlace::Whole, root, &["station", "second", "unit"])?;
-    let station = match root.get("station") {
-        Some(value) => read_station(value)?,
-        None => return Err(Unread::at(KeyPlace::Whole, "station", Wrong::Missing)),
-    };
-    let second = match root.get("second") {
-        Some(value) => Some(read_second(value, station.name)?),
-        None => None,
-    };
-    let units = match root.get("unit") {
-        Some(value) => match value.as_array() {
-            Some(lines) => read_units(alloc, lines.as_slice())?,
-            None => return Err(Unread::at(
-                KeyPlace::Whole,
-                "unit",
-                Wrong::NoSuch("array of tables"),
-            )),
+    has_document_keys(root)?;
+    match station_of(root) {
+        Ok(station) => vehicle_at(alloc, station, root),
+        Err(unread) => Err(unread),
+    }
+}
+
+/// The vehicle of a station: what else a document tells of it.
+fn vehicle_at(alloc: Global, station: StationTable, root: &Value) -> Result<Vehicle, Unread<'_>>
+    ensures station { IfOk result (λ v. v.station ≡ station) }
+    ensures second { IfOk result (λ v. HoldsSecondAt (get (codes "second") (view root.now)) v.second) }
+    ensures apart { IfOk result (λ v. IfSome v.second (λ s. s.name ≢ station.name)) }
+    ensures units { IfOk result (λ v. HoldsUnitsAt (get (codes "unit") (view root.now)) v.units.items) }
+{
+    match second_of(root, station.name) {
+        Ok(second) => match units_of(alloc, root) {
+            Ok(units) => Ok(Vehicle {
+                station,
+                second,
+                units,
+            }),
+            Err(unread) => Err(unread),
         },
-        None => Vec::new(alloc),
-    };
-    Ok(Vehicle {
-        station,
-        second,
-        units,
-    })
+        Err(unread) => Err(unread),
+    }
+}
+
+/// Accepts a document with the tables of a vehicle alone, or some of them.
+pub(crate) fn has_document_keys(root: &Value) -> Result<(), Unread<'_>>
+    ensures { IfOk result (λ _. HasOnly (codes "station" ∷ codes "second" ∷ codes "unit" ∷ []) (view root.now)) }
+{
+    has_only(KeyPlace::Whole, root, &["station", "second", "unit"])
+}
+
+/// The station of a document.
+fn station_of(root: &Value) -> Result<StationTable, Unread<'_>>
+    ensures { IfOk result (λ s. (t : Data) × (get (codes "station") (view root.now) ≡ Some t) × HoldsStation t s) }
+{
+    match root.get("station") {
+        Some(value) => read_station(value),
+        None => Err(Unread::at(KeyPlace::Whole, "station", Wrong::Missing)),
+    }
+}
+
+/// The second station of a document, beside one of this NAME.
+pub(crate) fn second_of(root: &Value, first: Name) -> Result<Option<Second>, Unread<'_>>
+    ensures holds { IfOk result (HoldsSecondAt (get (codes "second") (view root.now))) }
+    ensures apart { IfOk result (λ second. IfSome second (λ s. s.name ≢ first)) }
+{
+    match root.get("second") {
+        Some(value) => match read_second(value, first) {
+            Ok(second) => Ok(Some(second)),
+            Err(unread) => Err(unread),
+        },
+        None => Ok(None),
+    }
+}
+
+/// The units of a document.
+#[tactic(auto, using(crate::proofs::UnitLemmas::held))]
+fn units_of(alloc: Global, root: &Value) -> Result<Vec<UnitLine>, Unread<'_>>
+    ensures { IfOk result (λ units. HoldsUnitsAt (get (codes "unit") (view root.now)) units.items) }
+{
+    let lines = items_at(KeyPlace::Whole, root, "unit", Wrong::NoTables)?;
+    read_units(alloc, lines)
 }
 
 pub(crate) fn read_station(value: &Value) -> Result<StationTable, Unread<'_>>
     ensures { IfOk result (HoldsStation (view value.now)) }
 {
     let place = KeyPlace::StationTable;
-    has_only(
-        place,
-        value,
-        &["name", "address", "window", "grant", "limit"],
-    )?;
-    let name = read_name(place, value)?;
-    let address = read_address(place, value)?;
-    let window = read_window(place, value)?;
-    let grant = read_grant(place, value)?;
-    let limit = read_number(place, value, "limit", 1, MOST_EVENTS)?;
-    Ok(StationTable {
-        name,
-        address,
-        window,
-        grant,
-        limit,
-    })
+    let keys = &["name", "address", "window", "grant", "limit"];
+    match read_table(place, value, keys, None) {
+        Ok(table) => Ok(StationTable {
+            name: table.name,
+            address: table.address,
+            window: table.window,
+            grant: table.grant,
+            limit: read_number(place, value, "limit", 1, MOST_EVENTS)?,
+        }),
+        Err(unread) => Err(unread),
+    }
 }
 
 /// A second station, beside one of this NAME.
-pub(crate) fn read_second(value: &Value, first: Name) -> Result<Second, Unread<'_>>
+fn read_second(value: &Value, first: Name) -> Result<Second, Unread<'_>>
     ensures holds { IfOk result (HoldsSecond (view value.now)) }
     ensures apart { IfOk result (λ s. s.name ≢ first) }
 {
-    let place = KeyPlace::Second;
-    has_only(place, value, &["name", "address", "window", "grant"])?;
-    let name = read_name(place, value)?;
-    if name == first {
-        return Err(Unread::at(place, "name", Wrong::InUse));
+    let keys = &["name", "address", "window", "grant"];
+    read_table(KeyPlace::Second, value, keys, Some(first))
+}
+
+/// What the table of a station tells, first or second, where it has these keys alone; its NAME is not the one that is taken.
+fn read_table<'a>(
+    place: KeyPlace,
+    value: &'a Value,
+    keys: &[&str],
+    taken: Option<Name>,
+) -> Result<Second, Unread<'a>>
+    ensures holds { IfOk result (HoldsTable (map (λ k. k.now) keys.now) (view value.now)) }
+    ensures apart { IfOk result (λ s. IfSome taken (λ t. s.name ≢ t)) }
+{
+    has_only(place, value, keys)?;
+    match read_free_name(place, value, taken) {
+        Ok(name) => read_numbers(place, value, name),
+        Err(unread) => Err(unread),
     }
-    let address = read_address(place, value)?;
-    let window = read_window(place, value)?;
-    let grant = read_grant(place, value)?;
+}
+
+/// A NAME that is not the one that is taken.
+fn read_free_name(place: KeyPlace, value: &Value, taken: Option<Name>) -> Result<Name, Unread<'_>>
+    ensures holds { IfOk result (HasName (view value.now)) }
+    ensures apart { IfOk result (λ name. IfSome taken (λ t. name ≢ t)) }
+{
+    match read_name(place, value) {
+        Ok(name) if taken == Some(name) => Err(Unread::at(place, "name", Wrong::InUse)),
+        read => read,
+    }
+}
+
+/// What the table of a station of this NAME tells beside it.
+fn read_numbers(place: KeyPlace, value: &Value, name: Name) -> Result<Second, Unread<'_>>
+    ensures name { IfOk result (λ s. s.name ≡ name) }
+    ensures address { IfOk result (λ s. HasNumber (view value.now) (codes "address") s.address 0 GREATEST_ADDRESS) }
+    ensures window { IfOk result (λ s. HasNumber (view value.now) (codes "window") s.window 1 MOST_UNREAD) }
+    ensures grant { IfOk result (λ s. HasNumber (view value.now) (codes "grant") s.grant 1 MOST_GRANTED) }
+{
     Ok(Second {
         name,
-        address,
-        window,
-        grant,
+        address: read_address(place, value)?,
+        window: read_number(place, value, "window", 1, MOST_UNREAD)?,
+        grant: read_number(place, value, "grant", 1, MOST_GRANTED)? as u8,
     })
 }
 
@@ -144,7 +209,10 @@ fn read_units(alloc: Global, lines: &[Value]) -> Result<Vec<UnitLine>, Unread<'_
     let mut units = Vec::new(alloc);
     for line in lines {
         let place = KeyPlace::Unit(units.len());
-        units.push(read_unit(place, line)?)?;
+        match read_unit(place, line) {
+            Ok(unit) => units.push(unit)?,
+            Err(unread) => return Err(unread),
+        }
     }
     Ok(units)
 }
@@ -152,20 +220,36 @@ fn read_units(alloc: Global, lines: &[Value]) -> Result<Vec<UnitLine>, Unread<'_
 fn read_unit(place: KeyPlace, value: &Value) -> Result<UnitLine, Unread<'_>>
     ensures { IfOk result (HoldsUnit (view value.now)) }
 {
-    Ok(UnitLine {
-        name: read_name(place, value)?,
-        address: read_address(place, value)?,
-        kind: read_kind(
-            place,
-            value,
-            &["name", "address", "kind"],
-            &["name", "address", "kind", "spn", "fmi"],
-        )?,
-    })
+    read_unit_of(
+        place,
+        value,
+        &["name", "address", "kind"],
+        &["name", "address", "kind", "spn", "fmi"],
+    )
+}
+
+/// A unit whose table has these keys alone, those for a flicker where it is one.
+pub(crate) fn read_unit_of<'a>(
+    place: KeyPlace,
+    value: &'a Value,
+    keys: &[&str],
+    flicker_keys: &[&str],
+) -> Result<UnitLine, Unread<'a>>
+    ensures { IfOk result
+        (λ u. HoldsUnitOf (keys_by u.kind (map (λ k. k.now) keys.now) (map (λ k. k.now) flicker_keys.now)) (view value.now) u) }
+{
+    match read_name(place, value) {
+        Ok(name) => Ok(UnitLine {
+            name,
+            address: read_address(place, value)?,
+            kind: read_kind(place, value, keys, flicker_keys)?,
+        }),
+        Err(unread) => Err(unread),
+    }
 }
 
 /// The kind of a unit whose table has these keys alone, those for a flicker where it is one.
-pub(crate) fn read_kind<'a>(
+fn read_kind<'a>(
     place: KeyPlace,
     value: &'a Value,
     keys: &[&str],
@@ -178,56 +262,40 @@ pub(crate) fn read_kind<'a>(
     let word = read_text(place, value, "kind")?;
     if word == "flicker" {
         has_only(place, value, flicker_keys)?;
-        let spn = read_number(place, value, "spn", 0, GREATEST_SPN)?;
-        let fmi = read_number(place, value, "fmi", 0, u32::from(GREATEST_FMI))? as u8;
-        return Ok(UnitKind::Flicker { spn, fmi });
+        return read_flicker(place, value);
     }
     has_only(place, value, keys)?;
-    if word == "plain" {
-        Ok(UnitKind::Plain)
-    } else if word == "guarded" {
-        Ok(UnitKind::Guarded)
-    } else {
-        let wrong = Wrong::NotOne {
-            found: word,
-            wanted: "plain, guarded or flicker",
-        };
-        Err(Unread::at(place, "kind", wrong))
+    match word {
+        "plain" => Ok(UnitKind::Plain),
+        "guarded" => Ok(UnitKind::Guarded),
+        _ => Err(Unread::of_text(place, "kind", word, Wrong::NotKind)),
     }
 }
 
-pub(crate) fn read_name(place: KeyPlace, value: &Value) -> Result<Name, Unread<'_>>
+/// The kind of a flicker.
+fn read_flicker(place: KeyPlace, value: &Value) -> Result<UnitKind, Unread<'_>>
+    ensures { IfOk result (λ kind. (spn : ℕ) × (fmi : ℕ) × (kind ≡ Flicker spn fmi)
+        × HasNumber (view value.now) (codes "spn") spn 0 GREATEST_SPN × HasNumber (view value.now) (codes "fmi") fmi 0 GREATEST_FMI) }
+{
+    let spn = read_number(place, value, "spn", 0, GREATEST_SPN)?;
+    let fmi = read_number(place, value, "fmi", 0, u32::from(GREATEST_FMI))? as u8;
+    Ok(UnitKind::Flicker { spn, fmi })
+}
+
+fn read_name(place: KeyPlace, value: &Value) -> Result<Name, Unread<'_>>
     ensures { IfOk result (HasName (view value.now)) }
 {
     let word = read_text(place, value, "name")?;
     match Name::read_hex(word) {
         Ok(name) => Ok(name),
-        Err(_) => {
-            let wrong = Wrong::NotOne {
-                found: word,
-                wanted: "16 hexadecimal digits",
-            };
-            Err(Unread::at(place, "name", wrong))
-        }
+        Err(_) => Err(Unread::of_text(place, "name", word, Wrong::NotName)),
     }
 }
 
-pub(crate) fn read_address(place: KeyPlace, value: &Value) -> Result<u8, Unread<'_>>
+fn read_address(place: KeyPlace, value: &Value) -> Result<u8, Unread<'_>>
     ensures { IfOk result (λ a. HasNumber (view value.now) (codes "address") a 0 GREATEST_ADDRESS) }
 {
     Ok(read_number(place, value, "address", 0, u32::from(GREATEST_ADDRESS))? as u8)
-}
-
-fn read_window(place: KeyPlace, value: &Value) -> Result<u32, Unread<'_>>
-    ensures { IfOk result (λ n. HasNumber (view value.now) (codes "window") n 1 MOST_UNREAD) }
-{
-    read_number(place, value, "window", 1, MOST_UNREAD)
-}
-
-fn read_grant(place: KeyPlace, value: &Value) -> Result<u8, Unread<'_>>
-    ensures { IfOk result (λ n. HasNumber (view value.now) (codes "grant") n 1 MOST_GRANTED) }
-{
-    Ok(read_number(place, value, "grant", 1, MOST_GRANTED)? as u8)
 }
 
 pub(crate) fn read_text<'a>(
@@ -240,7 +308,7 @@ pub(crate) fn read_text<'a>(
     match value.get(key) {
         Some(found) => match found.as_str() {
             Some(text) => Ok(text),
-            None => Err(Unread::at(place, key, Wrong::NoSuch("text"))),
+            None => Err(Unread::at(place, key, Wrong::NoText)),
         },
         None => Err(Unread::at(place, key, Wrong::Missing)),
     }
@@ -259,9 +327,27 @@ pub(crate) fn read_number<'a>(
         Some(found) => match found.as_integer() {
             Some(n) if n >= i64::from(least) && n <= i64::from(most) => Ok(n as u32),
             Some(found) => Err(Unread::at(place, key, Wrong::Outside { found, least, most })),
-            None => Err(Unread::at(place, key, Wrong::NoSuch("whole number"))),
+            None => Err(Unread::at(place, key, Wrong::NoNumber)),
         },
         None => Err(Unread::at(place, key, Wrong::Missing)),
+    }
+}
+
+/// The items of the array at a key; none where there is no such key.
+pub(crate) fn items_at<'a>(
+    place: KeyPlace,
+    value: &'a Value,
+    key: &'a str,
+    wrong: Wrong,
+) -> Result<&'a [Value], Unread<'a>>
+    ensures { IfOk result (λ items. HasItemsAt (get key.now (view value.now)) (items_view items.now)) }
+{
+    let Some(found) = value.get(key) else {
+        return Ok(&[]);
+    };
+    match found.as_array() {
+        Some(items) => Ok(items.as_slice()),
+        None => Err(Unread::at(place, key, wrong)),
     }
 }
 
@@ -273,7 +359,9 @@ pub(crate) fn has_only<'a>(
 ) -> Result<(), Unread<'a>>
     ensures { IfOk result (λ _. HasOnly (map (λ k. k.now) keys.now) (view value.now)) }
 {
-    let table: &Table = value.as_table().ok_or(Unread::of_type(place, "table"))?;
+    let Some(table) = value.as_table() else {
+        return Err(Unread::at(place, "", Wrong::NoTable));
+    };
     for (key, _) in table.iter() {
         if !is_among(key.as_str(), keys) {
             return Err(Unread::at(place, key.as_str(), why_not(place, key.as_str())));
@@ -283,9 +371,10 @@ pub(crate) fn has_only<'a>(
 }
 
 /// Why a key may not stand in a table.
-fn why_not<'a>(place: KeyPlace, key: &str) -> Wrong<'a> {
-    match (place, key) {
-        (KeyPlace::Unit(_), "lamps" | "active" | "previous" | "pending" | "sends") => Wrong::OfLive,
+fn why_not(place: KeyPlace, key: &str) -> Wrong {
+    let of_live = &["lamps", "active", "previous", "pending", "sends"];
+    match place {
+        KeyPlace::Unit(_) if is_among(key, of_live) => Wrong::OfLive,
         _ => Wrong::NotKnown,
     }
 }

@@ -12,7 +12,7 @@ pub(crate) const GREATEST_PGN: u32 = 131_071;
 pub(crate) const LOWEST_PRIORITY: u32 = 7;
 
 /// A group that a unit sends to all again and again, in one frame.
-#[derive(Debug, Drop)]
+#[derive(Drop)]
 pub struct SendLine {
     /// The group: one that goes to all (SAE J1939-21, PDU2), and none of the protocol's or of diagnostics.
     pub pgn: u32,

@@ -8,7 +8,7 @@ ghost use Rattle.vehicle.specs.Sending.{SpellsBytes};
 ghost use Rattle.vehicle.specs.Sending as sending;
 
 use crate::misfit::{KeyPlace, Unread, Wrong};
-use crate::read::{has_only, read_number, read_text};
+use crate::read::{has_only, items_at, read_number, read_text};
 use crate::send_line::{GREATEST_PGN, LOWEST_PRIORITY, SendLine};
 use can_frame::Pgn;
 use hex_text::read_hex;
@@ -24,6 +24,7 @@ const MOST_PERIOD: u32 = 60_000;
 const USUAL_PRIORITY: u32 = 6;
 
 /// The groups that a unit sends; none where it has no such key.
+#[tactic(auto, using(crate::proofs::UnitLemmas::held))]
 pub(crate) fn read_sends(
     alloc: Global,
     unit: usize,
@@ -31,17 +32,8 @@ pub(crate) fn read_sends(
 ) -> Result<Vec<SendLine>, Unread<'_>>
     ensures { IfOk result (λ sends. HoldsSendsAt (get (codes "sends") (view value.now)) sends.items) }
 {
-    let Some(found) = value.get("sends") else {
-        return Ok(Vec::new(alloc));
-    };
-    match found.as_array() {
-        Some(items) => sends_of(alloc, unit, items.as_slice()),
-        None => Err(Unread::at(
-            KeyPlace::Unit(unit),
-            "sends",
-            Wrong::NoSuch("array of tables"),
-        )),
-    }
+    let items = items_at(KeyPlace::Unit(unit), value, "sends", Wrong::NoTables)?;
+    sends_of(alloc, unit, items)
 }
 
 fn sends_of(alloc: Global, unit: usize, items: &[Value]) -> Result<Vec<SendLine>, Unread<'_>>
@@ -120,13 +112,7 @@ fn read_bytes(alloc: Global, place: KeyPlace, value: &Value) -> Result<Vec<u8>, 
     let text = read_text(place, value, "bytes")?;
     match bytes_of(alloc, text)? {
         Some(bytes) => Ok(bytes),
-        None => {
-            let wrong = Wrong::NotOne {
-                found: text,
-                wanted: "1 to 8 bytes of two hexadecimal digits each",
-            };
-            Err(Unread::at(place, "bytes", wrong))
-        }
+        None => Err(Unread::of_text(place, "bytes", text, Wrong::NotBytes)),
     }
 }
 

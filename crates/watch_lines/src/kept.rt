@@ -1,5 +1,3 @@
-use crate::form::WatchForm;
-use crate::units::KINDS;
 use bus_watch::{BusWatch, Buses, Changes, EntryRun, Watch, WatchChange, Who};
 use candump_line::{Line, Time};
 use dm_messages::Kind;
@@ -7,6 +5,7 @@ use log_lines::LogFault;
 use name_field::Name;
 use picture::{Brief, DrawnUnit, Occurrence, Picture, RunEnd, Sender};
 use std::alloc::{AllocError, Global};
+use watch_reports::{KINDS, WatchForm};
 
 /// What is kept beside the watches while lines are read: when the first of them was, and for a page its picture.
 #[derive(Drop)]
@@ -34,8 +33,8 @@ impl PageHistory {
     }
 
     /// The time of the first line that has one.
-    pub(crate) fn start(&self) -> Option<Time> {
-        self.start
+    pub(crate) fn start(&self) -> &Option<Time> {
+        &self.start
     }
 
     /// The picture, where one is kept.

@@ -2,19 +2,15 @@
 //! report by NAME.
 #![tactic(auto)]
 
-mod form;
+mod heard;
 mod hearing;
 mod kept;
 mod lines;
-mod object_parts;
-mod objects;
+mod options;
 mod over;
-mod report_object;
-mod report_writer;
-mod rows;
+mod page;
 mod run;
-mod text;
-mod units;
 
-pub use form::WatchForm;
-pub use run::{Assumed, WatchOptions, Watched, watch};
+pub use options::WatchOptions;
+pub use run::{Watched, watch};
+pub use watch_reports::{Assumed, WatchForm};

@@ -1,76 +1,171 @@
+use crate::heard::Heard;
 use crate::hearing::hear_line;
-use crate::kept::PageHistory;
+use crate::options::RunOptions;
 use crate::over::Over;
-use crate::run::{WatchOptions, Watched};
-use bus_watch::Buses;
-use candump_line::read_line;
-use log_lines::{LineClock, LinesEnd, LogFault, Notices, next_line};
+use crate::run::Watched;
+use candump_line::{Line, read_line};
+use log_lines::{LineClock, LogFault, Notices, next_line};
 use std::alloc::Global;
-use std::io::{BufReader, BufWriter, Read, Write};
+use std::io::{BufReader, Read, Write};
+use watch_reports::ReportOptions;
+
+/// What is told beside the report while lines are read.
+#[derive(Drop)]
+struct Asides {
+    notices: Notices,
+    clock: LineClock,
+    over: Over,
+}
+
+/// What comes behind a line.
+#[derive(Clone, Copy)]
+enum Behind {
+    /// The next.
+    Line,
+    /// Nothing: the input is at its end.
+    End,
+    /// Nothing more is read: it was bad.
+    Stop,
+}
 
 /// Reads all lines. What they change is written before the program waits for another; of bad lines, of times that do not count, and
 /// of an input without frames is told on `errors`. A strict run ends at the first bad line.
-pub(crate) fn read_lines<R: Read + Drop, W: Write + Drop, E: Write>(
+pub(crate) fn read_lines<R: Read, W: Write, E: Write>(
     alloc: Global,
     reader: &mut BufReader<R>,
-    writer: &mut BufWriter<W>,
+    writer: &mut W,
     errors: &mut E,
-    buses: &mut Buses,
-    kept: &mut PageHistory,
-    options: &WatchOptions<'_>,
+    heard: &mut Heard,
+    options: &RunOptions<'_>,
 ) -> Watched {
-    let mut notices = Notices::new();
-    let mut over = Over::new();
+    let mut line = Vec::new(alloc);
+    let mut asides = Asides {
+        notices: Notices::new(),
+        clock: LineClock::new(),
+        over: Over::new(),
+    };
     let end = hear_lines(
         alloc,
         reader,
         writer,
         errors,
-        buses,
-        kept,
+        heard,
         options,
-        &mut notices,
-        &mut over,
+        &mut line,
+        &mut asides,
     );
     Watched {
-        ended: notices.ended(errors, end),
-        is_anew: over.is_anew(),
+        ended: asides.notices.ended(errors, end),
+        is_anew: asides.over.is_anew(),
     }
 }
 
 /// Hears line by line. Tells whether the input came to its end.
-fn hear_lines<R: Read + Drop, W: Write + Drop, E: Write>(
+fn hear_lines<R: Read, W: Write, E: Write>(
     alloc: Global,
     reader: &mut BufReader<R>,
-    writer: &mut BufWriter<W>,
+    writer: &mut W,
     errors: &mut E,
-    buses: &mut Buses,
-    kept: &mut PageHistory,
-    options: &WatchOptions<'_>,
-    notices: &mut Notices,
-    over: &mut Over,
+    heard: &mut Heard,
+    options: &RunOptions<'_>,
+    line: &mut Vec<u8>,
+    asides: &mut Asides,
 ) -> Result<bool, LogFault> {
-    let mut line = Vec::new(alloc);
-    let mut clock = LineClock::new();
     for number in 1..u64::MAX {
-        if !next_line(reader, writer, &mut line)? {
-            break;
-        }
-        let text = line.as_slice();
-        let said = read_line(text);
-        let is_bad = notices.take(errors, number, text, &said)?;
-        over.make_room(alloc, writer, errors, buses, kept, options, number)?;
-        match clock.counts(errors, number, text, &said) {
-            Ok(true) => hear_line(alloc, writer, buses, kept, options, number, &said)?,
-            Ok(false) => hear_line(alloc, writer, buses, kept, options, number, &said.untimed())?,
-            Err(error) => return Err(LogFault::of_write(error)),
-        }
-        if is_bad && options.strict {
-            return Ok(false);
+        match hear_next(
+            alloc, reader, writer, errors, heard, options, line, asides, number,
+        )? {
+            Behind::Line => {}
+            Behind::End => break,
+            Behind::Stop => return Ok(false),
         }
     }
-    match clock.tell_rest(errors) {
+    match asides.clock.tell_rest(errors) {
         Ok(()) => Ok(true),
         Err(error) => Err(LogFault::of_write(error)),
+    }
+}
+
+/// Reads the line of this number, and hears it.
+fn hear_next<R: Read, W: Write, E: Write>(
+    alloc: Global,
+    reader: &mut BufReader<R>,
+    writer: &mut W,
+    errors: &mut E,
+    heard: &mut Heard,
+    options: &RunOptions<'_>,
+    line: &mut Vec<u8>,
+    asides: &mut Asides,
+    number: u64,
+) -> Result<Behind, LogFault> {
+    if !next_line(reader, writer, line)? {
+        return Ok(Behind::End);
+    }
+    let text = line.as_slice();
+    let is_bad = take_line(alloc, writer, errors, heard, options, asides, number, text)?;
+    if is_bad && options.strict {
+        Ok(Behind::Stop)
+    } else {
+        Ok(Behind::Line)
+    }
+}
+
+/// Hears a line, and tells what there is to tell of it. Answers whether it is bad.
+fn take_line<W: Write, E: Write>(
+    alloc: Global,
+    writer: &mut W,
+    errors: &mut E,
+    heard: &mut Heard,
+    options: &RunOptions<'_>,
+    asides: &mut Asides,
+    number: u64,
+    text: &[u8],
+) -> Result<bool, LogFault> {
+    let said = read_line(text);
+    let is_bad = asides.notices.take(errors, number, text, &said)?;
+    asides
+        .over
+        .make_room(alloc, writer, errors, heard, options, number)?;
+    let is_timed = counts(&mut asides.clock, errors, number, text, &said)?;
+    hear_timed(
+        alloc,
+        writer,
+        heard,
+        &options.reports,
+        number,
+        &said,
+        is_timed,
+    )?;
+    Ok(is_bad)
+}
+
+/// Whether the time of a line counts.
+fn counts<E: Write>(
+    clock: &mut LineClock,
+    errors: &mut E,
+    number: u64,
+    text: &[u8],
+    said: &Line<'_>,
+) -> Result<bool, LogFault> {
+    match clock.counts(errors, number, text, said) {
+        Ok(counts) => Ok(counts),
+        Err(error) => Err(LogFault::of_write(error)),
+    }
+}
+
+/// Has the watches hear a line, with its time or without.
+fn hear_timed<W: Write>(
+    alloc: Global,
+    writer: &mut W,
+    heard: &mut Heard,
+    options: &ReportOptions<'_>,
+    number: u64,
+    said: &Line<'_>,
+    is_timed: bool,
+) -> Result<(), LogFault> {
+    if is_timed {
+        hear_line(alloc, writer, heard, options, number, said)
+    } else {
+        hear_line(alloc, writer, heard, options, number, &said.untimed())
     }
 }

@@ -1,13 +1,13 @@
 //! What becomes of a watch of which as much is kept as may be: what was heard so far is reported, and it is begun anew.
 
-use crate::form::{TextPart, write_report};
-use crate::kept::PageHistory;
-use crate::run::WatchOptions;
+use crate::heard::Heard;
+use crate::options::RunOptions;
 use bus_watch::{Buses, Limits};
 use log_lines::LogFault;
 use std::alloc::Global;
 use std::io;
 use std::io::Write;
+use watch_reports::{ReportOptions, ReportPart, write_report};
 
 /// Whether it was begun anew.
 #[derive(Clone, Copy)]
@@ -32,13 +32,12 @@ impl Over {
         alloc: Global,
         writer: &mut W,
         errors: &mut E,
-        buses: &mut Buses,
-        kept: &mut PageHistory,
-        options: &WatchOptions<'_>,
+        heard: &mut Heard,
+        options: &RunOptions<'_>,
         number: u64,
     ) -> Result<(), LogFault> {
-        if is_full(buses, options.limits) {
-            self.begin_anew(alloc, writer, errors, buses, kept, options, number)?;
+        if is_full(&heard.buses, options.limits) {
+            self.begin_anew(alloc, writer, errors, heard, options, number)?;
         }
         Ok(())
     }
@@ -49,24 +48,41 @@ impl Over {
         alloc: Global,
         writer: &mut W,
         errors: &mut E,
-        buses: &mut Buses,
-        kept: &mut PageHistory,
-        options: &WatchOptions<'_>,
+        heard: &mut Heard,
+        options: &RunOptions<'_>,
         number: u64,
     ) -> Result<(), LogFault> {
-        if !self.is_anew
-            && let Err(error) = tell(errors, options.limits, number)
-        {
-            return Err(LogFault::of_write(error));
+        self.tell(errors, options.limits, number)?;
+        self.report(writer, &heard.buses, &options.reports, number)?;
+        heard.kept.begin_anew(&heard.buses, number)?;
+        self.is_anew = true;
+        start_over(alloc, &mut heard.buses)
+    }
+
+    /// Tells that more is heard than is kept at once, unless that is told.
+    fn tell<E: Write>(&self, errors: &mut E, limits: Limits, number: u64) -> Result<(), LogFault> {
+        if self.is_anew {
+            return Ok(());
         }
-        let part = TextPart::Before {
+        match tell(errors, limits, number) {
+            Ok(()) => Ok(()),
+            Err(error) => Err(LogFault::of_write(error)),
+        }
+    }
+
+    /// Reports what was heard before the line of this number.
+    fn report<W: Write>(
+        &self,
+        writer: &mut W,
+        buses: &Buses,
+        options: &ReportOptions<'_>,
+        number: u64,
+    ) -> Result<(), LogFault> {
+        let part = ReportPart::Before {
             line: number,
             is_first: !self.is_anew,
         };
-        write_report(writer, buses, options, part)?;
-        kept.begin_anew(buses, number)?;
-        self.is_anew = true;
-        start_over(alloc, buses)
+        write_report(writer, buses, options, part)
     }
 }
 
@@ -94,8 +110,13 @@ fn start_over(alloc: Global, buses: &mut Buses) -> Result<(), LogFault> {
 fn tell<E: Write>(errors: &mut E, limits: Limits, number: u64) -> io::Result<()> {
     let most = limits.most;
     let keep = limits.keep;
+    let words = anew_words();
     writeln!(
         errors,
-        "line {number}: more than is kept at once, {most} NAMEs (--most) and {keep} runs (--keep): what was heard so far is reported, and it is begun anew with the units that hold addresses"
+        "line {number}: more than is kept at once, {most} NAMEs (--most) and {keep} runs (--keep): {words}"
     )
+}
+
+fn anew_words() -> &'static str {
+    "what was heard so far is reported, and it is begun anew with the units that hold addresses"
 }

@@ -1,7 +1,7 @@
 ghost use Rattle.std.specs.Prelude.{◌≤◌};
 
 use crate::moment::{write_moment, write_time};
-use crate::view::View;
+use crate::words::PageWords;
 use clock_words::{ClockForm, Fraction};
 use page_text::Page;
 use picture::{Axis, Picture};
@@ -102,15 +102,15 @@ const MOST: u64 = 10;
 
 impl Marks {
     /// The marks of the axis of a picture: at round times of the clock, or at round lines.
-    pub(crate) fn of(view: &View<'_>, scale: Scale) -> Marks {
-        let with_date = scale.span > DAY && view.clock == ClockForm::Utc;
+    pub(crate) fn of(words: &PageWords<'_>, scale: Scale) -> Marks {
+        let with_date = scale.span > DAY && words.clock == ClockForm::Utc;
         let most = if with_date { 4 } else { 8 };
-        let step = match view.picture.axis() {
+        let step = match words.axis {
             Axis::Times => time_step(scale.span, most),
             Axis::Lines => line_step(scale.span),
         };
         Marks {
-            first: first_mark(scale.start, step, view.clock),
+            first: first_mark(scale.start, step, words.clock),
             step,
             end: scale.end(),
             with_date,
@@ -181,12 +181,12 @@ pub(crate) fn write_part<W: Write>(page: &mut Page<W>, name: &'static str, place
 }
 
 /// Writes the axis: its marks in words.
-pub(crate) fn write_axis<W: Write>(page: &mut Page<W>, view: &View<'_>, scale: Scale) {
-    let marks = Marks::of(view, scale);
+pub(crate) fn write_axis<W: Write>(page: &mut Page<W>, words: &PageWords<'_>, scale: Scale) {
+    let marks = Marks::of(words, scale);
     page.markup(axis_begin());
     for number in 0..MOST {
         if let Some(moment) = marks.at(number) {
-            write_mark(page, view, scale.place(moment), number, moment, marks);
+            write_mark(page, words, scale.place(moment), number, moment, marks);
         }
     }
     page.markup("</svg>\n");
@@ -199,21 +199,25 @@ fn axis_begin() -> &'static str {
 /// Writes a mark in words. Each second one is left out of a narrow page.
 fn write_mark<W: Write>(
     page: &mut Page<W>,
-    view: &View<'_>,
+    words: &PageWords<'_>,
     place: u64,
     number: u64,
     moment: u64,
     marks: Marks,
 ) {
+    begin_mark(page, place, number);
+    match words.axis {
+        Axis::Times => write_time(page, words, moment, marks.fraction(), marks.with_date),
+        Axis::Lines => write_moment(page, words, moment, Fraction::Seconds),
+    }
+    page.markup("</text>");
+}
+
+fn begin_mark<W: Write>(page: &mut Page<W>, place: u64, number: u64) {
     write_part(page, "<text x=\"", place);
     page.markup(" y=\"14\" class=\"mark");
     page.markup(if number % 2 == 1 { " odd" } else { "" });
     page.markup(side_of(place));
-    match view.picture.axis() {
-        Axis::Times => write_time(page, view, moment, marks.fraction(), marks.with_date),
-        Axis::Lines => write_moment(page, view, moment, Fraction::Seconds),
-    }
-    page.markup("</text>");
 }
 
 /// On which side of its place a mark's words stand, so that they are on the page.
@@ -228,8 +232,8 @@ fn side_of(place: u64) -> &'static str {
 }
 
 /// Writes the lines of the marks through a lane.
-pub(crate) fn write_lines<W: Write>(page: &mut Page<W>, view: &View<'_>, scale: Scale) {
-    let marks = Marks::of(view, scale);
+pub(crate) fn write_lines<W: Write>(page: &mut Page<W>, words: &PageWords<'_>, scale: Scale) {
+    let marks = Marks::of(words, scale);
     for number in 0..MOST {
         if let Some(moment) = marks.at(number) {
             write_line(page, scale.place(moment));

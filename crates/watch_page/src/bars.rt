@@ -4,7 +4,8 @@ ghost use Rattle.watch_page.specs.declared.axis.TheConstants.{FULL};
 use crate::axis::{FULL, Scale, write_part};
 use crate::message_words::{class_of, kind_word, severity_word, write_brief, write_numbers};
 use crate::moment::write_range;
-use crate::view::View;
+use crate::pieces::write_count;
+use crate::words::PageWords;
 use dm_messages::Kind;
 use page_text::Page;
 use picture::{Brief, Severity, Shows, Span, Track};
@@ -87,113 +88,106 @@ pub(crate) fn fill_bar<W: Write>(page: &mut Page<W>, class: &'static str) {
 /// Draws when an address was held.
 pub(crate) fn write_address_bar<W: Write>(
     page: &mut Page<W>,
-    view: &View<'_>,
+    words: &PageWords<'_>,
     scale: Scale,
     span: &Span,
 ) {
+    begin_bar(page, scale, span.from, span.to, ADDRESSES.bar);
     match &span.shows {
-        Shows::Address(address) => write_held(page, view, scale, span, *address),
-        _ => write_changing(
-            page,
-            view,
-            scale,
-            span,
-            ADDRESSES,
-            "addresses",
-            Severity::Fine,
-        ),
+        Shows::Address(address) => write_held(page, words, span, u64::from(*address)),
+        _ => write_changing(page, words, span, ADDRESSES, "addresses", Severity::Fine),
     }
 }
 
-fn write_held<W: Write>(
-    page: &mut Page<W>,
-    view: &View<'_>,
-    scale: Scale,
-    span: &Span,
-    address: u8,
-) {
-    begin_bar(page, scale, span.from, span.to, ADDRESSES.bar);
-    page.markup("address ");
-    page.number(u64::from(address));
-    page.markup(", ");
-    write_range(page, view, span.from, span.to);
+fn write_held<W: Write>(page: &mut Page<W>, words: &PageWords<'_>, span: &Span, address: u64) {
+    write_count(page, "address ", address, ", ");
+    write_range(page, words, span.from, span.to);
     fill_bar(page, "held");
     page.markup(ADDRESSES.words);
-    page.markup("address ");
-    page.number(u64::from(address));
-    page.markup("</text></svg>");
+    write_count(page, "address ", address, "</text></svg>");
 }
 
-/// Draws several spans that were joined.
+/// Writes that several spans were joined.
 fn write_changing<W: Write>(
     page: &mut Page<W>,
-    view: &View<'_>,
-    scale: Scale,
+    words: &PageWords<'_>,
     span: &Span,
     row: BarRow,
     what: &'static str,
     severity: Severity,
 ) {
-    begin_bar(page, scale, span.from, span.to, row.bar);
-    page.number(span.told);
-    page.markup(" changes of ");
+    write_count(page, "", span.told, " changes of ");
     page.markup(what);
     page.markup(", ");
-    write_range(page, view, span.from, span.to);
+    write_range(page, words, span.from, span.to);
+    write_worst(page, severity);
+    fill_bar(page, "changing");
+    write_count(page, row.words, span.told, " changes</text></svg>");
+}
+
+/// Writes how bad it was at worst, where it was.
+fn write_worst<W: Write>(page: &mut Page<W>, severity: Severity) {
     if severity != Severity::Fine {
         page.markup("; at worst ");
         page.markup(severity_word(severity));
     }
-    fill_bar(page, "changing");
-    page.markup(row.words);
-    page.number(span.told);
-    page.markup(" changes</text></svg>");
 }
 
 /// Draws what messages of a kind told.
 pub(crate) fn write_message_bar<W: Write>(
     page: &mut Page<W>,
-    view: &View<'_>,
+    words: &PageWords<'_>,
     scale: Scale,
     span: &Span,
     kind: Kind,
     row: BarRow,
 ) {
+    begin_bar(page, scale, span.from, span.to, row.bar);
     match &span.shows {
         Shows::Message {
             brief,
             severity,
             times,
         } => {
-            begin_bar(page, scale, span.from, span.to, row.bar);
-            write_title(page, view, span, kind, *times);
-            write_brief(page, view, brief);
-            fill_bar(page, class_of(*severity));
-            write_words(page, row, kind, brief);
+            write_title(page, words, span, kind, *times);
+            write_message(page, words, row, kind, brief, *severity);
         }
-        _ => write_changing(
-            page,
-            view,
-            scale,
-            span,
-            row,
-            kind_word(kind),
-            span.shows.severity(),
-        ),
+        _ => {
+            let severity = span.shows.severity();
+            write_changing(page, words, span, row, kind_word(kind), severity);
+        }
     }
 }
 
 /// Writes when messages came and how many they were.
-fn write_title<W: Write>(page: &mut Page<W>, view: &View<'_>, span: &Span, kind: Kind, times: u64) {
+fn write_title<W: Write>(
+    page: &mut Page<W>,
+    words: &PageWords<'_>,
+    span: &Span,
+    kind: Kind,
+    times: u64,
+) {
     page.markup(kind_word(kind));
     page.markup(", ");
-    write_range(page, view, span.from, span.to);
+    write_range(page, words, span.from, span.to);
     if times > 1 {
-        page.markup(", ");
-        page.number(times);
-        page.markup(" times");
+        write_count(page, ", ", times, " times");
     }
     page.markup(": ");
+}
+
+/// Writes what a message told, in the title and in the bar.
+fn write_message<W: Write>(
+    page: &mut Page<W>,
+    words: &PageWords<'_>,
+    row: BarRow,
+    kind: Kind,
+    brief: &Brief,
+    severity: Severity,
+) {
+    write_brief(page, words, brief);
+    fill_bar(page, class_of(severity));
+    write_words(page, row, kind, brief);
 }
 
 /// Writes the words in a bar: its codes; and the sign of doubt.
@@ -206,15 +200,24 @@ fn write_words<W: Write>(page: &mut Page<W>, row: BarRow, kind: Kind, brief: &Br
         page.markup(kind_word(kind));
         page.markup(" ");
     }
-    write_codes(page, brief);
+    write_told(page, brief);
     page.markup("</text></svg>");
 }
 
-fn write_codes<W: Write>(page: &mut Page<W>, brief: &Brief) {
+/// Writes the codes of a message, or how bad it is where it has none.
+fn write_told<W: Write>(page: &mut Page<W>, brief: &Brief) {
     if brief.count == 0 {
         page.markup(severity_word(brief.severity()));
         return;
     }
+    let listed = write_codes(page, brief);
+    if brief.count > listed {
+        write_count(page, "+", u64::from(brief.count.saturating_sub(listed)), "");
+    }
+}
+
+/// Writes the first codes. Tells how many.
+fn write_codes<W: Write>(page: &mut Page<W>, brief: &Brief) -> u16 {
     let mut listed = 0u16;
     for code in &brief.codes {
         if let Some(code) = code {
@@ -223,8 +226,5 @@ fn write_codes<W: Write>(page: &mut Page<W>, brief: &Brief) {
             listed = listed.saturating_add(1);
         }
     }
-    if brief.count > listed {
-        page.markup("+");
-        page.number(u64::from(brief.count.saturating_sub(listed)));
-    }
+    listed
 }

@@ -1,14 +1,16 @@
-use crate::axis::{Scale, write_axis, write_lines, write_part};
+use crate::axis::{Scale, write_axis, write_lines};
 use crate::bars::{
     ADDRESSES, BarRow, DM1, DM2, DM6, begin_bar, fill_bar, fitted, write_address_bar,
     write_message_bar,
 };
 use crate::labels::{write_identity, write_label};
+use crate::pieces::{by_count, write_count};
 use crate::standing::{ALL_ORDERS, Presence, order_of, presence_of};
 use crate::view::View;
+use crate::words::PageWords;
 use dm_messages::Kind;
 use page_text::Page;
-use picture::{Shows, Span, Track, UnitLane};
+use picture::{Picture, Shows, Span, Track, UnitLane};
 use std::io::Write;
 
 /// How large the page may be when a further bar is begun, in bytes, and how many bars all lanes have at most.
@@ -17,21 +19,30 @@ const ROOM: u64 = 3_800_000;
 const BARS: usize = 8_000;
 
 /// Writes when it was: a lane for each unit, those that told the worst first.
-pub(crate) fn write_lanes<W: Write>(page: &mut Page<W>, view: &View<'_>) {
+pub(crate) fn write_lanes<W: Write>(page: &mut Page<W>, view: &View<'_>, words: &PageWords<'_>) {
     let scale = Scale::of(view.picture);
     page.markup(head());
-    write_axis(page, view, scale);
-    let lanes = view.picture.lanes();
-    let most = BARS / lanes.len().max(1);
+    write_axis(page, words, scale);
     for order in 0..ALL_ORDERS {
-        for lane in lanes {
-            if lane_order(view, lane) == order && !page.has_failed() {
-                write_lane(page, view, scale, lane, most);
-            }
+        write_order(page, view, words, scale, order);
+    }
+    write_undrawn(page, view.picture);
+    page.markup(key());
+}
+
+/// Writes the lanes of one order.
+fn write_order<W: Write>(
+    page: &mut Page<W>,
+    view: &View<'_>,
+    words: &PageWords<'_>,
+    scale: Scale,
+    order: usize,
+) {
+    for lane in view.picture.lanes() {
+        if lane_order(view, lane) == order && !page.has_failed() {
+            write_lane(page, view, words, scale, lane);
         }
     }
-    write_undrawn(page, view);
-    page.markup(key());
 }
 
 /// The heading, and the patterns by which bars are hatched.
@@ -52,7 +63,7 @@ fn key() -> &'static str {
 /// In which order a lane stands: by the worst that its unit told at any time, those of units that are gone last.
 fn lane_order(view: &View<'_>, lane: &UnitLane) -> usize {
     let presence = match view.watched(lane.unit()) {
-        Some((watch, _)) => presence_of(view, watch, lane.unit()),
+        Some((watch, _)) => presence_of(view.picture, watch, lane.unit()),
         None => Presence::On,
     };
     order_of(presence, lane.worst())
@@ -61,24 +72,41 @@ fn lane_order(view: &View<'_>, lane: &UnitLane) -> usize {
 fn write_lane<W: Write>(
     page: &mut Page<W>,
     view: &View<'_>,
+    words: &PageWords<'_>,
     scale: Scale,
     lane: &UnitLane,
-    most: usize,
 ) {
+    begin_lane(page, view, lane);
+    write_lines(page, words, scale);
+    let most = BARS / view.picture.lanes().len().max(1);
+    write_bars(page, words, scale, lane, most);
+    write_gaps(page, view.picture.gaps(), scale, lane);
+    page.markup("</svg>\n");
+}
+
+/// Writes whose lane it is, and how high it is.
+fn begin_lane<W: Write>(page: &mut Page<W>, view: &View<'_>, lane: &UnitLane) {
     page.markup("<h3><span class=\"text\">");
-    write_label(page, view, lane.unit());
+    write_label(page, view.units, lane.unit());
     page.markup("</span> <span class=\"name\">");
     write_identity(page, view, lane.unit());
     page.markup(lane_begin());
     page.markup(height_of(lane));
     page.markup("\" role=\"group\">");
-    write_lines(page, view, scale);
-    write_addresses(page, view, scale, lane, most / 4);
-    write_messages(page, view, scale, lane, Kind::Dm1, DM1, most / 2);
-    write_messages(page, view, scale, lane, Kind::Dm2, DM2, most / 8);
-    write_messages(page, view, scale, lane, Kind::Dm6, DM6, most / 8);
-    write_gaps(page, view, scale, lane);
-    page.markup("</svg>\n");
+}
+
+/// Writes the bars of a lane.
+fn write_bars<W: Write>(
+    page: &mut Page<W>,
+    words: &PageWords<'_>,
+    scale: Scale,
+    lane: &UnitLane,
+    most: usize,
+) {
+    write_addresses(page, words, scale, lane, most / 4);
+    write_messages(page, words, scale, lane, Kind::Dm1, DM1, most / 2);
+    write_messages(page, words, scale, lane, Kind::Dm2, DM2, most / 8);
+    write_messages(page, words, scale, lane, Kind::Dm6, DM6, most / 8);
 }
 
 fn lane_begin() -> &'static str {
@@ -98,59 +126,64 @@ fn height_of(lane: &UnitLane) -> &'static str {
 
 fn write_addresses<W: Write>(
     page: &mut Page<W>,
-    view: &View<'_>,
+    words: &PageWords<'_>,
     scale: Scale,
     lane: &UnitLane,
     most: usize,
 ) {
-    match fitted(view.alloc, lane.addresses(), most) {
-        Ok(track) => write_address_bars(page, view, scale, &track),
+    match fitted(words.alloc, lane.addresses(), most) {
+        Ok(track) => write_address_bars(page, words, scale, track.spans()),
         Err(_) => page.refuse_memory(),
     }
 }
 
-fn write_address_bars<W: Write>(page: &mut Page<W>, view: &View<'_>, scale: Scale, track: &Track) {
-    for span in track.spans() {
+fn write_address_bars<W: Write>(
+    page: &mut Page<W>,
+    words: &PageWords<'_>,
+    scale: Scale,
+    spans: &[Span],
+) {
+    for span in spans {
         if page.has_room(ROOM) {
-            write_address_bar(page, view, scale, span);
+            write_address_bar(page, words, scale, span);
         }
     }
 }
 
 fn write_messages<W: Write>(
     page: &mut Page<W>,
-    view: &View<'_>,
+    words: &PageWords<'_>,
     scale: Scale,
     lane: &UnitLane,
     kind: Kind,
     row: BarRow,
     most: usize,
 ) {
-    match fitted(view.alloc, lane.messages(kind), most) {
-        Ok(track) => write_message_bars(page, view, scale, &track, kind, row),
+    match fitted(words.alloc, lane.messages(kind), most) {
+        Ok(track) => write_message_bars(page, words, scale, track.spans(), kind, row),
         Err(_) => page.refuse_memory(),
     }
 }
 
 fn write_message_bars<W: Write>(
     page: &mut Page<W>,
-    view: &View<'_>,
+    words: &PageWords<'_>,
     scale: Scale,
-    track: &Track,
+    spans: &[Span],
     kind: Kind,
     row: BarRow,
 ) {
-    for span in track.spans() {
+    for span in spans {
         if page.has_room(ROOM) {
-            write_message_bar(page, view, scale, span, kind, row);
+            write_message_bar(page, words, scale, span, kind, row);
         }
     }
 }
 
 /// Hatches a lane from each gap to where its unit claims again: in between it is not known who sent.
-fn write_gaps<W: Write>(page: &mut Page<W>, view: &View<'_>, scale: Scale, lane: &UnitLane) {
+fn write_gaps<W: Write>(page: &mut Page<W>, gaps: &[Span], scale: Scale, lane: &UnitLane) {
     let mut hatched_to = 0u64;
-    for gap in view.picture.gaps() {
+    for gap in gaps {
         if is_seen_before(lane, gap) && (gap.from >= hatched_to || hatched_to == 0) {
             let to = next_claim(lane, gap.from).unwrap_or(scale.end());
             if page.has_room(ROOM) {
@@ -184,13 +217,7 @@ fn next_claim(lane: &UnitLane, moment: u64) -> Option<u64> {
 }
 
 fn write_gap<W: Write>(page: &mut Page<W>, scale: Scale, gap: &Span, to: u64) {
-    begin_bar(
-        page,
-        scale,
-        gap.from,
-        to,
-        " y=\"0\" height=\"100%\" role=\"img\"><title>",
-    );
+    begin_bar(page, scale, gap.from, to, gap_bar());
     match &gap.shows {
         Shows::Missed { count, .. } => write_missed(page, *count),
         _ => page.markup("frames missed several times"),
@@ -200,21 +227,20 @@ fn write_gap<W: Write>(page: &mut Page<W>, scale: Scale, gap: &Span, to: u64) {
     page.markup("</svg>");
 }
 
-fn write_missed<W: Write>(page: &mut Page<W>, count: u64) {
-    page.number(count);
-    page.markup(if count == 1 {
-        " frame missed"
-    } else {
-        " frames missed"
-    });
+fn gap_bar() -> &'static str {
+    " y=\"0\" height=\"100%\" role=\"img\"><title>"
 }
 
-fn write_undrawn<W: Write>(page: &mut Page<W>, view: &View<'_>) {
-    let undrawn = view.picture.undrawn();
+fn write_missed<W: Write>(page: &mut Page<W>, count: u64) {
+    let words = by_count(count, " frame missed", " frames missed");
+    write_count(page, "", count, words);
+}
+
+fn write_undrawn<W: Write>(page: &mut Page<W>, picture: &Picture) {
+    let undrawn = picture.undrawn();
     if undrawn > 0 {
-        page.markup("<p class=\"quiet\">Not drawn: ");
-        page.number(undrawn);
-        page.markup(" changes of further units.</p>\n");
+        let before = "<p class=\"quiet\">Not drawn: ";
+        write_count(page, before, undrawn, " changes of further units.</p>\n");
     }
     if !page.has_room(ROOM) {
         page.markup(too_many_words());

@@ -14,10 +14,12 @@ mod message_words;
 mod moment;
 mod page;
 mod past;
+mod pieces;
 mod standing;
 mod style;
 mod table;
 mod view;
+mod words;
 
 pub use page::write_page;
 pub use page_text::PageFault;

@@ -1,4 +1,5 @@
-use crate::view::View;
+use crate::pieces::{by_count, write_between, write_count};
+use crate::words::PageWords;
 use dm_messages::Kind;
 use page_text::Page;
 use picture::{Brief, BriefCode, Severity};
@@ -13,13 +14,43 @@ const ON: u8 = 1;
 
 const NO_COUNT: u8 = 127;
 
-/// Each lamp, from the worst on, with its word, its word on a page's plate, and the class of its colour.
-pub(crate) const LAMPS: [(LampName, &str, &str, &str); 4] = [
-    (LampName::RedStop, "red stop", "STOP", "red"),
-    (LampName::Amber, "amber warning", "WARNING", "amber"),
-    (LampName::Malfunction, "malfunction", "ENGINE", "mil"),
-    (LampName::Protect, "protect", "PROTECT", "protect"),
+/// Each lamp, from the worst on.
+pub(crate) const LAMPS: [LampName; 4] = [
+    LampName::RedStop,
+    LampName::Amber,
+    LampName::Malfunction,
+    LampName::Protect,
 ];
+
+/// The word of a lamp.
+pub(crate) fn lamp_word(lamp: LampName) -> &'static str {
+    match lamp {
+        LampName::RedStop => "red stop",
+        LampName::Amber => "amber warning",
+        LampName::Malfunction => "malfunction",
+        LampName::Protect => "protect",
+    }
+}
+
+/// The word on its plate.
+pub(crate) fn plate_word(lamp: LampName) -> &'static str {
+    match lamp {
+        LampName::RedStop => "STOP",
+        LampName::Amber => "WARNING",
+        LampName::Malfunction => "ENGINE",
+        LampName::Protect => "PROTECT",
+    }
+}
+
+/// The class of its colour.
+pub(crate) fn lamp_class(lamp: LampName) -> &'static str {
+    match lamp {
+        LampName::RedStop => "red",
+        LampName::Amber => "amber",
+        LampName::Malfunction => "mil",
+        LampName::Protect => "protect",
+    }
+}
 
 /// The word of a kind of message.
 pub(crate) fn kind_word(kind: Kind) -> &'static str {
@@ -70,57 +101,52 @@ pub(crate) fn flash_word(lamps: Lamps, lamp: LampName) -> &'static str {
 
 /// Writes the lamps that are on, or that none is.
 pub(crate) fn write_lamps<W: Write>(page: &mut Page<W>, lamps: Lamps) {
-    let mut is_first = true;
-    for (lamp, word, _, _) in LAMPS {
+    let mut before = "";
+    for lamp in LAMPS {
         if is_on(lamps, lamp) {
-            write_lamp(page, is_first, word, flash_word(lamps, lamp));
-            is_first = false;
+            write_lamp(page, before, lamps, lamp);
+            before = ", ";
         }
     }
-    if is_first {
+    if before.is_empty() {
         page.markup("no lamp");
     }
 }
 
-fn write_lamp<W: Write>(
-    page: &mut Page<W>,
-    is_first: bool,
-    word: &'static str,
-    flash: &'static str,
-) {
-    if !is_first {
-        page.markup(", ");
-    }
-    page.markup(word);
-    page.markup(flash);
+fn write_lamp<W: Write>(page: &mut Page<W>, before: &'static str, lamps: Lamps, lamp: LampName) {
+    write_between(page, before, lamp_word(lamp), flash_word(lamps, lamp));
 }
 
 /// Writes a code as `SPN/FMI`.
 pub(crate) fn write_numbers<W: Write>(page: &mut Page<W>, spn: u32, fmi: u8) {
-    page.number(u64::from(spn));
-    page.markup("/");
+    write_count(page, "", u64::from(spn), "/");
     page.number(u64::from(fmi));
 }
 
 /// Writes the text of a code behind this, where it has one. Tells whether it has.
 pub(crate) fn write_text<W: Write>(
     page: &mut Page<W>,
-    view: &View<'_>,
+    words: &PageWords<'_>,
     before: &'static str,
     spn: u32,
     fmi: u8,
 ) -> bool {
-    let text = match view.texts.text_of(view.alloc, spn, fmi) {
-        Ok(Some(text)) => text,
-        Ok(None) => return false,
+    match words.texts.text_of(words.alloc, spn, fmi) {
+        Ok(Some(text)) => {
+            write_found(page, before, text.as_str());
+            true
+        }
+        Ok(None) => false,
         Err(_) => {
             page.refuse_memory();
-            return false;
+            false
         }
-    };
+    }
+}
+
+fn write_found<W: Write>(page: &mut Page<W>, before: &'static str, text: &str) {
     page.markup(before);
-    page.short_text(text.as_str(), MOST);
-    true
+    page.short_text(text, MOST);
 }
 
 /// Writes how often a code was seen, where that is told.
@@ -129,44 +155,55 @@ pub(crate) fn write_seen<W: Write>(page: &mut Page<W>, code: Dtc) {
     if count == NO_COUNT {
         return;
     }
-    page.markup("seen ");
-    page.number(u64::from(count));
-    page.markup(if count == 1 { " time" } else { " times" });
+    let count = u64::from(count);
+    write_count(page, "seen ", count, by_count(count, " time", " times"));
 }
 
 /// Writes a message in a line: its lamps, and its first codes with their texts.
-pub(crate) fn write_brief<W: Write>(page: &mut Page<W>, view: &View<'_>, brief: &Brief) {
+pub(crate) fn write_brief<W: Write>(page: &mut Page<W>, words: &PageWords<'_>, brief: &Brief) {
     write_lamps(page, brief.lamps());
     page.markup("; ");
     if brief.count == 0 {
         page.markup("no code");
     }
-    let mut listed = 0u16;
-    for code in &brief.codes {
-        if let Some(code) = code {
-            write_listed(page, view, listed == 0, code);
-            listed = listed.saturating_add(1);
-        }
-    }
+    let listed = write_codes(page, words, &brief.codes);
     write_more(page, brief.count.saturating_sub(listed));
     if brief.contested {
         page.markup(" (in doubt)");
     }
 }
 
-fn write_listed<W: Write>(page: &mut Page<W>, view: &View<'_>, is_first: bool, code: &BriefCode) {
+/// Writes codes with their texts. Tells how many.
+fn write_codes<W: Write>(
+    page: &mut Page<W>,
+    words: &PageWords<'_>,
+    codes: &[Option<BriefCode>],
+) -> u16 {
+    let mut listed = 0u16;
+    for code in codes {
+        if let Some(code) = code {
+            write_listed(page, words, listed == 0, code);
+            listed = listed.saturating_add(1);
+        }
+    }
+    listed
+}
+
+fn write_listed<W: Write>(
+    page: &mut Page<W>,
+    words: &PageWords<'_>,
+    is_first: bool,
+    code: &BriefCode,
+) {
     if !is_first {
         page.markup(", ");
     }
     write_numbers(page, code.spn, code.fmi);
-    write_text(page, view, " ", code.spn, code.fmi);
+    write_text(page, words, " ", code.spn, code.fmi);
 }
 
 fn write_more<W: Write>(page: &mut Page<W>, more: u16) {
-    if more == 0 {
-        return;
+    if more > 0 {
+        write_count(page, " and ", u64::from(more), " more");
     }
-    page.markup(" and ");
-    page.number(u64::from(more));
-    page.markup(" more");
 }

@@ -2,10 +2,13 @@ use crate::changes::{write_changes, write_handovers};
 use crate::chips::write_chips;
 use crate::lanes::write_lanes;
 use crate::moment::{clock_word, write_time};
+use crate::pieces::write_count;
 use crate::standing::Standing;
 use crate::style::style;
 use crate::table::write_table;
 use crate::view::View;
+use crate::words::PageWords;
+use bus_watch::BusWatch;
 use clock_words::{DurationWords, Fraction};
 use page_text::{Page, PageFault};
 use picture::Axis;
@@ -34,33 +37,39 @@ where
 }
 
 fn write_parts<W: Write>(page: &mut Page<W>, view: &View<'_>, standing: &Standing) {
-    write_head(page, view);
+    let words = &PageWords::of(view);
+    write_head(page, view, words);
     write_chips(page, view, standing);
-    write_table(page, view, standing);
-    write_handovers(page, view);
-    write_lanes(page, view);
-    write_changes(page, view);
-    write_note(page, view);
+    write_table(page, view, words, standing);
+    write_handovers(page, view, words);
+    write_lanes(page, view, words);
+    write_changes(page, view, words);
+    write_note(page, view.buses);
 }
 
-fn write_head<W: Write>(page: &mut Page<W>, view: &View<'_>) {
-    page.markup(before_title());
-    page.short_text(view.title, MOST);
-    page.markup("</title>\n<style>\n");
-    page.markup(style());
-    page.markup(before_heading());
-    page.short_text(view.title, MOST);
-    page.markup("</span></h1>\n<p class=\"quiet\">");
-    write_extent(page, view);
-    page.number(view.picture.lines());
-    page.markup(" lines");
-    write_buses(page, view);
+fn write_head<W: Write>(page: &mut Page<W>, view: &View<'_>, words: &PageWords<'_>) {
+    write_title(page, view.title);
+    write_extent(page, words, view.picture.end());
+    write_count(page, "", view.picture.lines(), " lines");
+    write_buses(page, view.buses);
     page.markup("</p>\n");
 }
 
-fn write_bus<W: Write>(page: &mut Page<W>, is_first: bool, name: &str) {
-    page.markup(if is_first { ", bus " } else { ", " });
-    page.short_text(name, MOST);
+fn write_title<W: Write>(page: &mut Page<W>, title: &str) {
+    page.markup(before_title());
+    page.short_text(title, MOST);
+    page.markup("</title>\n<style>\n");
+    page.markup(style());
+    page.markup(before_heading());
+    page.short_text(title, MOST);
+    page.markup("</span></h1>\n<p class=\"quiet\">");
+}
+
+fn write_bus<W: Write>(page: &mut Page<W>, before: &'static str, name: &Option<String>) {
+    if let Some(name) = name {
+        page.markup(before);
+        page.short_text(name.as_str(), MOST);
+    }
 }
 
 /// What stands before the title.
@@ -76,37 +85,47 @@ fn before_heading() -> &'static str {
 }
 
 /// Writes from when to when the log is, where its lines have times.
-fn write_extent<W: Write>(page: &mut Page<W>, view: &View<'_>) {
-    if view.picture.axis() == Axis::Lines {
-        page.markup("Without times that count; ");
-        return;
+fn write_extent<W: Write>(page: &mut Page<W>, words: &PageWords<'_>, end: u64) {
+    match words.axis {
+        Axis::Times => write_times(page, words, end),
+        Axis::Lines => page.markup("Without times that count; "),
     }
-    let (start, end) = (view.picture.start(), view.picture.end());
-    write_time(page, view, start, Fraction::Seconds, true);
+}
+
+fn write_times<W: Write>(page: &mut Page<W>, words: &PageWords<'_>, end: u64) {
+    write_time(page, words, words.start, Fraction::Seconds, true);
     page.markup(" to ");
-    write_time(page, view, end, Fraction::Seconds, true);
-    page.markup(clock_word(view.clock));
+    write_time(page, words, end, Fraction::Seconds, true);
+    page.markup(clock_word(words.clock));
     page.markup(" (");
-    page.made_text(DurationWords(end.saturating_sub(start)).to_string(view.alloc));
+    page.made_text(DurationWords(end.saturating_sub(words.start)).to_string(words.alloc));
     page.markup("), ");
 }
 
-fn write_buses<W: Write>(page: &mut Page<W>, view: &View<'_>) {
-    for (place, bus) in view.buses.iter().enumerate() {
-        if let Some(name) = &bus.bus {
-            write_bus(page, place == 0, name.as_str());
-        }
+fn write_buses<W: Write>(page: &mut Page<W>, buses: &[BusWatch]) {
+    let mut before = ", bus ";
+    for bus in buses {
+        write_bus(page, before, &bus.bus);
+        before = ", ";
     }
 }
 
-fn write_note<W: Write>(page: &mut Page<W>, view: &View<'_>) {
-    page.markup(note());
+fn write_note<W: Write>(page: &mut Page<W>, buses: &[BusWatch]) {
+    write_count(
+        page,
+        note(),
+        unread_on(buses),
+        ".</p>\n</main></body></html>\n",
+    );
+}
+
+/// How many messages could not be read.
+fn unread_on(buses: &[BusWatch]) -> u64 {
     let mut unread = 0u64;
-    for bus in view.buses {
+    for bus in buses {
         unread = unread.saturating_add(bus.watch.unread_in_all());
     }
-    page.number(unread);
-    page.markup(".</p>\n</main></body></html>\n");
+    unread
 }
 
 /// What the page rests on.

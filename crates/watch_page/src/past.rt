@@ -21,13 +21,26 @@ impl Past {
             codes: Vec::new(alloc),
             is_cut: runs.len() > RUNS,
         };
-        let Some(newest) = runs.last() else {
-            return Ok(past);
-        };
-        for run in runs.iter().rev().take(RUNS) {
-            past.add_all(newest, run)?;
+        match past.add_runs(runs) {
+            Ok(()) => Ok(past),
+            Err(error) => Err(error),
         }
-        Ok(past)
+    }
+
+    /// Adds those of the latest runs.
+    fn add_runs(&mut self, runs: &[EntryRun]) -> Result<(), AllocError> {
+        let Some(newest) = runs.last() else {
+            return Ok(());
+        };
+        let mut rest = runs;
+        for _ in 0..RUNS {
+            let Some((run, before)) = rest.split_last() else {
+                break;
+            };
+            self.add_all(newest, run)?;
+            rest = before;
+        }
+        Ok(())
     }
 
     fn add_all(&mut self, newest: &EntryRun, run: &EntryRun) -> Result<(), AllocError> {

@@ -3,8 +3,9 @@ use crate::view::{View, places_of, sender_at, who_of};
 use bus_watch::{EntryRun, Watch};
 use dm_messages::Kind;
 use name_field::Name;
-use picture::{DrawnUnit, Holding, Sender, Severity};
+use picture::{DrawnUnit, Holding, Picture, Sender, Severity, UnitLane};
 use std::alloc::AllocError;
+use trouble_code::Lamps;
 
 /// How many units of each order are listed.
 const MOST: usize = 1_000;
@@ -13,7 +14,7 @@ const MOST: usize = 1_000;
 const ORDERS: usize = 7;
 
 /// Whether a unit is on the bus.
-#[derive(Clone, Copy, Debug, PartialEq, Eq)]
+#[derive(Clone, Copy, PartialEq, Eq)]
 pub(crate) enum Presence {
     /// It holds an address, or sends from one that nobody has claimed.
     On,
@@ -26,7 +27,7 @@ pub(crate) enum Presence {
 }
 
 /// A unit that is listed.
-#[derive(Clone, Copy, Debug)]
+#[derive(Clone, Copy)]
 pub(crate) struct Listed {
     pub(crate) order: usize,
     pub(crate) unit: DrawnUnit,
@@ -75,14 +76,19 @@ impl Standing {
                     bus: number.min(usize::from(u16::MAX)) as u16,
                     sender,
                 };
-                self.add(view, &bus.watch, &unit)?;
+                self.add(view.picture, &bus.watch, &unit)?;
             }
         }
         Ok(())
     }
 
-    fn add(&mut self, view: &View<'_>, watch: &Watch, unit: &DrawnUnit) -> Result<(), AllocError> {
-        let presence = presence_of(view, watch, unit);
+    fn add(
+        &mut self,
+        picture: &Picture,
+        watch: &Watch,
+        unit: &DrawnUnit,
+    ) -> Result<(), AllocError> {
+        let presence = presence_of(picture, watch, unit);
         let newest = watch.runs(who_of(&unit.sender), Kind::Dm1).last();
         let severity = severity_of(newest);
         self.all = self.all.saturating_add(1);
@@ -101,9 +107,12 @@ impl Standing {
         let Some(run) = newest else {
             return;
         };
+        self.count_lamps(run.shown.lamps);
+    }
+
+    fn count_lamps(&mut self, lamps: Lamps) {
         for place in 0..4 {
-            let (lamp, _, _, _) = LAMPS[place];
-            if is_on(run.shown.lamps, lamp) {
+            if is_on(lamps, LAMPS[place]) {
                 self.lamps[place] = self.lamps[place].saturating_add(1);
             }
         }
@@ -132,25 +141,40 @@ impl Standing {
 }
 
 /// Whether a unit is on the bus.
-pub(crate) fn presence_of(view: &View<'_>, watch: &Watch, unit: &DrawnUnit) -> Presence {
+pub(crate) fn presence_of(picture: &Picture, watch: &Watch, unit: &DrawnUnit) -> Presence {
     let Sender::Named(name) = unit.sender else {
-        return match view.picture.lane_of(unit) {
-            Some(lane) if lane.is_past() => Presence::Past,
-            _ => Presence::On,
-        };
+        return presence_of_address(picture.lane_of(unit));
     };
-    if let Some(row) = watch.row(Name::from_number(name)) {
-        if row.address.is_some() {
-            return Presence::On;
-        }
+    if holds_address(watch, Name::from_number(name)) {
+        return Presence::On;
     }
-    match view.picture.lane_of(unit) {
+    presence_without(picture.lane_of(unit), watch.missed_in_all())
+}
+
+/// Whether the unit of an address that nobody has claimed is on the bus.
+fn presence_of_address(lane: Option<&UnitLane>) -> Presence {
+    match lane {
+        Some(lane) if lane.is_past() => Presence::Past,
+        _ => Presence::On,
+    }
+}
+
+/// What is known of a NAME without an address, where so many frames were missed.
+fn presence_without(lane: Option<&UnitLane>, missed: u64) -> Presence {
+    match lane {
         Some(lane) => match lane.holding() {
             Holding::Unknown => Presence::Unknown,
             _ => Presence::Gone,
         },
-        None if watch.missed_in_all() > 0 => Presence::Unknown,
+        None if missed > 0 => Presence::Unknown,
         None => Presence::Gone,
+    }
+}
+
+fn holds_address(watch: &Watch, name: Name) -> bool {
+    match watch.row(name) {
+        Some(row) => row.address.is_some(),
+        None => false,
     }
 }
 

@@ -1,18 +1,22 @@
 use crate::labels::{write_fields, write_identity, write_label};
-use crate::message_words::{LAMPS, flash_word, is_on, write_numbers, write_seen, write_text};
+use crate::message_words::{
+    LAMPS, flash_word, is_on, lamp_class, plate_word, write_numbers, write_seen, write_text,
+};
 use crate::moment::write_moment;
 use crate::past::Past;
-use crate::standing::{ALL_ORDERS, Listed, Presence, Standing, presence_of};
-use crate::view::{View, who_of};
+use crate::pieces::{write_between, write_count};
+use crate::standing::{ALL_ORDERS, Listed, Presence, Standing};
+use crate::view::View;
+use crate::words::PageWords;
 use bus_watch::{EntryRun, Watch, Who};
 use candump_line::Time;
 use clock_words::Fraction;
 use dm_messages::Kind;
 use name_field::Name;
 use page_text::Page;
-use picture::{DrawnUnit, Holding, Sender};
+use picture::{DrawnUnit, Sender};
 use std::io::Write;
-use trouble_code::{Dtc, Lamps};
+use trouble_code::{Dtc, LampName, Lamps};
 
 /// How large the page may be when a further unit is begun, in bytes, and how many units are listed at most.
 const ROOM: u64 = 2_000_000;
@@ -23,33 +27,65 @@ const MOST: u64 = 1_000;
 const CODES: usize = 20;
 
 /// Writes a row for each unit, the worst on the bus first; of very many the first, and how many further ones there are.
-pub(crate) fn write_table<W: Write>(page: &mut Page<W>, view: &View<'_>, standing: &Standing) {
+pub(crate) fn write_table<W: Write>(
+    page: &mut Page<W>,
+    view: &View<'_>,
+    words: &PageWords<'_>,
+    standing: &Standing,
+) {
     page.markup("<h2>Units, as they stood at the end</h2>\n");
-    if let Some(line) = view.anew_at {
-        page.markup(anew_words());
-        page.number(line);
-        page.markup(" on.</p>\n");
-    }
+    write_anew(page, view.anew_at);
     page.markup(head());
-    let written = write_units(page, view, standing);
-    let more = standing.all.saturating_sub(written);
-    if more > 0 {
-        page.markup("<tr role=\"row\"><td role=\"cell\" colspan=\"7\">and ");
-        page.number(more);
-        page.markup(" more units</td></tr>\n");
-    }
+    let written = write_units(page, view, words, standing);
+    write_more(page, standing.all.saturating_sub(written));
     page.markup("</tbody></table>\n");
 }
 
+/// From which line on the table is.
+fn write_anew<W: Write>(page: &mut Page<W>, anew_at: Option<u64>) {
+    if let Some(line) = anew_at {
+        write_count(page, anew_words(), line, " on.</p>\n");
+    }
+}
+
+fn write_more<W: Write>(page: &mut Page<W>, more: u64) {
+    if more > 0 {
+        write_count(page, more_row(), more, " more units</td></tr>\n");
+    }
+}
+
+fn more_row() -> &'static str {
+    "<tr role=\"row\"><td role=\"cell\" colspan=\"7\">and "
+}
+
 /// Writes rows as long as the page has room. Answers how many.
-fn write_units<W: Write>(page: &mut Page<W>, view: &View<'_>, standing: &Standing) -> u64 {
+fn write_units<W: Write>(
+    page: &mut Page<W>,
+    view: &View<'_>,
+    words: &PageWords<'_>,
+    standing: &Standing,
+) -> u64 {
     let mut written = 0u64;
     for order in 0..ALL_ORDERS {
-        for listed in standing.listed.as_slice() {
-            if listed.order == order && written < MOST && page.has_room(ROOM) {
-                write_unit(page, view, listed);
-                written = written.saturating_add(1);
-            }
+        written = write_order(page, view, words, standing, order, written);
+    }
+    written
+}
+
+/// Writes the rows of one order behind so many others. Answers how many these are together.
+fn write_order<W: Write>(
+    page: &mut Page<W>,
+    view: &View<'_>,
+    words: &PageWords<'_>,
+    standing: &Standing,
+    order: usize,
+    before: u64,
+) -> u64 {
+    let mut written = before;
+    for listed in standing.listed.as_slice() {
+        if listed.order == order && written < MOST && page.has_room(ROOM) {
+            write_unit(page, view, words, listed);
+            written = written.saturating_add(1);
         }
     }
     written
@@ -67,64 +103,108 @@ fn head() -> &'static str {
 <th role=\"columnheader\" class=\"num\">DM6</th></tr></thead><tbody role=\"rowgroup\">\n"
 }
 
-fn write_unit<W: Write>(page: &mut Page<W>, view: &View<'_>, listed: &Listed) {
-    let unit = &listed.unit;
-    let Some((watch, who)) = view.watched(unit) else {
-        return;
-    };
-    page.markup(match listed.presence {
+fn write_unit<W: Write>(
+    page: &mut Page<W>,
+    view: &View<'_>,
+    words: &PageWords<'_>,
+    listed: &Listed,
+) {
+    if let Some((watch, who)) = view.watched(&listed.unit) {
+        page.markup(row_begin(listed.presence));
+        write_who(page, view, &listed.unit);
+        write_told(page, words, watch, &who, listed);
+        page.markup("</tr>\n");
+    }
+}
+
+fn row_begin(presence: Presence) -> &'static str {
+    match presence {
         Presence::Gone | Presence::Past => "<tr role=\"row\" class=\"gone\">",
         _ => "<tr role=\"row\">",
-    });
-    write_who(page, view, unit);
-    write_address(page, watch, unit, listed.presence);
-    let newest = watch.runs(who, Kind::Dm1).last();
+    }
+}
+
+/// What a unit told: its address, its lamps, its faults, and how many messages of each kind there were.
+fn write_told<W: Write>(
+    page: &mut Page<W>,
+    words: &PageWords<'_>,
+    watch: &Watch,
+    who: &Who,
+    listed: &Listed,
+) {
+    write_address(page, address_of(watch, &listed.unit), listed.presence);
+    let newest = watch.runs(*who, Kind::Dm1).last();
     write_lamps(page, newest);
+    write_faults(page, words, watch, who, listed.presence, newest);
+    write_entries(page, watch.entries(*who, Kind::Dm1), "DM1");
+    write_entries(page, watch.entries(*who, Kind::Dm2), "DM2");
+    write_entries(page, watch.entries(*who, Kind::Dm6), "DM6");
+}
+
+/// The faults that a unit told, and whether it is gone.
+fn write_faults<W: Write>(
+    page: &mut Page<W>,
+    words: &PageWords<'_>,
+    watch: &Watch,
+    who: &Who,
+    presence: Presence,
+    newest: Option<&EntryRun>,
+) {
     page.markup("<td role=\"cell\" data-l=\"Faults\">");
-    write_newest(page, view, newest);
-    write_others(page, view, watch, &who);
-    write_past(page, view, watch, who);
-    write_standing(page, view, listed, newest);
+    write_newest(page, words, newest);
+    write_other(
+        page,
+        words,
+        "DM2, previously active: ",
+        watch.runs(*who, Kind::Dm2).last(),
+    );
+    write_other(
+        page,
+        words,
+        "DM6, pending: ",
+        watch.runs(*who, Kind::Dm6).last(),
+    );
+    write_past(page, words, watch.runs(*who, Kind::Dm1));
+    write_standing(page, words, presence, newest);
     page.markup("</td>");
-    write_entries(page, watch.entries(who, Kind::Dm1), "DM1");
-    write_entries(page, watch.entries(who, Kind::Dm2), "DM2");
-    write_entries(page, watch.entries(who, Kind::Dm6), "DM6");
-    page.markup("</tr>\n");
 }
 
 /// How many messages of a kind there were.
 fn write_entries<W: Write>(page: &mut Page<W>, count: u64, word: &'static str) {
-    page.markup("<td role=\"cell\" class=\"num\" data-l=\"");
-    page.markup(word);
-    page.markup("\">");
-    page.number(count);
-    page.markup("</td>");
+    write_between(
+        page,
+        "<td role=\"cell\" class=\"num\" data-l=\"",
+        word,
+        "\">",
+    );
+    write_count(page, "", count, "</td>");
 }
 
 /// What a unit is called, and what its NAME says.
 fn write_who<W: Write>(page: &mut Page<W>, view: &View<'_>, unit: &DrawnUnit) {
     page.markup("<td role=\"cell\"><b class=\"text\">");
-    write_label(page, view, unit);
+    write_label(page, view.units, unit);
     page.markup("</b><div class=\"name\">");
     write_identity(page, view, unit);
     page.markup("</div><div class=\"quiet\">");
-    write_fields(page, view, unit);
+    write_fields(page, view.alloc, unit);
     page.markup("</div></td>");
 }
 
-fn write_address<W: Write>(
-    page: &mut Page<W>,
-    watch: &Watch,
-    unit: &DrawnUnit,
-    presence: Presence,
-) {
+fn write_address<W: Write>(page: &mut Page<W>, address: Option<u8>, presence: Presence) {
     page.markup("<td role=\"cell\" class=\"num\" data-l=\"Address\">");
-    match (address_of(watch, unit), presence) {
-        (Some(address), _) => page.number(u64::from(address)),
-        (None, Presence::Unknown) => page.markup("not known"),
-        (None, _) => page.markup("none"),
+    match address {
+        Some(address) => page.number(u64::from(address)),
+        None => page.markup(no_address_words(presence)),
     }
     page.markup("</td>");
+}
+
+fn no_address_words(presence: Presence) -> &'static str {
+    match presence {
+        Presence::Unknown => "not known",
+        _ => "none",
+    }
 }
 
 fn address_of(watch: &Watch, unit: &DrawnUnit) -> Option<u8> {
@@ -140,41 +220,40 @@ fn address_of(watch: &Watch, unit: &DrawnUnit) -> Option<u8> {
 /// A plate for each lamp that is on.
 fn write_lamps<W: Write>(page: &mut Page<W>, newest: Option<&EntryRun>) {
     page.markup("<td role=\"cell\" data-l=\"Lamps\">");
-    match newest {
-        Some(run) => write_plates(page, run.shown.lamps),
-        None => {}
+    if let Some(run) = newest {
+        write_plates(page, run.shown.lamps);
     }
     page.markup("</td>");
 }
 
 fn write_plates<W: Write>(page: &mut Page<W>, lamps: Lamps) {
-    for (lamp, _, plate, class) in LAMPS {
+    for lamp in LAMPS {
         if is_on(lamps, lamp) {
-            write_plate(page, plate, class);
+            write_plate(page, lamp);
             page.markup(flash_word(lamps, lamp));
         }
     }
 }
 
-fn write_plate<W: Write>(page: &mut Page<W>, plate: &'static str, class: &'static str) {
-    page.markup("<span class=\"lamp ");
-    page.markup(class);
-    page.markup("\">");
-    page.markup(plate);
-    page.markup("</span>");
+fn write_plate<W: Write>(page: &mut Page<W>, lamp: LampName) {
+    write_between(page, "<span class=\"lamp ", lamp_class(lamp), "\">");
+    write_between(page, "", plate_word(lamp), "</span>");
 }
 
 /// The codes of the newest DM1, or that there is none.
-fn write_newest<W: Write>(page: &mut Page<W>, view: &View<'_>, newest: Option<&EntryRun>) {
-    let Some(run) = newest else {
-        page.markup("<span class=\"quiet\">sent no DM1</span>");
-        return;
-    };
+fn write_newest<W: Write>(page: &mut Page<W>, words: &PageWords<'_>, newest: Option<&EntryRun>) {
+    match newest {
+        Some(run) => write_active(page, words, run),
+        None => page.markup("<span class=\"quiet\">sent no DM1</span>"),
+    }
+}
+
+fn write_active<W: Write>(page: &mut Page<W>, words: &PageWords<'_>, run: &EntryRun) {
     let codes = run.shown.codes.as_slice();
     if codes.is_empty() {
         page.markup("<span class=\"fine\">no active code</span>");
     }
-    write_codes(page, view, codes);
+    write_codes(page, words, codes);
     if run.contested {
         page.markup(doubt_words());
     }
@@ -184,24 +263,37 @@ fn doubt_words() -> &'static str {
     "<div class=\"doubt\">in doubt: sent less than 250 ms after another unit lost this address, so it may be of that one</div>"
 }
 
-fn write_codes<W: Write>(page: &mut Page<W>, view: &View<'_>, codes: &[Dtc]) {
-    for code in codes.iter().take(CODES) {
-        write_code(page, view, *code);
+fn write_codes<W: Write>(page: &mut Page<W>, words: &PageWords<'_>, codes: &[Dtc]) {
+    for code in listed_of(codes) {
+        write_code(page, words, *code);
     }
     if codes.len() > CODES {
-        page.markup("<div>and ");
-        page.number((codes.len() - CODES) as u64);
-        page.markup(" more codes</div>");
+        write_count(
+            page,
+            "<div>and ",
+            (codes.len() - CODES) as u64,
+            " more codes</div>",
+        );
     }
 }
 
-fn write_code<W: Write>(page: &mut Page<W>, view: &View<'_>, code: Dtc) {
-    page.markup("<div><b>SPN ");
-    page.number(u64::from(code.spn()));
-    page.markup(" FMI ");
-    page.number(u64::from(code.fmi()));
-    page.markup("</b> <span class=\"text\">");
-    if !write_text(page, view, "", code.spn(), code.fmi()) {
+/// The codes that are listed: the first.
+fn listed_of(codes: &[Dtc]) -> &[Dtc] {
+    match codes.get(..CODES) {
+        Some(first) => first,
+        None => codes,
+    }
+}
+
+fn write_code<W: Write>(page: &mut Page<W>, words: &PageWords<'_>, code: Dtc) {
+    write_count(page, "<div><b>SPN ", u64::from(code.spn()), " FMI ");
+    write_count(
+        page,
+        "",
+        u64::from(code.fmi()),
+        "</b> <span class=\"text\">",
+    );
+    if !write_text(page, words, "", code.spn(), code.fmi()) {
         page.markup("<span class=\"quiet\">no text</span>");
     }
     page.markup("</span> <span class=\"quiet\">");
@@ -209,73 +301,65 @@ fn write_code<W: Write>(page: &mut Page<W>, view: &View<'_>, code: Dtc) {
     page.markup("</span></div>");
 }
 
-/// The codes of the newest DM2 and of the newest DM6, each in a line.
-fn write_others<W: Write>(page: &mut Page<W>, view: &View<'_>, watch: &Watch, who: &Who) {
-    let previous = watch.runs(*who, Kind::Dm2).last();
-    write_other(page, view, "DM2", ", previously active: ", previous);
-    let pending = watch.runs(*who, Kind::Dm6).last();
-    write_other(page, view, "DM6", ", pending: ", pending);
-}
-
 /// The codes of the newest of some equal messages in a line, where there are such.
 fn write_other<W: Write>(
     page: &mut Page<W>,
-    view: &View<'_>,
-    word: &'static str,
-    words: &'static str,
+    words: &PageWords<'_>,
+    before: &'static str,
     newest: Option<&EntryRun>,
 ) {
-    match newest {
-        Some(run) => write_listed(page, view, word, words, run.shown.codes.as_slice()),
-        None => {}
+    if let Some(run) = newest {
+        write_listed(page, words, before, run.shown.codes.as_slice());
     }
 }
 
 /// Writes codes in a line.
 fn write_listed<W: Write>(
     page: &mut Page<W>,
-    view: &View<'_>,
-    word: &'static str,
-    words: &'static str,
+    words: &PageWords<'_>,
+    before: &'static str,
     codes: &[Dtc],
 ) {
     page.markup("<div class=\"past\">");
-    page.markup(word);
-    page.markup(words);
+    page.markup(before);
+    write_line(page, words, codes);
+    page.markup("</div>");
+}
+
+fn write_line<W: Write>(page: &mut Page<W>, words: &PageWords<'_>, codes: &[Dtc]) {
     if codes.is_empty() {
         page.markup("no code");
     }
-    for (place, code) in codes.iter().take(CODES).enumerate() {
-        write_in_line(page, view, place == 0, *code);
+    let mut between = "";
+    for code in listed_of(codes) {
+        page.markup(between);
+        write_in_line(page, words, *code);
+        between = ", ";
     }
     if codes.len() > CODES {
         page.markup(" and more");
     }
-    page.markup("</div>");
 }
 
-fn write_in_line<W: Write>(page: &mut Page<W>, view: &View<'_>, is_first: bool, code: Dtc) {
-    if !is_first {
-        page.markup(", ");
-    }
+fn write_in_line<W: Write>(page: &mut Page<W>, words: &PageWords<'_>, code: Dtc) {
     write_numbers(page, code.spn(), code.fmi());
-    write_text(page, view, " ", code.spn(), code.fmi());
+    write_text(page, words, " ", code.spn(), code.fmi());
 }
 
 /// The codes that earlier DM1 had, and the newest has not.
-fn write_past<W: Write>(page: &mut Page<W>, view: &View<'_>, watch: &Watch, who: Who) {
-    match Past::of(view.alloc, watch.runs(who, Kind::Dm1)) {
-        Ok(past) => write_earlier(page, view, &past),
+fn write_past<W: Write>(page: &mut Page<W>, words: &PageWords<'_>, runs: &[EntryRun]) {
+    match Past::of(words.alloc, runs) {
+        Ok(past) => write_earlier(page, words, past.codes(), past.is_cut()),
         Err(_) => page.refuse_memory(),
     }
 }
 
-fn write_earlier<W: Write>(page: &mut Page<W>, view: &View<'_>, past: &Past) {
-    if past.codes().is_empty() {
+fn write_earlier<W: Write>(page: &mut Page<W>, words: &PageWords<'_>, codes: &[Dtc], is_cut: bool) {
+    if codes.is_empty() {
         return;
     }
-    write_listed(page, view, "earlier", " in this log: ", past.codes());
-    if past.is_cut() {
+    write_listed(page, words, "earlier in this log: ", codes);
+    if is_cut {
         page.markup("<div class=\"past\">and more</div>");
     }
 }
@@ -283,25 +367,24 @@ fn write_earlier<W: Write>(page: &mut Page<W>, view: &View<'_>, past: &Past) {
 /// That a unit is gone, or not known.
 fn write_standing<W: Write>(
     page: &mut Page<W>,
-    view: &View<'_>,
-    listed: &Listed,
+    words: &PageWords<'_>,
+    presence: Presence,
     newest: Option<&EntryRun>,
 ) {
-    if listed.presence == Presence::On {
+    if presence == Presence::On {
         return;
     }
-    page.markup("<div class=\"past\">");
-    page.markup(presence_words(listed.presence));
+    write_between(page, "<div class=\"past\">", presence_words(presence), "");
     if let Some(run) = newest {
-        write_last(page, view, run.last);
+        write_last(page, words, run.last);
     }
     page.markup("</div>");
 }
 
-fn write_last<W: Write>(page: &mut Page<W>, view: &View<'_>, last: Option<Time>) {
+fn write_last<W: Write>(page: &mut Page<W>, words: &PageWords<'_>, last: Option<Time>) {
     if let Some(last) = last {
         page.markup("; last DM1 ");
-        write_moment(page, view, last.micros(), Fraction::Seconds);
+        write_moment(page, words, last.micros(), Fraction::Seconds);
     }
 }
 

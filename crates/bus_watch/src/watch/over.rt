@@ -12,7 +12,7 @@ use std::alloc::{AllocError, Global};
 const MOST_PAIRS: usize = 4_096;
 
 /// How much is kept of a bus before what was heard is reported and let go.
-#[derive(Clone, Copy, Debug)]
+#[derive(Clone, Copy)]
 pub struct Limits {
     /// How many NAMEs have rows, and how many units have lists.
     pub most: usize,
@@ -21,7 +21,7 @@ pub struct Limits {
 }
 
 /// What was heard before a watch started over.
-#[derive(Clone, Copy, Debug, Default, PartialEq, Eq)]
+#[derive(Clone, Copy, Default, PartialEq, Eq)]
 pub(crate) struct Before {
     pub(crate) missed: u64,
     pub(crate) unread: u64,

@@ -5,5 +5,5 @@ use Rattle.vehicle.proofs.codes.codes_of.Goals as goal
 
 pub loop-item-preserved : goal.loop-item-preserved
 loop-item-preserved c =
-    one_more HoldsCode c.args.items.now c.loop-item.item-index c.item-item.result c.loop-item.codes.items _ c.in_ok-code_of.field-0 (omega arith)
-    c.item-item.is c.loop-item.invariant c.in_ok-code_of.ensures (search rules)
+    one_more HoldsCode c.args.items.now c.loop-item.item-index c.item-item.result c.loop-item.codes.items _ c.in-Ok.code (omega arith)
+    c.item-item.is c.loop-item.invariant c.in-Ok.ensures (search rules)

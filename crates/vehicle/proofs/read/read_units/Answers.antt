@@ -5,5 +5,5 @@ use Rattle.vehicle.proofs.read.read_units.Goals as goal
 
 pub loop-line-preserved : goal.loop-line-preserved
 loop-line-preserved c =
-    one_more HoldsUnit c.args.lines.now c.loop-line.line-index c.line-item.result c.loop-line.units.items _ c.in_ok-read_unit.field-0 (omega arith)
-    c.line-item.is c.loop-line.invariant c.in_ok-read_unit.ensures (search rules)
+    one_more HoldsUnit c.args.lines.now c.loop-line.line-index c.line-item.result c.loop-line.units.items _ c.in-Ok.unit (omega arith)
+    c.line-item.is c.loop-line.invariant c.in-Ok.ensures (search rules)

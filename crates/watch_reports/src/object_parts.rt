@@ -27,10 +27,15 @@ pub(crate) fn write_who<W: Write>(report: &mut ReportWriter<'_, W>, watch: &Watc
 }
 
 /// A NAME, and its address, where it has one.
-fn write_named<W: Write>(report: &mut ReportWriter<'_, W>, name: Name, address: Option<u8>) {
+pub(crate) fn write_named<W: Write>(
+    report: &mut ReportWriter<'_, W>,
+    name: Name,
+    address: Option<u8>,
+) {
+    write!(report, "\"name\":\"{name}\",\"address\":");
     match address {
-        Some(address) => write!(report, "\"name\":\"{name}\",\"address\":{address}"),
-        None => write!(report, "\"name\":\"{name}\",\"address\":null"),
+        Some(address) => write_number(report, address),
+        None => report.text("null"),
     }
 }
 
@@ -94,12 +99,17 @@ fn write_codes<W: Write>(report: &mut ReportWriter<'_, W>, texts: &Texts, codes:
 fn write_code<W: Write>(report: &mut ReportWriter<'_, W>, texts: &Texts, code: Dtc) {
     let spn = code.spn();
     let fmi = code.fmi();
+    write!(report, "\"spn\":{spn},\"fmi\":{fmi},\"count\":");
     match code.count() {
-        NO_COUNT => write!(report, "\"spn\":{spn},\"fmi\":{fmi},\"count\":null"),
-        count => write!(report, "\"spn\":{spn},\"fmi\":{fmi},\"count\":{count}"),
+        NO_COUNT => report.text("null"),
+        count => write_number(report, count),
     }
     write_code_text(report, texts, spn, fmi);
     report.text("}");
+}
+
+fn write_number<W: Write>(report: &mut ReportWriter<'_, W>, number: u8) {
+    write!(report, "{number}");
 }
 
 /// The shop's text for a code, where there is one.
@@ -121,9 +131,10 @@ pub(crate) fn write_time<W: Write>(
     key: &str,
     time: &Option<Time>,
 ) {
+    write!(report, ",\"{key}\":");
     match time {
-        Some(time) => write!(report, ",\"{key}\":\"{time}\""),
-        None => write!(report, ",\"{key}\":null"),
+        Some(time) => write!(report, "\"{time}\""),
+        None => report.text("null"),
     }
 }
 
@@ -142,18 +153,32 @@ fn write_letters<W: Write>(report: &mut ReportWriter<'_, W>, text: &str) {
 }
 
 fn write_letter<W: Write>(report: &mut ReportWriter<'_, W>, letter: char) {
+    match escape_of(letter) {
+        Some(escape) => report.text(escape),
+        None => write_plain(report, letter),
+    }
+}
+
+/// The short escape of a letter, where it has one.
+fn escape_of(letter: char) -> Option<&'static str> {
     match letter {
-        '"' => report.text("\\\""),
-        '\\' => report.text("\\\\"),
-        '\n' => report.text("\\n"),
-        '\r' => report.text("\\r"),
-        '\t' => report.text("\\t"),
-        '\u{8}' => report.text("\\b"),
-        '\u{C}' => report.text("\\f"),
-        '\0'..='\u{1F}' => {
-            let number = letter as u32;
-            write!(report, "\\u{number:04x}");
-        }
-        letter => write!(report, "{letter}"),
+        '"' => Some("\\\""),
+        '\\' => Some("\\\\"),
+        '\n' => Some("\\n"),
+        '\r' => Some("\\r"),
+        '\t' => Some("\\t"),
+        '\u{8}' => Some("\\b"),
+        '\u{C}' => Some("\\f"),
+        _ => None,
+    }
+}
+
+/// A letter without a short escape: any other control character by its number.
+fn write_plain<W: Write>(report: &mut ReportWriter<'_, W>, letter: char) {
+    let number = letter as u32;
+    if number < 0x20 {
+        write!(report, "\\u{number:04x}");
+    } else {
+        write!(report, "{letter}");
     }
 }

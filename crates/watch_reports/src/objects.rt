@@ -1,12 +1,12 @@
 //! A change as a JSON object, written as it goes: no memory is asked for.
 
 use crate::object_parts::{
-    write_bus, write_destination, write_fields, write_shown, write_time, write_who,
+    write_bus, write_destination, write_fields, write_named, write_shown, write_time, write_who,
 };
+use crate::options::ReportOptions;
 use crate::report_writer::ReportWriter;
-use crate::run::WatchOptions;
 use crate::units::kind_word;
-use bus_watch::{BusWatch, Watch, WatchChange, Who};
+use bus_watch::{BusWatch, EntryRun, Watch, WatchChange, Who};
 use can_frame::Pgn;
 use code_texts::Texts;
 use dm_messages::{Kind, ReadError};
@@ -19,13 +19,13 @@ use unit_words::UnitTexts;
 pub(crate) fn write_change<W: Write>(
     report: &mut ReportWriter<'_, W>,
     one: &BusWatch,
-    options: &WatchOptions<'_>,
+    options: &ReportOptions<'_>,
     number: u64,
     change: &WatchChange,
 ) {
     write!(report, "{{\"line\":{number}");
     write_time(report, "time", &one.watch.now());
-    write_event(report, &one.watch, options.texts, *change);
+    write_event(report, &one.watch, options.texts, change);
     write_bus(report, one);
     write_unit_words(report, options.units, change);
     report.text("}\n");
@@ -36,38 +36,43 @@ fn write_event<W: Write>(
     report: &mut ReportWriter<'_, W>,
     watch: &Watch,
     texts: &Texts,
-    change: WatchChange,
+    change: &WatchChange,
 ) {
-    match change {
-        WatchChange::At { name, address } => {
-            write!(
-                report,
-                ",\"event\":\"unit\",\"name\":\"{name}\",\"address\":{address}"
-            );
-        }
-        WatchChange::NoAddress { name } => {
-            write!(
-                report,
-                ",\"event\":\"unit\",\"name\":\"{name}\",\"address\":null"
-            );
-        }
+    match *change {
         WatchChange::Entry { who, kind } => write_entry(report, watch, texts, &who, kind),
-        WatchChange::Missed { count } => {
-            write!(report, ",\"event\":\"missed\",\"count\":{count}");
+        WatchChange::Unread { who, kind, to, why } => {
+            write_unread(report, watch, &who, kind, to, why);
         }
-        WatchChange::Unowned { source } => {
-            write!(report, ",\"event\":\"unowned\",\"address\":{source}");
-        }
+        other => write_of_unit(report, other),
+    }
+}
+
+/// What is no message of a unit: who holds an address, and what is missed.
+fn write_of_unit<W: Write>(report: &mut ReportWriter<'_, W>, change: WatchChange) {
+    match change {
+        WatchChange::At { name, address } => write_unit(report, name, Some(address)),
+        WatchChange::NoAddress { name } => write_unit(report, name, None),
+        WatchChange::Missed { count } => write_event_count(report, "missed", u64::from(count)),
+        WatchChange::Unowned { source } => write_unowned(report, source),
         WatchChange::Ack {
             name,
             control,
             pgn,
             requester,
         } => write_ack(report, name, control, pgn, requester),
-        WatchChange::Unread { who, kind, to, why } => {
-            write_unread(report, watch, &who, kind, to, why);
-        }
+        WatchChange::Entry { .. } | WatchChange::Unread { .. } => {}
     }
+}
+
+/// A NAME that holds an address, or holds none any more.
+fn write_unit<W: Write>(report: &mut ReportWriter<'_, W>, name: Name, address: Option<u8>) {
+    report.text(",\"event\":\"unit\",");
+    write_named(report, name, address);
+}
+
+/// The address that nobody has claimed, of which a message came.
+fn write_unowned<W: Write>(report: &mut ReportWriter<'_, W>, source: u8) {
+    write!(report, ",\"event\":\"unowned\",\"address\":{source}");
 }
 
 /// What the NAME says of a unit that claims or loses an address, and the shop's text for it.
@@ -111,11 +116,20 @@ fn write_entry<W: Write>(
     let word = kind_word(kind);
     write!(report, ",\"event\":\"{word}\",");
     write_who(report, watch, who);
-    if let Some(run) = watch.runs(*who, kind).last() {
-        write_shown(report, texts, run);
-    }
+    write_newest(report, texts, watch.runs(*who, kind).last());
     let entry = watch.entries(*who, kind);
     write!(report, ",\"entry\":{entry}");
+}
+
+/// What the newest entry shows.
+fn write_newest<W: Write>(
+    report: &mut ReportWriter<'_, W>,
+    texts: &Texts,
+    newest: Option<&EntryRun>,
+) {
+    if let Some(run) = newest {
+        write_shown(report, texts, run);
+    }
 }
 
 /// How many messages could not be read, whose the newest of them is, its kind, where it went, if not to all, and why.
@@ -127,9 +141,19 @@ fn write_unread<W: Write>(
     to: u8,
     why: ReadError,
 ) {
-    let unread = watch.unread_in_all();
-    write!(report, ",\"event\":\"unread\",\"count\":{unread},");
+    write_event_count(report, "unread", watch.unread_in_all());
+    report.text(",");
     write_who(report, watch, who);
+    write_why(report, kind, to, why);
+}
+
+/// An event that is counted.
+fn write_event_count<W: Write>(report: &mut ReportWriter<'_, W>, event: &'static str, count: u64) {
+    write!(report, ",\"event\":\"{event}\",\"count\":{count}");
+}
+
+/// The kind of a message that could not be read, where it went, if not to all, and why.
+fn write_why<W: Write>(report: &mut ReportWriter<'_, W>, kind: Kind, to: u8, why: ReadError) {
     let word = kind_word(kind);
     write!(report, ",\"kind\":\"{word}\"");
     write_destination(report, to);

@@ -1,4 +1,3 @@
-use crate::run::{Assumed, is_assumed};
 use bus_watch::{UnitShown, Watch, Who};
 use dm_messages::Kind;
 use frame_words::{AddressWords, Audience};
@@ -7,7 +6,7 @@ use std::fmt;
 use unit_words::UnitTexts;
 
 /// The kinds of messages that are listed, in the order in which a report has them.
-pub(crate) const KINDS: [Kind; 3] = [Kind::Dm1, Kind::Dm2, Kind::Dm6];
+pub const KINDS: [Kind; 3] = [Kind::Dm1, Kind::Dm2, Kind::Dm6];
 
 /// The word of a kind, in every form.
 pub(crate) fn kind_word(kind: Kind) -> &'static str {
@@ -106,14 +105,6 @@ pub(crate) fn address_of(watch: &Watch, who: &Who) -> Option<u8> {
             None => None,
         },
         Who::Unclaimed { address, .. } => Some(address),
-    }
-}
-
-/// Whether a unit was taken to hold an address before the first line.
-pub(crate) fn is_assumed_unit(assumed: &[Assumed], who: &Who) -> bool {
-    match *who {
-        Who::Named(name) => is_assumed(assumed, name),
-        Who::Unclaimed { .. } => false,
     }
 }
 

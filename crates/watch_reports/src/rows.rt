@@ -1,17 +1,18 @@
 //! The report as comma-separated values, written as it goes: nothing of it is held, and no memory is asked for.
 
-use crate::form::TextPart;
+use crate::options::{ReportOptions, ReportPart};
 use crate::report_writer::ReportWriter;
-use crate::run::WatchOptions;
 use crate::units::{KINDS, WhoValue, address_of, has_entries, kind_word, row_at, row_places};
-use bus_watch::{BusWatch, Buses, EntryRun, Who};
+use bus_watch::{BusWatch, Buses, EntryRun, Watch, Who};
 use can_frame::GLOBAL_ADDRESS;
 use candump_line::Time;
+use code_texts::Texts;
 use dm_messages::Kind;
 use dm_words::{LampBytes, NO_COUNT};
 use name_field::Name;
 use std::io::Write;
 use trouble_code::Dtc;
+use unit_words::UnitTexts;
 
 /// The names of the values.
 const HEADER: &str =
@@ -24,8 +25,8 @@ const HEADER: &str =
 pub(crate) fn write_rows<W: Write>(
     report: &mut ReportWriter<'_, W>,
     buses: &Buses,
-    options: &WatchOptions<'_>,
-    part: TextPart,
+    options: &ReportOptions<'_>,
+    part: ReportPart,
 ) {
     if is_first(part) {
         write_header(report, buses.are_each());
@@ -36,10 +37,10 @@ pub(crate) fn write_rows<W: Write>(
 }
 
 /// Whether no rows stand before this part.
-fn is_first(part: TextPart) -> bool {
+fn is_first(part: ReportPart) -> bool {
     match part {
-        TextPart::Before { is_first, .. } => is_first,
-        TextPart::Last { is_all } => is_all,
+        ReportPart::Before { is_first, .. } => is_first,
+        ReportPart::Last { is_all } => is_all,
     }
 }
 
@@ -56,7 +57,7 @@ fn write_header<W: Write>(report: &mut ReportWriter<'_, W>, names_bus: bool) {
 fn write_bus_rows<W: Write>(
     report: &mut ReportWriter<'_, W>,
     one: &BusWatch,
-    options: &WatchOptions<'_>,
+    options: &ReportOptions<'_>,
 ) {
     for place in 0..row_places(&one.watch) {
         if report.has_failed() {
@@ -72,31 +73,43 @@ fn write_bus_rows<W: Write>(
 fn write_unit<W: Write>(
     report: &mut ReportWriter<'_, W>,
     one: &BusWatch,
-    options: &WatchOptions<'_>,
+    options: &ReportOptions<'_>,
     who: &Who,
 ) {
     if !has_entries(&one.watch, who) {
-        write_front(report, one, who);
+        write_front(report, &one.watch, who);
         report.text(",,,,,,,,,,");
         end_row(report, one, options, who, None);
         return;
     }
     for kind in KINDS {
-        for run in one.watch.runs(*who, kind) {
-            write_run(report, one, options, who, kind, run);
-        }
+        write_runs(report, one, options, who, kind);
+    }
+}
+
+/// The rows of a kind of messages.
+fn write_runs<W: Write>(
+    report: &mut ReportWriter<'_, W>,
+    one: &BusWatch,
+    options: &ReportOptions<'_>,
+    who: &Who,
+    kind: Kind,
+) {
+    for run in one.watch.runs(*who, kind) {
+        write_run(report, one, options, who, kind, run);
     }
 }
 
 /// The first two values of a row: the unit, and its address. In the place of a NAME stands that nobody has claimed its address, so
 /// that no two units have the same there; that has a comma.
-fn write_front<W: Write>(report: &mut ReportWriter<'_, W>, one: &BusWatch, who: &Who) {
+fn write_front<W: Write>(report: &mut ReportWriter<'_, W>, watch: &Watch, who: &Who) {
     let unit = WhoValue(*who);
-    match *who {
-        Who::Named(_) => write!(report, "{unit},"),
-        Who::Unclaimed { .. } => write!(report, "\"{unit}\","),
-    }
-    if let Some(address) = address_of(&one.watch, who) {
+    let quote = match *who {
+        Who::Named(_) => "",
+        Who::Unclaimed { .. } => "\"",
+    };
+    write!(report, "{quote}{unit}{quote},");
+    if let Some(address) = address_of(watch, who) {
         write!(report, "{address}");
     }
 }
@@ -105,7 +118,7 @@ fn write_front<W: Write>(report: &mut ReportWriter<'_, W>, one: &BusWatch, who: 
 fn write_run<W: Write>(
     report: &mut ReportWriter<'_, W>,
     one: &BusWatch,
-    options: &WatchOptions<'_>,
+    options: &ReportOptions<'_>,
     who: &Who,
     kind: Kind,
     run: &EntryRun,
@@ -123,13 +136,21 @@ fn write_run<W: Write>(
 fn write_row<W: Write>(
     report: &mut ReportWriter<'_, W>,
     one: &BusWatch,
-    options: &WatchOptions<'_>,
+    options: &ReportOptions<'_>,
     who: &Who,
     kind: Kind,
     run: &EntryRun,
     code: Option<&Dtc>,
 ) {
-    write_front(report, one, who);
+    write_front(report, &one.watch, who);
+    write_values(report, kind, run);
+    write_code(report, code);
+    write_doubt(report, run.contested, run.to);
+    end_row(report, one, options, who, code);
+}
+
+/// The values between the address and the code.
+fn write_values<W: Write>(report: &mut ReportWriter<'_, W>, kind: Kind, run: &EntryRun) {
     let kind = kind_word(kind);
     write!(report, ",{kind},");
     write_time(report, &run.first);
@@ -137,14 +158,14 @@ fn write_row<W: Write>(
     let times = run.times;
     let lamps = LampBytes(run.shown.lamps);
     write!(report, "{times},{lamps},");
-    write_code(report, code);
-    let contested = run.contested;
+}
+
+/// Whether an entry is contested, and where it went, if not to all.
+fn write_doubt<W: Write>(report: &mut ReportWriter<'_, W>, contested: bool, to: u8) {
     write!(report, "{contested},");
-    if run.to != GLOBAL_ADDRESS {
-        let to = run.to;
+    if to != GLOBAL_ADDRESS {
         write!(report, "{to}");
     }
-    end_row(report, one, options, who, code);
 }
 
 /// A time and a comma; the comma alone where the line told none.
@@ -165,7 +186,11 @@ fn write_code<W: Write>(report: &mut ReportWriter<'_, W>, code: Option<&Dtc>) {
     let spn = code.spn();
     let fmi = code.fmi();
     write!(report, "{spn},{fmi},");
-    let count = code.count();
+    write_count(report, code.count());
+}
+
+/// The count of a code and a comma.
+fn write_count<W: Write>(report: &mut ReportWriter<'_, W>, count: u8) {
     if count != NO_COUNT {
         write!(report, "{count}");
     }
@@ -176,72 +201,79 @@ fn write_code<W: Write>(report: &mut ReportWriter<'_, W>, code: Option<&Dtc>) {
 fn end_row<W: Write>(
     report: &mut ReportWriter<'_, W>,
     one: &BusWatch,
-    options: &WatchOptions<'_>,
+    options: &ReportOptions<'_>,
     who: &Who,
     code: Option<&Dtc>,
 ) {
-    if let Some(bus) = &one.bus {
-        report.text(",");
-        write_text(report, bus.as_str());
-    }
+    write_bus(report, one);
     match *who {
-        Who::Named(name) => write_fields(report, options, name),
+        Who::Named(name) => write_fields(report, options.units, name),
         Who::Unclaimed { .. } => report.text(",,,,,"),
     }
     report.text(",");
     if let Some(code) = code {
-        write_code_text(report, options, code.spn(), code.fmi());
+        write_code_text(report, options.texts, code.spn(), code.fmi());
     }
     report.text("\n");
 }
 
+/// The name of the bus behind a comma, where each is watched.
+fn write_bus<W: Write>(report: &mut ReportWriter<'_, W>, one: &BusWatch) {
+    if let Some(bus) = &one.bus {
+        report.text(",");
+        write_text(report, bus.as_str());
+    }
+}
+
 /// What a NAME says of its unit (SAE J1939-81), and the shop's text for it, each behind a comma.
-fn write_fields<W: Write>(
-    report: &mut ReportWriter<'_, W>,
-    options: &WatchOptions<'_>,
-    name: Name,
-) {
+fn write_fields<W: Write>(report: &mut ReportWriter<'_, W>, units: &UnitTexts, name: Name) {
     let fields = name.fields();
     let (function, instance) = (fields.function, fields.function_instance);
     let (manufacturer, identity) = (fields.manufacturer, fields.identity);
     write!(report, ",{function},{instance},{manufacturer},{identity},");
-    if let Some(text) = options.units.text_of(name) {
+    if let Some(text) = units.text_of(name) {
         write_text(report, text);
     }
 }
 
 /// The shop's text for a code.
-fn write_code_text<W: Write>(
-    report: &mut ReportWriter<'_, W>,
-    options: &WatchOptions<'_>,
-    spn: u32,
-    fmi: u8,
-) {
-    match options.texts.parts_of(spn, fmi) {
-        Some((text, Some(more))) => {
-            report.text("\"");
-            write_quoted(report, text);
-            report.text(", ");
-            write_quoted(report, more);
-            report.text("\"");
-        }
+fn write_code_text<W: Write>(report: &mut ReportWriter<'_, W>, texts: &Texts, spn: u32, fmi: u8) {
+    match texts.parts_of(spn, fmi) {
+        Some((text, Some(more))) => write_both(report, text, more),
         Some((text, None)) => write_text(report, text),
         None => {}
     }
 }
 
+/// A text for the SPN and one for the FMI, in quotes.
+fn write_both<W: Write>(report: &mut ReportWriter<'_, W>, text: &str, more: &str) {
+    report.text("\"");
+    write_quoted(report, text);
+    report.text(", ");
+    write_quoted(report, more);
+    report.text("\"");
+}
+
 /// A text, in quotes where it has a comma, a quote or an end of a line.
 fn write_text<W: Write>(report: &mut ReportWriter<'_, W>, text: &str) {
-    if !text
-        .bytes()
-        .any(|byte| matches!(byte, b',' | b'"' | b'\r' | b'\n'))
-    {
+    if !needs_quotes(text) {
         report.text(text);
         return;
     }
     report.text("\"");
     write_quoted(report, text);
     report.text("\"");
+}
+
+/// Whether a text has a comma, a quote or an end of a line.
+fn needs_quotes(text: &str) -> bool {
+    for byte in text.as_bytes() {
+        match *byte {
+            b',' | b'"' | b'\r' | b'\n' => return true,
+            _ => {}
+        }
+    }
+    false
 }
 
 /// A text in quotes, each of its own twice.

@@ -1,12 +1,12 @@
 //! The report as a JSON object, written as it goes: nothing of it is held, and no memory is asked for.
 
-use crate::form::TextPart;
+use crate::assumed::is_assumed_unit;
 use crate::object_parts::{
     write_bus, write_fields, write_shown, write_text, write_time, write_who,
 };
+use crate::options::{ReportOptions, ReportPart};
 use crate::report_writer::ReportWriter;
-use crate::run::WatchOptions;
-use crate::units::{KINDS, is_assumed_unit, kind_word, row_at, row_places};
+use crate::units::{KINDS, kind_word, row_at, row_places};
 use bus_watch::{BusWatch, Buses, EntryRun, WatchCounts, Who};
 use dm_messages::Kind;
 use std::io::Write;
@@ -16,15 +16,10 @@ use std::io::Write;
 pub(crate) fn write_report<W: Write>(
     report: &mut ReportWriter<'_, W>,
     buses: &Buses,
-    options: &WatchOptions<'_>,
-    part: TextPart,
+    options: &ReportOptions<'_>,
+    part: ReportPart,
 ) {
-    match part {
-        TextPart::Before { line, .. } => {
-            write!(report, "{{\"line\":{line},\"event\":\"over\",\"rows\":[");
-        }
-        TextPart::Last { .. } => report.text("{\"event\":\"report\",\"rows\":["),
-    }
+    write_begin(report, part);
     write_all_rows(report, buses.watches(), options);
     write_heard(report, buses.watches());
     write_counts(report, buses.counts());
@@ -34,11 +29,21 @@ pub(crate) fn write_report<W: Write>(
     report.text("}\n");
 }
 
+/// What the report is of.
+fn write_begin<W: Write>(report: &mut ReportWriter<'_, W>, part: ReportPart) {
+    match part {
+        ReportPart::Before { line, .. } => {
+            write!(report, "{{\"line\":{line},\"event\":\"over\",\"rows\":[");
+        }
+        ReportPart::Last { .. } => report.text("{\"event\":\"report\",\"rows\":["),
+    }
+}
+
 /// The rows of all buses.
 fn write_all_rows<W: Write>(
     report: &mut ReportWriter<'_, W>,
     watches: &[BusWatch],
-    options: &WatchOptions<'_>,
+    options: &ReportOptions<'_>,
 ) {
     let mut before = "{";
     for one in watches {
@@ -50,7 +55,7 @@ fn write_all_rows<W: Write>(
 fn write_rows<W: Write>(
     report: &mut ReportWriter<'_, W>,
     one: &BusWatch,
-    options: &WatchOptions<'_>,
+    options: &ReportOptions<'_>,
     before: &'static str,
 ) -> &'static str {
     let mut before = before;
@@ -70,7 +75,7 @@ fn write_rows<W: Write>(
 fn write_row<W: Write>(
     report: &mut ReportWriter<'_, W>,
     one: &BusWatch,
-    options: &WatchOptions<'_>,
+    options: &ReportOptions<'_>,
     who: &Who,
 ) {
     write_who(report, &one.watch, who);
@@ -90,7 +95,7 @@ fn write_row<W: Write>(
 /// The runs of a kind.
 fn write_runs<W: Write>(
     report: &mut ReportWriter<'_, W>,
-    options: &WatchOptions<'_>,
+    options: &ReportOptions<'_>,
     kind: Kind,
     runs: &[EntryRun],
 ) {
@@ -108,7 +113,7 @@ fn write_runs<W: Write>(
 /// A run: its number of entries, the times of the first and the last, what they show, and where they went, if not to all.
 fn write_run<W: Write>(
     report: &mut ReportWriter<'_, W>,
-    options: &WatchOptions<'_>,
+    options: &ReportOptions<'_>,
     run: &EntryRun,
 ) {
     let times = run.times;

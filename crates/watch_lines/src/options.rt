@@ -1,0 +1,62 @@
+use bus_watch::{BusShown, Limits, WatchSettings};
+use clock_words::ClockForm;
+use code_texts::Texts;
+use unit_words::UnitTexts;
+use watch_reports::{Assumed, ReportOptions, WatchForm};
+
+/// How a log or a live bus is watched.
+#[derive(Clone, Copy)]
+pub struct WatchOptions<'a> {
+    /// What of the bus is shown, and how its lines are read.
+    pub settings: WatchSettings,
+    /// Which buses are watched.
+    pub bus: BusShown<'a>,
+    /// Who holds an address before the first line, on each bus.
+    pub assumed: &'a [Assumed],
+    /// How much is kept at once.
+    pub limits: Limits,
+    /// How changes and report are written.
+    pub form: WatchForm,
+    /// What is read: a file's name, or words for it.
+    pub title: &'a str,
+    /// A shop's texts for units, and for codes.
+    pub units: &'a UnitTexts,
+    pub texts: &'a Texts,
+    /// How times are told to people; where that is not said, in text as the log has them, and on a page by UTC where they count
+    /// from the start of 1970, else since the first.
+    pub clock: Option<ClockForm>,
+    /// Whether the first bad line ends the run.
+    pub strict: bool,
+}
+
+impl<'a> WatchOptions<'a> {
+    /// What of it says how changes and reports are written.
+    fn reports(&self) -> ReportOptions<'a> {
+        ReportOptions {
+            form: self.form,
+            assumed: self.assumed,
+            units: self.units,
+            texts: self.texts,
+            clock: self.clock,
+        }
+    }
+
+    /// The same, as a run goes by it.
+    pub(crate) fn run(&self) -> RunOptions<'a> {
+        RunOptions {
+            reports: self.reports(),
+            limits: self.limits,
+            title: self.title,
+            strict: self.strict,
+        }
+    }
+}
+
+/// What of the options a run goes by once its watches have begun.
+#[derive(Clone, Copy)]
+pub(crate) struct RunOptions<'a> {
+    pub(crate) reports: ReportOptions<'a>,
+    pub(crate) limits: Limits,
+    pub(crate) title: &'a str,
+    pub(crate) strict: bool,
+}

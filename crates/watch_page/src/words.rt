@@ -1,0 +1,30 @@
+use crate::view::View;
+use clock_words::ClockForm;
+use code_texts::Texts;
+use picture::Axis;
+use std::alloc::Global;
+
+/// By what moments and codes are told: the clock of the page, and a shop's texts for codes.
+#[derive(Clone, Copy)]
+pub(crate) struct PageWords<'a> {
+    pub(crate) alloc: Global,
+    /// What moments are, and the first.
+    pub(crate) axis: Axis,
+    pub(crate) start: u64,
+    /// How times are told.
+    pub(crate) clock: ClockForm,
+    pub(crate) texts: &'a Texts,
+}
+
+impl<'a> PageWords<'a> {
+    /// Those of a page.
+    pub(crate) fn of(view: &View<'a>) -> PageWords<'a> {
+        PageWords {
+            alloc: view.alloc,
+            axis: view.picture.axis(),
+            start: view.picture.start(),
+            clock: view.clock,
+            texts: view.texts,
+        }
+    }
+}

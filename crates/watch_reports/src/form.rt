@@ -1,0 +1,83 @@
+use crate::options::{ReportOptions, ReportPart};
+use crate::report_writer::ReportWriter;
+use crate::{objects, report_object, rows, text, text_report};
+use bus_watch::{BusWatch, Buses, Changes, WatchChange};
+use candump_line::Time;
+use log_lines::LogFault;
+use std::io::Write;
+
+/// How changes and the report are written.
+#[derive(Clone, Copy, PartialEq, Eq)]
+pub enum WatchForm {
+    /// For people.
+    Text,
+    /// A JSON object a line.
+    Json,
+    /// No changes; the report has a line of comma-separated values for each code of each run of equal entries.
+    Csv,
+    /// No changes; the report is a page of HTML, and that is written elsewhere.
+    Html,
+}
+
+/// Writes what is told of the line of this number: of a NAME that lost its address before the change that took it. `start` is the
+/// time of the first line that has one.
+///
+/// # Errors
+/// - `Write`: a write failed; how much was written by then is not told.
+pub fn write_changes<W: Write>(
+    writer: &mut W,
+    one: &BusWatch,
+    options: &ReportOptions<'_>,
+    start: &Option<Time>,
+    number: u64,
+    changes: &Changes,
+) -> Result<(), LogFault> {
+    let mut report = ReportWriter::new(writer);
+    if let Some(name) = &changes.lost {
+        let lost = WatchChange::NoAddress { name: *name };
+        write_change(&mut report, one, options, start, number, &lost);
+    }
+    if let Some(change) = &changes.change {
+        write_change(&mut report, one, options, start, number, change);
+    }
+    report.end()
+}
+
+/// Writes a change that the line of this number made.
+fn write_change<W: Write>(
+    report: &mut ReportWriter<'_, W>,
+    one: &BusWatch,
+    options: &ReportOptions<'_>,
+    start: &Option<Time>,
+    number: u64,
+    change: &WatchChange,
+) {
+    match options.form {
+        WatchForm::Text => text::write_change(report, one, options, start, change),
+        WatchForm::Json => objects::write_change(report, one, options, number, change),
+        WatchForm::Csv | WatchForm::Html => {}
+    }
+}
+
+/// Writes the report: a line for each NAME, the counts of what was heard, and those of the lines. Where that is a page, nothing is
+/// written.
+///
+/// It is written as it goes, and no memory is asked for.
+///
+/// # Errors
+/// - `Write`: a write failed; how much was written by then is not told.
+pub fn write_report<W: Write>(
+    writer: &mut W,
+    buses: &Buses,
+    options: &ReportOptions<'_>,
+    part: ReportPart,
+) -> Result<(), LogFault> {
+    let mut report = ReportWriter::new(writer);
+    match options.form {
+        WatchForm::Text => text_report::write_report(&mut report, buses, options, part),
+        WatchForm::Json => report_object::write_report(&mut report, buses, options, part),
+        WatchForm::Csv => rows::write_rows(&mut report, buses, options, part),
+        WatchForm::Html => {}
+    }
+    report.end()
+}

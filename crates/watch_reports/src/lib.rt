@@ -1,0 +1,20 @@
+//! What a watched bus tells, as it is written: each change, and the report by NAME; as text, as JSON objects, or as comma-separated
+//! values.
+#![tactic(auto)]
+
+mod assumed;
+mod form;
+mod object_parts;
+mod objects;
+mod options;
+mod report_object;
+mod report_writer;
+mod rows;
+mod text;
+mod text_report;
+mod units;
+
+pub use assumed::Assumed;
+pub use form::{WatchForm, write_changes, write_report};
+pub use options::{ReportOptions, ReportPart};
+pub use units::KINDS;

@@ -1,0 +1,171 @@
+//! The report for people, written as it goes: nothing of it is held, and no memory is asked for.
+
+use crate::assumed::is_assumed_unit;
+use crate::options::{ReportOptions, ReportPart};
+use crate::report_writer::ReportWriter;
+use crate::units::{KINDS, PlainWho, address_of, address_words, row_at, row_places};
+use bus_watch::{BusWatch, Buses, EntryRun, Watch, WatchCounts, Who};
+use dm_messages::Kind;
+use dm_words::{LampBytes, LampWords};
+use std::io::Write;
+
+/// Writes for each bus a line for each unit, and the counts of what was heard; then those of the lines.
+pub(crate) fn write_report<W: Write>(
+    report: &mut ReportWriter<'_, W>,
+    buses: &Buses,
+    options: &ReportOptions<'_>,
+    part: ReportPart,
+) {
+    if let ReportPart::Before { line, .. } = part {
+        writeln!(report, "over at line {line}, so far:");
+    }
+    for one in buses.watches() {
+        write_bus(report, one, options);
+    }
+    write_counts(report, buses.counts());
+}
+
+/// A line for each unit of a bus, and the counts of what was heard there.
+fn write_bus<W: Write>(
+    report: &mut ReportWriter<'_, W>,
+    one: &BusWatch,
+    options: &ReportOptions<'_>,
+) {
+    write_rows(report, one, options);
+    write_bus_name(report, one);
+    let missed = one.watch.missed_in_all();
+    let unread = one.watch.unread_in_all();
+    writeln!(report, "missed {missed} unread {unread}");
+}
+
+/// A line for each unit of a bus.
+fn write_rows<W: Write>(
+    report: &mut ReportWriter<'_, W>,
+    one: &BusWatch,
+    options: &ReportOptions<'_>,
+) {
+    for place in 0..row_places(&one.watch) {
+        if report.has_failed() {
+            return;
+        }
+        if let Some(who) = &row_at(&one.watch, place) {
+            write_row(report, one, options, who);
+        }
+    }
+}
+
+/// The name of a bus before what is told of it, where each is watched.
+fn write_bus_name<W: Write>(report: &mut ReportWriter<'_, W>, one: &BusWatch) {
+    if let Some(bus) = &one.bus {
+        write!(report, "{bus} ");
+    }
+}
+
+/// The unit, the address of its NAME, how many messages of each kind stand under it, the number of codes and the lamps of the
+/// newest DM1, and the unit in words.
+fn write_row<W: Write>(
+    report: &mut ReportWriter<'_, W>,
+    one: &BusWatch,
+    options: &ReportOptions<'_>,
+    who: &Who,
+) {
+    write_bus_name(report, one);
+    write_unit(report, &one.watch, who);
+    for kind in KINDS {
+        write_entries(report, one.watch.entries(*who, kind));
+    }
+    write_newest(report, one.watch.runs(*who, Kind::Dm1).last());
+    write_words(report, options, who);
+}
+
+/// The unit, and the address of its NAME.
+fn write_unit<W: Write>(report: &mut ReportWriter<'_, W>, watch: &Watch, who: &Who) {
+    let unit = PlainWho(*who);
+    write!(report, "{unit} ");
+    if let Who::Named(_) = *who {
+        write_address(report, address_of(watch, who));
+    }
+}
+
+/// An address in a column, with its hexadecimal digits behind where they differ.
+fn write_address<W: Write>(report: &mut ReportWriter<'_, W>, address: Option<u8>) {
+    let Some(address) = address else {
+        report.text("   none ");
+        return;
+    };
+    let before = match address {
+        0..=9 => "      ",
+        10..=99 => " ",
+        _ => "",
+    };
+    let words = address_words(address);
+    write!(report, "{before}{words} ");
+}
+
+fn write_entries<W: Write>(report: &mut ReportWriter<'_, W>, entries: u64) {
+    write!(report, "{entries:>6} ");
+}
+
+/// The number of codes and the lamps of an entry.
+fn write_newest<W: Write>(report: &mut ReportWriter<'_, W>, newest: Option<&EntryRun>) {
+    match newest {
+        Some(newest) => write_lamps(report, newest),
+        None => report.text("   - -"),
+    }
+}
+
+fn write_lamps<W: Write>(report: &mut ReportWriter<'_, W>, newest: &EntryRun) {
+    let codes = newest.shown.codes.as_slice().len();
+    let lamps = LampWords(newest.shown.lamps);
+    let bytes = LampBytes(newest.shown.lamps);
+    write!(report, "{codes:>4} {lamps} ({bytes})");
+}
+
+/// Whether it is assumed, the unit in words where it has a NAME, and a line end.
+fn write_words<W: Write>(report: &mut ReportWriter<'_, W>, options: &ReportOptions<'_>, who: &Who) {
+    if is_assumed_unit(options.assumed, who) {
+        report.text(" assumed");
+    }
+    if let Who::Named(name) = *who {
+        let unit = options.units.words_of(name);
+        write!(report, "; {unit}");
+    }
+    report.text("\n");
+}
+
+/// The counts of the lines.
+fn write_counts<W: Write>(report: &mut ReportWriter<'_, W>, counts: WatchCounts) {
+    write_lines(report, counts.lines, counts.frames, counts.bad);
+    write_foreign(report, counts);
+    write_others(report, counts.other_bus, counts.not_attributed);
+    write_withheld(report, counts.withheld);
+}
+
+fn write_lines<W: Write>(report: &mut ReportWriter<'_, W>, lines: u64, frames: u64, bad: u64) {
+    write!(report, "lines {lines} frames {frames} bad {bad}; ");
+}
+
+/// How many lines were no frames of SAE J1939.
+fn write_foreign<W: Write>(report: &mut ReportWriter<'_, W>, counts: WatchCounts) {
+    let (short, remote) = (counts.short, counts.remote);
+    let (fd, error) = (counts.fd, counts.error);
+    write!(
+        report,
+        "not J1939: 11-bit {short}, remote {remote}, CAN FD {fd}, error {error}; "
+    );
+}
+
+fn write_others<W: Write>(report: &mut ReportWriter<'_, W>, other_bus: u64, not_attributed: u64) {
+    write!(
+        report,
+        "other bus {other_bus}; not attributed {not_attributed}"
+    );
+}
+
+/// How many packets were withheld, where any were, and a line end.
+fn write_withheld<W: Write>(report: &mut ReportWriter<'_, W>, withheld: u64) {
+    if withheld > 0 {
+        write!(report, "; withheld {withheld}");
+    }
+    report.text("\n");
+}

@@ -9,9 +9,9 @@ use Rattle.journal.specs.Journal.{GarageValue, state_of}
 use Rattle.journal.specs.State.{Settings}
 use Rattle.journal.specs.declared.event.Event.{Event}
 use Rattle.garage.specs.Inside.{settings_of, garage_value_of, Stands}
-use Rattle.garage.specs.Room.{IsFull}
-use Rattle.garage.specs.declared.error.GarageError.{GarageError}
-use Rattle.garage.specs.declared.error.GarageError.TheVariants.{BookFull}
+use Rattle.garage_steps.specs.Room.{IsFull}
+use Rattle.garage_steps.specs.declared.error.GarageError.{GarageError}
+use Rattle.garage_steps.specs.declared.error.GarageError.TheVariants.{BookFull}
 use Rattle.garage.specs.declared.garage.Garage.TheInside.{Inside}
 
 -- what a garage without room for its next event is to its callers

@@ -18,19 +18,19 @@ use Rattle.journal.specs.Journal.{GarageValue, IsSeated, memory_recorded, one_mo
 use Rattle.journal.specs.State.{Settings, unit_at}
 use Rattle.journal.specs.Steps.{next_for}
 use Rattle.journal.specs.declared.event.Event.TheVariants.{Hear}
-use Rattle.garage.specs.Answers.{Passes}
-use Rattle.garage.specs.Crew.{IsCrew, IsRecorded, Sitting}
-use Rattle.garage.specs.Hearing.{HearsFrame, HearsOut, IsLast}
+use Rattle.garage_steps.specs.Answers.{Passes}
+use Rattle.garage_steps.specs.Crew.{IsCrew, IsRecorded, Sitting}
+use Rattle.garage_steps.specs.Hearing.{HearsFrame, HearsOut, IsLast}
 use Rattle.garage.specs.Inside.{no_tally, place_at, settings_of, garage_value_of, unit_of, Stands}
-use Rattle.garage.specs.Rounds.{HearOnward, HearsAt}
+use Rattle.garage_steps.specs.Rounds.{HearOnward, HearsAt}
 use Rattle.garage.specs.declared.garage.Garage.TheInside.{Inside}
 use Rattle.garage.specs.declared.garage.Place.{Place}
-use Rattle.garage.specs.declared.hearing.Recorded.{Recorded}
-use Rattle.garage.specs.declared.hearing.Recorded.TheVariants.{Current}
-use Rattle.garage.proofs.HearLemmas.{out_none, out_one}
-use Rattle.garage.proofs.LastFrames.{next_is_last}
+use Rattle.garage_steps.specs.declared.recorded.Recorded.{Recorded}
+use Rattle.garage_steps.specs.declared.recorded.Recorded.TheVariants.{Current}
+use Rattle.garage_steps.proofs.HearLemmas.{out_none, out_one}
+use Rattle.garage_steps.proofs.LastFrames.{next_is_last}
 use Rattle.garage.proofs.Passing.{SamePosts, quiet_passes, quiet_stands, told_hearing, told_inside}
-use Rattle.garage.proofs.RoundLemmas.{crew_after, last_after, moved_some, set_itself, units_more}
+use Rattle.garage_steps.proofs.RoundLemmas.{crew_after, last_after, moved_some, set_itself, units_more}
 use Rattle.garage.proofs.Standing.{place_told, state}
 
 -- how far they have come: all stands, those before this number have heard all, and there is room for so many more

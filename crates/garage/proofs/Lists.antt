@@ -10,14 +10,14 @@ use Rattle.journal.specs.Promises.{KeepsLists}
 use Rattle.journal.specs.declared.event.Event.{Event}
 use Rattle.journal.specs.declared.event.Event.TheVariants as event
 use Rattle.journal.proofs.Lifted.{keeps_adds, keeps_same}
-use Rattle.garage.specs.Answers.{Hears, Begins}
+use Rattle.garage_steps.specs.Answers.{Hears, Begins}
 use Rattle.garage.specs.Inside.{settings_of, garage_value_of, Stands}
 use Rattle.garage.specs.declared.garage.Garage.TheInside.{Inside}
-use Rattle.garage.proofs.Standing.{newest}
-use Rattle.garage.specs.declared.hearing.HeardOne.{HeardOne}
-use Rattle.garage.specs.declared.hearing.HeardOne.TheVariants as heard
-use Rattle.garage.specs.declared.steps.Begin.{Begin as Began}
-use Rattle.garage.specs.declared.steps.Begin.TheVariants as began
+use Rattle.garage_steps.proofs.Events.{newest}
+use Rattle.garage_steps.specs.declared.answers.HeardOne.{HeardOne}
+use Rattle.garage_steps.specs.declared.answers.HeardOne.TheVariants as heard
+use Rattle.garage_steps.specs.declared.answers.Begin.{Begin as Began}
+use Rattle.garage_steps.specs.declared.answers.Begin.TheVariants as began
 
 -- a journal has room for 2^24 events at most
 pub few_events : (a : Inside) (g : GarageValue) → garage_value_of a ≡ g → Stands a → length g.journal < 2 ^ 32

@@ -24,14 +24,15 @@ use Rattle.journal.specs.Journal.{GarageValue, Adds, AllFit, memory_recorded, on
 use Rattle.journal.specs.declared.event.Event.{Event}
 use Rattle.journal.specs.declared.event.Event.TheVariants.{Join, Hear, Begin, Turned, Carry, Read, Ordered, Leave, Inject}
 use Rattle.entry_lists.specs.Entries.{entries_under}
-use Rattle.garage.specs.Answers.{Hears, Passes}
+use Rattle.garage_steps.specs.Answers.{Hears, Passes}
 use Rattle.garage.specs.Inside.{settings_of, garage_value_of, place_at, post_at, unit_of, Stands}
 use Rattle.garage.specs.declared.garage.Garage.TheInside.{Inside}
 use Rattle.garage.specs.declared.garage.Place.{Place}
 use Rattle.garage.specs.declared.garage.Post.{Post}
-use Rattle.garage.specs.declared.hearing.HeardOne.TheVariants as heard
-use Rattle.garage.proofs.Traffics.{keeps_heard}
-use Rattle.garage.proofs.Standing.{stations_are, windows_are, state, added, fresh_one, hear_is, is_answered, joins_hear, next_within, place_tally, place_within, stands_more, tallies_one, unit_is}
+use Rattle.garage_steps.specs.declared.answers.HeardOne.TheVariants as heard
+use Rattle.garage_steps.proofs.Traffics.{keeps_heard}
+use Rattle.garage_steps.proofs.Events.{hear_is, is_answered, joins_hear, next_within}
+use Rattle.garage.proofs.Standing.{stations_are, windows_are, state, added, fresh_one, place_tally, place_within, stands_more, tallies_one, unit_is}
 
 -- the next frame of a seat, as the bus tells it
 pub next_is : (a : Inside) (v : GarageValue) (seat : ℕ) (o : Option FrameValue) → garage_value_of a ≡ v → Stands a

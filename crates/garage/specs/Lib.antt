@@ -1,13 +1,5 @@
-pub mod Refusals
 pub mod Inside
-pub mod Carrying
-pub mod Room
-pub mod Causes
-pub mod Calls
-pub mod Answers
 pub mod Obeying
 pub mod Opening
 pub mod Snapshots
-pub mod Crew
-pub mod Hearing
-pub mod Rounds
+pub mod ParkedUnits

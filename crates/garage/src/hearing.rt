@@ -9,42 +9,23 @@ ghost use Rattle.journal.specs.Notes.{Gains};
 ghost use Rattle.journal.specs.Promises.{KeepsLists};
 ghost use Rattle.journal.specs.Steps.{begins_session, next_for, session_message_after};
 ghost use Rattle.journal.specs.declared.event.Event.TheVariants.{Hear};
-ghost use Rattle.garage.specs.Answers.{Hears, PassesNext, count_with_begun};
-ghost use Rattle.garage.specs.Calls.{HearsFull, HearsNothing, IsWant};
-ghost use Rattle.garage.specs.Crew.{Comes, IsCrew, asked_of, sitting_of};
-ghost use Rattle.garage.specs.Hearing.{HasHeardAll, HearsFrame, HearsMany, HearsOut, IsHearingCut, IsLast};
-ghost use Rattle.garage.specs.Room.{IsFull};
-ghost use Rattle.garage.specs.Rounds.{HearOnward};
+ghost use Rattle.garage_steps.specs.Answers.{Hears, PassesNext, count_with_begun};
+ghost use Rattle.garage_steps.specs.Calls.{HearsFull, HearsNothing, IsWant};
+ghost use Rattle.garage_steps.specs.Crew.{Comes, IsCrew};
+ghost use Rattle.garage.specs.ParkedUnits.{asked_of, sitting_of};
+ghost use Rattle.garage_steps.specs.Hearing.{HasHeardAll, HearsFrame, HearsMany, HearsOut, IsHearingCut, IsLast};
+ghost use Rattle.garage_steps.specs.Room.{IsFull};
+ghost use Rattle.garage_steps.specs.Rounds.{HearOnward};
 
-use crate::error::GarageError;
 use crate::garage::{Garage, Place};
 use crate::plug::Parked;
-use crate::queueing::{Numbering, do_heard};
-use crate::room::{has_room, make_ready};
 use bus_ledger::Bus;
 use can_frame::{Frame, GLOBAL_ADDRESS};
+use garage_steps::{GarageError, HeardOne, Numbering, Recorded, begins_session, begun_count, do_heard, has_room, keep, last_session, make_ready};
 use journal::Journal;
 use node_core::{Acceptance, Answer, Begun};
 use std::alloc::Global;
 use unit_trait::Unit;
-
-/// What a unit heard.
-#[derive(Clone, Copy, PartialEq, Eq)]
-pub enum HeardOne {
-    /// It has heard the whole wire.
-    Nothing,
-    /// This frame.
-    Frame(Frame),
-}
-
-/// What is known of the memory that the journal has of a unit, which is the one of its latest event.
-#[derive(Clone, Copy, PartialEq, Eq)]
-pub(crate) enum Recorded {
-    /// It is the one that the unit has now.
-    Current,
-    /// Nothing: the two are to be compared.
-    Unknown,
-}
 
 /// The last frame of the wire, and what it tells the units that it asks nothing of.
 #[derive(Clone, Copy, PartialEq, Eq)]
@@ -155,7 +136,7 @@ impl Garage {
     {
         let recorded = self.recorded(seat, &*unit, recorded);
         if let Some(acceptance) = acceptance {
-            if is_current(recorded) && self.passes_over(seat, acceptance) {
+            if recorded.is_current() && self.passes_over(seat, acceptance) {
                 return Ok(Recorded::Current);
             }
         }
@@ -261,7 +242,7 @@ impl Garage {
         do_heard(&mut self.bus, seat, heard, numbering);
         self.begun = begun;
         self.journal.note_hear(seat, memory, answer);
-        Ok(recorded_after(answer))
+        Ok(Recorded::after(answer))
     }
 
     /// Lets a parked unit take its seat, hear so many frames at most, and be parked again; answers how many it heard: so many as
@@ -273,7 +254,7 @@ impl Garage {
     /// Refused with `Stranger` exactly where this garage has no live seat with its seat number, NAME and count of events; then
     /// nothing changed. `BookFull`, then `OutOfMemory`, where there is one more frame to hear: what was heard before stays, and the
     /// hearing that was refused changed nothing.
-    #[tactic(auto, using(crate::proofs::Crew::lists_come, crate::proofs::Crew::comes_same, crate::proofs::Lists::lists_same))]
+    #[tactic(auto, using(garage_steps::proofs::Crew::lists_come, garage_steps::proofs::Crew::comes_same, crate::proofs::Lists::lists_same))]
     pub fn let_hear(
         &mut self,
         alloc: Global,
@@ -408,7 +389,7 @@ impl Garage {
         }
         if unheard == 1 {
             // one whose memory is recorded did not pass it over (`pass_in_turn`)
-            let acceptance = if is_current(recorded) {
+            let acceptance = if recorded.is_current() {
                 None
             } else {
                 Some(&last.acceptance)
@@ -500,39 +481,6 @@ fn with_live(count: usize, live: u32) -> u32
     }
 }
 
-/// Whether a unit's memory is known to be recorded.
-#[inline(always)]
-fn is_current(recorded: Recorded) -> bool
-    ensures { IsTrue result → recorded ≡ Recorded.Current }
-{
-    match recorded {
-        Recorded::Current => true,
-        Recorded::Unknown => false,
-    }
-}
-
-/// What is known of the memory of the unit of this number; nothing, where that is not kept.
-#[inline(always)]
-pub(crate) fn recorded_of(recorded: &[Recorded], i: usize) -> Recorded
-    ensures { result ≡ Recorded.Current → slice_get recorded.now i ≡ Some Recorded.Current }
-{
-    match recorded.get(i) {
-        Some(known) => *known,
-        None => Recorded::Unknown,
-    }
-}
-
-/// Keeps what is known of the memory of the unit of this number, as far as that is kept.
-#[inline(always)]
-pub(crate) fn keep(recorded: &mut [Recorded], i: usize, known: Recorded)
-    ensures others { (j : ℕ) → j ≢ i → slice_get recorded.new j ≡ slice_get recorded.old j }
-    ensures this { slice_get recorded.new i ≡ Some Recorded.Current → known ≡ Recorded.Current }
-{
-    if i < recorded.len() {
-        recorded[i] = known;
-    }
-}
-
 /// Whether the memory of the i-th unit is recorded: as is known, or as a look tells, which is kept.
 #[inline(always)]
 fn is_recorded(journal: &Journal, unit: &Parked, recorded: &mut [Recorded], i: usize) -> bool
@@ -544,7 +492,7 @@ fn is_recorded(journal: &Journal, unit: &Parked, recorded: &mut [Recorded], i: u
     ensures this { slice_get recorded.new i ≡ Some Recorded.Current
         → memory_recorded unit.now.seat (reverse journal.now.items) ≡ Some (memory_of unit.now.unit) }
 {
-    is_current(recorded[i]) || is_found_recorded(journal, unit, recorded, i)
+    recorded[i].is_current() || is_found_recorded(journal, unit, recorded, i)
 }
 
 /// As `is_recorded`, where that is not known: the memory is compared.
@@ -562,46 +510,4 @@ fn is_found_recorded(journal: &Journal, unit: &Parked, recorded: &mut [Recorded]
     }
     keep(recorded, i, Recorded::Current);
     true
-}
-
-/// What is known of a unit's memory after an event that told it, once the unit answered so.
-fn recorded_after(answer: Answer) -> Recorded
-    ensures { result ≡ Recorded.Current → answer ≡ Answer.NotAsked }
-{
-    match answer {
-        Answer::NotAsked => Recorded::Current,
-        Answer::Agreed | Answer::Declined => Recorded::Unknown,
-    }
-}
-
-/// Whether a message begins that goes to one address.
-fn begins_session(begun: Option<Begun>) -> bool
-    ensures { result ≡ begins_session begun }
-{
-    match begun {
-        Some(begun) => begun.dest != GLOBAL_ADDRESS,
-        None => false,
-    }
-}
-
-/// The number of the message of the last session, once this one has begun.
-fn last_session(before: u32, number: u32, begun: Option<Begun>) -> u32
-    ensures { result ≡ session_message_after before number begun }
-{
-    if begins_session(begun) {
-        number
-    } else {
-        before
-    }
-}
-
-/// How many messages have begun, with this one.
-fn begun_count(before: u32, begun: Option<Begun>) -> u32
-    requires { before + 1 < 2 ^ 32 }
-    ensures { result ≡ count_with_begun before begun }
-{
-    match begun {
-        Some(_) => before + 1,
-        None => before,
-    }
 }

@@ -4,7 +4,6 @@
 #![tactic(auto)]
 
 mod carrying;
-mod error;
 mod garage;
 mod hearing;
 mod opening;
@@ -13,9 +12,7 @@ mod outside;
 mod parked;
 mod plug;
 mod queries;
-mod queueing;
 mod readings;
-mod room;
 mod rounds;
 mod seats;
 mod shown;
@@ -23,11 +20,8 @@ mod snapshot;
 mod steps;
 
 pub use bus_ledger::{Carried, Counts, MOST_STATIONS};
-pub use error::GarageError;
 pub use garage::Garage;
-pub use hearing::HeardOne;
+pub use garage_steps::{Begin, GarageError, HeardOne, Rounds};
 pub use opening::Setting;
 pub use plug::{Parked, Plug};
-pub use rounds::Rounds;
 pub use snapshot::{Newest, RowLine, Snapshot};
-pub use steps::Begin;

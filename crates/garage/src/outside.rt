@@ -2,13 +2,12 @@ ghost use Rattle.std.specs.Prelude.{◌≡◌, ◌⊎◌, ◌↔◌, IfErr, IsEr
 ghost use Rattle.journal.specs.Journal.{injected_of, Adds};
 ghost use Rattle.journal.specs.Promises.{KeepsLists};
 ghost use Rattle.journal.specs.declared.event.Event.TheVariants.{Inject};
-ghost use Rattle.garage.specs.Calls.{IsWant};
-ghost use Rattle.garage.specs.Room.{IsFull};
+ghost use Rattle.garage_steps.specs.Calls.{IsWant};
+ghost use Rattle.garage_steps.specs.Room.{IsFull};
 
-use crate::error::GarageError;
 use crate::garage::Garage;
-use crate::room::make_room;
 use can_frame::Frame;
+use garage_steps::{GarageError, make_room};
 
 impl Garage {
     /// Puts a frame that no seat sent at the end of the wire at once.

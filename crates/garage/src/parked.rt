@@ -2,14 +2,13 @@ ghost use Rattle.std.specs.Prelude.{◌≡◌, ◌+◌, ◌↔◌, ◌⊎◌, If
 ghost use Rattle.journal.specs.Journal.{Adds, IsSeated};
 ghost use Rattle.journal.specs.Promises.{KeepsLists};
 ghost use Rattle.journal.specs.declared.event.Event.TheVariants.{Turned};
-ghost use Rattle.garage.specs.Answers.{Begins, counted_beginning};
-ghost use Rattle.garage.specs.Calls.{BeginsFull, BeginsHeld, BeginsUnclaimed, IsBeginRefusal, IsWant};
-ghost use Rattle.garage.specs.Room.{IsFull};
+ghost use Rattle.garage_steps.specs.Answers.{Begins, counted_beginning};
+ghost use Rattle.garage_steps.specs.Calls.{BeginsFull, BeginsHeld, BeginsUnclaimed, IsBeginRefusal, IsWant};
+ghost use Rattle.garage_steps.specs.Room.{IsFull};
 
-use crate::error::GarageError;
 use crate::garage::Garage;
 use crate::plug::Parked;
-use crate::steps::Begin;
+use garage_steps::{Begin, GarageError};
 use std::alloc::Global;
 use unit_trait::Unit;
 

@@ -6,18 +6,16 @@ ghost use Rattle.fault_memory.specs.declared.error.FaultError.{FaultError as Any
 ghost use Rattle.journal.specs.Journal.{state_of, tally_of, Adds, IsSeated};
 ghost use Rattle.journal.specs.Promises.{IsLawful, KeepsLists};
 ghost use Rattle.journal.specs.declared.event.Event.TheVariants.{Join, Turned, Leave};
-ghost use Rattle.garage.specs.Answers.{Hears, Begins, counted_hearing, counted_beginning};
-ghost use Rattle.garage.specs.Calls.{BeginsFull, BeginsHeld, BeginsUnclaimed, HasNameInUse, HasNoRoomFor, HasTooMany, HearsFull, HearsNothing, IsBeginRefusal, IsWant};
-ghost use Rattle.garage.specs.Refusals.{IsJoinRefusal};
-ghost use Rattle.garage.specs.Room.{IsFull};
+ghost use Rattle.garage_steps.specs.Answers.{Hears, Begins, counted_hearing, counted_beginning};
+ghost use Rattle.garage_steps.specs.Calls.{BeginsFull, BeginsHeld, BeginsUnclaimed, HasNameInUse, HasNoRoomFor, HasTooMany, HearsFull, HearsNothing, IsBeginRefusal, IsWant};
+ghost use Rattle.garage_steps.specs.Refusals.{IsJoinRefusal};
+ghost use Rattle.garage_steps.specs.Room.{IsFull};
 ghost use Rattle.garage.specs.contracts.garage.Garage.{the_row};
 
-use crate::error::GarageError;
 use crate::garage::Garage;
-use crate::hearing::HeardOne;
-use crate::steps::Begin;
 use can_frame::GREATEST_ADDRESS;
 use fault_memory::{FaultChange, FaultError, FaultMemory};
+use garage_steps::{Begin, GarageError, HeardOne};
 use name_field::Name;
 use std::alloc::Global;
 use unit_trait::Unit;

@@ -2,15 +2,13 @@ ghost use Rattle.std.specs.Prelude.{◌≡◌, ◌≢◌, ◌<◌, ◌^◌, ◌�
 ghost use Rattle.bus_ledger.specs.Reception.{next_reading};
 ghost use Rattle.journal.specs.Journal.{state_of};
 ghost use Rattle.journal.specs.Promises.{KeepsLists};
-ghost use Rattle.garage.specs.Answers.{Reads};
-ghost use Rattle.garage.specs.Calls.{IsWant};
-ghost use Rattle.garage.specs.Room.{IsFull};
+ghost use Rattle.garage_steps.specs.Answers.{Reads};
+ghost use Rattle.garage_steps.specs.Calls.{IsWant};
+ghost use Rattle.garage_steps.specs.Room.{IsFull};
 
-use crate::error::GarageError;
 use crate::garage::Garage;
-use crate::queueing::react;
-use crate::room::make_room;
 use can_frame::Reading;
+use garage_steps::{GarageError, make_room, react};
 use station_table::Outcome;
 use std::alloc::Global;
 

@@ -3,31 +3,23 @@ ghost use Rattle.std.specs.Bool.{MatchBool};
 ghost use Rattle.bus_ledger.specs.Reception.{next_reading};
 ghost use Rattle.journal.specs.Journal.{state_of};
 ghost use Rattle.journal.specs.Promises.{KeepsLists};
-ghost use Rattle.garage.specs.Calls.{IsWant};
-ghost use Rattle.garage.specs.Crew.{AreSeated, AreUntouched, Comes, IsCrew, asked_of, sitting_of};
-ghost use Rattle.garage.specs.Hearing.{HasHeardAll, IsLast, IsWantAt};
-ghost use Rattle.garage.specs.Rounds.{EndsSo, HasReadAll, HaveReadAll, HaveRounds, IsListeningCut, IsReadingCut, IsRoundCut, IsUnread, Listens, EachReads, TakesReadings};
+ghost use Rattle.garage_steps.specs.Calls.{IsWant};
+ghost use Rattle.garage_steps.specs.Crew.{AreSeated, AreUntouched, Comes, IsCrew};
+ghost use Rattle.garage.specs.ParkedUnits.{asked_of, sitting_of};
+ghost use Rattle.garage_steps.specs.Hearing.{HasHeardAll, IsLast, IsWantAt};
+ghost use Rattle.garage_steps.specs.Rounds.{EndsSo, HasReadAll, HaveReadAll, HaveRounds, IsListeningCut, IsReadingCut, IsRoundCut, IsUnread, Listens, EachReads, TakesReadings};
 
-use crate::error::GarageError;
 use crate::garage::Garage;
-use crate::hearing::{LastFrame, Recorded, keep, recorded_of};
+use crate::hearing::LastFrame;
 use crate::plug::Parked;
 use bus_ledger::Carried;
 use can_frame::Reading;
+use garage_steps::{GarageError, Recorded, Rounds, keep, recorded_of};
 use std::alloc::Global;
 use unit_trait::Unit;
 
 /// For so many units it is kept in rounds whether their memory is recorded. That of any further one would be compared at each hear.
 const MOST_RECORDED: usize = 64;
-
-/// What came of rounds.
-#[derive(Clone, Copy, Debug, PartialEq, Eq)]
-pub struct Rounds {
-    /// How many frames were carried.
-    pub carried: u32,
-    /// Why no more, where it was fewer than asked for: no frame waits, or none of a unit that has heard all.
-    pub end: Option<Carried>,
-}
 
 impl Garage {
     /// Runs rounds with these units, so many at most. In a round each unit in turn takes its seat and hears all that it has not
@@ -41,7 +33,7 @@ impl Garage {
     /// them, or where they do not stand in the order of their seats; then nothing changed. `BookFull`, then `OutOfMemory`, where
     /// there is one more frame to hear, to read or to carry: what was done before stays, and the step that was refused changed
     /// nothing.
-    #[tactic(auto, using(crate::proofs::Crew::lists_come, crate::proofs::Crew::comes_same, crate::proofs::Lists::lists_same))]
+    #[tactic(auto, using(garage_steps::proofs::Crew::lists_come, garage_steps::proofs::Crew::comes_same, crate::proofs::Lists::lists_same))]
     pub fn round(
         &mut self,
         alloc: Global,

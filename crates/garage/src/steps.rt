@@ -1,21 +1,9 @@
-use crate::error::GarageError;
 use crate::garage::Garage;
-use crate::hearing::Recorded;
-use crate::queueing::{Numbering, queue_outs};
-use crate::room::{make_ready, make_room};
 use dm_messages::Kind;
+use garage_steps::{Begin, GarageError, Numbering, Recorded, make_ready, make_room, queue_outs};
 use node_core::{NodeError, Outs, Started};
 use std::alloc::Global;
 use unit_trait::Unit;
-
-/// What came of beginning a DM1.
-#[derive(Clone, Copy, Debug, PartialEq, Eq)]
-pub enum Begin {
-    /// It has begun.
-    Begun,
-    /// A session of a DM1 is open, so none has begun.
-    Held,
-}
 
 impl Garage {
     ghost use Rattle.std.specs.Prelude.{◌≡◌, ◌↔◌, ◌≤◌, length, IfOk, IfErr, IsErrOf, OnErr, OnOk};
@@ -23,10 +11,10 @@ impl Garage {
     ghost use Rattle.journal.specs.Journal.{state_of, Adds};
     ghost use Rattle.journal.specs.State.{unit_at};
     ghost use Rattle.journal.specs.declared.event.Event.TheVariants.{Turned};
-    ghost use Rattle.garage.specs.Answers.{Begins};
-    ghost use Rattle.garage.specs.Calls.{BeginsFull, BeginsHeld, BeginsUnclaimed, IsBeginRefusal, IsWant};
-    ghost use Rattle.garage.specs.Causes.{BeginsWith};
-    ghost use Rattle.garage.specs.Room.{IsFull};
+    ghost use Rattle.garage_steps.specs.Answers.{Begins};
+    ghost use Rattle.garage_steps.specs.Calls.{BeginsFull, BeginsHeld, BeginsUnclaimed, IsBeginRefusal, IsWant};
+    ghost use Rattle.garage_steps.specs.Causes.{BeginsWith};
+    ghost use Rattle.garage_steps.specs.Room.{IsFull};
 
     /// Begins a DM1 of the memory of the unit on the seat.
     ///

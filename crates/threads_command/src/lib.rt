@@ -75,10 +75,13 @@ fn run_vehicle<R: Threads + Wait + Sync, W: Write>(
     ensures unanswered { IfErr result (λ fault. IsOfInput fault → writer.new ≡ writer.old) }
     ensures not_long { IfErr result (λ fault. (fault ≡ Fault.Write) ⊎ (fault ≡ Fault.Memory) ⊎ (fault ≡ Fault.Vehicle)) }
 {
+    let units = units_of(alloc, vehicle.units.as_slice())?;
     let garage = garage_of(alloc, vehicle.station, vehicle.second)?;
-    let units = vehicle.units.as_slice();
-    let (garage, ran) = run_units(rt, alloc, garage, units, turns, reads)?;
-    write_run(alloc, writer, &garage, ran.ended.as_slice(), report)
+    let (garage, ran) = run(rt, alloc, garage, units, turns, reads, &Open);
+    match ran {
+        Ok(ran) => write_run(alloc, writer, &garage, ran.ended.as_slice(), report),
+        Err(_) => Err(Fault::Memory),
+    }
 }
 
 /// The vehicle that an input describes.
@@ -151,16 +154,9 @@ fn setting_of(second: Second) -> Setting
     }
 }
 
-/// Runs units of these kinds in the garage.
-fn run_units<R: Threads + Wait + Sync>(
-    rt: &R,
-    alloc: Global,
-    garage: Garage,
-    lines: &[UnitLine],
-    turns: u32,
-    reads: u32,
-) -> Result<(Garage, Ran), Fault>
-    requires few { length lines.now < 4294967296 }
+/// The units that these lines describe, each with the address that it wants.
+fn units_of(alloc: Global, lines: &[UnitLine]) -> Result<Vec<(Box<dyn Unit>, u8)>, Fault>
+    ensures few { IfOk result (λ units. vec_len units ≤ length lines.now) }
     ensures memory { IfErr result (λ fault. fault ≡ Fault.Memory) }
 {
     let mut units: Vec<(Box<dyn Unit>, u8)> = Vec::new(alloc);
@@ -168,8 +164,7 @@ fn run_units<R: Threads + Wait + Sync>(
         let unit: Box<dyn Unit> = Box::new(alloc, Simulated::new(alloc, line.name, line.kind))?;
         units.push((unit, line.address))?;
     }
-    let (garage, ran) = run(rt, alloc, garage, units, turns, reads, &Open);
-    Ok((garage, ran?))
+    Ok(units)
 }
 
 /// Writes how each unit ended, and where that is wanted the report of each station.

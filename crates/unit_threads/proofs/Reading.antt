@@ -5,12 +5,12 @@ use Rattle.can_frame.specs.declared.reading.Reading.TheVariants as reading
 use Rattle.bus_ledger.proofs.Numbers.{same_or_not}
 use Rattle.journal.specs.Journal.{Adds, GarageValue, state_of}
 use Rattle.journal.specs.declared.event.Event.TheVariants.{Read}
-use Rattle.garage.specs.Answers.{Reads}
-use Rattle.garage.specs.Calls.{IsWant}
-use Rattle.garage.specs.Rounds.{HasReadAll, HaveReadAll, IsReadOf}
-use Rattle.garage.specs.declared.error.GarageError.{GarageError}
+use Rattle.garage_steps.specs.Answers.{Reads}
+use Rattle.garage_steps.specs.Calls.{IsWant}
+use Rattle.garage_steps.specs.Rounds.{HasReadAll, HaveReadAll, IsReadOf}
+use Rattle.garage_steps.specs.declared.error.GarageError.{GarageError}
 use Rattle.unit_threads.specs.Turns.{CarriesAll, CarriesSome, GrowsBy, IsOneRead, IsPartOfRead, IsPartOfReading, LeavesOthers, ReadInTurn}
-use Rattle.garage.proofs.ReadLemmas.{event_same, next_same}
+use Rattle.garage_steps.proofs.ReadLemmas.{event_same, next_same}
 use Rattle.unit_threads.proofs.Turning.{grows_more, grown_same}
 
 -- a reading of one station leaves the others as they were

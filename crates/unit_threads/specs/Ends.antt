@@ -2,11 +2,11 @@
 use Rattle.std.specs.Prelude.{ℕ, ◌≡◌, ◌≢◌, ◌⊎◌, ◌+◌, ◌<◌, ◌≤◌, List, Option, Some, None, length, slice_index_or}
 use Rattle.journal.specs.Journal.{GarageValue, joins, tally_of}
 use Rattle.journal.specs.declared.tally.Tally.{Tally}
-use Rattle.garage.specs.Calls.{IsWant}
+use Rattle.garage_steps.specs.Calls.{IsWant}
 use Rattle.garage.specs.Opening.{no_events}
-use Rattle.garage.specs.Refusals.{IsJoinRefusal, garage_error_number}
-use Rattle.garage.specs.declared.error.GarageError.{GarageError}
-use Rattle.garage.specs.declared.error.GarageError.TheVariants.{NotAnAddress, Stranger, TooManySeats}
+use Rattle.garage_steps.specs.Refusals.{IsJoinRefusal, garage_error_number}
+use Rattle.garage_steps.specs.declared.error.GarageError.{GarageError}
+use Rattle.garage_steps.specs.declared.error.GarageError.TheVariants.{NotAnAddress, Stranger, TooManySeats}
 use Rattle.unit_threads.specs.declared.ended.Ended.{Ended}
 use Rattle.unit_threads.specs.declared.ended.EndReason.{EndReason}
 use Rattle.unit_threads.specs.declared.ended.EndReason.TheVariants as reason

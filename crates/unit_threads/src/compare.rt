@@ -1,7 +1,7 @@
 ghost use Rattle.std.specs.Prelude.{◌≡◌, ◌≢◌, ◌≤◌, ◌↔◌, false, true, Some, None, length, vec_len};
-ghost use Rattle.garage.specs.declared.error.GarageError.{GarageError as AnyError};
+ghost use Rattle.garage_steps.specs.declared.error.GarageError.{GarageError as AnyError};
 ghost use Rattle.std.specs.List.{All};
-ghost use Rattle.garage.specs.Calls.{IsWant};
+ghost use Rattle.garage_steps.specs.Calls.{IsWant};
 ghost use Rattle.unit_threads.specs.Ends.{Agrees, AgreesAt, HaveOwnSeats, IsCounted, IsCutShort, IsMountRefusal, IsSeatless, IsStrangerAt, IsUnseated, IsWhole, StaySeatless};
 
 use crate::ended::{EndReason, Ended};

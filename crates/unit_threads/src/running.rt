@@ -1,6 +1,6 @@
 ghost use Rattle.std.specs.Prelude.{◌≡◌, ◌+◌, ◌≤◌, min, Some, None, IfErr, IfOk, IfSome, vec_capacity, vec_len};
 ghost use Rattle.std.specs.List.{All};
-ghost use Rattle.garage.specs.Calls.{IsWant};
+ghost use Rattle.garage_steps.specs.Calls.{IsWant};
 ghost use Rattle.unit_threads.specs.Ends.{Agrees, AreSeatlessFrom, HaveOwnSeats, IsSeatless};
 
 use crate::compare::compared_ends;

@@ -1,9 +1,9 @@
 ghost use Rattle.std.specs.Prelude.{◌≡◌, ◌⊎◌, ◌↔◌, ◌<◌, ◌≤◌, ℕ, length, Err, None, IfErr, IfOk, IsErr, MatchResult, OnErr, OnOk};
 ghost use Rattle.journal.specs.Journal.{GarageValue, IsSeated};
-ghost use Rattle.garage.specs.Hearing.{HasHeardAll};
-ghost use Rattle.garage.specs.Rounds.{HasReadAll, HaveReadAll, IsReadOf};
+ghost use Rattle.garage_steps.specs.Hearing.{HasHeardAll};
+ghost use Rattle.garage_steps.specs.Rounds.{HasReadAll, HaveReadAll, IsReadOf};
 ghost use Rattle.unit_threads.specs.Turns.{BoxHeard, CarriesAll, CarriesSome, GrowsBy, IsHearOf, IsOneRead, IsOneTurn, IsPartOfRead, IsPartOfReading, IsPartOfTurn, IsTurnInBox, IsTurnInSeat, KeepsSeats, LeavesAfterSome, LeavesOthers, LeftTurn, ReadInTurn, begun_by};
-ghost use Rattle.garage.specs.Calls.{IsWant};
+ghost use Rattle.garage_steps.specs.Calls.{IsWant};
 
 use can_frame::Reading;
 use garage::{Carried, Garage, GarageError, HeardOne, Parked, Plug};

@@ -1,5 +1,5 @@
 use Rattle.std.proofs.Common.{IfErr, arith, rules}
-use Rattle.garage.specs.Calls.{IsWant}
+use Rattle.garage_steps.specs.Calls.{IsWant}
 use Rattle.unit_threads.specs.Turns.{IsPartOfReading}
 use Rattle.unit_threads.proofs.Reading.{read_part, wants_and}
 use Rattle.unit_threads.proofs.turn.read_each.Goals as goal

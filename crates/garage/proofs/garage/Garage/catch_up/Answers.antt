@@ -1,6 +1,6 @@
 use Rattle.std.proofs.Common.{arith}
-use Rattle.garage.proofs.HearLemmas.{cut_first, out_none, out_one, out_some}
-use Rattle.garage.proofs.LastFrames.{next_is_last}
+use Rattle.garage_steps.proofs.HearLemmas.{cut_first, out_none, out_one, out_some}
+use Rattle.garage_steps.proofs.LastFrames.{next_is_last}
 use Rattle.garage.proofs.Lent.{on_ok_of}
 use Rattle.garage.proofs.garage.Garage.catch_up.Goals as goal
 

@@ -1,9 +1,9 @@
 use Rattle.std.proofs.Common.{◌≡◌, OnOk, refl, rules, subst, ◌∙◌}
 use Rattle.journal.specs.Journal.{GarageValue}
 use Rattle.node_core.specs.declared.heard.Answer.TheVariants.{NotAsked}
-use Rattle.garage.specs.Answers.{Hears}
-use Rattle.garage.specs.declared.hearing.HeardOne.TheVariants as heard
-use Rattle.garage.proofs.HearLemmas.{passes_this}
+use Rattle.garage_steps.specs.Answers.{Hears}
+use Rattle.garage_steps.specs.declared.answers.HeardOne.TheVariants as heard
+use Rattle.garage_steps.proofs.HearLemmas.{passes_this}
 use Rattle.garage.proofs.Passing.{hears_quietly, told_hearing}
 use Rattle.garage.proofs.garage.Garage.hear_frame.Goals as goal
 use Rattle.garage.proofs.garage.Garage.hear_frame.Goals.{in-Some+else-is_current, else-is_current-via-then-is_current+else-passes_over, else-is_current-via-else-is_current, in_default}

@@ -1,8 +1,8 @@
 use Rattle.std.proofs.Common.{refl, sym, ap, ◌∙◌, Some}
-use Rattle.garage.specs.Answers.{Hears}
-use Rattle.garage.specs.declared.hearing.HeardOne.TheVariants as heard
+use Rattle.garage_steps.specs.Answers.{Hears}
+use Rattle.garage_steps.specs.declared.answers.HeardOne.TheVariants as heard
 use Rattle.garage.proofs.Lent.{lent_as, given_back, on_err}
-use Rattle.garage.proofs.SeatKept.{event_counted, event_hears, is_unit}
+use Rattle.garage_steps.proofs.SeatKept.{event_counted, event_hears, is_unit}
 use Rattle.garage.proofs.garage.Garage.hear_seated.Goals as goal
 
 pub hear_frame-requires-clause-recorded : goal.hear_frame-requires-clause-recorded

@@ -1,7 +1,7 @@
 use Rattle.std.proofs.Common.{◌≡◌, Err, arith, refl, rules, sym, ap, ◌∙◌}
 use Rattle.journal.specs.Journal.{state_of}
 use Rattle.journal.specs.Steps.{next_for}
-use Rattle.garage.proofs.HearLemmas.{cut_here, hearing_many, many_count, many_more, many_none, want_at}
+use Rattle.garage_steps.proofs.HearLemmas.{cut_here, hearing_many, many_count, many_more, many_none, want_at}
 use Rattle.garage.proofs.Lent.{if_err_is}
 use Rattle.garage.proofs.garage.Garage.hear_some.Goals as goal
 

@@ -1,8 +1,8 @@
 use Rattle.std.proofs.Common.{◌≡◌}
 use Rattle.node_core.specs.Asking.{IsAsked}
-use Rattle.garage.specs.Crew.{IsRecorded}
-use Rattle.garage.specs.Hearing.{HearsMany}
-use Rattle.garage.specs.declared.hearing.Recorded.TheVariants.{Current}
+use Rattle.garage_steps.specs.Crew.{IsRecorded}
+use Rattle.garage_steps.specs.Hearing.{HearsMany}
+use Rattle.garage_steps.specs.declared.recorded.Recorded.TheVariants.{Current}
 use Rattle.garage.proofs.garage.Garage.hear_some.Given as goal
 
 abbrev pub invariant-loop-heard : goal.invariant-loop-heard

@@ -5,10 +5,10 @@ use Rattle.std.specs.Vec.{with_item}
 use Rattle.node_core.specs.Asking.{IsAsked}
 use Rattle.node_core.specs.NodeValue.{NodeValue}
 use Rattle.journal.specs.Journal.{GarageValue, one_more}
-use Rattle.garage.specs.Crew.{IsCrew}
-use Rattle.garage.specs.Hearing.{IsLast}
+use Rattle.garage_steps.specs.Crew.{IsCrew}
+use Rattle.garage_steps.specs.Hearing.{IsLast}
 use Rattle.garage.specs.Inside.{garage_value_of}
-use Rattle.garage.specs.Rounds.{HearOnward}
+use Rattle.garage_steps.specs.Rounds.{HearOnward}
 use Rattle.garage.specs.declared.garage.Garage.TheInside.{Inside}
 use Rattle.garage.specs.declared.garage.Place.{Place}
 use Rattle.garage.proofs.InTurn.{InTurn, crew_looked, stands_written, told_same, turn_passed, turn_still}

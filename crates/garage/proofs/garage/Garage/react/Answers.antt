@@ -16,12 +16,13 @@ use Rattle.journal.specs.declared.event.Event.{Event}
 use Rattle.journal.specs.declared.event.Event.TheVariants.{Hear}
 use Rattle.std.specs.Vec.{with_item}
 use Rattle.garage.specs.Inside.{garage_value_of, unit_of}
-use Rattle.garage.specs.Answers.{count_with_begun}
+use Rattle.garage_steps.specs.Answers.{count_with_begun}
 use Rattle.garage.specs.declared.garage.Garage.TheInside.{Inside}
 use Rattle.garage.specs.declared.garage.Place.{Place}
-use Rattle.garage.proofs.Traffics.{some_live, puts, keeps_heard, keeps_withdrawn_by, keeps_then}
+use Rattle.garage_steps.proofs.Traffics.{some_live, puts, keeps_heard, keeps_withdrawn_by, keeps_then}
 use Rattle.garage.proofs.InHand.{stations_live}
-use Rattle.garage.proofs.Standing.{stations_are, windows_are, state, added, place_few, place_within, unit_now, bus_unit, unit_is, hear_did, begun_length, begun_few, next_within, is_answered, joins_hear, place_tally, stands_more, tallies_one, fresh_one, hears_of, still, same_place}
+use Rattle.garage_steps.proofs.Events.{hear_did, begun_length, begun_few, next_within, is_answered, joins_hear}
+use Rattle.garage.proofs.Standing.{stations_are, windows_are, state, added, place_few, place_within, unit_now, bus_unit, unit_is, place_tally, stands_more, tallies_one, fresh_one, hears_of, still, same_place}
 use Rattle.garage.proofs.Lent.{on_err}
 use Rattle.garage.proofs.Passing.{memory_unasked, told_hearing, told_inside}
 use Rattle.garage.proofs.garage.Garage.react.Goals as goal
@@ -228,7 +229,7 @@ returns-clause-recorded g c = λ unasked.
     (c.note_hear.ensures.items ∙ ap (λ (l : List Event). l ++ Hear seat memory heard.answer ∷ []) c.make_ready.ensures.items)
     (u, there, subst IsLawfulMemory (sym mem_is) lawful, is_answered (unit_at s seat).node x.node (next_for s seat) f heard.answer (ap (λ (v : UnitState). v.node) same) next reacts.answer_is) in
     told_hearing c.args.self.now (garage_value_of b) seat _ heard.answer (subst (λ (m : MemoryValue). Adds c.args.self.now (Hear seat m heard.answer) (garage_value_of b)) mem_is adds)
-    ∙ ap Some (sym (reacts.memory_is ∙ memory_unasked (question x.node f) heard.answer _ (c.recorded_after.ensures unasked))))
+    ∙ ap Some (sym (reacts.memory_is ∙ memory_unasked (question x.node f) heard.answer _ (c.after.ensures unasked))))
 
 pub returns-in_err-heard-clause-unasked : goal.returns-in_err-heard-clause-unasked
 returns-in_err-heard-clause-unasked g c = on_err c.from_residual-in_err-heard.result c.in_err-heard.ensures.unasked

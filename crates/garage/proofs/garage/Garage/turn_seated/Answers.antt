@@ -1,5 +1,5 @@
 use Rattle.std.proofs.Common.{◌∙◌}
-use Rattle.garage.proofs.SeatKept.{turn_counted, is_unit, still_seated, unit_turned}
+use Rattle.garage_steps.proofs.SeatKept.{turn_counted, is_unit, still_seated, unit_turned}
 use Rattle.garage.proofs.garage.Garage.turn_seated.Goals as goal
 
 pub events_of-parked-requires : goal.events_of-parked-requires

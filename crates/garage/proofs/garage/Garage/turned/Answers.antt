@@ -4,7 +4,8 @@ use Rattle.journal.specs.Journal.{one_more}
 use Rattle.journal.specs.declared.event.Event.{Event}
 use Rattle.journal.specs.declared.event.Event.TheVariants.{Turned}
 use Rattle.journal.specs.declared.tally.Tally.{Tally}
-use Rattle.garage.proofs.Standing.{windows_are, place_few, place_within, unit_now, units_same, joins_turned, place_tally, stands_more, tallies_one, fresh_one}
+use Rattle.garage_steps.proofs.Events.{joins_turned}
+use Rattle.garage.proofs.Standing.{windows_are, place_few, place_within, unit_now, units_same, place_tally, stands_more, tallies_one, fresh_one}
 use Rattle.garage.proofs.garage.Garage.turned.Goals as goal
 
 pub overflow_add-place : goal.overflow_add-place

@@ -18,7 +18,7 @@ use std::sync::Wait;
 use std::thread::Threads;
 use unit_threads::{Ended, Gate, Ran, run};
 use unit_trait::Unit;
-use vehicle::{Second, StationTable, UnitLine, Vehicle, VehicleFault, read_vehicle};
+use vehicle::{Second, StationTable, Vehicle, VehicleFault, read_vehicle};
 
 /// More units than this a run cannot number. No input of the greatest size has so many.
 const MOST_UNITS: usize = 4_294_967_295;
@@ -75,13 +75,8 @@ fn run_vehicle<R: Threads + Wait + Sync, W: Write>(
     ensures unanswered { IfErr result (λ fault. IsOfInput fault → writer.new ≡ writer.old) }
     ensures not_long { IfErr result (λ fault. (fault ≡ Fault.Write) ⊎ (fault ≡ Fault.Memory) ⊎ (fault ≡ Fault.Vehicle)) }
 {
-    let units = units_of(alloc, vehicle.units.as_slice())?;
-    let garage = garage_of(alloc, vehicle.station, vehicle.second)?;
-    let (garage, ran) = run(rt, alloc, garage, units, turns, reads, &Open);
-    match ran {
-        Ok(ran) => write_run(alloc, writer, &garage, ran.ended.as_slice(), report),
-        Err(_) => Err(Fault::Memory),
-    }
+    let (garage, ran) = run_units(rt, alloc, vehicle, turns, reads)?;
+    write_run(alloc, writer, &garage, ran.ended.as_slice(), report)
 }
 
 /// The vehicle that an input describes.
@@ -154,17 +149,27 @@ fn setting_of(second: Second) -> Setting
     }
 }
 
-/// The units that these lines describe, each with the address that it wants.
-fn units_of(alloc: Global, lines: &[UnitLine]) -> Result<Vec<(Box<dyn Unit>, u8)>, Fault>
-    ensures few { IfOk result (λ units. vec_len units ≤ length lines.now) }
-    ensures memory { IfErr result (λ fault. fault ≡ Fault.Memory) }
+/// Runs the units of a vehicle in its garage.
+fn run_units<R: Threads + Wait + Sync>(
+    rt: &R,
+    alloc: Global,
+    vehicle: &Vehicle,
+    turns: u32,
+    reads: u32,
+) -> Result<(Garage, Ran), Fault>
+    ensures faults { IfErr result (λ fault. (fault ≡ Fault.Memory) ⊎ (fault ≡ Fault.Vehicle)) }
 {
     let mut units: Vec<(Box<dyn Unit>, u8)> = Vec::new(alloc);
-    for line in lines {
+    for line in vehicle.units.as_slice() {
         let unit: Box<dyn Unit> = Box::new(alloc, Simulated::new(alloc, line.name, line.kind))?;
         units.push((unit, line.address))?;
     }
-    Ok(units)
+    let garage = garage_of(alloc, vehicle.station, vehicle.second)?;
+    let (garage, ran) = run(rt, alloc, garage, units, turns, reads, &Open);
+    match ran {
+        Ok(ran) => Ok((garage, ran)),
+        Err(_) => Err(Fault::Memory),
+    }
 }
 
 /// Writes how each unit ended, and where that is wanted the report of each station.

@@ -13,5 +13,5 @@ unless_of_input : {T : Type 0} (P : Type 0) (r : Result T Fault) → IfErr r (λ
 unless_of_input P (Ok x) h = tt
 unless_of_input P (Err f) h = λ is. absurd (none_of_input f h is)
 
-pub returns-in-Ok-clause-unanswered : goal.returns-in-Ok-clause-unanswered
-returns-in-Ok-clause-unanswered g c = unless_of_input _ c.write_run.result c.write_run.ensures
+pub returns-clause-unanswered : goal.returns-clause-unanswered
+returns-clause-unanswered g c = unless_of_input _ c.write_run.result c.write_run.ensures

@@ -1,4 +1,4 @@
-use Rattle.std.proofs.Common.{ℕ, ◌≢◌, ◌<◌, set, inl, inr, ◌+◌, ◌≡◌, arith, refl, ap, ◌∙◌, sym, subst, List, ◌++◌, ◌∷◌, [], length, reverse}
+use Rattle.std.proofs.Common.{ℕ, ◌≢◌, ◌<◌, set, inl, inr, ◌+◌, ◌≡◌, arith, refl, ap, ◌∙◌, sym, subst, List, ◌++◌, ◌∷◌, [], length, map, reverse}
 use Rattle.bus_ledger.specs.BusValue.{Traffic, IsLive, IsStation, seat_at}
 use Rattle.bus_ledger.specs.Newcomers.{live_units}
 use Rattle.bus_ledger.specs.Reception.{next_reading, reading_taken}
@@ -17,16 +17,16 @@ use Rattle.journal.specs.declared.event.Event.TheVariants.{Read}
 use Rattle.garage_steps.proofs.Traffics.{live_read, keeps_read, puts_reacted}
 use Rattle.garage.proofs.InHand.{seat_of_station}
 use Rattle.garage_steps.proofs.Events.{read_is, readings_with, joins_read}
-use Rattle.garage.proofs.Standing.{added, other_table, post_table, read_table, station_below, station_there, state, stands_more, tallies_still, fresh_still}
+use Rattle.garage.proofs.Standing.{added, other_table, post_table, read_table, station_below, station_there, state, stands_more, still, tallies_still, fresh_still}
 use Rattle.garage.proofs.Headline.{reading_heard}
 use Rattle.garage.proofs.Listed.{listed_now, other_reading, own_reading}
 use Rattle.garage.proofs.Lists.{lists_pushed}
 use Rattle.bus_model.specs.Heard.{entries_heard}
 use Rattle.entry_lists.specs.Entries.{entries_under}
 use Rattle.journal.specs.Worlds.{station_of_at}
-use Rattle.garage.specs.Inside.{garage_value_of, post_at, settings_of}
+use Rattle.garage.specs.Inside.{garage_value_of, post_at, post_setting, settings_of}
 use Rattle.garage.specs.declared.garage.Post.{Post}
-use Rattle.garage.proofs.Posts.{other_post, own_post, set_settings}
+use Rattle.garage.proofs.Posts.{other_post, own_post, same_post, set_settings}
 use Rattle.bus_ledger.proofs.Numbers.{same_or_not}
 use Rattle.garage.specs.declared.garage.Garage.TheInside.{Inside}
 use Rattle.journal.specs.Journal.{Adds, GarageValue, readings_at, state_of}
@@ -151,3 +151,19 @@ returns-clause-ok c =
     (added a (record { limit = a.limit; bus = c.react.new.bus; posts = with_item a.posts y (record { setting = x.setting; station = c.take.new.self; lists = c.take.new.lists }); stations = a.stations; places = a.places; begun = a.begun; live = a.live; injected = a.injected; journal = c.note_read.new.self })
     c.args.self.now (Read y r) c.self.view_is settings (c.note_read.ensures.items ∙ ap (λ (l : List Event). l ++ Read y r ∷ []) c.make_room.ensures.items)
     (station_there a y c.self.invariant below, next_is a c.args.self.now y r c.self.view_is c.requires.next, c.requires.some))
+
+-- the station and its lists are as they were (to find that by search takes a third of this function's proof)
+pub invariant_of-self-in_err-reaction : goal.invariant_of-self-in_err-reaction
+invariant_of-self-in_err-reaction c =
+    let a = c.self.inside in
+    let stands = c.self.invariant in
+    let more = c.make_room.ensures.grows in
+    let room = stands.room in
+    let x = c.index_mut-post.result.now in
+    let p : Post = (record { setting = x.setting; station = c.take.new.self; lists = c.take.new.lists }) in
+    let in' : c.args.station < length a.posts.items = (let e = stands.stations in let b = station_below a c.args.self.now c.args.station c.self.view_is stands c.requires.station in omega arith) in
+    let as_it_was : p ≡ x =
+    ap (λ (s : StationValue). let z : Post = record { setting = x.setting; station = s; lists = c.take.new.lists } in z) c.in_err-reaction.ensures.err
+    ∙ ap (λ (l : List _). let z : Post = record { setting = x.setting; station = x.station; lists = l } in z) c.in_err-reaction.ensures.err_lists in
+    let posts = same_post a.posts.items c.args.station x p in' c.index_mut-post.ensures.value as_it_was in
+    still a _ stands (ap (λ (l : List Post). let z : Settings = record { stations = map post_setting l; limit = a.limit } in z) posts) c.reserve.ensures.traffic posts refl refl refl refl refl c.make_room.ensures.items (omega arith)

@@ -11,7 +11,7 @@ use std::marker::Model;
 pub const MOST_BUSES: usize = 16;
 
 /// Which buses are watched.
-#[derive(Clone, Copy, PartialEq, Eq)]
+#[derive(Clone, Copy)]
 pub enum BusShown<'a> {
     /// The first that a line names.
     First,
@@ -98,8 +98,9 @@ impl Buses {
     ) -> Result<(), AllocError>
         ensures err { OnErr result (self.new ≡ self.old) }
     {
+        self.watches.reserve(1)?;
         let watch = Watch::new(alloc, self.settings, followed)?;
-        self.watches.push(BusWatch { bus, watch })?;
+        self.watches.push_reserved(BusWatch { bus, watch });
         Ok(())
     }
 

@@ -8,7 +8,7 @@ use listener::{Displaced, Overheard, Who};
 use name_field::Name;
 
 /// What a line changed, as far as it is told. `Watch` has the rest.
-#[derive(Clone, Copy, PartialEq, Eq)]
+#[derive(Clone, Copy)]
 pub enum WatchChange {
     /// The NAME holds this address, 0 to 253.
     At {
@@ -52,7 +52,7 @@ pub enum WatchChange {
 }
 
 /// What is told of a line: nothing, one thing, or two where a claim took its address from another NAME.
-#[derive(Clone, Copy, PartialEq, Eq)]
+#[derive(Clone, Copy)]
 pub struct Changes {
     /// The NAME that has no address any more, since another one claimed it. It is told first.
     pub lost: Option<Name>,

@@ -4,7 +4,7 @@ ghost use Rattle.bus_watch.specs.Counted.{with_foreign};
 use candump_line::{Foreign, Line};
 
 /// How many lines there were of each sort.
-#[derive(Clone, Copy, Default, PartialEq, Eq)]
+#[derive(Clone, Copy, Default)]
 pub struct WatchCounts {
     /// All lines.
     pub lines: u64,

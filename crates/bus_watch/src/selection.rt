@@ -8,7 +8,7 @@ use listener::{Displaced, Overheard, SentEntry, Who};
 use name_field::Name;
 
 /// The unit of which alone it is told.
-#[derive(Clone, Copy, PartialEq, Eq)]
+#[derive(Clone, Copy)]
 pub enum UnitShown {
     /// The one of this NAME.
     Name(Name),

@@ -93,9 +93,9 @@ impl Watch {
             Some(bus) => Some(String::from_str(alloc, bus)?),
             None => None,
         };
-        let listener = Listener::new(alloc)?;
         let packets = Packets::new(alloc)?;
         let pairs = Pairs::new(alloc)?;
+        let listener = Listener::new(alloc)?;
         Ok(Watch {
             settings,
             listener,

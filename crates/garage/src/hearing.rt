@@ -7,9 +7,9 @@ ghost use Rattle.node_core.specs.Passing.{IsAcceptance};
 ghost use Rattle.journal.specs.Journal.{memory_recorded, one_more, state_of, IsSeated};
 ghost use Rattle.journal.specs.Notes.{Gains};
 ghost use Rattle.journal.specs.Promises.{KeepsLists};
-ghost use Rattle.journal.specs.Steps.{begins_session, next_for, session_message_after};
+ghost use Rattle.journal.specs.Steps.{begins_session, next_for};
 ghost use Rattle.journal.specs.declared.event.Event.TheVariants.{Hear};
-ghost use Rattle.garage_steps.specs.Answers.{Hears, PassesNext, count_with_begun};
+ghost use Rattle.garage_steps.specs.Answers.{Hears, PassesNext};
 ghost use Rattle.garage_steps.specs.Calls.{HearsFull, HearsNothing, IsWant};
 ghost use Rattle.garage_steps.specs.Crew.{Comes, IsCrew};
 ghost use Rattle.garage.specs.ParkedUnits.{asked_of, sitting_of};
@@ -21,7 +21,10 @@ use crate::garage::{Garage, Place};
 use crate::plug::Parked;
 use bus_ledger::Bus;
 use can_frame::{Frame, GLOBAL_ADDRESS};
-use garage_steps::{GarageError, HeardOne, Numbering, Recorded, begins_session, begun_count, do_heard, has_room, keep, last_session, make_ready};
+use garage_steps::{
+    GarageError, HeardOne, Numbering, Recorded, begins_session, begun_count, do_heard, has_room,
+    keep, last_session, make_ready,
+};
 use journal::Journal;
 use node_core::{Acceptance, Answer, Begun};
 use std::alloc::Global;

@@ -9,7 +9,7 @@ use unit_trait::Unit;
 use vehicle::LiveLine;
 
 /// Why a unit cannot begin with the codes of its line. `Display` writes it.
-#[derive(Clone, Copy, PartialEq, Eq)]
+#[derive(Clone, Copy)]
 pub enum Unheld {
     /// Its fault memory refused one.
     Refused(FaultError),

@@ -9,13 +9,13 @@ use std::alloc::Global;
 use std::fmt;
 
 /// What is asked of a unit.
-#[derive(Clone, Copy, PartialEq, Eq)]
+#[derive(Clone, Copy)]
 pub struct ControlOrder {
     command: Command,
 }
 
 /// What came of it. `Display` writes the answer's line without its end, in the words of a script's answers.
-#[derive(Clone, Copy, PartialEq, Eq)]
+#[derive(Clone, Copy)]
 pub enum Reply {
     /// It is done.
     Done,
@@ -99,9 +99,9 @@ fn change_codes(
             CodeChange::Pend => FaultChange::Pend { spn, fmi },
             CodeChange::Unpend => FaultChange::Unpend { spn, fmi },
         };
-        let reply = changed(fleet.change(place, change));
-        if reply != Reply::Done {
-            return reply;
+        match changed(fleet.change(place, change)) {
+            Reply::Done => {}
+            refused => return refused,
         }
     }
     Reply::Done

@@ -6,3 +6,4 @@ pub mod Contested
 pub mod Accepting
 pub mod PartialCommandLists
 pub mod CommandPackets
+pub mod Requests

@@ -12,7 +12,7 @@ const COMMAND_SIZE: u16 = 9;
 /// What a unit has of a commanded address (SAE J1939-81) that one source broadcasts.
 ///
 /// A commanded address is nine bytes in two packets, so three states tell all.
-#[derive(Clone, Copy, PartialEq, Eq)]
+#[derive(Clone, Copy)]
 pub enum PartialCommand {
     /// Nothing.
     Nothing,

@@ -18,7 +18,7 @@ pub enum Withdraw {
 /// A message that a unit begins.
 ///
 /// Its payload encodes the view of the unit's fault memory in that very call.
-#[derive(Clone, Copy, PartialEq, Eq)]
+#[derive(Clone, Copy)]
 pub struct Begun {
     /// DM1, DM2 or DM6.
     pub kind: Kind,

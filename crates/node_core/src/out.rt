@@ -18,7 +18,7 @@ pub enum Part {
 /// A frame that a unit wants carried.
 ///
 /// It may be a part of a message.
-#[derive(Clone, Copy, Debug, PartialEq, Eq)]
+#[derive(Clone, Copy)]
 pub struct Out {
     /// The frame.
     pub frame: Frame,

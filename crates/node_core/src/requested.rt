@@ -9,7 +9,7 @@ use requests::Ack;
 use unit_trait::{Clear, Question, Unit};
 
 /// What a request asks a unit for, besides its claim.
-#[derive(Clone, Copy, PartialEq, Eq)]
+#[derive(Clone, Copy)]
 pub enum Wanted {
     /// A diagnostic message: DM1, DM2 or DM6.
     Message(Kind),

@@ -24,7 +24,7 @@ pub enum UnitKind {
 }
 
 /// What a unit's fault memory is told of a trouble code.
-#[derive(Clone, Copy, PartialEq, Eq)]
+#[derive(Clone, Copy)]
 pub enum CodeChange {
     /// `set`: it becomes active.
     Set,
@@ -37,7 +37,7 @@ pub enum CodeChange {
 }
 
 /// Who is asked.
-#[derive(Clone, Copy, PartialEq, Eq)]
+#[derive(Clone, Copy)]
 pub enum Receiver {
     /// `all`.
     All,
@@ -46,7 +46,7 @@ pub enum Receiver {
 }
 
 /// What is asked for.
-#[derive(Clone, Copy, PartialEq, Eq)]
+#[derive(Clone, Copy)]
 pub enum Asked {
     /// `dm1`: active codes.
     Dm1,
@@ -65,7 +65,7 @@ pub enum Asked {
 }
 
 /// What words tell of one of two stations: `NAME ADDRESS WINDOW GRANT`.
-#[derive(Clone, Copy, PartialEq, Eq)]
+#[derive(Clone, Copy)]
 pub struct StationWords {
     /// Its NAME.
     pub name: NameWord,
@@ -78,7 +78,7 @@ pub struct StationWords {
 }
 
 /// A line of a script that has an answer: a command, and the station that it is of.
-#[derive(Clone, Copy, PartialEq, Eq)]
+#[derive(Clone, Copy)]
 pub struct ScriptLine {
     /// The number of the station, from 0: `at S` before the command names it; 0 where the line does not. Whether there is a
     /// station of that number is not known here.
@@ -88,7 +88,7 @@ pub struct ScriptLine {
 }
 
 /// A command of a script.
-#[derive(Clone, Copy, PartialEq, Eq)]
+#[derive(Clone, Copy)]
 pub enum Command {
     /// `garage NAME ADDRESS WINDOW GRANT LIMIT`
     Garage {

@@ -52,7 +52,7 @@ fn words_of(wanted: ExpectedWord) -> &'static str {
 }
 
 /// Why a line is no command. `Display` writes it.
-#[derive(Clone, Copy, PartialEq, Eq)]
+#[derive(Clone, Copy)]
 pub enum LineReason<'a> {
     /// It has spaces alone.
     Blank,

@@ -21,7 +21,7 @@ pub struct Limits {
 }
 
 /// What was heard before a watch started over.
-#[derive(Clone, Copy, Default, PartialEq, Eq)]
+#[derive(Clone, Copy, Default)]
 pub(crate) struct Before {
     pub(crate) missed: u64,
     pub(crate) unread: u64,
@@ -68,17 +68,26 @@ impl Watch {
     }
 
     /// A watch that is told of the owners alone.
-    #[tactic(auto, using(crate::proofs::Over::none_yet, crate::proofs::Over::one_more))]
     fn with_owners(&self, alloc: Global) -> Result<Watch, AllocError>
         ensures { IfOk result (λ w. HasOwnersAlone self.now w) }
     {
         let mut fresh = self.anew(alloc)?;
-        for place in 0..self.listener.names() {
-            if let Some(owner) = self.owner_at(place) {
-                fresh.take_over(alloc, owner.0, owner.1)?;
+        fresh.take_owners(alloc, self)?;
+        Ok(fresh)
+    }
+
+    /// Is told of the owners of another watch, before anything else.
+    #[tactic(auto, using(crate::proofs::Over::none_yet))]
+    fn take_owners(&mut self, alloc: Global, other: &Watch) -> Result<(), AllocError>
+        requires { StandsForAll (beginning_of other.now) [] self.old }
+        ensures { OnOk result (HasOwnersAlone other.now self.new) }
+    {
+        for place in 0..other.listener.names() {
+            if let Some(owner) = other.owner_at(place) {
+                self.take_over(alloc, owner.0, owner.1)?;
             }
         }
-        Ok(fresh)
+        Ok(())
     }
 
     /// A watch that has read nothing, of the same bus. It goes on to count, and knows which addresses are contested.
@@ -89,10 +98,11 @@ impl Watch {
             selection: self.lists.selection(),
             ..self.settings
         };
-        let mut fresh = match &self.bus {
-            Some(bus) => Watch::new(alloc, settings, Some(bus.as_str()))?,
-            None => Watch::new(alloc, settings, None)?,
+        let bus = match &self.bus {
+            Some(bus) => Some(bus.as_str()),
+            None => None,
         };
+        let mut fresh = Watch::new(alloc, settings, bus)?;
         fresh.counts = self.counts;
         fresh.before = Before {
             missed: self.missed_in_all(),

@@ -1,12 +1,13 @@
 """What each runner of tests/ stands on: where things are, which program is tried, and a tally with its last line.
 
     sys.path.insert(1, sys.path[0] + "/../lib")
-    from harness import PROGRAM, TOP, Tally
+    from harness import TOP, Tally, called
 
-The program is crates/j1939bench/out/j1939bench, or what the environment's J1939BENCH names. A runner tells a tally of each try, and ends with
+The programs are those of programs.txt, as crates/NAME/out/NAME, or what the environment's J1939BENCH names. A runner tells a tally of each try, and ends with
 `sys.exit(tally.end())`, which prints the last line `NAME: N passed, M failed`. tests/lib/sums.sh reads that line.
 """
 
+import functools
 import os
 import pathlib
 import re
@@ -16,20 +17,38 @@ import sys
 sys.dont_write_bytecode = True
 TOP = pathlib.Path(__file__).resolve().parents[2]
 NAME = pathlib.Path(sys.argv[0]).name
-NAMED = os.environ.get("J1939BENCH", str(TOP / "crates/j1939bench/out/j1939bench"))
 SUMS = re.compile(r"(?:\A|\n)(?:.*: )?(\d+) passed, (\d+) failed\n\Z")
 # (for the model)
 sys.path.insert(1, str(TOP / "tests"))
 
 
-def __getattr__(name):
-    """PROGRAM. It is looked for here, so a runner without it needs no program."""
-    if name != "PROGRAM":
-        raise AttributeError(name)
-    if shutil.which(NAMED) is None:
-        print(f"{NAME}: there is no program {NAMED}; ./j1939bench builds it, and J1939BENCH may name another one")
+def programs():
+    """The programs by their subcommands."""
+    rows = [line.partition(":") for line in (TOP / "programs.txt").read_text(encoding="utf-8").splitlines() if not line.startswith("#")]
+    return {subcommand: name for name, _, does in rows for subcommand in does.split()}
+
+
+@functools.cache
+def path_of(subcommand):
+    """The program that does this, which need not be there."""
+    name = programs().get(subcommand, "j1939bench")
+    path = os.environ.get("J1939BENCH", str(TOP / f"crates/{name}/out/{name}"))
+    return os.path.abspath(path) if os.path.exists(path) else path
+
+
+@functools.cache
+def program(subcommand):
+    """The program that does this. Where it is not there, the runner ends."""
+    path = path_of(subcommand)
+    if shutil.which(path) is None:
+        print(f"{NAME}: there is no program {path}; ./build_program builds it, and J1939BENCH may name another one")
         sys.exit(Tally(failed=1).end())
-    return os.path.abspath(NAMED) if os.path.exists(NAMED) else NAMED
+    return path
+
+
+def called(*words):
+    """The words that call the program which does what they ask for: its path before them."""
+    return [program(words[0] if words else ""), *words]
 
 
 class Tally:

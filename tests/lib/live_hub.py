@@ -7,7 +7,7 @@ import subprocess
 import threading
 import time
 
-from harness import PROGRAM, TOP
+from harness import TOP, called
 
 
 class Bus:
@@ -24,7 +24,7 @@ class Bus:
 
     def start(self, *words, hears_only=False):
         """Starts the program with these words; answers its number."""
-        program = subprocess.Popen([PROGRAM, *words], stdin=subprocess.PIPE, stdout=subprocess.PIPE, stderr=subprocess.PIPE)
+        program = subprocess.Popen(called(*words), stdin=subprocess.PIPE, stdout=subprocess.PIPE, stderr=subprocess.PIPE)
         number = len(self.programs)
         self.programs.append(program)
         program.told = []

@@ -3,7 +3,7 @@
 import re
 import subprocess
 
-from harness import PROGRAM, TOP
+from harness import TOP, called
 
 LOGS = ["01-startup-and-dm1", "02-contention", "03-lost-frames", "04-pending-codes", "05-sessions-given-up"]
 KINDS = ("dm1", "dm2", "dm6")
@@ -18,7 +18,7 @@ def run(words, text=b"", **given):
     if "stdin" not in given:
         given["input"] = text
     given.setdefault("stdout", subprocess.PIPE)
-    ran = subprocess.run([PROGRAM, *words], stderr=subprocess.PIPE, timeout=120, **given)
+    ran = subprocess.run(called(*words), stderr=subprocess.PIPE, timeout=120, **given)
     out = ran.stdout.decode() if ran.stdout is not None else ""
     return ran.returncode, out, ran.stderr.decode()
 

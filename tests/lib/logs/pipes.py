@@ -9,7 +9,7 @@ import signal
 import subprocess
 import tempfile
 
-from harness import PROGRAM, TOP
+from harness import TOP, called, program
 from logs.common import CLAIM, CLAIMED, LOGS, MESSAGE, SHOWN, log_of, run, same
 from script_reasons import NOT_ACCEPTED
 
@@ -20,7 +20,7 @@ def live_pipe_is_answered_at_once():
         (["watch"], CLAIMED.encode(), SHOWN.encode()),
         (["decode"], b"(1.000000) can0 p6 0>all 60928 claim: NAME 00000000000000A0", b"(1.100000) can0 p6 0>all 65226 DM1: amber (04FF); 1208/3/1\n"),
     ):
-        child = subprocess.Popen([PROGRAM, *words], stdin=subprocess.PIPE, stdout=subprocess.PIPE)
+        child = subprocess.Popen(called(*words), stdin=subprocess.PIPE, stdout=subprocess.PIPE)
         for line, wanted in ((CLAIM, first), (MESSAGE, second)):
             child.stdin.write(line)
             child.stdin.flush()
@@ -37,7 +37,7 @@ def interrupted_pipe():
     of what wrote the pipe; else the program ends by it, and what it wrote before stands."""
     found = []
     for ignored in (True, False):
-        words = ("trap '' INT; " if ignored else "") + f"exec {shlex.quote(PROGRAM)} watch"
+        words = ("trap '' INT; " if ignored else "") + f"exec {shlex.join(called('watch'))}"
         feed = f"(echo '{CLAIM.decode().strip()}'; exec sleep 60) | sh -c {shlex.quote(words)}"
         # (whoever runs this in the background may have it ignored, which would pass on to the pipe)
         heeds = lambda: signal.signal(signal.SIGINT, signal.SIG_DFL)
@@ -56,9 +56,9 @@ def signalled_wrapper():
     found = []
     with tempfile.TemporaryDirectory() as room:
         top = pathlib.Path(room)
-        (top / "crates/j1939bench/out").mkdir(parents=True)
-        (top / "crates/j1939bench/out/j1939bench").symlink_to(PROGRAM)
-        for name in ("j1939bench", "run_program"):
+        (top / "crates/j1939bench_lines/out").mkdir(parents=True)
+        (top / "crates/j1939bench_lines/out/j1939bench_lines").symlink_to(program("watch"))
+        for name in ("j1939bench", "program_for", "programs.txt", "run_program"):
             shutil.copy(TOP / name, top)
         for number in (signal.SIGTERM, signal.SIGHUP, signal.SIGINT):
             heeds = lambda number=number: signal.signal(number, signal.SIG_DFL)

@@ -1,9 +1,8 @@
 //! `live`: its files are read and opened here.
 
-use crate::errors::Errors;
-use crate::{open, read_file};
 use command_words::LiveArguments;
 use program_io::{Failure, Fault};
+use program_start::{Errors, open, read_file};
 use std::alloc::Global;
 use std::fs::{File, OpenOptions};
 use std::io;

@@ -3,13 +3,13 @@ use std::io::Write;
 
 /// Standard error as a writer.
 #[derive(Drop)]
-pub(crate) struct Errors<'a, R> {
+pub struct Errors<'a, R> {
     rt: &'a R,
 }
 
 impl<'a, R: Eprint> Errors<'a, R> {
     /// That of this runtime.
-    pub(crate) fn new(rt: &'a R) -> Errors<'a, R> {
+    pub fn new(rt: &'a R) -> Errors<'a, R> {
         Errors { rt }
     }
 }

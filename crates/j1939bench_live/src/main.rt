@@ -1,0 +1,39 @@
+//! `j1939bench_live`: the subcommand `live` of `j1939bench`, the units of a vehicle on a real bus.
+#![tactic(auto)]
+
+mod live;
+
+use command_words::Job;
+use program_io::Failure;
+use program_start::{asked_for, done_elsewhere, ended, read_words};
+use std::fs::File;
+use std::io::StdinLock;
+use std::process::ExitCode;
+use std::rt::{Files, Runtime};
+use std::sync::Wait;
+use std::thread::Threads;
+
+fn main(rt: HostRuntime) -> ExitCode {
+    let ran = run(&rt);
+    ended(&rt, ran)
+}
+
+/// Does what the words of the command line ask for.
+fn run<
+    R: Runtime
+        + AllocGlobal
+        + Threads
+        + Wait
+        + Sync
+        + Send
+        + Input<Reader = StdinLock<'static>>
+        + Files<File = File>
+        + 'static,
+>(rt: &R) -> Result<(), Failure> {
+    let words = read_words(rt)?;
+    match asked_for(rt, words.as_slice())? {
+        Some(Job::Live(words)) => live::live(rt, words),
+        Some(_) => Err(done_elsewhere(rt.alloc())),
+        None => Ok(()),
+    }
+}

@@ -1,0 +1,38 @@
+ghost use Rattle.std.specs.Prelude.{◌≡◌};
+
+use program_io::{Failure, Fault};
+use std::alloc::Global;
+use std::process::ExitCode;
+
+/// The status of a run. One that ended early is told on standard error: the line of its fault, and what is told behind it. (Of bad
+/// lines each was told before.)
+pub fn ended<R: Eprint>(rt: &R, ran: Result<(), Failure>) -> ExitCode {
+    match ran {
+        Ok(()) => ExitCode::SUCCESS,
+        Err(failure) => {
+            tell(rt, &failure);
+            ExitCode::from(failure.fault.status())
+        }
+    }
+}
+
+fn tell<R: Eprint>(rt: &R, failure: &Failure) {
+    let fault = failure.fault;
+    if fault != Fault::BadLines {
+        let _ = eprintln!(rt; "{fault}");
+    }
+    if let Some(words) = &failure.words {
+        let _ = eprint!(rt; "{words}");
+    }
+}
+
+/// Why a program does not do a job: another program of `j1939bench` does it.
+#[inline(never)]
+pub fn done_elsewhere(alloc: Global) -> Failure
+    ensures fault { result.fault ≡ Fault.CommandLine }
+{
+    Failure::told(Fault::CommandLine, format!(in alloc; "{}", ELSEWHERE))
+}
+
+/// What is told of a job that another program does.
+const ELSEWHERE: &str = "another program of j1939bench does that: call j1939bench itself\n";

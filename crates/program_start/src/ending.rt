@@ -1,4 +1,6 @@
-ghost use Rattle.std.specs.Prelude.{◌≡◌};
+ghost use Rattle.std.specs.Prelude.{◌≡◌, IfErr, IfOk};
+ghost use Rattle.std.specs.Process.{exit_status};
+ghost use Rattle.program_io.specs.Fault.{status_of};
 
 use program_io::{Failure, Fault};
 use std::alloc::Global;
@@ -6,7 +8,10 @@ use std::process::ExitCode;
 
 /// The status of a run. One that ended early is told on standard error: the line of its fault, and what is told behind it. (Of bad
 /// lines each was told before.)
-pub fn ended<R: Eprint>(rt: &R, ran: Result<(), Failure>) -> ExitCode {
+pub fn ended<R: Eprint>(rt: &R, ran: Result<(), Failure>) -> ExitCode
+    ensures done { IfOk ran (λ _. exit_status result ≡ 0) }
+    ensures status { IfErr ran (λ failure. exit_status result ≡ status_of failure.fault) }
+{
     match ran {
         Ok(()) => ExitCode::SUCCESS,
         Err(failure) => {

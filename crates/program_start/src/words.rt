@@ -1,5 +1,5 @@
-ghost use Rattle.std.specs.Prelude.{◌≡◌, ◌⊎◌, IfErr, IfOk, IfSome, map, string_bytes};
-ghost use Rattle.command_line.specs.CommandLine.{AsksForHelp, AsksForScript, HasCounts};
+ghost use Rattle.std.specs.Prelude.{◌≡◌, ◌⊎◌, [], IfErr, IfOk, IfSome, map, string_bytes};
+ghost use Rattle.command_line.specs.CommandLine.{AsksForHelp, AsksForScript, HasCounts, faults_in};
 ghost use Rattle.program_start.specs.Ends.{IsOfPage, IsOfWords};
 
 use command_line::{LineFault, parse};
@@ -45,6 +45,8 @@ pub fn asked_for<'a, R: Print + AllocGlobal>(
 ) -> Result<Option<Job<'a>>, Failure>
     ensures fault { IfErr result (λ failure. IsOfPage failure.fault) }
     ensures range { IfOk result (λ job. IfSome job HasCounts) }
+    ensures taken { IfOk result
+        (λ job. IfSome job (λ _. faults_in (map string_bytes words.now) ≡ [])) }
     ensures help { result ≡ Ok None → AsksForHelp (map string_bytes words.now) }
     ensures script { AsksForScript (map string_bytes words.now)
         → (result ≡ Ok (Some Job.Script)) ⊎ IfErr result (λ failure. failure.fault ≡ Fault.Memory) }

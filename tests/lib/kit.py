@@ -9,14 +9,24 @@ import sys
 TRIED_WITH = ("rattle-kit-13b logic dac8208d650f15bf", "rattle-kit-13f logic dac8208d650f15bf")
 
 
+def identity_of_kit():
+    """How the kit at hand names itself."""
+    told = subprocess.run(["rt", "version"], stdin=subprocess.DEVNULL, stdout=subprocess.PIPE, stderr=subprocess.STDOUT, errors="replace")
+    return told.stdout.strip() if told.returncode == 0 else f"none: {told.stdout.strip()}"
+
+
+def is_tried():
+    """Whether the kit at hand is one of them."""
+    return identity_of_kit() in TRIED_WITH
+
+
 def stop_unless_tried(program):
     """Stops where the kit at hand is another one. What a program reads of it may then mean something else: try it, and write its identity here."""
     try:
-        told = subprocess.run(["rt", "version"], stdin=subprocess.DEVNULL, stdout=subprocess.PIPE, stderr=subprocess.STDOUT, errors="replace")
+        identity = identity_of_kit()
     except OSError as why:
         sys.exit(f"{program}: there is no rt: {why}")
-    identity = told.stdout.strip()
-    if told.returncode or identity not in TRIED_WITH:
+    if identity not in TRIED_WITH:
         sys.exit(f"{program}: this was tried with the kits {', '.join(TRIED_WITH)}, and here is '{identity[:200]}': try it with that, and name it in tests/lib/kit.py")
 
 

@@ -5,6 +5,7 @@
 
 passed=0
 failed=0
+begun_part=
 
 # Runs a part, and adds its sums. Its output is shown and kept in a file.
 #
@@ -16,18 +17,56 @@ run_part() {
     rm -f "$said.well"
     { "$@" && : >"$said.well"; } 2>&1 | tee "$said"
     seconds=$(($(date +%s) - begun))
-    sums=$(tail -n 1 "$said" | sed -n 's/^\(.*: \)\{0,1\}\([0-9][0-9]*\) passed, \([0-9][0-9]*\) failed$/\2 \3/p')
+    add_part "$said" "$1"
+}
+
+# Begins a part that runs beside those that follow. Its output is kept in a file, and shown once it is waited for.
+#
+#     begin_part FILE COMMAND ..
+#     end_part FILE COMMAND ..     sets well, wrong and seconds
+#     stop_part                    ends it, where it still runs
+begin_part() {
+    rm -f "$1.well"
+    {
+        beside=$1
+        shift
+        begun=$(date +%s)
+        trap 'kill "$running"' TERM
+        "$@" >"$beside" 2>&1 &
+        running=$!
+        wait "$running" && : >"$beside.well"
+        echo $(($(date +%s) - begun)) >"$beside.seconds"
+    } &
+    begun_part=$!
+}
+
+end_part() {
+    wait "$begun_part"
+    begun_part=
+    cat "$1"
+    seconds=$(cat "$1.seconds")
+    rm -f "$1.seconds"
+    add_part "$@"
+}
+
+stop_part() {
+    [ -z "$begun_part" ] || kill "$begun_part" 2>/dev/null
+}
+
+# Adds what a part counted by its last line, which stands in a file.
+add_part() {
+    sums=$(tail -n 1 "$1" | sed -n 's/^\(.*: \)\{0,1\}\([0-9][0-9]*\) passed, \([0-9][0-9]*\) failed$/\2 \3/p')
     well=${sums% *}
     wrong=${sums#* }
     # a part that fails without a count, or beside a count of none, is one failure
     if [ -z "$sums" ]; then
-        echo "$1: no count of what passed"
+        echo "$2: no count of what passed"
         well=0 wrong=1
-    elif [ ! -e "$said.well" ] && [ "$wrong" -eq 0 ]; then
-        echo "$1: it failed, and counted no failure"
+    elif [ ! -e "$1.well" ] && [ "$wrong" -eq 0 ]; then
+        echo "$2: it failed, and counted no failure"
         wrong=1
     fi
-    rm -f "$said.well"
+    rm -f "$1.well"
     passed=$((passed + well))
     failed=$((failed + wrong))
 }

@@ -61,7 +61,7 @@ def results(folder, name, keep=None):
     made.mkdir(exist_ok=True)
     how = {"stdin": subprocess.DEVNULL, "stdout": subprocess.PIPE, "stderr": subprocess.STDOUT, "text": True, "errors": "replace",
            "env": os.environ | {"TMPDIR": str(made)}}
-    ran = subprocess.Popen(["rt", "try", "--test"], cwd=folder / "crates" / name, **how)
+    ran = subprocess.Popen([TOP / "tests/gate/try_unchecked", "--test"], cwd=folder / "crates" / name, **how)
     if keep is not None:
         threading.Thread(target=keep_program, args=(ran, made, keep), daemon=True).start()
     said = ran.communicate()[0]

@@ -76,6 +76,7 @@ impl Watch {
     }
 
     /// Has the listener take the reading that a line is, and tells what it changed.
+    #[tactic(auto, using(crate::proofs::Naming::tells_as_ok))]
     fn hear_line(&mut self, alloc: Global, line: &Line<'_>) -> Result<Changes, AllocError>
         ensures hears { OnOk result (HearsLine self.old self.new line.now) }
         ensures tells { IfOk result (λ c. TellsLine self.old self.new line.now c) }
@@ -142,6 +143,7 @@ impl Watch {
     }
 
     /// Has the listener take what a frame says, unless that is withheld.
+    #[tactic(auto, using(crate::proofs::Naming::frame_tells_ok))]
     fn hear_group(
         &mut self,
         alloc: Global,

@@ -7,9 +7,7 @@ import os
 import re
 import shutil
 import subprocess
-import threading
-import time
-from pathlib import Path
+import tempfile
 
 from harness import TOP
 
@@ -54,28 +52,9 @@ def copy_to(folder):
             shutil.copy(path, there)
 
 
-def results(folder, name, keep=None):
-    """What each test of a crate came to in the copy, by its name; the exit status, and what was said. The program of its tests is kept in a
-    file, where one is named."""
-    made = folder / f"made-{name}"
-    made.mkdir(exist_ok=True)
-    how = {"stdin": subprocess.DEVNULL, "stdout": subprocess.PIPE, "stderr": subprocess.STDOUT, "text": True, "errors": "replace",
-           "env": os.environ | {"TMPDIR": str(made)}}
-    ran = subprocess.Popen([TOP / "tests/gate/try_unchecked", "--test"], cwd=folder / "crates" / name, **how)
-    if keep is not None:
-        threading.Thread(target=keep_program, args=(ran, made, keep), daemon=True).start()
-    said = ran.communicate()[0]
-    return dict(re.findall(r"^test (\S+) \.\.\. (\w+)", said, re.M)), ran.returncode, said
-
-
-def keep_program(ran, made, keep):
-    """Copies the first program of that folder that runs. The toolchain removes it once it has ended."""
-    while ran.poll() is None and not keep.exists():
-        for it in Path("/proc").iterdir():
-            try:
-                if it.name.isdigit() and os.readlink(it / "exe").startswith(f"{made}/"):
-                    shutil.copy(it / "exe", keep.with_suffix(".new"))
-                    keep.with_suffix(".new").rename(keep)
-            except OSError:
-                continue
-        time.sleep(0.01)
+def results(folder, name, *flags):
+    """What each test of a crate came to in the copy, by its name; the exit status, and what was said. The flags are those of `rt try`."""
+    with tempfile.TemporaryDirectory(prefix="made-", dir=folder) as made:
+        ran = subprocess.run([TOP / "tests/gate/try_unchecked", "--test", *flags], cwd=folder / "crates" / name, stdin=subprocess.DEVNULL,
+                             stdout=subprocess.PIPE, stderr=subprocess.STDOUT, text=True, errors="replace", env=os.environ | {"TMPDIR": made})
+    return dict(re.findall(r"^test (\S+) \.\.\. (\w+)", ran.stdout, re.M)), ran.returncode, ran.stdout

@@ -85,7 +85,7 @@ def write(found):
     os.replace(f"{RECORD}.new", RECORD)
 
 
-def by_lot(sums, count):
-    """So many of some edits, other ones whenever a sum of any is another one."""
-    lot = "\n".join(f"{it} {sums[it]}" for it in sorted(sums))
-    return sorted(sums, key=lambda it: hashlib.sha256(f"{it}\n{lot}".encode()).digest())[:count]
+def in_turn(sums):
+    """One of some edits, another one whenever a file changes that their verdicts rest on."""
+    turn = hashlib.sha256("\n".join(sums.values()).encode()).digest()
+    return sorted(sums)[int.from_bytes(turn, "big") % len(sums)]

@@ -9,18 +9,20 @@ begun_part=
 
 # Runs a part, and adds its sums. Its output is shown and kept in a file.
 #
-#     run_part FILE COMMAND ..     sets well, wrong and seconds
+#     run_part FILE COMMAND ..     sets well, wrong and seconds; FILE.ended is there once it has ended
 run_part() {
     said=$1
     shift
     begun=$(date +%s)
-    rm -f "$said.well"
+    rm -f "$said.well" "$said.ended"
     { "$@" && : >"$said.well"; } 2>&1 | tee "$said"
+    : >"$said.ended"
     seconds=$(($(date +%s) - begun))
     add_part "$said" "$1"
 }
 
-# Begins a part that runs beside those that follow. Its output is kept in a file, and shown once it is waited for.
+# Begins a part that runs beside those that follow. Its output is kept in a file, and shown once it is waited for. Where $after has the words
+# of a command, the part begins when that has ended.
 #
 #     begin_part FILE COMMAND ..
 #     end_part FILE COMMAND ..     sets well, wrong and seconds
@@ -30,8 +32,11 @@ begin_part() {
     {
         beside=$1
         shift
+        trap 'kill "$running"; exit 1' TERM
+        ${after:-:} &
+        running=$!
+        wait "$running"
         begun=$(date +%s)
-        trap 'kill "$running"' TERM
         "$@" >"$beside" 2>&1 &
         running=$!
         wait "$running" && : >"$beside.well"

@@ -5,7 +5,7 @@
 
 passed=0
 failed=0
-begun_part=
+begun_parts=
 
 # Runs a part, and adds its sums. Its output is shown and kept in a file.
 #
@@ -21,12 +21,12 @@ run_part() {
     add_part "$said" "$1"
 }
 
-# Begins a part that runs beside those that follow. Its output is kept in a file, and shown once it is waited for. Where $after has the words
-# of a command, the part begins when that has ended.
+# Begins a part that runs beside those that follow, of which others may be begun likewise. Its output is kept in a file, and shown once it is
+# waited for. Where $after has the words of a command, the part begins when that has ended.
 #
 #     begin_part FILE COMMAND ..
 #     end_part FILE COMMAND ..     sets well, wrong and seconds
-#     stop_part                    ends it, where it still runs
+#     stop_parts                   ends those that still run
 begin_part() {
     rm -f "$1.well"
     {
@@ -42,20 +42,23 @@ begin_part() {
         wait "$running" && : >"$beside.well"
         echo $(($(date +%s) - begun)) >"$beside.seconds"
     } &
-    begun_part=$!
+    begun_parts="$begun_parts $!"
+    echo "$!" >"$1.begun"
 }
 
 end_part() {
+    begun_part=$(cat "$1.begun")
     wait "$begun_part"
-    begun_part=
+    begun_parts=$(echo "$begun_parts " | sed "s/ $begun_part / /; s/ *$//")
     cat "$1"
     seconds=$(cat "$1.seconds")
-    rm -f "$1.seconds"
+    rm -f "$1.seconds" "$1.begun"
     add_part "$@"
 }
 
-stop_part() {
-    [ -z "$begun_part" ] || kill "$begun_part" 2>/dev/null
+stop_parts() {
+    # shellcheck disable=SC2086 # (numbers of processes)
+    [ -z "$begun_parts" ] || kill $begun_parts 2>/dev/null
 }
 
 # Adds what a part counted by its last line, which stands in a file.

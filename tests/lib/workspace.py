@@ -60,6 +60,11 @@ def written(name):
     return found
 
 
+def lanes():
+    """How many builds run side by side: one on each processor, or at most as many as TEST_LANES says. Fewer take less of a processor in all."""
+    return min(len(os.sched_getaffinity(0)), int(os.environ.get("TEST_LANES", "64")))
+
+
 def copy_to(folder):
     """Copies the crates there, without tests."""
     for it in ("HANDLES", "crates.txt"):

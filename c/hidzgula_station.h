@@ -1,4 +1,4 @@
-/* The proved diagnostic station and simulated control units for SAE J1939, for programs in C11 and C++: version 2.3.
+/* The proved diagnostic station and simulated control units for SAE J1939, for programs in C11 and C++: version 2.4.0.
  *
  * A program hands over the frames that it reads of one bus, in their order, sends what the station replies, is told what each frame
  * changed, and asks for the lists by NAME. Or it has simulated units hear those frames, and writes the frames that it asks them for, each when
@@ -218,8 +218,9 @@ typedef struct {
 } hidzgula_unit;
 
 /* What a unit keeps to; times are in microseconds.
- *  - `gap`: how long it is at least from a packet of a broadcast to the next, 10,000 to 200,000 (J1939-21).
- *  - `settle`: how long it is from a claim to anything but a claim, up to 1,000,000 (J1939-81: 250,000).
+ *  - `gap`: how long it is at least from a packet of a broadcast to the next, 10,000 to 200,000: 50 to 200 ms by SAE J1939-21, 10 to 200 ms by
+ *    ISO 11783-3 and later editions (from memory).
+ *  - `settle`: how long it is from the claim of a new address to anything but a claim, up to 1,000,000 (J1939-81: 250,000).
  *  - `always`: where it is 0, the unit sends its DM1 each second while a code is active or a lamp is lit, and once after that; else always.
  *  - `guarded`: where it is 0, the unit clears its codes and holds a commanded address when the bus asks it to, and sends DM1 of its own
  *    accord; else it does none of these. */

@@ -28,7 +28,7 @@ from .refusals import OutOfMemory, Refused
 from .simulated import SimulatedUnit
 from .station import KEEP_ALL, Station
 
-__version__ = "2.3.0"
+__version__ = "2.4.0"
 
 DM1, DM2, DM6 = Kind.DM1, Kind.DM2, Kind.DM6
 

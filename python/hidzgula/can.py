@@ -1,18 +1,23 @@
 """A listener for python-can (the extra `hidzgula[can]`): a station before a live bus."""
 
+import collections
 import threading
 import time
-from typing import Callable, Optional
+from typing import Callable, Deque, Optional, Tuple
 
 import can
 
 from . import PGN_ADDRESS_CLAIMED
 from .candump import is_overflow
 from .records import Change, Frame, Reply
-from .station import Station
+from .station import Station, instance_of
 
 BROADCAST_GAP = 0.05
-"""Seconds between the frames of a broadcast (SAE J1939-21: 50 to 200 ms)."""
+"""Seconds between the frames of a broadcast: 50 to 200 ms by SAE J1939-21, 10 to 200 ms by ISO 11783-3 and later editions (from memory)."""
+ECHO_WITHIN = 60.0
+"""Seconds within which the echo of a frame that was sent may come."""
+MOST_ECHOES = 256
+"""The most frames that were sent whose echoes are waited for: the latest."""
 
 OnChange = Callable[[Change, can.Message], None]
 
@@ -25,8 +30,11 @@ class Listener(can.Listener):
             notifier = can.Notifier(bus, [listener])
             listener.start()
 
-    Passed over are frames with 11-bit identifiers, remote frames, frames of CAN FD, and the program's own (`is_rx` is False); an error
-    frame that tells of an overflow is a frame missed. Whatever else was missed the program tells by `missed`.
+    Passed over are frames with 11-bit identifiers, remote frames, frames of CAN FD, and the echo of each frame that the listener sent; an
+    error frame that tells of an overflow is a frame missed. Whatever else was missed the program tells by `missed`.
+
+    An echo is a message with `is_rx` False, the identifier and the bytes of a frame that was sent and whose echo has not come yet. Any other
+    message is taken, whoever sent it: over SocketCAN `is_rx` is False of each frame that a program of this machine sent.
 
     Replies are sent at once, so none waits that could be withdrawn. What the station is asked goes through the listener's `ask`,
     `ask_all` and `command`: a lock keeps order and sending together, so that no order is sent from an address that was lost meanwhile.
@@ -38,12 +46,22 @@ class Listener(can.Listener):
         bus: on which it replies; None for a station that only listens, else a ValueError is raised.
         on_change: is called with each change and the message that made it, in the thread that reads the bus.
         """
+        instance_of("station", station, Station)
+        if bus is not None and not callable(getattr(bus, "send", None)):
+            raise TypeError(f"bus is a bus of python-can, or None, and not {bus!r}")
+        if on_change is not None and not callable(on_change):
+            raise TypeError(f"on_change is a function, or None, and not {on_change!r}")
         if bus is None and not station.listening:
             raise ValueError("a station that answers needs a bus to reply on; open one that only listens (listening=True), or hand over a bus")
         self.station = station
         self.bus = bus
         self.on_change = on_change
         self._sending = threading.Lock()
+        # the frames sent whose echoes may come, the oldest first, each with the time until which it may
+        self._sent: Deque[Tuple[float, int, bytes]] = collections.deque(maxlen=MOST_ECHOES)
+
+    def __repr__(self) -> str:
+        return f"<hidzgula.can.Listener of {self.station!r}>"
 
     def on_message_received(self, msg: can.Message) -> None:
         """Takes a message of the bus. Raises what `Station.take` raises, and what the bus raises where it cannot send."""
@@ -51,9 +69,11 @@ class Listener(can.Listener):
             if is_overflow(msg.arbitration_id, bytes(msg.data)):
                 self._tell(self.missed(1), msg)
             return
-        if not msg.is_extended_id or msg.is_remote_frame or msg.is_fd or not msg.is_rx:
+        if not msg.is_extended_id or msg.is_remote_frame or msg.is_fd:
             return
         with self._sending:
+            if not msg.is_rx and self._is_echo(msg.arbitration_id, bytes(msg.data)):
+                return
             reply, change = self.station.take(msg.arbitration_id, msg.data)
             self._send(reply)
         self._tell(change, msg)
@@ -102,7 +122,28 @@ class Listener(can.Listener):
         for place, frame in enumerate(reply.frames):
             if place and gap:
                 time.sleep(gap)
-            self.bus.send(_message_of(frame))
+            self._send_frame(self.bus, frame)
+
+    def _send_frame(self, bus: can.BusABC, frame: Frame) -> None:
+        """Sends a frame, whose echo may come from then on."""
+        sent = (time.monotonic() + ECHO_WITHIN, *frame)
+        self._sent.append(sent)
+        try:
+            bus.send(_message_of(frame))
+        except BaseException:
+            self._sent.remove(sent)
+            raise
+
+    def _is_echo(self, id: int, data: bytes) -> bool:
+        """Whether a message is the echo of a frame that was sent, which then is waited for no longer."""
+        now = time.monotonic()
+        while self._sent and self._sent[0][0] < now:
+            self._sent.popleft()
+        for sent in self._sent:
+            if sent[1:] == (id, data):
+                self._sent.remove(sent)
+                return True
+        return False
 
 
 def _message_of(frame: Frame) -> can.Message:

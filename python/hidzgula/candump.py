@@ -6,7 +6,7 @@ from typing import BinaryIO, Callable, Iterable, Iterator, List, NamedTuple, Opt
 
 from ._library import FrameRecord, LoggedRecord, ReadRecord, library
 from .records import BadLine, Change, Frame, LogCounts, Logged
-from .station import FRAME, Station
+from .station import FRAME, Station, instance_of
 
 _ERROR_FLAG = 0x20000000
 _CONTROLLER_ERROR = 0x00000004
@@ -89,6 +89,7 @@ def take_log(
 
     Raises ValueError for a station that answers, and what `Station.take_frames` raises.
     """
+    instance_of("station", station, Station)
     if not station.listening:
         raise ValueError("a log is for a station that only listens: nobody would send what this one replies")
     reader = LogReader(log, bus)
@@ -123,6 +124,7 @@ class LogReader:
         self.bad = 0
         """How many of them were bad."""
         self._logged = (LoggedRecord * _AT_ONCE)()
+        instance_of("bus", bus or "", str)
         self._bus = (bus or "").encode()
         self._chunks = _chunks_of(log)
         self._text = b""
@@ -179,6 +181,8 @@ def _chunks_of(log: Log) -> Iterator[bytes]:
     read = getattr(log, "read1", None) or getattr(log, "read", None)
     if read:
         return map(_octets_of, iter(lambda: read(_CHUNK) or None, None))
+    if not hasattr(log, "__iter__"):
+        raise TypeError(f"a log is a file, its bytes or its lines, and not {log!r}")
     return _chunks_of_lines(iter(log))
 
 

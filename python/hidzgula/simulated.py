@@ -6,7 +6,7 @@ from typing import Any, Optional
 
 from ._library import FrameRecord, UnitCountsRecord, UnitRecord, UnitSettingsRecord, library
 from .records import Frame, UnitCounts
-from .station import Octets, done, frame_of, number_of, octets_of
+from .station import Octets, at_address, done, frame_of, number_of, octets_of, said_by
 
 _NEVER = 2**64 - 1
 
@@ -19,7 +19,8 @@ class SimulatedUnit:
     `time.monotonic_ns() // 1000`.
 
     Each call may be made from any thread: a lock lets in one at a time. A refused call raises `Refused`, one that was refused memory
-    `MemoryError`, and has then changed nothing. A number that no C type of the library holds is a ValueError.
+    `MemoryError`, and has then changed nothing. A number that no C type of the library holds is a ValueError; what is no whole number, or no
+    bytes, is a TypeError that tells what was wanted.
 
         with SimulatedUnit(name=0x1000000001419907, address=128) as unit:
             unit.set(110, 0)
@@ -34,8 +35,9 @@ class SimulatedUnit:
 
         name: its NAME, 64 bits (SAE J1939-81).
         address: which it holds, 0 to 253.
-        gap: microseconds at least from a packet of a broadcast to the next, 10,000 to 200,000 (SAE J1939-21).
-        settle: microseconds from a claim to anything but a claim, up to 1,000,000 (SAE J1939-81: 250,000).
+        gap: microseconds at least from a packet of a broadcast to the next, 10,000 to 200,000: 50 to 200 ms by SAE J1939-21, 10 to 200 ms by
+            ISO 11783-3 and later editions (from memory).
+        settle: microseconds from the claim of a new address to anything but a claim, up to 1,000,000 (SAE J1939-81: 250,000).
         always: whether it sends its DM1 each second also while it has nothing to tell.
         guarded: whether it neither clears its codes nor holds a commanded address when the bus asks it to, and sends no DM1 of its own accord.
 
@@ -46,7 +48,7 @@ class SimulatedUnit:
         settings = UnitSettingsRecord(
             number_of("gap", gap, _NEVER, most_is_refused=True), number_of("settle", settle, _NEVER, most_is_refused=True), bool(always), bool(guarded)
         )
-        name = number_of("name", name, 2**64 - 1)
+        self._name = name = number_of("name", name, 2**64 - 1)
         done(library.hidzgula_unit_open(self._unit, name, number_of("address", address, 255, most_is_refused=True), settings))
         self._is_open = True
 
@@ -67,6 +69,16 @@ class SimulatedUnit:
 
     def __reduce__(self) -> Any:
         raise TypeError("a unit cannot be copied")
+
+    def __repr__(self) -> str:
+        """Its NAME, its address, and what became of its frames; or that it is closed, or in a call of another thread."""
+        return f"<hidzgula.SimulatedUnit {self._name:016X}{said_by(self._lock, self._said)}>"
+
+    def _said(self) -> str:
+        has, address, counts = ctypes.c_uint8(), ctypes.c_uint8(), UnitCountsRecord()
+        done(library.hidzgula_unit_held(self._unit, has, address))
+        done(library.hidzgula_unit_counts(self._unit, counts))
+        return f"{at_address(has, address)}, written {counts.written}, withdrawn {counts.withdrawn}, waiting {counts.waiting}"
 
     # ---- the bus
 

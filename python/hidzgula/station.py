@@ -1,11 +1,11 @@
 """A diagnostic station over the library."""
 
 import ctypes
-import itertools
+import operator
 import re
 import struct
 import threading
-from typing import Any, Dict, List, Optional, Sequence, Tuple, Union
+from typing import Any, Callable, Dict, List, Optional, Sequence, Tuple, Union
 
 from ._library import (
     ChangeRecord,
@@ -33,7 +33,7 @@ from .records import (
     Unit,
     What,
 )
-from .refusals import refuse
+from .refusals import Refused, refuse
 
 Octets = Union[bytes, bytearray, memoryview]
 
@@ -55,7 +55,8 @@ class Station:
     """A diagnostic station for SAE J1939, before one bus: it is handed the frames that are read of that bus, and lists what they tell by NAME.
 
     Each call may be made from any thread: a lock lets in one at a time. A refused call raises `Refused`, one that was refused memory
-    `MemoryError`, and has then changed nothing. A number that no C type of the library holds, as a NAME of 65 bits, is a ValueError.
+    `MemoryError`, and has then changed nothing. A number that no C type of the library holds, as a NAME of 65 bits, is a ValueError; what is
+    no whole number, or no bytes, is a TypeError that tells what was wanted.
 
         with Station(name=1, address=248, listening=True) as station:
             station.take(0x18EEFF00, bytes.fromhex("A000000000000000"))
@@ -79,7 +80,7 @@ class Station:
         self._reply = ReplyRecord()
         self._change = ChangeRecord()
         self._listening = bool(listening)
-        name = number_of("name", name, 2**64 - 1)
+        self._name = name = number_of("name", name, 2**64 - 1)
         address = number_of("address", address, 255, most_is_refused=True)
         kept = number_of("keep", KEEP_ALL if keep is None else keep, KEEP_ALL)
         if listening:
@@ -105,6 +106,17 @@ class Station:
 
     def __reduce__(self) -> Any:
         raise TypeError("a station cannot be copied")
+
+    def __repr__(self) -> str:
+        """Its NAME, its address, and counts; or that it is closed, or in a call of another thread."""
+        return f"<hidzgula.Station {self._name:016X}{' listening' * self._listening}{said_by(self._lock, self._said)}>"
+
+    def _said(self) -> str:
+        rows, missed, unread, has, address = ctypes.c_size_t(), ctypes.c_uint64(), ctypes.c_uint64(), ctypes.c_uint8(), ctypes.c_uint8()
+        done(library.hidzgula_held(self._station, has, address))
+        done(library.hidzgula_rows(self._station, rows))
+        done(library.hidzgula_counts(self._station, missed, unread))
+        return f"{at_address(has, address)}, units {rows.value}, missed {missed.value}, unread {unread.value}"
 
     @property
     def listening(self) -> bool:
@@ -207,7 +219,7 @@ class Station:
 
     def command(self, name: int, address: int) -> Reply:
         """Commands the unit of a NAME to hold an address, 0 to 253: the three frames of a broadcast, of which the standard wants the last
-        two 50 to 200 ms behind the one before (SAE J1939-21).
+        two 50 to 200 ms behind the one before (SAE J1939-21; 10 to 200 ms by ISO 11783-3 and later editions, from memory).
 
         Raises Refused NO_STATION, NOT_AN_ADDRESS, NOT_HELD, and MemoryError.
         """
@@ -317,13 +329,40 @@ def done(status: int) -> None:
 
 def number_of(what: str, value: int, most: int, most_is_refused: bool = False) -> int:
     """A number that the library's type holds. ctypes would cut a larger one, so that is a ValueError; or, where the library refuses the
-    type's greatest number for being too large, that one in its place, so that both are refused alike."""
-    value = value.__index__()
+    type's greatest number for being too large, that one in its place, so that both are refused alike. What is no whole number is a
+    TypeError."""
+    try:
+        value = operator.index(value)
+    except TypeError:
+        raise TypeError(f"{what} is a whole number, and not {value!r}") from None
     if value > most and most_is_refused:
         return most
     if not 0 <= value <= most:
         raise ValueError(f"{what} is {value}, and may be 0 to {most}")
     return value
+
+
+def instance_of(what: str, value: Any, wanted: type) -> None:
+    """Raises a TypeError where a value is of another type."""
+    if not isinstance(value, wanted):
+        raise TypeError(f"{what} is a {wanted.__name__}, and not {value!r}")
+
+
+def said_by(lock: Any, says: Callable[[], str]) -> str:
+    """What a station or a unit says of itself; it does not wait for its lock, since a debugger may ask in the middle of a call."""
+    if not lock.acquire(blocking=False):
+        return ", in a call"
+    try:
+        return says()
+    except Refused:
+        return ", closed"
+    finally:
+        lock.release()
+
+
+def at_address(has: ctypes.c_uint8, address: ctypes.c_uint8) -> str:
+    """Where it is, in words."""
+    return f" at {address.value}" if has.value else " without address"
 
 
 def _list_of(name: int, kind: int) -> Tuple[int, int]:
@@ -333,19 +372,26 @@ def _list_of(name: int, kind: int) -> Tuple[int, int]:
 
 def octets_of(data: Octets) -> bytes:
     """The bytes of a frame."""
-    return data if type(data) is bytes else bytes(memoryview(data))
+    if type(data) is bytes:
+        return data
+    try:
+        return bytes(memoryview(data))
+    except TypeError:
+        raise TypeError(f"data is bytes, and not {data!r}") from None
 
 
 def _packed(frames: Sequence[Tuple[int, Octets]], start: int) -> bytearray:
     """The frames from a place on, in the library's layout."""
+    if not hasattr(frames, "__len__") or not hasattr(frames, "__getitem__"):
+        raise TypeError(f"frames is a sequence of pairs of an identifier and bytes, and not {frames!r}")
     start = number_of("start", start, len(frames))
     packed = bytearray()
     for at in range(start, len(frames), _AT_ONCE):
         part = frames[at : at + _AT_ONCE]
         try:
             packed += _packed_part(part)
-        except struct.error:
-            packed += b"".join(itertools.starmap(_packed_frame, part))
+        except (struct.error, TypeError, ValueError):
+            packed += b"".join(map(_packed_frame, part))
     return packed
 
 
@@ -357,8 +403,12 @@ def _packed_part(part: Sequence[Tuple[int, Octets]]) -> bytes:
     return struct.pack("<" + "IB8s3x" * len(ids), *words)
 
 
-def _packed_frame(id: int, data: Octets) -> bytes:
+def _packed_frame(frame: Tuple[int, Octets]) -> bytes:
     """One frame whose numbers may be beyond the library's types: an identifier or a length that is too large stays so."""
+    try:
+        id, data = frame
+    except (TypeError, ValueError):
+        raise TypeError(f"a frame is a pair of an identifier and bytes, and not {frame!r}") from None
     data = octets_of(data)
     return FRAME.pack(number_of("id", id, 2**32 - 1, most_is_refused=True), min(len(data), 255), data)
 

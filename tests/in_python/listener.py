@@ -1,15 +1,22 @@
 """A Listener of python-can, or of fake/can.py in its place: a takeover on a bus in one process, sessions that are answered, what is passed over,
-and what is refused. The frames of the units are written here."""
+echoes by SocketCAN's flags (fake/socketcan.py), and what is refused. The frames of the units are written here."""
 
+import pathlib
+import sys
 import threading
 import time
 
 import can
 
 import hidzgula
+import hidzgula.can
 from hidzgula import DM1, DM2, What
 from hidzgula.can import BROADCAST_GAP, Listener
-from tries import raised, same, sums
+from tries import LOGS, lines_of, lists_of, lists_wanted, raised, same, sums
+
+# (behind all others: `can` may be python-can itself)
+sys.path.append(str(pathlib.Path(__file__).with_name("fake")))
+from socketcan import Interface, Socket  # noqa: E402
 
 ENGINE, SPARE, TOOL = 0x1000000001419907, 0x0000000001419907, 0x90008100258004D2
 
@@ -84,7 +91,7 @@ def passed_over():
         changes = []
         listener = Listener(station, on_change=lambda change, msg: changes.append(change.what))
         claim = "18EEFF00#0799410100000010"
-        for more in ({"is_remote_frame": True}, {"is_fd": True}, {"is_rx": False}, {"is_error_frame": True}):
+        for more in ({"is_remote_frame": True}, {"is_fd": True}, {"is_error_frame": True}):
             listener.on_message_received(message(claim, **more))
         listener.on_message_received(can.Message(arbitration_id=0x123, data=bytes(8), is_extended_id=False))
         same("nothing was taken", (station.units(), station.counts(), changes), ([], (0, 0), []))
@@ -102,6 +109,10 @@ def passed_over():
     with hidzgula.Station(1, 249) as station:
         same("one that answers needs a bus", type(raised(Listener, station)), ValueError)
     same("what is refused is raised", raised(listener.on_message_received, message(claim)).name, "NO_STATION")
+    for words, wanted in (((5,), "station"), ((station, 5), "bus"), ((station, None, 5), "on_change")):
+        error = raised(Listener, *words)
+        same(f"a wrong {wanted}", (type(error), str(error).startswith(f"{wanted} is a ")), (TypeError, True))
+    same("in words", repr(listener), "<hidzgula.can.Listener of <hidzgula.Station 0000000000000001, closed>>")
 
 
 def notified():
@@ -121,8 +132,111 @@ def notified():
         same("what was sent", texts(truck), ["18EEFFF9#0100000000000000", "18EAFFF9#00EE00", *50 * ["18EA00F9#CAFE00"]])
 
 
+OWN_CLAIM, ALL_CLAIM = "18EEFFF9#0100000000000000", "18EAFFF9#00EE00"
+ENGINE_CLAIMS, ENGINE_TELLS, OTHER_CLAIMS = "18EEFF00#0799410100000010", "18FECA00#04FF6E000001FFFF", "18EEFF03#1200000000000000"
+
+
+def of_own_machine():
+    """Units that another program of this machine plays, as `live | canplayer` and cansend do: each of their frames has `is_rx` False."""
+    for receives_own in (False, True):
+        interface = Interface()
+        truck, tool = Socket(interface), Socket(interface, receives_own)
+        with hidzgula.Station(1, 249) as station:
+            listener = Listener(station, tool)
+            listener.start()
+            same("it claims and asks for claims", texts(truck), [OWN_CLAIM, ALL_CLAIM])
+            truck.send(message(ENGINE_CLAIMS))
+            truck.send(message(ENGINE_TELLS))
+            interface.wire(message(OTHER_CLAIMS))
+            hear(tool, listener)
+            same("who is there, and not the station itself", station.units(), [(ENGINE, 0, None), (0x12, 3, None)])
+            same("its faults", [str(it) for it in station.messages(ENGINE, DM1)], ["amber; 110/0/1"])
+            same("nothing is answered", texts(truck), [OTHER_CLAIMS])
+            truck.send(message("18EAFF00#00EE00"))
+            hear(tool, listener)
+            same("its claim is asked for", texts(truck), [OWN_CLAIM])
+            hear(tool, listener)
+            same("and is no unit's", len(station.units()), 2)
+
+
+def echoes():
+    """As many are passed over as were sent, by identifier and bytes; what never comes is given up."""
+    interface = Interface()
+    other, tool = Socket(interface), Socket(interface, True)
+    with hidzgula.Station(1, 249) as station:
+        listener = Listener(station, tool)
+        for _ in range(3):
+            listener.ask_all(hidzgula.PGN_ADDRESS_CLAIMED)
+        hear(tool, listener)
+        same("three echoes", texts(other), 3 * [ALL_CLAIM])
+        other.send(message(ALL_CLAIM))
+        hear(tool, listener)
+        same("a fourth is another's, and is answered", texts(other), [OWN_CLAIM])
+        hear(tool, listener)
+        listener.ask_all(hidzgula.PGN_ADDRESS_CLAIMED)
+        interface.wire(message(ALL_CLAIM))
+        hear(tool, listener)
+        same("what comes from the wire is no echo", texts(other), [ALL_CLAIM, ALL_CLAIM, OWN_CLAIM])
+    tool = Socket(interface)
+    with hidzgula.Station(1, 249) as station:
+        listener = Listener(station, tool)
+        listener.ask_all(hidzgula.PGN_ADDRESS_CLAIMED)
+        within, hidzgula.can.ECHO_WITHIN = hidzgula.can.ECHO_WITHIN, 0.0
+        listener._sent.clear()
+        for _ in range(1000):
+            listener.ask_all(hidzgula.PGN_ADDRESS_CLAIMED)
+        texts(other)
+        same("the latest are waited for", len(listener._sent), hidzgula.can.MOST_ECHOES)
+        time.sleep(0.01)
+        other.send(message(ALL_CLAIM))
+        hear(tool, listener)
+        same("an echo that never came is given up", (texts(other), len(listener._sent)), ([OWN_CLAIM], 1))
+        hidzgula.can.ECHO_WITHIN = within
+
+        class Full:
+            """A bus that sends nothing."""
+
+            def send(self, msg):
+                raise OSError("no buffer space available")
+
+        silent = Listener(station, Full())
+        same("what could not be sent", type(raised(silent.ask_all, hidzgula.PGN_ADDRESS_CLAIMED)), OSError)
+        same("has no echo", len(silent._sent), 0)
+
+
+def two_listeners():
+    """Two stations on one bus of python-can hear each other, where it receives its own messages."""
+    interface = Interface()
+    tool = Socket(interface, True)
+    with hidzgula.Station(1, 249) as one, hidzgula.Station(2, 250) as other:
+        listeners = [Listener(one, tool), Listener(other, tool)]
+        for listener in listeners:
+            listener.start()
+        while (msg := tool.recv()) is not None:
+            for listener in listeners:
+                listener.on_message_received(msg)
+        same("each has the other", (one.units(), other.units()), ([(2, 250, None)], [(1, 249, None)]))
+
+
+def sent_in_a_log():
+    """A log of which the program that wrote it sent each frame, as `Tx` of an ASC log says."""
+    for log in LOGS:
+        with hidzgula.Station(1, 248, listening=True) as station:
+            listener = Listener(station)
+            for read in hidzgula.read_log(lines_of(log)):
+                if isinstance(read, hidzgula.Missed):
+                    listener.missed(read.count)
+                else:
+                    listener.on_message_received(can.Message(arbitration_id=read.id, data=read.data, is_extended_id=True, is_rx=False))
+            same(f"the lists of {log}", lists_of(station), lists_wanted(log))
+
+
 takeover()
 session()
 passed_over()
 notified()
+of_own_machine()
+echoes()
+two_listeners()
+sent_in_a_log()
 sums()

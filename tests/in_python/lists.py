@@ -92,6 +92,14 @@ def changes():
         same("asks all", station.ask_all(hidzgula.PGN_ADDRESS_CLAIMED), Reply(False, (Frame(0x18EAFFF8, b"\x00\xee\x00"),)))
         same("commands", [frame.id for frame in station.command(0xA0, 9).frames], [0x1CECFFF8, 0x1CEBFFF8, 0x1CEBFFF8])
         same("its address", (station.address, str(station.claim())), (248, "18EEFFF8#0100000000000000"))
+        same("it", repr(station), "<hidzgula.Station 0000000000000001 at 248, units 2, missed 5, unread 1>")
+        with station._lock:
+            same("in a call", repr(station), "<hidzgula.Station 0000000000000001, in a call>")
+        station.take(0x18EEFFF8, bytes(8))
+        same("without address", repr(station), "<hidzgula.Station 0000000000000001 without address, units 3, missed 5, unread 1>")
+    same("closed", repr(station), "<hidzgula.Station 0000000000000001, closed>")
+    with Station(2**64 - 1, 248, listening=True) as station:
+        same("one that listens", repr(station), "<hidzgula.Station FFFFFFFFFFFFFFFF listening at 248, units 0, missed 0, unread 0>")
     lamps = Lamps(0b01010101, 0)
     same("all lamps", (lamps.mil, lamps.stop, lamps.amber, lamps.protect, str(lamps)), (True, True, True, True, "mil, stop, amber, protect"))
     same("none", [str(Lamps(states, 0xFF)) for states in (0, 0xFF, 0xAA)], 3 * ["no lamp"])

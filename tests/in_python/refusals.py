@@ -30,6 +30,12 @@ def wrong(what, call, *words, **named):
     same(what, type(raised(call, *words, **named)), ValueError)
 
 
+def mistyped(what, told, call, *words, **named):
+    """What is no number, or no bytes: it is told what was wanted."""
+    error = raised(call, *words, **named)
+    same(what, (type(error), str(error)[: len(told)]), (TypeError, told))
+
+
 def by_arguments(station):
     before = all_told(station)
     for id in (2**29, 2**32 - 1, 2**32, 2**70):
@@ -76,10 +82,23 @@ def beyond_types(station):
     wrong("a gap of 2^32", station.missed, 2**32)
     wrong("from behind the end", station.take_frames, [], 1)
     for data in ("text", 5, None, [1, 2]):
-        same(f"data {data!r}", type(raised(station.take, 0x18FECA07, data)), TypeError)
+        mistyped(f"data {data!r}", "data is bytes, and not ", station.take, 0x18FECA07, data)
         same(f"data {data!r} in a row", type(raised(station.take_frames, [(0x18FECA07, DATA), (0x18FECA07, data)])), TypeError)
-    same("an identifier that is none", type(raised(station.take, "18FECA07", DATA)), AttributeError)
-    same("a pair that is none", isinstance(raised(station.take_frames, [(0x18FECA07, DATA), 5]), TypeError), True)
+    for what, call, words in (
+        ("id", station.take, ("18FECA07", DATA)), ("count", station.missed, (1.0,)), ("name", station.ask, ("A0", 1)), ("pgn", station.ask, (0xA0, None)),
+        ("pgn", station.ask_all, ("1",)), ("address", station.command, (0xA0, "9")), ("kind", station.messages, (0xA0, "DM1")),
+        ("kind", station.count, (0xA0, [1])), ("place", station.message, (0xA0, DM1, 0.5)), ("name", Station, ("A0", 1)), ("address", Station, (1, None)),
+        ("start", station.take_frames, ([], "0")),
+    ):
+        mistyped(f"{call.__name__} {words}", f"{what} is a whole number, and not ", call, *words)
+    mistyped("grant", "grant is a whole number, and not ", Station, 1, 1, grant="9")
+    mistyped("keep", "keep is a whole number, and not ", Station, 1, 1, keep="9")
+    mistyped("a log for no station", "station is a Station, and not ", hidzgula.take_log, 5, b"")
+    mistyped("a log that is none", "a log is a file, its bytes or its lines, and not 5", hidzgula.read_log(5).__next__)
+    mistyped("a bus that is none", "bus is a str, and not b'can0'", hidzgula.read_log(b"", b"can0").__next__)
+    for bad in (5, (1,), (1, b"", 2)):
+        mistyped(f"the pair {bad}", f"a frame is a pair of an identifier and bytes, and not {bad!r}", station.take_frames, [(0x18FECA07, DATA), bad])
+    mistyped("frames that are none", "frames is a sequence of pairs of an identifier and bytes, and not 5", station.take_frames, 5)
     same("a copy", [type(raised(it, station)) for it in (copy.copy, copy.deepcopy, pickle.dumps)], 3 * [TypeError])
     same("nothing is changed", all_told(station), before)
 
@@ -154,6 +173,11 @@ def of_units():
         same("nothing is changed", (unit.counts(), unit.address, unit.when(0)), before)
         for call, words in ((unit.next, (-1,)), (unit.when, (2**64,)), (unit.hear, (0, b"", 2**64)), (unit.lamps, (256,)), (unit.lamps, (0, 256))):
             wrong(f"{call} {words}", call, *words)
+        for what, call, words in (("id", unit.hear, ("1", b"", 0)), ("now", unit.hear, (1, b"", 0.5)), ("now", unit.next, (None,)), ("now", unit.when, ("0",)),
+                                  ("spn", unit.set, ("110", 0)), ("fmi", unit.heal, (110, "0")), ("states", unit.lamps, ("04",)), ("kind", unit.begin, ("DM1",)),
+                                  ("name", SimulatedUnit, ("1", 128)), ("address", SimulatedUnit, (1, "128"))):
+            mistyped(f"{call} {words}", f"{what} is a whole number, and not ", call, *words)
+        mistyped("data", "data is bytes, and not ", unit.hear, 1, "00", 0)
         for spn in range(445):
             unit.set(spn, 1)
         refused("one code more", "MEMORY_FULL", unit.set, 445, 1)

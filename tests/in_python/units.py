@@ -50,6 +50,9 @@ with SimulatedUnit(NAME, 128) as unit, Station(1, 249) as station:
     same("its address is lost", unit.address, None)
     same("cannot claim", [text for _, text in run(unit, station, 6_000_000)], ["18EEFFFE#0799410100000010"])
     same("then it is silent", (unit.when(clock[0]), unit.counts().waiting), (None, 0))
+    _, written, withdrawn, _ = unit.counts()
+    same("in words", repr(unit), f"<hidzgula.SimulatedUnit {NAME:016X} without address, written {written}, withdrawn {withdrawn}, waiting 0>")
+same("closed", repr(unit), f"<hidzgula.SimulatedUnit {NAME:016X}, closed>")
 with SimulatedUnit(NAME, 128, guarded=True, gap=10_000, settle=0) as unit, Station(1, 249) as station:
     unit.set(110, 0)
     run(unit, station, clock[0])

@@ -25,6 +25,8 @@ WITHOUT_FRAMES = [
     [[b"date Thu Nov 26 10:00:00.000 am 2026", b"base hex  timestamps absolute", b"   0.001000 1  18FECA00x       Rx   d 8 04 FF B8 04 03 01 FF FF"],
      [b"// a comment", b"base hex  timestamps absolute", b"   0.001000 1  18FECA00x       Rx   d 8 04 FF B8 04 03 01 FF FF"]],
     [[b"LOGG\x90\x00\x00\x00\x00\x08", b"\x00\xff(\x01LOBJ;,,,"], [b"LOGG"]],
+    *[[[mark + b"\x08\x00,,,;;;", b";\x00"], [mark]] for mark in (b"\x1f\x8b", b"\xfd7zXZ", b"\x28\xb5\x2f\xfd", b"PK\x03\x04", b"BZh9", b"\xff\xfe(\x00", b"\xfe\xff\x00(")],
+    [[b"\x7fELF\x00", b";", b"a,b,c,d"], [b"\x1f\x8a\x00"]],
     [[b";$FILEVERSION=2.1", b";   Message   Time    Type", b"      1      1059.900 DT 18FECA00 Rx 8  04 FF B8 04 03 01 FF FF"], [b"", b";$FILEVERSION=1.1"]],
     [[b"timestamp,arbitration_id,extended,remote,error,dlc,data", b"1.000000,0x18feca00,1,0,0,8,BP+4BAMB//8="],
      [b"time;id;dlc;data", b"1,5;18FECA00;8;04FFB8040301FFFF"]],

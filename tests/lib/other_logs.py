@@ -3,6 +3,13 @@ error is written here by hand, and the model has to tell the same.
 """
 
 
+import bz2
+import gzip
+import io
+import lzma
+import tempfile
+import zipfile
+
 from harness import TOP
 
 from model import decode, log_line, watch
@@ -55,6 +62,35 @@ def bad_lines_without_end(run, same):
     return same((status, err), (3, "line 1: 8 digits of identifier wanted, 7 found\n"), "strict")
 
 
+def packed_inputs():
+    """Each input that is no text, and what is told of it behind the count of its lines."""
+    log, room = (TOP / "examples/logs/01-startup-and-dm1.log").read_bytes(), io.BytesIO()
+    with zipfile.ZipFile(room, "w", zipfile.ZIP_DEFLATED) as folder:
+        folder.writestr("a.log", log)
+    packed = {"gzip": (gzip.compress(log), "zcat"), "xz": (lzma.compress(log), "xzcat"), "bzip2": (bz2.compress(log), "bzcat"), "zip": (room.getvalue(), "unzip -p"),
+              "zstd": (b"\x28\xb5\x2f\xfd\x24" + bytes(range(1, 256)), "zstdcat")}
+    told = [(data, f"this is compressed ({name}): {command} FILE | j1939bench watch") for name, (data, command) in packed.items()]
+    told += [(log.decode().encode(form), "this is UTF-16: iconv -f UTF-16 -t UTF-8 FILE | j1939bench watch") for form in ("utf-16",)]
+    told += [(b"\xfe\xff" + log.decode().encode("utf-16-be"), "this is UTF-16: iconv -f UTF-16 -t UTF-8 FILE | j1939bench watch")]
+    return told + [(b"\x7fELF\x02\x01\x01\0,,,;;;\n" * 3, "this is not a text log"), (b"a,b,c,d\n\0\n", "this looks like a table (.csv), which is read once it is converted: "
+                                                                                    "can_logconvert IN.csv OUT.log"), (b"BZ\n", "this looks like no log of candump (candump -L can0 > OUT.log)")]
+
+
+def packed_logs(run, same):
+    """What is no text is told as what it is, and how it is read; by the model too."""
+    found = []
+    for data, told in packed_inputs():
+        lines = log_line.read_lines(data)
+        last = f"no frame in {len(lines)} lines: {told}"
+        for command, model in (("watch", watch.watched(lines, watch.Options.of([], True))), ("decode", decode.decoded(lines))):
+            with tempfile.NamedTemporaryFile() as file:
+                file.write(data)
+                file.flush()
+                status, _, err = run([command, file.name])
+            found += same((status, err.splitlines()[-1]), (3, last), f"{command} {data[:6]}") + same(model[2:0:-1], (status, err), f"the model's {command} {data[:6]}")
+    return found
+
+
 HEAD = b"(1.000000) can0 "
 # A line of each kind, what is told of it, and what its kind is called where such lines are counted, in the order in which they are.
 KINDS = [
@@ -90,4 +126,5 @@ def tries(run, same):
         told = [many_bad_lines() if it is None else it for it in (by_watch, by_decode)]
         yield f"told of {name}", lambda name=name, told=told, status=status: differences(name, *told, status, run, same)
     yield "a strict run", lambda: bad_lines_without_end(run, same)
+    yield "packed logs", lambda: packed_logs(run, same)
     yield "bad lines of each kind", lambda: bad_lines_of_each_kind(run, same)

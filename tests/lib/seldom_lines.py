@@ -5,6 +5,7 @@ have to be quoted, reads that fail before any frame. What is told is written her
 import csv
 import io
 import json
+import re
 import socket
 import tempfile
 
@@ -94,6 +95,21 @@ def names_of_buses(run, same):
     return found
 
 
+# Characters that a terminal obeys, and marks that turn the direction of text: none of them is told, but line feeds.
+HIDDEN = re.compile("[\x00-\x09\x0b-\x1f\x7f-\x9f\u061c\u200e\u200f\u202a-\u202e\u2066-\u2069]")
+
+
+def errors_that_are_obeyed(run, same):
+    """What is told of a line, of a file or of a word holds nothing that a terminal obeys."""
+    found = []
+    for words, data, part in ((["watch"], "(1.000000) can0 18FECA00#04\u202eF\n", ": \\u202E\n"), (["watch"], "(1.000000) can0 18FECA00#04\u009bF\n", ": \\x9B\n"),
+                              (["decode", "/nowhere/\x1b[2J"], "", "/nowhere/\\x1B[2J: "), (["decode", "--\x1b[2J"], "", "\\x1B[2J"),
+                              (["watch", "--bus", "\x1b[2J\u202e#"], "", "invalid value '\\x1B[2J\\u202E#'")):
+        err = run(words, data.encode())[2]
+        found += same((HIDDEN.findall(err), part in err), ([], True), f"{words}: {err!r}")
+    return found
+
+
 def reads_that_fail(run, same):
     """An input that breaks off is not whole: that no line of it is a frame is not told, and of bad lines as of any input."""
     found, bad = [], b"(x\n" * 11
@@ -130,10 +146,11 @@ def longest_lines(run, same):
 
 
 def texts_of_other_rows(run, same):
-    """A file of texts whose lines have other than three values is refused, also where the first line has as many; a file without lines has no text."""
+    """A file of texts whose lines have other than as many values as the first is refused, and so is one without a line; one with the first alone has no text."""
     found = []
-    for text, told in ((b"spn,text\n100,Oil\n", "line 2: 2 values, and not 3"), (b"spn\n100\n", "line 2: 1 values, and not 3"),
-                       (b"a,b,c,d\n\n100,3,Oil,x\n", "line 3: 4 values, and not 3"), (b"", None), (b"spn,text\n", None)):
+    for text, told in ((b"spn,text\n100,Oil,x\n", "texts, line 2: 3 values, and the first line has 2"), (b"spn\n100\n", "texts, line 1: no column text, or none of spn, fmi"),
+                       (b"a,b,c,d\n\n100,3,Oil,x\n", "texts, line 1: a is none of the columns spn, fmi, text (one of notes begins with #)"),
+                       (b"", "texts, line 1: no column text, or none of spn, fmi"), (b"\n\r\n", "texts, line 1: no column text, or none of spn, fmi"), (b"spn,text\n", None)):
         with tempfile.NamedTemporaryFile(suffix=".csv") as file:
             file.write(text)
             file.flush()
@@ -144,5 +161,5 @@ def texts_of_other_rows(run, same):
 
 def tries(run, same):
     """A name, and what says what is wrong. `run` and `same` are those of tests/run/logs."""
-    for what in (pairs_that_announced, contested_anew, names_of_buses, reads_that_fail, frames_of_no_group_without_times, longest_lines, texts_of_other_rows):
+    for what in (pairs_that_announced, contested_anew, names_of_buses, errors_that_are_obeyed, reads_that_fail, frames_of_no_group_without_times, longest_lines, texts_of_other_rows):
         yield what.__name__, lambda what=what: what(run, same)

@@ -12,6 +12,8 @@ from .unit import ALL, Unit
 LANES = ("claims", "singles", "session", "messages")
 ROOM = 64
 ANSWER_WITHIN, HELD_FOR, DM1_PERIOD, DAY = 1_250_000, 1_050_000, 1_000_000, 86_400_000_000
+MOST_CHANGES = 445
+LAMPS = "lamps"
 
 
 def needs_room(frame):
@@ -54,7 +56,9 @@ class LiveUnit(Unit):
         self.counted = self.written = self.heard = self.unheard = self.sent = 0
         self.gap, self.settle, self.always = gap, settle, always
         self.claim_at = self.settled_at = self.packet_at = self.alone_at = self.dm1_at = 0
-        self.told = False
+        self.claimed = False
+        # what its latest DM1 told: codes as (spn, fmi), and the lamps' byte; and when it told changes: (which, time), since the latest that was no change's
+        self.codes_told, self.lamps_told, self.changes_told, self.lamps_changed = set(), 0, [], None
         self.cyclic = list(cyclic)
         super().__init__(name, address, kind, wire, seat=-1)
 
@@ -112,10 +116,14 @@ class LiveUnit(Unit):
             self.unheard += 1
             return
         self.heard += 1
-        before, held_open = self.held, self.is_held_open(frame)
+        before, held_open, waited = self.held, self.is_held_open(frame), self.lanes["messages"]
         self.hear(place)
+        if waited and not self.lanes["messages"]:
+            self.dm1_at = now  # (its DM1 may have been cut, and begins anew)
         if held_open:
             self.alone_at = now + HELD_FOR
+        if self.held != before:
+            self.claimed = False
         if before is not None and self.held is None:
             self.claim_at = now + 1000 * (self.name % (1 << 21) % 154)
 
@@ -132,6 +140,23 @@ class LiveUnit(Unit):
     def has_to_tell(self):
         return bool(self.memory.active) or self.memory.lamps[0] != 0
 
+    def codes(self):
+        return {(code.spn, code.fmi) for code in self.memory.active}
+
+    def changes(self):
+        """What is not as it was told: codes that became active or inactive, and the lamps."""
+        return (self.codes() ^ self.codes_told) | ({LAMPS} if self.memory.lamps[0] != self.lamps_told else set())
+
+    def is_change_due(self, now):
+        """A change is told at once, of the same code once a second (J1939-73, 5.7.1)."""
+        within = {which for which, time in self.changes_told if now < time + DM1_PERIOD}
+        if self.lamps_changed is not None and now < self.lamps_changed + DM1_PERIOD:
+            within.add(LAMPS)
+        return len(self.changes_told) < MOST_CHANGES and bool(self.changes() - within)
+
+    def is_second_over(self, now):
+        return self.dm1_at <= now and (self.always or bool(self.codes_told) or self.lamps_told != 0 or self.has_to_tell())
+
     def act(self, now, most=8):
         for _ in range(most):
             if self.is_left_alone(now) and self.has_room():
@@ -144,16 +169,24 @@ class LiveUnit(Unit):
                     self.put(to_all(6, DM1, self.held, payload))
                 else:
                     self.put(*broadcast(payload, DM1, self.held))
-                self.dm1_at, self.told = now + DM1_PERIOD, self.has_to_tell()
+                self.tell(now)
             else:
                 return
+
+    def tell(self, now):
+        if self.dm1_at <= now:
+            self.changes_told = []
+        if LAMPS in self.changes():
+            self.lamps_changed = now
+        self.changes_told += [(which, now) for which in self.changes() if which != LAMPS]
+        self.codes_told, self.lamps_told, self.dm1_at = self.codes(), self.memory.lamps[0], now + DM1_PERIOD
 
     def is_left_alone(self, now):
         return self.session is not None and not self.lanes["session"] and self.alone_at <= now
 
     def is_dm1_due(self, now):
         return (
-            self.obeys() and self.dm1_at <= now and (self.always or self.told or self.has_to_tell()) and self.held is not None
+            self.obeys() and (self.is_second_over(now) or self.is_change_due(now)) and self.held is not None
             and self.settled_at <= now and not self.lanes["claims"] and not self.lanes["messages"]
             and not (self.session and self.session.kind == DM1)
         )
@@ -165,7 +198,8 @@ class LiveUnit(Unit):
         if self.lanes["claims"]:
             if self.claim_at > now:
                 return None
-            self.settled_at = now + self.settle
+            if not self.claimed:  # (the pause follows the first claim of an address: J1939-81)
+                self.settled_at, self.claimed = now + self.settle, True
             return self.take("claims")
         if self.settled_at <= now:
             if self.lanes["singles"]:
@@ -198,7 +232,8 @@ class LiveUnit(Unit):
 
     def times(self):
         """The times at which something may change by itself."""
-        return [self.claim_at, self.settled_at, self.packet_at, self.alone_at, self.dm1_at] + [it.at for it in self.cyclic]
+        seconds = [time + DM1_PERIOD for _, time in self.changes_told] + ([] if self.lamps_changed is None else [self.lamps_changed + DM1_PERIOD])
+        return [self.claim_at, self.settled_at, self.packet_at, self.alone_at, self.dm1_at] + seconds + [it.at for it in self.cyclic]
 
 
 class Playback:

@@ -60,6 +60,9 @@ a code has the texts of its SPN and of its FMI
 a code has the text of its SPN
 a code has the text of its FMI
 a code has no text
+lamps that are not available
+a lamp that is not available
+a lamp that is reserved
 decode: a broadcast is joined
 decode: a session is joined
 decode: packets of nothing
@@ -193,6 +196,13 @@ an input without frames that looks like a table (.csv)
 an input without frames that looks like PEAK's text (.trc)
 an input without frames that looks like Vector's text (.asc)
 an input without frames that looks like Vector's binary form (.blf)
+an input without frames that looks like compressed (gzip)
+an input without frames that looks like compressed (xz)
+an input without frames that looks like compressed (zstd)
+an input without frames that looks like compressed (zip)
+an input without frames that looks like compressed (bzip2)
+an input without frames that looks like UTF-16
+an input without frames that looks like binary
 """
 
 COUNTS = {case: 0 for part in (LINES, WORDS, HEARD, STATION, LISTENER, WATCH, NOTICES) for case in part.strip().splitlines()}

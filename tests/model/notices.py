@@ -4,6 +4,7 @@ import re
 
 from .log_cases import reach
 from .log_line import Line
+from .words import seen
 
 TOLD = 10  # bad lines of one kind that are told each
 ENOUGH = 10  # relative times that are looked at
@@ -32,7 +33,7 @@ class BadLines:
         self.counts[kind] += 1
         if self.counts[kind] > TOLD:
             reach("a bad line that is counted alone")
-        return f"line {number}: {line.what}\n" if self.counts[kind] <= TOLD else ""
+        return f"line {number}: {seen(line.what)}\n" if self.counts[kind] <= TOLD else ""
 
     def rest(self):
         more = {kind: count - TOLD for kind, count in self.counts.items() if count > TOLD}
@@ -84,6 +85,23 @@ class Clock:
         return ""
 
 
+# What files begin with that no text does: what they are, and the command that writes what is in them.
+PACKED = [(b"\x1f\x8b", "compressed (gzip)", "zcat"), (b"\xfd7zXZ", "compressed (xz)", "xzcat"), (b"\x28\xb5\x2f\xfd", "compressed (zstd)", "zstdcat"),
+          (b"PK\x03\x04", "compressed (zip)", "unzip -p"), (b"BZh", "compressed (bzip2)", "bzcat"), (b"\xff\xfe", "UTF-16", "iconv -f UTF-16 -t UTF-8"),
+          (b"\xfe\xff", "UTF-16", "iconv -f UTF-16 -t UTF-8")]
+
+
+def looks_of(text):
+    """What an input looks like by a line of it, and what is told of it; None where the line says nothing."""
+    for mark, what, command in PACKED:
+        if text.startswith(mark):
+            return what, f"this is {what}: {command} FILE | j1939bench watch"
+    if b"\0" in text and not text.startswith(b"LOGG"):
+        return "binary", "this is not a text log"
+    log = other_log(text)
+    return log and (log[0], f"this looks like {log[0]}, which is read once it is converted: {log[1]}")
+
+
 def other_log(text):
     """What a line of another program's log looks like, and what converts it."""
     if text.startswith(b"LOGG"):
@@ -101,7 +119,7 @@ def without_frames(lines):
     """What is told of an input in which no line tells of a frame."""
     if not lines or any(line.kind not in ("note", "bad") for line in lines):
         return ""
-    looks = next(filter(None, (other_log(line.text) for line in lines)), None)
+    looks = next(filter(None, (looks_of(line.text) for line in lines)), None)
     reach("an input without frames that looks like " + (looks[0] if looks else "no log"))
-    words = f"{looks[0]}, which is read once it is converted: {looks[1]}" if looks else "no log of candump (candump -L can0 > OUT.log)"
-    return f"no frame in {len(lines)} lines: this looks like {words}\n"
+    words = looks[1] if looks else "this looks like no log of candump (candump -L can0 > OUT.log)"
+    return f"no frame in {len(lines)} lines: {words}\n"

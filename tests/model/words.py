@@ -1,6 +1,7 @@
 """What a frame says in words, and what stands of it in JSON: lamps, codes, NAMEs, groups (J1939-21, -73, -81)."""
 
 import json
+import re
 
 from .frames import (ABORT, ACKNOWLEDGMENT, BAM, CLAIM, COMMANDED_ADDRESS, CONTROL, CTS, DM3, DM11, END_OF_MESSAGE, GLOBAL, NULL, PACKET, REQUEST, RTS,
                      TITLES, claimed_name, control_of, control_pgn, control_size, number, requested)
@@ -26,13 +27,32 @@ DATA_GROUPS = {
 }
 ANSWERS = {0: "positive", 1: "negative", 2: "access denied", 3: "cannot respond now"}
 
+HIDDEN = "[\x00-\x1f\x7f-\x9f\u061c\u200e\u200f\u202a-\u202e\u2066-\u2069]"  # control characters, and marks that turn the direction of text
+
+
+def seen(text):
+    """Text from outside in a line that is told: what a terminal obeys, or turns the direction of text, stands by its number."""
+    return re.sub(HIDDEN, lambda found: f"\\x{ord(found[0]):02X}" if ord(found[0]) < 256 else f"\\u{ord(found[0]):04X}", text)
+
+
 dumped = json.JSONEncoder(ensure_ascii=False, separators=(",", ":")).encode
 
 
 def lamp_words(lamps):
-    """The lamps that are on (01), each with how it flashes (00 slowly, 01 fast) (J1939-73, 5.7.1)."""
-    on = [word + FLASHES.get(lamps[1] >> at & 3, "") for word, at in LAMPS if lamps[0] >> at & 3 == 1]
-    return ", ".join(on) or "no lamp"
+    """The lamps that are on (01), each with how it flashes (00 slowly, 01 fast), or that of those that are said to be off or on none is on; then those that are
+    not available (11), and those in a state that is reserved (10) (J1939-73, 5.7.1)."""
+    lamps_in = [[word for word, at in LAMPS if lamps[0] >> at & 3 == state] for state in range(4)]
+    if len(lamps_in[3]) == 4:
+        reach("lamps that are not available")
+        return "lamps not available"
+    told = [word + FLASHES.get(lamps[1] >> at & 3, "") for word, at in LAMPS if lamps[0] >> at & 3 == 1]
+    if not told and lamps_in[0]:
+        told = ["no lamp"]
+    for state, what in ((3, "not available"), (2, "reserved")):
+        if lamps_in[state]:
+            reach(f"a lamp that is {what}")
+            told.append("/".join(lamps_in[state]) + f" {what}")
+    return ", ".join(told)
 
 
 def code_words(codes):

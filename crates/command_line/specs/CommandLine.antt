@@ -1,5 +1,5 @@
 -- The words that the program takes, as `clap` reads them.
-use Rattle.std.specs.Prelude.{ℕ, List, Some, true, codes, drop, slice_get, IsSomeAnd, ◌≡◌, ◌≤◌, ◌⊎◌, ◌∷◌, []}
+use Rattle.std.specs.Prelude.{ℕ, List, Some, true, codes, drop, slice_get, ◌≡◌, ◌≢◌, ◌≤◌, ◌⊎◌, ◌∷◌, []}
 use Rattle.clap.specs.Simple.{App, Shape, new_app, new_rule, new_shape, with_subcommand, on_top}
 use Rattle.clap.specs.Faults.{fault_of}
 use Rattle.clap.specs.Kinds.{Kinds, IsAmong}
@@ -125,9 +125,9 @@ abbrev pub IsHelp : LineFault → Type 0
 IsHelp (Help page) = Unit {0}
 IsHelp _ = ⊥
 
--- the first word behind the program's name is one of these subcommands, of which it is told what is wrong behind them
+-- it is told what is wrong with the words, but behind the subcommands that programs drive
 abbrev pub TellsWhy : List Text → Type 0
-TellsWhy words = IsSomeAnd (slice_get words 1) (λ word. (word ≡ codes "watch") ⊎ (word ≡ codes "log") ⊎ (word ≡ codes "decode") ⊎ (word ≡ codes "check") ⊎ (word ≡ codes "live"))
+TellsWhy words = (slice_get words 1 ≢ Some (codes "script")) × (slice_get words 1 ≢ Some (codes "threads"))
 
 -- something is told behind the fault's line
 abbrev pub HasWords : LineFault → Type 0

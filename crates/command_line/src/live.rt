@@ -11,7 +11,7 @@ use std::alloc::{AllocError, Global};
 /// How a bus is joined.
 fn pipes() -> &'static str {
     "\
-On a bus:  candump -L can0 | j1939bench live VEHICLE | canplayer -t can0=can0
+On a bus:  candump -L -d can0 | j1939bench live VEHICLE | canplayer -t can0=can0
 
 The units of the vehicle file claim their addresses on the bus, defend them or move, answer requests, send their DM1 each second while
 a code is active or a lamp is on, and serve sessions. Its stations take no part: watch, beside it, shows what they would. Each frame
@@ -25,8 +25,9 @@ The file of --control, which may be a named pipe, has a line for each order; I i
   counts I               its frames put, written, withdrawn, waiting
   leave I                it is taken off the bus
 
-Answers go to standard error, and at the end of the input a line for each unit. Status: 0 done; 1 a read or write failed, or memory ran
-out; 2 the command line or the vehicle; 3 done, but lines were bad, or none was a frame.
+Answers go to standard error with the number of the order's line, as order 3: ok, and at the end of the input a line for each unit.
+Status: 0 done; 1 a read or write failed, or memory ran out; 2 the command line or the vehicle; 3 done, but lines were bad, or none was
+a frame.
 
 With --times lines a log is read as fast as it goes: each unit hears each line at its time, and what it writes has the time at which it is due.
 

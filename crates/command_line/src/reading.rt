@@ -18,8 +18,8 @@ const PROGRAM: &str = "j1939bench";
 ///
 /// # Errors
 /// - `Help`: the words ask for help or for the version.
-/// - `Refused`: the words are none of the program's, or a number of turns or readings is not 1 to 100,000. Behind `watch`, `log`,
-///   `decode`, `check` and `live` it has what is wrong, with the words that may have been meant and the usage.
+/// - `Refused`: the words are none of the program's, or a number of turns or readings is not 1 to 100,000. It has what is wrong, with
+///   the words that may have been meant and the usage, but behind `script` and `threads`.
 /// - `Memory`: memory ran out.
 pub fn parse<'a>(alloc: Global, words: &'a [String]) -> Result<Job<'a>, LineFault>
     ensures range { IfOk result HasCounts }
@@ -35,16 +35,16 @@ pub fn parse<'a>(alloc: Global, words: &'a [String]) -> Result<Job<'a>, LineFaul
     }
 }
 
-/// Whether it is told what is wrong with words: where the first behind the program's name is one of these subcommands.
+/// Whether it is told what is wrong with words: where programs drive the subcommand, as `script` and `threads`, it is not.
 fn is_told(words: &[String]) -> bool
     ensures { IsTrue result ↔ TellsWhy (map string_bytes words.now) }
 {
     let Some(word) = words.get(1) else {
-        return false;
+        return true;
     };
     match word.as_str() {
-        "watch" | "log" | "decode" | "check" | "live" => true,
-        _ => false,
+        "script" | "threads" => false,
+        _ => true,
     }
 }
 
@@ -116,7 +116,7 @@ fn named<'a>(alloc: Global) -> Result<Command<'a>, AllocError>
     ensures { IfOk result (λ c. app_of c ≡ named_app) }
 {
     Command::new(alloc, PROGRAM)
-        .version("1.0")
+        .version("2.4.0")
         .about("A diagnostic station for SAE J1939 with simulated control units")
         .after_help(threads::vehicle())
         .subcommand_required(true)

@@ -1,6 +1,9 @@
-//! The rows of comma-separated values (RFC 4180) of a shop's files, read one after the other.
+//! A shop's files: rows of separated values (RFC 4180) under named columns, read one after the other.
 #![tactic(auto)]
 
+mod fault;
 mod rows;
+mod sheet;
 
-pub use rows::{CsvRow, CsvRows};
+pub use fault::{ColumnNames, SheetFault, Wrong, WrongLines};
+pub use sheet::Sheet;

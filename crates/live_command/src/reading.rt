@@ -1,12 +1,12 @@
 //! The threads that read: the lines of the bus, and what is asked of the units.
 
 use crate::shared::{Shared, now};
-use live_lines::{ControlOrder, Reply};
+use live_lines::OrderReader;
 use log_lines::{LogFault, ROOM, next_line};
+use std::io;
 use std::io::{BufReader, Read};
 use std::sync::Wait;
 use std::time::Clock;
-use std::{io, str};
 
 /// Reads the lines of the bus to their end, which it keeps.
 pub(crate) fn read_bus<R: Wait + Clock, I: Read + Drop>(rt: &R, shared: &Shared, reader: I) {
@@ -40,37 +40,37 @@ fn read_lines<R: Wait + Clock, I: Read + Drop>(
     Ok(false)
 }
 
-/// Reads what is asked of the units, a line each, and keeps each answer. The end of what is read does not end the run.
+/// Reads what is asked of the units, a line each, and keeps each answer. The end of what is read does not end the run, nor does a
+/// failure, which is told.
 pub(crate) fn read_orders<R: Wait, I: Read + Drop>(rt: &R, shared: &Shared, reader: I) {
-    let alloc = shared.alloc;
-    let Ok(mut reader) = BufReader::with_capacity(alloc, ROOM, reader) else {
-        return;
-    };
-    let mut line = Vec::new(alloc);
-    for _ in 0..u64::MAX {
-        match next_line(&mut reader, &mut io::sink(), &mut line) {
-            Ok(true) => {}
-            _ => return,
-        }
-        give_order(rt, shared, line.as_slice());
+    if let Err(fault) = take_orders(rt, shared, reader) {
+        shared.state.lock(rt).end_orders(shared.alloc, fault);
+        shared.woken.notify_one();
     }
 }
 
-/// Carries out one line, and keeps its answer, where it is none that is silent.
-fn give_order<R: Wait>(rt: &R, shared: &Shared, line: &[u8]) {
+/// Carries out each order.
+fn take_orders<R: Wait, I: Read + Drop>(
+    rt: &R,
+    shared: &Shared,
+    reader: I,
+) -> Result<(), LogFault> {
     let alloc = shared.alloc;
-    let text = str::from_utf8(line).unwrap_or("?").trim_end();
-    if script_line::is_silent(text) {
-        return;
-    }
-    let mut state = shared.state.lock(rt);
-    let reply = match ControlOrder::read(text) {
-        Some(order) => order.give(alloc, &mut state.fleet),
-        None => Reply::BadLine,
+    let mut reader = match BufReader::with_capacity(alloc, ROOM, reader) {
+        Ok(reader) => reader,
+        Err(error) => return Err(LogFault::of_read(error)),
     };
-    if let Ok(words) = reply.to_string(alloc) {
-        state.note(words.as_str());
+    let mut orders = OrderReader::new();
+    let mut line = Vec::new(alloc);
+    for _ in 0..u64::MAX {
+        if !next_line(&mut reader, &mut io::sink(), &mut line)? {
+            return Ok(());
+        }
+        shared
+            .state
+            .lock(rt)
+            .give_order(alloc, &mut orders, line.as_slice());
+        shared.woken.notify_one();
     }
-    drop(state);
-    shared.woken.notify_one();
+    Ok(())
 }

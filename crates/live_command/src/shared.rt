@@ -1,10 +1,10 @@
 //! What the threads of a run share.
 
 use crate::reading::{read_bus, read_orders};
-use live_lines::{Ear, Fleet};
+use live_lines::{Ear, Fleet, OrderReader};
 use log_lines::{LinesEnd, LogFault};
 use program_io::{Failure, Fault};
-use std::alloc::Global;
+use std::alloc::{AllocError, Global};
 use std::io;
 use std::io::{Read, Write};
 use std::sync::{Condvar, Mutex, Wait};
@@ -19,6 +19,8 @@ pub(crate) struct State {
     pub(crate) notes: Vec<u8>,
     /// How the lines of the bus ended: whether all were read, or why not.
     pub(crate) end: Option<Result<bool, LogFault>>,
+    /// Why orders are read no more, or an answer is lost.
+    pub(crate) fault: Option<LogFault>,
 }
 
 /// The state under its lock, and who is woken when it changes.
@@ -57,9 +59,38 @@ impl State {
             .take(alloc, &mut self.fleet, line, now, &mut self.notes)
     }
 
-    /// Keeps a line that is to be told, where there is memory for it.
-    pub(crate) fn note(&mut self, line: &str) {
-        let _ = writeln!(&mut self.notes, "{line}");
+    /// Carries out the order of a line, and keeps its answer. Where memory is refused for that, the run is told to lack it.
+    pub(crate) fn give_order(&mut self, alloc: Global, orders: &mut OrderReader, line: &[u8]) {
+        if let Some(answer) = orders.take(alloc, &mut self.fleet, line) {
+            self.note(format!(in alloc; "{answer}\n"));
+        }
+    }
+
+    /// Keeps that no more orders are read, and why.
+    pub(crate) fn end_orders(&mut self, alloc: Global, fault: LogFault) {
+        self.note(format!(in alloc; "no more orders are read\n"));
+        self.fault = Some(fault);
+    }
+
+    /// Keeps a line that is to be told, whole.
+    fn note(&mut self, line: Result<String, AllocError>) {
+        let kept = match line {
+            Ok(line) => self.notes.extend_from_slice(line.as_bytes()),
+            Err(error) => Err(error),
+        };
+        if kept.is_err() {
+            self.fault = Some(LogFault::Memory);
+        }
+    }
+
+    /// How the run ended whose lines ended so. Tells what was not told.
+    pub(crate) fn ended<E: Write>(&self, errors: &mut E, end: Result<bool, LogFault>) -> LinesEnd {
+        let ended = self.ear.ended(errors, end);
+        let ended = self.fleet.ended(errors, ended);
+        LinesEnd {
+            fault: ended.fault.or(self.fault),
+            ..ended
+        }
     }
 }
 

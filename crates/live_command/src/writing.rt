@@ -109,6 +109,7 @@ fn run<
                 ear,
                 notes: Vec::new(alloc),
                 end: None,
+                fault: None,
             }),
             woken: Condvar::new(),
             alloc,
@@ -214,8 +215,7 @@ fn look<R: Wait + Clock>(rt: &R, shared: &Shared) -> Next {
         std::mem::swap(&mut notes, &mut state.notes);
         return Next::Notes(notes);
     }
-    let (frame, _refused) = state.fleet.step(alloc, time);
-    if let Some(frame) = frame {
+    if let Some(frame) = state.fleet.step(alloc, time) {
         return Next::Frame(frame);
     }
     if let Some(end) = state.end {
@@ -251,8 +251,7 @@ fn finish<R: Wait, E: Write>(
     end: Result<bool, LogFault>,
 ) -> Result<(), Failure> {
     let state = shared.state.lock(rt);
-    let ended = state.ear.ended(errors, end);
-    let _ = state.fleet.write_summary(errors);
+    let ended = state.ended(errors, end);
     let _ = errors.flush();
     failure_of(ended)
 }

@@ -51,7 +51,7 @@ impl Ear {
     {
         let Heard { frame, is_bad } = self.read(line, errors)?;
         if let Some((_, frame)) = frame {
-            let _unheard = fleet.hear(alloc, &frame, now);
+            fleet.hear(alloc, &frame, now);
         }
         Ok(is_bad)
     }

@@ -1,13 +1,15 @@
-ghost use Rattle.std.specs.Prelude.{◌≡◌, ◌≤◌, IfSome};
+ghost use Rattle.std.specs.Prelude.{◌≡◌, ◌≤◌, ◌||◌, IfSome, None, Some, false, true};
 ghost use Rattle.can_frame.specs.Fields.{source_of};
 ghost use Rattle.can_frame.specs.declared.address.TheConstants.{GREATEST_ADDRESS};
 ghost use Rattle.address_claim.specs.Frames.{claim_source};
+ghost use Rattle.log_lines.specs.declared.fault.LogFault.TheVariants.{Memory};
 
 use crate::cyclic::Cyclic;
 use can_frame::Frame;
 use dm_messages::Kind;
 use fault_memory::{FaultChange, FaultError};
 use live_unit::{Act, LiveError, LiveUnit, QueueCounts, UnitSettings};
+use log_lines::{LinesEnd, LogFault};
 use std::alloc::{AllocError, Global};
 use std::io;
 use std::io::Write;
@@ -42,6 +44,8 @@ pub struct Fleet {
     members: Vec<Member>,
     /// Whose frame is asked for first.
     turn: usize,
+    /// Whether a unit was refused memory for what it heard or did.
+    is_short: bool,
 }
 
 impl Fleet {
@@ -50,6 +54,7 @@ impl Fleet {
         Fleet {
             members: Vec::new(alloc),
             turn: 0,
+            is_short: false,
         }
     }
 
@@ -82,45 +87,50 @@ impl Fleet {
         Ok(())
     }
 
-    /// Has each unit on the bus hear a frame. Answers how many could not, for want of room or of memory: they are as they were.
-    pub fn hear(&mut self, alloc: Global, frame: &Frame, now: u64) -> u32
+    /// Has each unit on the bus hear a frame. One that cannot, for want of room or of memory, is as it was, and counts it as unheard.
+    pub fn hear(&mut self, alloc: Global, frame: &Frame, now: u64)
         requires { Unit {0} }
     {
-        let mut unheard = 0u32;
+        let mut refused = false;
         for member in self.members.iter_mut() {
-            if member.has_left {
-                continue;
-            }
-            match member.unit.hear(alloc, frame, now) {
-                Ok(_) => member.heard = member.heard.saturating_add(1),
-                Err(_) => {
-                    member.unheard = member.unheard.saturating_add(1);
-                    unheard = unheard.saturating_add(1);
-                }
+            if member.hear(alloc, frame, now) {
+                refused = true;
             }
         }
-        unheard
+        self.note_short(refused);
     }
 
     /// The frame that goes at this time, if one does: that of the first unit, from the one whose turn it is on, that has one. Units
-    /// do first of their own accord what is due. Answers also how many were refused memory for it.
-    pub fn step(&mut self, alloc: Global, now: u64) -> (Option<Frame>, u32)
+    /// do first of their own accord what is due; one that is refused memory for it tries again later.
+    pub fn step(&mut self, alloc: Global, now: u64) -> Option<Frame>
         requires { Unit {0} }
     {
-        let mut refused = 0u32;
+        let mut refused = false;
+        let mut found = None;
         let count = self.members.len();
         for offset in 0..count {
             let place = place_after(self.turn, offset, count);
             let Some(member) = self.members.get_mut(place) else {
                 continue;
             };
-            refused = refused.saturating_add(member.act(alloc, now));
-            if let Some(frame) = member.due(now) {
+            if member.act(alloc, now) {
+                refused = true;
+            }
+            found = member.due(now);
+            if found.is_some() {
                 self.turn = place_after(place, 1, count);
-                return (Some(frame), refused);
+                break;
             }
         }
-        (None, refused)
+        self.note_short(refused);
+        found
+    }
+
+    /// Keeps that a unit was refused memory, where one was.
+    fn note_short(&mut self, refused: bool)
+        ensures { self.new.is_short ≡ (self.old.is_short || refused) }
+    {
+        self.is_short = self.is_short || refused;
     }
 
     /// When to look again, at this time or later.
@@ -153,7 +163,11 @@ impl Fleet {
     }
 
     /// Tells a unit of a change of its fault memory. None where no unit at that place is on the bus.
-    pub fn change(&mut self, place: u32, change: FaultChange) -> Option<Result<(), FaultError>>
+    pub(crate) fn change(
+        &mut self,
+        place: u32,
+        change: FaultChange,
+    ) -> Option<Result<(), FaultError>>
         requires { Unit {0} }
     {
         let member = self.unit_at(place)?;
@@ -161,7 +175,7 @@ impl Fleet {
     }
 
     /// Has a unit begin a message of this kind to all. None where no unit at that place is on the bus.
-    pub fn begin(
+    pub(crate) fn begin(
         &mut self,
         alloc: Global,
         place: u32,
@@ -174,7 +188,7 @@ impl Fleet {
     }
 
     /// Takes a unit off the bus: it hears nothing more, and writes nothing. None where no unit at that place is on it.
-    pub fn leave(&mut self, place: u32) -> Option<()>
+    pub(crate) fn leave(&mut self, place: u32) -> Option<()>
         requires { Unit {0} }
     {
         let member = self.unit_at(place)?;
@@ -183,15 +197,18 @@ impl Fleet {
     }
 
     /// What became of the frames of a unit, one that has left too.
-    pub fn counts(&self, place: u32) -> Option<QueueCounts> {
+    pub(crate) fn counts(&self, place: u32) -> Option<QueueCounts> {
         Some(self.members.get(place as usize)?.unit.counts())
     }
 
-    /// Writes a line for each unit: its place, its NAME, the address that it holds, and counts.
-    ///
-    /// # Errors
-    /// That could not be written.
-    pub fn write_summary<W: Write>(&self, writer: &mut W) -> io::Result<()> {
+    /// How a run of these units ended whose lines ended so. Tells a line for each unit: its place, its NAME, the address that it holds,
+    /// and counts. Where a unit was refused memory for what it heard or did, the run failed for want of memory.
+    pub fn ended<E: Write>(&self, errors: &mut E, lines: LinesEnd) -> LinesEnd {
+        let _ = self.write_summary(errors);
+        ended_short(lines, self.is_short)
+    }
+
+    fn write_summary<W: Write>(&self, writer: &mut W) -> io::Result<()> {
         for (place, member) in self.members.iter().enumerate() {
             member.write_line(writer, place)?;
         }
@@ -200,24 +217,43 @@ impl Fleet {
 }
 
 impl Member {
-    /// Does of its own accord what is due. Answers 1 where it was refused memory for it, which it tries again later.
-    fn act(&mut self, alloc: Global, now: u64) -> u32
+    /// Has it hear a frame, where it is on the bus. Tells whether memory was refused for it.
+    fn hear(&mut self, alloc: Global, frame: &Frame, now: u64) -> bool
+        requires { Unit {0} }
+    {
+        if self.has_left {
+            return false;
+        }
+        match self.unit.hear(alloc, frame, now) {
+            Ok(_) => {
+                self.heard = self.heard.saturating_add(1);
+                false
+            }
+            Err(error) => {
+                self.unheard = self.unheard.saturating_add(1);
+                error == LiveError::OutOfMemory
+            }
+        }
+    }
+
+    /// Does of its own accord what is due. Tells whether it could not, for which it tries again later.
+    fn act(&mut self, alloc: Global, now: u64) -> bool
         requires { Unit {0} }
     {
         if self.has_left || now < self.retry_from {
-            return 0;
+            return false;
         }
         for _ in 0..MOST_ACTS {
             match self.unit.act(alloc, now) {
-                Ok(Act::Nothing) => return 0,
+                Ok(Act::Nothing) => return false,
                 Ok(_) => {}
-                Err(_) => {
+                Err(error) => {
                     self.retry_from = now.saturating_add(RETRY);
-                    return 1;
+                    return error == LiveError::OutOfMemory;
                 }
             }
         }
-        0
+        false
     }
 
     /// The frame of it that goes at this time: one that waits, or else one that it sends again and again.
@@ -285,6 +321,20 @@ impl Member {
             write!(writer, " cyclic {}", self.sent)?;
         }
         writeln!(writer)
+    }
+}
+
+/// How a run ended whose lines ended so, and in which memory was refused or not.
+fn ended_short(lines: LinesEnd, is_short: bool) -> LinesEnd
+    ensures short { is_short ≡ true → lines.fault ≡ None → result.fault ≡ Some Memory }
+    ensures same { is_short ≡ false → result ≡ lines }
+{
+    match lines.fault {
+        None if is_short => LinesEnd {
+            fault: Some(LogFault::Memory),
+            ..lines
+        },
+        _ => lines,
     }
 }
 

@@ -13,5 +13,5 @@ mod playback;
 pub use beginning::{Unheld, begin_with};
 pub use ear::Ear;
 pub use fleet::Fleet;
-pub use orders::{ControlOrder, Reply};
+pub use orders::{Answer, OrderReader};
 pub use playback::Playback;

@@ -1,4 +1,5 @@
 //! What is asked of the units while the bus runs: some of the commands of a script, with a unit's place in the place of a seat.
+ghost use Rattle.std.specs.Prelude.{◌≡◌, ◌+◌, ◌-◌, ◌^◌, min};
 
 use crate::fleet::Fleet;
 use dm_messages::Kind;
@@ -6,17 +7,32 @@ use fault_memory::{FaultChange, FaultError};
 use live_unit::{LiveError, QueueCounts};
 use script_line::{CodeChange, Command};
 use std::alloc::Global;
-use std::fmt;
+use std::{fmt, str};
+
+/// Who reads the lines of orders.
+#[derive(Drop)]
+pub struct OrderReader {
+    /// How many lines were read.
+    number: u64,
+}
+
+/// What came of an order. `Display` writes the answer's line without its end: the number of the order's line, from 1, and what came
+/// of it in the words of a script's answers, as `order 3: ok`.
+#[derive(Clone, Copy)]
+pub struct Answer {
+    number: u64,
+    reply: Reply,
+}
 
 /// What is asked of a unit.
 #[derive(Clone, Copy)]
-pub struct ControlOrder {
+struct ControlOrder {
     command: Command,
 }
 
-/// What came of it. `Display` writes the answer's line without its end, in the words of a script's answers.
+/// What came of it.
 #[derive(Clone, Copy)]
-pub enum Reply {
+enum Reply {
     /// It is done.
     Done,
     /// A message was begun.
@@ -35,9 +51,47 @@ pub enum Reply {
     Unit(LiveError),
 }
 
+impl OrderReader {
+    /// No line was read.
+    pub fn new() -> OrderReader {
+        OrderReader { number: 0 }
+    }
+
+    /// Takes the next line, with its end, and carries its order out. No answer has a line that is silent: empty, or behind a `#`.
+    pub fn take(&mut self, alloc: Global, fleet: &mut Fleet, line: &[u8]) -> Option<Answer>
+        requires { Unit {0} }
+    {
+        let number = self.next_number();
+        let text = str::from_utf8(line).unwrap_or("?").trim_end();
+        if script_line::is_silent(text) {
+            return None;
+        }
+        let reply = match ControlOrder::read(text) {
+            Some(order) => order.give(alloc, fleet),
+            None => Reply::BadLine,
+        };
+        Some(Answer { number, reply })
+    }
+
+    /// The number of the next line, from 1 on; it stops at the greatest.
+    fn next_number(&mut self) -> u64
+        ensures counted { self.new.number ≡ min (self.old.number + 1) (2 ^ 64 - 1) }
+        ensures answered { result ≡ self.new.number }
+    {
+        self.number = self.number.saturating_add(1);
+        self.number
+    }
+}
+
+impl fmt::Display for Answer {
+    fn fmt<W: fmt::Write>(&self, f: &mut fmt::Formatter<W>) -> fmt::Result {
+        write!(f, "order {}: {}", self.number, self.reply)
+    }
+}
+
 impl ControlOrder {
-    /// The order of a line; none where it is none, and where it is silent: empty, or behind a `#`.
-    pub fn read(line: &str) -> Option<ControlOrder> {
+    /// The order of a line; none where it is none.
+    fn read(line: &str) -> Option<ControlOrder> {
         let line = script_line::read_line(line)?;
         match line.command {
             Command::Change { .. }
@@ -52,7 +106,7 @@ impl ControlOrder {
     }
 
     /// Carries the order out.
-    pub fn give(&self, alloc: Global, fleet: &mut Fleet) -> Reply
+    fn give(&self, alloc: Global, fleet: &mut Fleet) -> Reply
         requires { Unit {0} }
     {
         match self.command {

@@ -62,7 +62,7 @@ impl Playback {
         self.is_timed = self.is_timed || time.is_some();
         let now = self.time_of(time);
         self.write_until(alloc, now, writer)?;
-        let _unheard = self.fleet.hear(alloc, &frame, now);
+        self.fleet.hear(alloc, &frame, now);
         Ok(is_bad)
     }
 
@@ -79,11 +79,10 @@ impl Playback {
         }
     }
 
-    /// How the lines ended, at the end of the input or not. Tells a line for each unit.
+    /// How the run ended whose lines ended so, at the end of the input or not. Tells a line for each unit.
     pub fn ended<E: Write>(&self, errors: &mut E, end: Result<bool, LogFault>) -> LinesEnd {
         let ended = self.ear.ended(errors, end);
-        let _ = self.fleet.write_summary(errors);
-        ended
+        self.fleet.ended(errors, ended)
     }
 
     /// Whether the clock begins anew at a line with this time.
@@ -116,10 +115,9 @@ impl Playback {
     {
         let mut now = self.clock.unwrap_or(until);
         for _ in 0..u64::MAX {
-            let (frame, _refused) = self.fleet.step(alloc, now);
-            if let Some(frame) = frame {
+            if let Some(frame) = self.fleet.step(alloc, now) {
                 self.write(now, &frame, writer)?;
-                let _unheard = self.fleet.hear(alloc, &frame, now);
+                self.fleet.hear(alloc, &frame, now);
                 continue;
             }
             let next = self.fleet.next(now).max(now.saturating_add(1));

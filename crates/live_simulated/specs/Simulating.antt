@@ -3,18 +3,16 @@ use Rattle.std.specs.Prelude.{ℕ, ◌≡◌, ◌∷◌, [], false, Option, Some
 use Rattle.can_frame.specs.FrameValue.{FrameValue}
 use Rattle.address_claim.specs.Frames.{claim_frame_value}
 use Rattle.fault_memory.specs.Memory.{MemoryValue, new_memory}
-use Rattle.parameter_group.specs.Group.{group_of}
 use Rattle.script_line.specs.declared.command.UnitKind.{UnitKind}
 use Rattle.simulated_unit.specs.Kinds.{is_willing}
 use Rattle.node_core.specs.Asking.{is_agreed}
 use Rattle.node_core.specs.Deed.{plain}
-use Rattle.node_core.specs.GivingUp.{is_held_open}
 use Rattle.node_core.specs.NodeValue.{NodeValue, new_node}
 use Rattle.node_core.specs.Reaction.{question}
 use Rattle.node_core.specs.declared.heard.Answer.{Answer}
 use Rattle.live_unit.specs.Queue.{QueueValue, empty_queue, putting}
-use Rattle.live_unit.specs.Steps.{Acts, HasHeardFrame, Standing, Writes, has_lost, standing}
-use Rattle.live_unit.specs.Times.{clock_after_hearing, clock_at_start, is_dm1_due, is_left_alone, lane_due}
+use Rattle.live_unit.specs.Steps.{Acts, HasHeardFrame, Standing, Writes, clock_heard, standing}
+use Rattle.live_unit.specs.Times.{clock_at_start, is_dm1_due, is_left_alone, lane_due}
 use Rattle.live_unit.specs.declared.clock.UnitClock.{UnitClock}
 use Rattle.live_unit.specs.declared.clock.UnitSettings.{UnitSettings}
 use Rattle.live_unit.specs.declared.node.Act.{Act}
@@ -56,7 +54,7 @@ pub record HasHeardAs (f : FrameValue) (now : ℕ) (u u' : SimulatedValue) : Typ
   pub answer : Answer
   pub heard : HasHeardFrame f answer (standing_of u) (standing_of u')
   pub agrees : IsSome (question u.node f) → is_agreed answer ≡ is_willing u.kind
-  pub clock : u'.clock ≡ clock_after_hearing (is_held_open u.node (group_of f)) (has_lost u.node.claimer.held u'.node.claimer.held) u.name now u.clock
+  pub clock : u'.clock ≡ clock_heard f u.name now u.node u.queue u'.node u'.queue u.clock
   pub keeps : KeepsItsOwn u u'
 
 -- what goes at a time: the first frame of the lane that is due, or none where none is

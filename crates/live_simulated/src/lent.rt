@@ -2,13 +2,11 @@
 
 ghost use Rattle.std.specs.Prelude.{ℕ, ◌≡◌, ◌↔◌, ◌⊎◌, ◌≤◌, ◌<◌, IfErr, IfOk, IsErrOf, IsNone, IsSome, None, Ok, OnErr, OnOk, false, true};
 ghost use Rattle.node_core.specs.Asking.{is_agreed};
-ghost use Rattle.node_core.specs.GivingUp.{is_held_open};
 ghost use Rattle.node_core.specs.NodeValue.{is_open};
 ghost use Rattle.node_core.specs.Reaction.{question};
-ghost use Rattle.parameter_group.specs.Group.{group_of};
 ghost use Rattle.simulated_unit.specs.Kinds.{is_willing};
-ghost use Rattle.live_unit.specs.Steps.{Acts, BeginsToAll, CanPut, HasHeardFrame, LacksRoomFor, has_lost, standing};
-ghost use Rattle.live_unit.specs.Times.{clock_after_hearing, is_dm1_due, is_left_alone, lane_due};
+ghost use Rattle.live_unit.specs.Steps.{Acts, BeginsToAll, CanPut, HasHeardFrame, LacksRoomFor, clock_heard, standing};
+ghost use Rattle.live_unit.specs.Times.{is_dm1_due, is_left_alone, lane_due};
 
 use can_frame::Frame;
 use dm_messages::Kind;
@@ -28,8 +26,8 @@ pub(crate) fn hear_by(
     ensures heard { IfOk result (λ a. HasHeardFrame frame.now a (standing live.old.node unit.old.memory live.old.queue)
         (standing live.new.node unit.new.memory live.new.queue)) }
     ensures agrees { IfOk result (λ a. IsSome (question live.old.node frame.now) → is_agreed a ≡ is_willing unit.old.kind) }
-    ensures clock { OnOk result (live.new.clock ≡ clock_after_hearing (is_held_open live.old.node (group_of frame.now))
-        (has_lost live.old.node.claimer.held live.new.node.claimer.held) unit.old.name now live.old.clock) }
+    ensures clock { OnOk result (live.new.clock ≡ clock_heard frame.now unit.old.name now live.old.node live.old.queue live.new.node
+        live.new.queue live.old.clock) }
     ensures name { unit.new.name ≡ unit.old.name }
     ensures kind { unit.new.kind ≡ unit.old.kind }
     ensures settings { live.new.settings ≡ live.old.settings }

@@ -3,3 +3,4 @@ pub mod Sources
 pub mod Timing
 pub mod Lent
 pub mod Queues
+pub mod Telling

@@ -1,4 +1,6 @@
 pub mod Refusals
 pub mod Queue
+pub mod Waits
+pub mod Telling
 pub mod Times
 pub mod Steps

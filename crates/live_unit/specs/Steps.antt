@@ -1,5 +1,5 @@
 -- What one call changes of a unit that takes part in a bus.
-use Rattle.std.specs.Prelude.{ℕ, ◌≡◌, ◌⊎◌, ◌≤◌, ◌<◌, ◌&&◌, Bool, true, false, not, is_some, Option, Some, slice_get}
+use Rattle.std.specs.Prelude.{ℕ, ◌≡◌, ◌⊎◌, ◌≤◌, ◌<◌, ◌&&◌, Bool, true, false, nat_le, Option, Some, slice_get}
 use Rattle.can_frame.specs.FrameValue.{FrameValue}
 use Rattle.can_frame.specs.declared.address.TheConstants.{GLOBAL_ADDRESS}
 use Rattle.transport.specs.declared.control.Control.{Control}
@@ -12,20 +12,22 @@ use Rattle.dm_messages.specs.declared.kind.Kind.{Kind}
 use Rattle.dm_messages.specs.declared.kind.Kind.TheVariants.{Dm1}
 use Rattle.node_core.specs.NodeValue.{NodeValue, is_open}
 use Rattle.node_core.specs.Deed.{EndsSession, after_deed, parts_begun}
-use Rattle.node_core.specs.GivingUp.{given_up}
+use Rattle.node_core.specs.GivingUp.{given_up, is_held_open}
 use Rattle.node_core.specs.Reaction.{Reacts}
 use Rattle.node_core.specs.declared.heard.Answer.{Answer}
 use Rattle.node_core.specs.declared.heard.Heard.{Heard}
 use Rattle.node_core.specs.declared.out.Out.{Out}
 use Rattle.live_unit.specs.declared.clock.UnitClock.{UnitClock}
 use Rattle.live_unit.specs.declared.clock.UnitSettings.{UnitSettings}
-use Rattle.live_unit.specs.declared.clock.TheConstants.{DM1_PERIOD}
+use Rattle.live_unit.specs.declared.told.TheConstants.{DM1_PERIOD}
 use Rattle.live_unit.specs.declared.queue.Lane.{Lane}
 use Rattle.live_unit.specs.declared.queue.TheConstants.{MOST_PUT}
 use Rattle.live_unit.specs.declared.node.Act.{Act}
 use Rattle.live_unit.specs.declared.node.Act.TheVariants as act
 use Rattle.live_unit.specs.Queue.{HasFreeLanes, QueueValue, TakesFirst, lane_of, putting, after_heard}
-use Rattle.live_unit.specs.Times.{clock_written, has_to_tell, is_dm1_due, is_left_alone, lane_due, later}
+use Rattle.live_unit.specs.Telling.{after_telling}
+use Rattle.live_unit.specs.Times.{clock_after_hearing, clock_cut, clock_written, is_cut, is_dm1_due, is_left_alone, lane_due}
+use Rattle.live_unit.specs.Waits.{later}
 
 -- a unit: what it keeps of the bus, its fault memory, and what waits to be written
 pub record Standing : Type 0 where
@@ -43,9 +45,10 @@ pub record HasHeardFrame (f : FrameValue) (answer : Answer) (u u' : Standing) : 
   pub reacts : Reacts f u.node u.memory heard u'.node u'.memory
   pub queue : u'.queue ≡ after_heard heard (claim_source u'.node.claimer.held) u.queue
 
--- it held an address, and holds none
-abbrev pub has_lost : Option ℕ → Option ℕ → Bool
-has_lost before after = is_some before && not (is_some after)
+-- the times after a frame was heard by the unit of this NAME: what it was and what waited before and after that
+abbrev pub clock_heard : FrameValue → ℕ → ℕ → NodeValue → QueueValue → NodeValue → QueueValue → UnitClock → UnitClock
+clock_heard f name now node q node' q' c =
+    clock_cut (is_cut q q') now (clock_after_hearing (is_held_open node (group_of f)) node.claimer.held node'.claimer.held name now c)
 
 -- a request, a request to send and a clear to send may put something beside what waits; whatever else puts something withdraws all
 abbrev pub control_needs_room : Control → Bool
@@ -81,9 +84,9 @@ pub record GivesUp (u u' : Standing) : Type 0 where
   pub memory : u'.memory ≡ u.memory
   pub queue : u'.queue ≡ after_heard (given_up u.node) (claim_source u.node.claimer.held) u.queue
 
--- a DM1 of its own puts off the next
+-- a DM1 of its own puts off the next, and tells the changes since the one before
 abbrev pub clock_told : ℕ → MemoryValue → UnitClock → UnitClock
-clock_told now m c = record c { dm1_from = later now DM1_PERIOD; told = has_to_tell m }
+clock_told now m c = record c { dm1_from = later now DM1_PERIOD; told = after_telling now (nat_le c.dm1_from now) m c.told }
 
 -- what a unit did of its own accord: nothing where nothing is due; it gave up its session, which was left alone; or it began a DM1,
 -- which was due

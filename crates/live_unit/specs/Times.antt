@@ -1,5 +1,5 @@
 -- When what goes: times are microseconds of any clock, and waits are added to the time that is handed in.
-use Rattle.std.specs.Prelude.{ℕ, ◌+◌, ◌*◌, ◌-◌, ◌%◌, ◌^◌, ◌&&◌, ◌||◌, Bool, false, not, min, nat_le, nat_lt, length, Option, Some, None, slice_get, is_some, if◌then◌else◌}
+use Rattle.std.specs.Prelude.{ℕ, ◌+◌, ◌*◌, ◌-◌, ◌%◌, ◌^◌, ◌&&◌, ◌||◌, ◌==◌, Bool, true, false, not, min, nat_le, nat_lt, length, Option, Some, None, slice_get, is_some, if◌then◌else◌}
 use Rattle.fault_memory.specs.Memory.{MemoryValue}
 use Rattle.dm_messages.specs.declared.kind.Kind.TheVariants.{Dm1}
 use Rattle.node_core.specs.NodeValue.{NodeValue, is_open}
@@ -12,14 +12,12 @@ use Rattle.live_unit.specs.declared.clock.TheConstants.{ANSWER_WITHIN, HELD_FOR,
 use Rattle.live_unit.specs.declared.queue.Lane.{Lane}
 use Rattle.live_unit.specs.declared.queue.Lane.TheVariants.{Claims, Singles, Session, Messages}
 use Rattle.live_unit.specs.Queue.{LaneValue, QueueValue, waits}
-
--- a time and a wait; times end at 2^64 - 1
-abbrev pub later : ℕ → ℕ → ℕ
-later now wait = min (now + wait) (2 ^ 64 - 1)
+use Rattle.live_unit.specs.Telling.{has_to_tell, is_change_due, told_nothing, told_something}
+use Rattle.live_unit.specs.Waits.{later}
 
 -- nothing was written yet, so nothing is put off
 abbrev pub clock_at_start : UnitClock
-clock_at_start = record { claim_from = 0; settled_from = 0; packet_from = 0; alone_from = 0; dm1_from = 0; told = false }
+clock_at_start = record { claim_from = 0; claimed = false; settled_from = 0; packet_from = 0; alone_from = 0; dm1_from = 0; told = told_nothing }
 
 -- ---- what is written when
 
@@ -51,9 +49,14 @@ lane_due c now q =
     else if nat_le c.settled_from now then other_lane_due c now q
     else None
 
+-- a claim puts off all but claims, once for each address that the unit takes: it is the first that is written since (SAE J1939-81). Another
+-- one of the same address, as an answer to a request or to defend it, puts off nothing
+abbrev pub clock_claimed : UnitSettings → ℕ → UnitClock → UnitClock
+clock_claimed s now c = if c.claimed then c else record c { settled_from = later now s.settle; claimed = true }
+
 -- what a frame that is written puts off: all but claims, the next packet of a broadcast, the end of the session's patience
 abbrev pub clock_written : UnitSettings → Lane → ℕ → UnitClock → UnitClock
-clock_written s Claims now c = record c { settled_from = later now s.settle }
+clock_written s Claims now c = clock_claimed s now c
 clock_written s Singles now c = c
 clock_written s Session now c = record c { alone_from = later now ANSWER_WITHIN }
 clock_written s Messages now c = record c { packet_from = later now s.gap }
@@ -62,12 +65,32 @@ clock_written s Messages now c = record c { packet_from = later now s.gap }
 abbrev pub pause_of : ℕ → ℕ
 pause_of name = 1000 * (name % 2 ^ 21 % (LONGEST_PAUSE + 1))
 
--- the times after a frame was heard: a session that was held open by it has its time anew, and a unit that lost its address waits
-abbrev pub clock_after_hearing : Bool → Bool → ℕ → ℕ → UnitClock → UnitClock
-clock_after_hearing held_open lost name now c = record c {
+-- it holds the address that it held, or none as before
+abbrev pub is_same_address : Option ℕ → Option ℕ → Bool
+is_same_address None None = true
+is_same_address (Some before) (Some after) = before == after
+is_same_address _ _ = false
+
+-- it held an address, and holds none
+abbrev pub has_lost : Option ℕ → Option ℕ → Bool
+has_lost before after = is_some before && not (is_some after)
+
+-- the times after a frame was heard: a session that was held open by it has its time anew, a unit that lost its address waits, and one that
+-- took another address has not claimed that yet
+abbrev pub clock_after_hearing : Bool → Option ℕ → Option ℕ → ℕ → ℕ → UnitClock → UnitClock
+clock_after_hearing held_open before after name now c = record c {
   alone_from = if held_open then later now HELD_FOR else c.alone_from;
-  claim_from = if lost then later now (pause_of name) else c.claim_from;
+  claim_from = if has_lost before after then later now (pause_of name) else c.claim_from;
+  claimed = c.claimed && is_same_address before after;
 }
+
+-- a message to all of which frames waited was withdrawn
+abbrev pub is_cut : QueueValue → QueueValue → Bool
+is_cut q q' = waits q.messages && not (waits q'.messages)
+
+-- where it may have been a DM1 of its own, that is to begin anew: the second since then counts as over
+abbrev pub clock_cut : Bool → ℕ → UnitClock → UnitClock
+clock_cut cut now c = record c { dm1_from = if cut then now else c.dm1_from }
 
 -- from when on the unit may send frames beside those that wait: it holds an address, and no claim of it waits
 abbrev pub free_from : UnitClock → NodeValue → QueueValue → Option ℕ
@@ -79,16 +102,16 @@ free_from c node q = if is_some node.claimer.held && not (waits q.claims) then S
 abbrev pub is_left_alone : UnitClock → ℕ → NodeValue → QueueValue → Bool
 is_left_alone c now node q = is_some node.session && not (waits q.session) && nat_le c.alone_from now
 
--- it has something to tell: an active code, or a lamp
-abbrev pub has_to_tell : MemoryValue → Bool
-has_to_tell m = nat_lt 0 (length m.active) || nat_lt 0 m.lamps.lamps
-
 -- it holds an address and has settled, and no claim, no message to all and no session of a DM1 is on its way
 abbrev pub is_free_for_dm1 : UnitClock → ℕ → NodeValue → QueueValue → Bool
 is_free_for_dm1 c now node q =
     is_some node.claimer.held && nat_le c.settled_from now && not (waits q.claims) && not (waits q.messages) && not (is_open node.session Dm1)
 
--- a DM1 of its own is due: each second while it has something to tell, and once after that
+-- the second since its latest DM1 is over, and it has something to tell, or told something by that
+abbrev pub is_second_over : UnitSettings → UnitClock → ℕ → MemoryValue → Bool
+is_second_over s c now memory = nat_le c.dm1_from now && (s.always || told_something c.told || has_to_tell memory)
+
+-- a DM1 of its own is due: each second while it has something to tell, and once after that; and at once where a change is to be told
 abbrev pub is_dm1_due : UnitSettings → UnitClock → ℕ → Bool → NodeValue → MemoryValue → QueueValue → Bool
 is_dm1_due s c now willing node memory q =
-    willing && nat_le c.dm1_from now && (s.always || c.told || has_to_tell memory) && is_free_for_dm1 c now node q
+    willing && is_free_for_dm1 c now node q && (is_second_over s c now memory || is_change_due now c.told memory)

@@ -4,12 +4,10 @@ ghost use Rattle.std.specs.Prelude.{ℕ, ◌≡◌, ◌↔◌, ◌⊎◌, ◌≤
 ghost use Rattle.fault_memory.specs.Changes.{changed, Grows};
 ghost use Rattle.fault_memory.specs.declared.error.FaultError.{FaultError as AnyFault};
 ghost use Rattle.node_core.specs.Asking.{IsAsked};
-ghost use Rattle.node_core.specs.GivingUp.{is_held_open};
 ghost use Rattle.node_core.specs.NodeValue.{is_open};
 ghost use Rattle.node_core.specs.Reaction.{question};
-ghost use Rattle.parameter_group.specs.Group.{group_of};
-ghost use Rattle.live_unit.specs.Steps.{Acts, BeginsToAll, CanPut, HasHeardFrame, LacksRoomFor, has_lost, standing};
-ghost use Rattle.live_unit.specs.Times.{clock_after_hearing, is_dm1_due, is_left_alone, lane_due};
+ghost use Rattle.live_unit.specs.Steps.{Acts, BeginsToAll, CanPut, HasHeardFrame, LacksRoomFor, clock_heard, standing};
+ghost use Rattle.live_unit.specs.Times.{is_dm1_due, is_left_alone, lane_due};
 
 use crate::error::LiveError;
 use crate::node::{Act, LiveNode};
@@ -59,8 +57,8 @@ pub(crate) fn hear_in(
 ) -> Result<Answer, LiveError>
     ensures heard { IfOk result (λ a. HasHeardFrame frame.now a (standing live.old.node (memory_of unit.old) live.old.queue)
         (standing live.new.node (memory_of unit.new) live.new.queue)) }
-    ensures clock { OnOk result (live.new.clock ≡ clock_after_hearing (is_held_open live.old.node (group_of frame.now))
-        (has_lost live.old.node.claimer.held live.new.node.claimer.held) (name_of unit.old) now live.old.clock) }
+    ensures clock { OnOk result (live.new.clock ≡ clock_heard frame.now (name_of unit.old) now live.old.node live.old.queue live.new.node
+        live.new.queue live.old.clock) }
     ensures asked { IfOk result (λ a. (u : _) × (unit.new ≡ record unit.old { value = u })
         × IsAsked (Answers unit.old) (question live.old.node frame.now) a unit.old.value u) }
     ensures settings { live.new.settings ≡ live.old.settings }

@@ -1,17 +1,20 @@
-ghost use Rattle.std.specs.Prelude.{◌≡◌};
-ghost use Rattle.live_unit.specs.Times.{clock_after_hearing, clock_at_start, clock_written, later, pause_of};
+ghost use Rattle.std.specs.Prelude.{◌≡◌, IfOk, nat_le};
+ghost use Rattle.live_unit.specs.Times.{clock_after_hearing, clock_at_start, clock_cut, clock_written, pause_of};
+ghost use Rattle.live_unit.specs.Waits.{later};
+ghost use Rattle.live_unit.specs.Telling.{after_telling};
+ghost use Rattle.live_unit.specs.Times as times;
 
 use crate::queue::Lane;
+use crate::told::{DM1_PERIOD, Told};
+use fault_memory::FaultMemory;
 use name_field::Name;
+use std::alloc::{AllocError, Global};
 
 /// How long a session waits for an answer, in microseconds: 1,250 ms (SAE J1939-21, T3).
 pub(crate) const ANSWER_WITHIN: u64 = 1_250_000;
 
 /// How long a session that was held open waits for more, in microseconds: 1,050 ms (SAE J1939-21, T4).
 pub(crate) const HELD_FOR: u64 = 1_050_000;
-
-/// How long it is from a DM1 of the unit's own to its next, in microseconds: one second (SAE J1939-73, DM1).
-pub(crate) const DM1_PERIOD: u64 = 1_000_000;
 
 /// The longest that a unit waits before it says that it can claim no address, in milliseconds (SAE J1939-81).
 pub(crate) const LONGEST_PAUSE: u64 = 153;
@@ -21,85 +24,124 @@ pub(crate) const LONGEST_PAUSE: u64 = 153;
 pub struct UnitSettings {
     /// How long it is at least from a packet of a broadcast to the next: 10,000 to 200,000 (SAE J1939-21).
     pub gap: u64,
-    /// How long it is from a claim to anything but a claim: 250,000 (SAE J1939-81).
+    /// How long it is from the first claim of an address to anything but a claim: 250,000 (SAE J1939-81).
     pub settle: u64,
     /// Whether the unit sends its DM1 each second also while it has nothing to tell.
     pub always: bool,
 }
 
-/// From when on a unit may do what, in microseconds of its caller's clock.
-#[derive(Clone, Copy, PartialEq, Eq)]
+/// From when on a unit may do what, in microseconds of its caller's clock, and what it told of its faults.
+#[derive(Drop)]
 pub struct UnitClock {
     /// A claim goes.
     pub claim_from: u64,
+    /// Whether a claim was written since the unit took the address that it holds.
+    pub claimed: bool,
     /// More than claims goes.
     pub settled_from: u64,
     /// A further packet of a broadcast goes.
     pub packet_from: u64,
     /// The open session counts as left alone.
     pub alone_from: u64,
-    /// A DM1 of the unit's own begins.
+    /// The second since the latest DM1 of the unit's own is over.
     pub dm1_from: u64,
-    /// Whether the latest DM1 of the unit's own told something.
-    pub told: bool,
+    /// What its DM1s of its own told.
+    pub told: Told,
 }
 
 impl UnitClock {
     /// Nothing was written yet, so nothing is put off.
-    pub(crate) fn at_start() -> UnitClock
+    pub(crate) fn at_start(alloc: Global) -> UnitClock
         ensures { result ≡ clock_at_start }
     {
         UnitClock {
             claim_from: 0,
+            claimed: false,
             settled_from: 0,
             packet_from: 0,
             alone_from: 0,
             dm1_from: 0,
-            told: false,
+            told: Told::nothing(alloc),
         }
     }
 
     /// The times after a frame of a lane was written.
-    pub(crate) fn written(self, settings: &UnitSettings, lane: Lane, now: u64) -> UnitClock
-        ensures { result ≡ clock_written settings.now lane now self }
+    pub(crate) fn write(&mut self, settings: &UnitSettings, lane: Lane, now: u64)
+        ensures { self.new ≡ clock_written settings.now lane now self.old }
     {
-        let mut clock = self;
         match lane {
-            Lane::Claims => clock.settled_from = now.saturating_add(settings.settle),
+            Lane::Claims if self.claimed => {}
+            Lane::Claims => {
+                self.settled_from = now.saturating_add(settings.settle);
+                self.claimed = true;
+            }
             Lane::Singles => {}
-            Lane::Session => clock.alone_from = now.saturating_add(ANSWER_WITHIN),
-            Lane::Messages => clock.packet_from = now.saturating_add(settings.gap),
+            Lane::Session => self.alone_from = now.saturating_add(ANSWER_WITHIN),
+            Lane::Messages => self.packet_from = now.saturating_add(settings.gap),
         }
-        clock
     }
 
-    /// The times after a frame was heard: whether the open session was held open by it, and whether the unit, of this NAME, lost
-    /// its address by it and got no other.
-    pub(crate) fn heard(self, held_open: bool, lost: bool, now: u64, name: Name) -> UnitClock
-        ensures { result ≡ clock_after_hearing held_open lost name now self }
+    /// The times after a frame was heard: whether the open session was held open by it, and which address the unit, of this NAME,
+    /// held before it and holds after it.
+    pub(crate) fn hear(
+        &mut self,
+        held_open: bool,
+        before: Option<u8>,
+        after: Option<u8>,
+        now: u64,
+        name: Name,
+    )
+        ensures { self.new ≡ clock_after_hearing held_open before after name now self.old }
     {
-        let mut clock = self;
         if held_open {
-            clock.alone_from = now.saturating_add(HELD_FOR);
+            self.alone_from = now.saturating_add(HELD_FOR);
         }
-        if lost {
-            clock.claim_from = now.saturating_add(pause(name));
+        if before.is_some() && after.is_none() {
+            self.claim_from = now.saturating_add(pause(name));
         }
-        clock
+        self.claimed = self.claimed && is_same_address(before, after);
     }
 
-    /// The times after a DM1 of the unit's own, and whether it told something.
-    pub(crate) fn told(self, now: u64, told: bool) -> UnitClock
-        ensures from { result.dm1_from ≡ later now DM1_PERIOD }
-        ensures told { result.told ≡ told }
-        ensures kept { (result.claim_from ≡ self.claim_from) × (result.settled_from ≡ self.settled_from)
-            × (result.packet_from ≡ self.packet_from) × (result.alone_from ≡ self.alone_from) }
+    /// The times after a message to all of which frames waited was withdrawn, if one was.
+    pub(crate) fn cut(&mut self, is_cut: bool, now: u64)
+        ensures { self.new ≡ clock_cut is_cut now self.old }
     {
-        UnitClock {
-            dm1_from: now.saturating_add(DM1_PERIOD),
-            told,
-            ..self
+        if is_cut {
+            self.dm1_from = now;
         }
+    }
+
+    /// What will have been told after a DM1 of the memory that begins at this time.
+    ///
+    /// Refused: where memory is.
+    pub(crate) fn told_after(
+        &self,
+        alloc: Global,
+        now: u64,
+        memory: &FaultMemory,
+    ) -> Result<Told, AllocError>
+        ensures { IfOk result (λ t. t ≡ after_telling now (nat_le self.now.dm1_from now) memory.now self.now.told) }
+    {
+        self.told.after(alloc, now, self.dm1_from <= now, memory)
+    }
+
+    /// The times after a DM1 of the unit's own, by which this was told.
+    pub(crate) fn tell(&mut self, now: u64, told: Told)
+        ensures { self.new ≡ record self.old { dm1_from = later now DM1_PERIOD; told = told } }
+    {
+        self.dm1_from = now.saturating_add(DM1_PERIOD);
+        self.told = told;
+    }
+}
+
+/// Whether a unit holds the address that it held, or none as before.
+fn is_same_address(before: Option<u8>, after: Option<u8>) -> bool
+    ensures { result ≡ times.is_same_address before after }
+{
+    match (before, after) {
+        (Some(before), Some(after)) => before == after,
+        (None, None) => true,
+        _ => false,
     }
 }
 

@@ -9,6 +9,7 @@ mod clock;
 mod error;
 mod node;
 mod queue;
+mod told;
 mod unit;
 mod waiting;
 

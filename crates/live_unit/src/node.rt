@@ -3,15 +3,15 @@ ghost use Rattle.can_frame.specs.Fields.{source_of};
 ghost use Rattle.can_frame.specs.declared.address.TheConstants.{GREATEST_ADDRESS};
 ghost use Rattle.address_claim.specs.Frames.{claim_frame_value, claim_source};
 ghost use Rattle.node_core.specs.Asking.{IsAsked};
-ghost use Rattle.node_core.specs.GivingUp.{is_held_open};
 ghost use Rattle.node_core.specs.NodeValue.{is_open, new_node};
 ghost use Rattle.node_core.specs.Reaction.{question};
 ghost use Rattle.parameter_group.specs.Group.{group_of};
 ghost use Rattle.node_core.specs.Deed.{plain};
 ghost use Rattle.live_unit.specs.Queue.{HasFreeLanes, empty_queue, frames_waiting, putting};
-ghost use Rattle.live_unit.specs.Steps.{Acts, BeginsToAll, CanPut, GivesUp, HasHeardFrame, LacksRoomFor, Writes, has_lost, standing};
+ghost use Rattle.live_unit.specs.Steps.{Acts, BeginsToAll, CanPut, GivesUp, HasHeardFrame, LacksRoomFor, Writes, clock_heard, standing};
 ghost use Rattle.live_unit.specs.Steps as steps;
-ghost use Rattle.live_unit.specs.Times.{clock_after_hearing, clock_at_start, is_dm1_due, is_free_for_dm1, is_left_alone, lane_due};
+ghost use Rattle.live_unit.specs.Times.{clock_at_start, is_dm1_due, is_free_for_dm1, is_left_alone, lane_due};
+ghost use Rattle.live_unit.specs.Telling as telling;
 ghost use Rattle.live_unit.specs.Times as times;
 
 use crate::clock::{UnitClock, UnitSettings};
@@ -71,7 +71,7 @@ impl LiveNode {
         Ok(LiveNode {
             node,
             queue,
-            clock: UnitClock::at_start(),
+            clock: UnitClock::at_start(alloc),
             settings,
         })
     }
@@ -110,8 +110,8 @@ impl LiveNode {
     ) -> Result<Answer, LiveError>
         ensures heard { IfOk result (λ a. HasHeardFrame frame.now a (standing self.old.node (memory_of unit.old) self.old.queue)
             (standing self.new.node (memory_of unit.new) self.new.queue)) }
-        ensures clock { OnOk result (self.new.clock ≡ clock_after_hearing (is_held_open self.old.node (group_of frame.now))
-            (has_lost self.old.node.claimer.held self.new.node.claimer.held) (name_of unit.old) now self.old.clock) }
+        ensures clock { OnOk result (self.new.clock ≡ clock_heard frame.now (name_of unit.old) now self.old.node self.old.queue self.new.node
+            self.new.queue self.old.clock) }
         ensures asked { IfOk result (λ a. (u : _) × (unit.new ≡ (unit.old.0, u))
             × IsAsked (Answers unit.old) (question self.old.node frame.now) a unit.old.1 u) }
         ensures name { name_of unit.new ≡ name_of unit.old }
@@ -126,18 +126,22 @@ impl LiveNode {
             return Err(LiveError::Full);
         }
         let is_held_open = self.node.is_held_open(frame);
+        let waited = self.queue.waits(Lane::Messages);
         let before = self.node.held();
         let answer = hear_frame(&mut self.node, &mut self.queue, alloc, frame, unit)?;
-        let lost = before.is_some() && self.node.held().is_none();
-        self.clock = self.clock.heard(is_held_open, lost, now, unit.name());
+        let after = self.node.held();
+        let is_cut = waited && !self.queue.waits(Lane::Messages);
+        self.clock
+            .hear(is_held_open, before, after, now, unit.name());
+        self.clock.cut(is_cut, now);
         Ok(answer)
     }
 
     /// The frame that goes at this time, if one does. It is written, as far as the unit knows: there is no way back.
     ///
-    /// Claims go first, and after a claim nothing else until the unit has settled; then single frames, those of a session, and
-    /// messages to all, whose packets keep their gap. What goes is from the address that the unit holds, or from 254 where it holds
-    /// none.
+    /// Claims go first, and after the first claim of an address nothing else until the unit has settled; then single frames, those
+    /// of a session, and messages to all, whose packets keep their gap. What goes is from the address that the unit holds, or from
+    /// 254 where it holds none.
     #[tactic(auto, using(crate::proofs::Timing::due_waits))]
     pub fn due(&mut self, now: u64) -> Option<Frame>
         ensures writes { MatchOption result ((lane_due self.old.clock now self.old.queue ≡ None) × (self.new.queue ≡ self.old.queue)
@@ -147,7 +151,7 @@ impl LiveNode {
     {
         let lane = self.lane_due(now)?;
         let out = self.queue.take(lane);
-        self.clock = self.clock.written(&self.settings, lane, now);
+        self.clock.write(&self.settings, lane, now);
         Some(out.frame)
     }
 
@@ -155,8 +159,9 @@ impl LiveNode {
     /// begins a DM1. While as much waits as there is room for it does nothing.
     ///
     /// A DM1 is due a second after the one before while a code is active or a lamp is lit (or always, as the settings have it), and
-    /// once more after that, for a unit that wants to tell; it waits until the unit has settled and what it said to all before is
-    /// written. Refused: `OutOfMemory`; then nothing changed.
+    /// once more after that, for a unit that wants to tell. It is due at once where a code became active or inactive or other lamps
+    /// are lit, unless the latest change of that code or of the lamps was told within the second (SAE J1939-73, DM1). It waits until
+    /// the unit has settled and what it said to all before is written. Refused: `OutOfMemory`; then nothing changed.
     pub fn act(&mut self, alloc: Global, now: u64, unit: &dyn Unit) -> Result<Act, LiveError>
         ensures acts { IfOk result (λ a. Acts self.old.settings now (wants unit.now) a
             (standing self.old.node (memory_of unit.now) self.old.queue) self.old.clock
@@ -177,10 +182,11 @@ impl LiveNode {
         if !self.is_dm1_due(now, unit) {
             return Ok(Act::Nothing);
         }
+        let told = self.clock.told_after(alloc, now, unit.memory())?;
         if !begin_to_all(&self.node, &mut self.queue, alloc, Kind::Dm1, unit)? {
             return Ok(Act::Nothing);
         }
-        self.clock = self.clock.told(now, has_to_tell(unit.memory()));
+        self.clock.tell(now, told);
         Ok(Act::Began)
     }
 
@@ -217,7 +223,7 @@ impl LiveNode {
         ensures ahead { now ≤ result }
     {
         let frame = frame_from(&self.clock, &self.queue);
-        let act = self.alone_from().min(self.dm1_from(unit));
+        let act = self.alone_from().min(self.dm1_from(now, unit));
         frame.min(act).max(now)
     }
 
@@ -243,17 +249,22 @@ impl LiveNode {
         }
     }
 
-    /// When a DM1 of the unit's own will be due.
-    fn dm1_from(&self, unit: &dyn Unit) -> u64
-        ensures { (t : ℕ) → t < result
+    /// When a DM1 of the unit's own will be due, from this time on.
+    fn dm1_from(&self, now: u64, unit: &dyn Unit) -> u64
+        ensures { (t : ℕ) → now ≤ t → t < result
             → is_dm1_due self.now.settings self.now.clock t (wants unit.now) self.now.node (memory_of unit.now)
             self.now.queue ≡ false }
     {
-        if self.is_dm1_due(u64::MAX, unit) {
-            self.clock.dm1_from.max(self.clock.settled_from)
+        if !unit.wants_dm1() || !self.is_free_for_dm1(u64::MAX) {
+            return u64::MAX;
+        }
+        let second = if self.is_second_over(u64::MAX, unit) {
+            self.clock.dm1_from
         } else {
             u64::MAX
-        }
+        };
+        let change = self.clock.told.change_from(now, unit.memory());
+        second.min(change).max(self.clock.settled_from)
     }
 
     /// Whether the unit can put something: it has room, and has not put as many frames as a unit may.
@@ -285,9 +296,18 @@ impl LiveNode {
             self.now.queue }
     {
         unit.wants_dm1()
-            && self.clock.dm1_from <= now
-            && (self.settings.always || self.clock.told || has_to_tell(unit.memory()))
             && self.is_free_for_dm1(now)
+            && (self.is_second_over(now, unit) || self.clock.told.is_change_due(now, unit.memory()))
+    }
+
+    /// Whether the second since the latest DM1 is over, and there is something to tell, or was by that.
+    fn is_second_over(&self, now: u64, unit: &dyn Unit) -> bool
+        ensures { result ≡ times.is_second_over self.now.settings self.now.clock now (memory_of unit.now) }
+    {
+        self.clock.dm1_from <= now
+            && (self.settings.always
+                || self.clock.told.is_something()
+                || has_to_tell(unit.memory()))
     }
 
     /// Whether nothing keeps a DM1 of the unit's own from beginning.
@@ -390,7 +410,7 @@ fn needs_room(frame: &Frame) -> bool
 
 /// Whether a memory has something to tell: an active code, or a lamp.
 fn has_to_tell(memory: &FaultMemory) -> bool
-    ensures { result ≡ times.has_to_tell memory.now }
+    ensures { result ≡ telling.has_to_tell memory.now }
 {
     let [lamps, _] = memory.lamps().to_bytes();
     !memory.active().is_empty() || lamps != 0

@@ -5,13 +5,11 @@ ghost use Rattle.address_claim.specs.Frames.{claim_source};
 ghost use Rattle.fault_memory.specs.Changes.{changed, Grows};
 ghost use Rattle.fault_memory.specs.declared.error.FaultError.{FaultError as AnyFault};
 ghost use Rattle.node_core.specs.Asking.{IsAsked};
-ghost use Rattle.node_core.specs.GivingUp.{is_held_open};
 ghost use Rattle.node_core.specs.NodeValue.{is_open, new_node};
 ghost use Rattle.node_core.specs.Reaction.{question};
-ghost use Rattle.parameter_group.specs.Group.{group_of};
 ghost use Rattle.live_unit.specs.Queue.{frames_waiting};
-ghost use Rattle.live_unit.specs.Steps.{Acts, BeginsToAll, CanPut, HasHeardFrame, LacksRoomFor, Writes, has_lost, standing};
-ghost use Rattle.live_unit.specs.Times.{clock_after_hearing, is_dm1_due, is_left_alone, lane_due};
+ghost use Rattle.live_unit.specs.Steps.{Acts, BeginsToAll, CanPut, HasHeardFrame, LacksRoomFor, Writes, clock_heard, standing};
+ghost use Rattle.live_unit.specs.Times.{is_dm1_due, is_left_alone, lane_due};
 ghost use Rattle.live_unit.specs.Times as times;
 
 use crate::boxed::{act_in, apply_in, begin_in, hear_in, memory_in, name_in, next_in};
@@ -91,10 +89,8 @@ impl LiveUnit {
         ensures heard { IfOk result (λ a. HasHeardFrame frame.now a
             (standing self.old.live.node (memory_of self.old.unit) self.old.live.queue)
             (standing self.new.live.node (memory_of self.new.unit) self.new.live.queue)) }
-        ensures clock { OnOk result (self.new.live.clock ≡ clock_after_hearing
-            (is_held_open self.old.live.node (group_of frame.now))
-            (has_lost self.old.live.node.claimer.held self.new.live.node.claimer.held) (name_of self.old.unit) now
-            self.old.live.clock) }
+        ensures clock { OnOk result (self.new.live.clock ≡ clock_heard frame.now (name_of self.old.unit) now self.old.live.node
+            self.old.live.queue self.new.live.node self.new.live.queue self.old.live.clock) }
         ensures asked { IfOk result (λ a. (u : _) × (self.new.unit ≡ record self.old.unit { value = u })
             × IsAsked (Answers self.old.unit) (question self.old.live.node frame.now) a self.old.unit.value u) }
         ensures settings { self.new.live.settings ≡ self.old.live.settings }

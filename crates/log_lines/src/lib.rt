@@ -5,6 +5,7 @@ mod bad_lines;
 mod clock;
 mod fault;
 mod lines;
+mod looks;
 mod notices;
 mod recognised;
 

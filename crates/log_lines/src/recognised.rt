@@ -1,19 +1,20 @@
 //! What is recognised of an input.
 ghost use Rattle.std.specs.Prelude.{◌≡◌, ◌||◌, false, true, None, Some};
-ghost use Rattle.candump_line.specs.declared.other.OtherLog.{OtherLog as AnyLog};
-ghost use Rattle.candump_line.specs.OtherLogs.{other_log};
 ghost use Rattle.candump_line.specs.Content.{is_of_frames};
+ghost use Rattle.log_lines.specs.declared.looks.Looks.{Looks as AnyLooks};
+ghost use Rattle.log_lines.specs.Looks.{looks_of};
 
-use candump_line::{Line, OtherLog};
+use crate::looks::Looks;
+use candump_line::Line;
 use std::io;
 use std::io::Write;
 
-/// What was recognised of an input by its lines so far: whether one tells of frames, and which other program's log it looks like.
+/// What was recognised of an input by its lines so far: whether one tells of frames, and what it looks like else.
 #[derive(Clone, Copy)]
 pub(crate) struct Recognised {
     lines: u64,
     has_frames: bool,
-    looks: Option<OtherLog>,
+    looks: Option<Looks>,
 }
 
 impl Recognised {
@@ -32,9 +33,9 @@ impl Recognised {
     /// Takes a line, and what it says.
     pub(crate) fn take(&mut self, line: &[u8], said: &Line<'_>)
         ensures frames { self.new.has_frames ≡ (self.old.has_frames || is_of_frames said.now) }
-        ensures kept { (other : AnyLog) → self.old.looks ≡ Some other → self.new.looks ≡ Some other }
+        ensures kept { (looks : AnyLooks) → self.old.looks ≡ Some looks → self.new.looks ≡ Some looks }
         ensures first { self.old.has_frames ≡ false → is_of_frames said.now ≡ false → self.old.looks ≡ None
-            → self.new.looks ≡ other_log line.now }
+            → self.new.looks ≡ looks_of line.now }
     {
         self.lines = self.lines.saturating_add(1);
         if self.has_frames {
@@ -45,7 +46,7 @@ impl Recognised {
             return;
         }
         if self.looks.is_none() {
-            self.looks = OtherLog::of(line);
+            self.looks = Looks::of(line);
         }
     }
 
@@ -57,14 +58,7 @@ impl Recognised {
         }
         let lines = self.lines;
         match self.looks {
-            Some(other) => {
-                let name = other.name();
-                let conversion = other.conversion();
-                writeln!(
-                    errors,
-                    "no frame in {lines} lines: this looks like {name}, which is read once it is converted: {conversion}"
-                )?;
-            }
+            Some(looks) => writeln!(errors, "no frame in {lines} lines: {looks}")?,
             None => writeln!(
                 errors,
                 "no frame in {lines} lines: this looks like no log of candump (candump -L can0 > OUT.log)"

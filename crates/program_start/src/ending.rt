@@ -5,6 +5,7 @@ ghost use Rattle.program_io.specs.Fault.{status_of};
 use program_io::{Failure, Fault};
 use std::alloc::Global;
 use std::process::ExitCode;
+use text_buffer::Seen;
 
 /// The status of a run. One that ended early is told on standard error: the line of its fault, and what is told behind it. (Of bad
 /// lines each was told before.)
@@ -27,6 +28,7 @@ fn tell<R: Eprint>(rt: &R, failure: &Failure) {
         let _ = eprintln!(rt; "{fault}");
     }
     if let Some(words) = &failure.words {
+        let words = Seen::lines(words.as_str());
         let _ = eprint!(rt; "{words}");
     }
 }

@@ -1,7 +1,8 @@
 use std::io;
 use std::io::Write;
+use text_buffer::Seen;
 
-/// Standard error as a writer.
+/// Standard error as a writer of lines. What a terminal obeys stands in them by its number.
 #[derive(Drop)]
 pub struct Errors<'a, R> {
     rt: &'a R,
@@ -18,7 +19,7 @@ impl<'a, R: Eprint> Errors<'a, R> {
 impl<R: Eprint> Write for Errors<'_, R> {
     fn write(&mut self, buf: &[u8]) -> io::Result<usize> {
         if let Ok(text) = std::str::from_utf8(buf) {
-            self.rt.eprint(text)?;
+            self.rt.eprint(Seen::lines(text))?;
         }
         Ok(buf.len())
     }

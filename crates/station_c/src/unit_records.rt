@@ -8,7 +8,8 @@ use script_line::UnitKind;
 #[repr(C)]
 #[derive(Clone, Copy)]
 pub struct UnitSettingsRecord {
-    /// How long it is at least from a packet of a broadcast to the next, in microseconds: 10,000 to 200,000 (SAE J1939-21).
+    /// How long it is at least from a packet of a broadcast to the next, in microseconds: 10,000 to 200,000. (50 to 200 ms by SAE
+    /// J1939-21, 10 to 200 ms by ISO 11783-3 and later editions, from memory.)
     pub gap: u64,
     /// How long it is from a claim to anything but a claim, in microseconds: up to 1,000,000 (SAE J1939-81: 250,000).
     pub settle: u64,

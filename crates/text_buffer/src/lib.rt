@@ -1,6 +1,7 @@
-//! Short text that is put together on the stack and then written at once: words, and numbers in digits.
+//! Short text that is put together on the stack and then written at once: words, and numbers in digits; and text from outside, as
+//! it is shown.
 //!
-//! It takes no memory, and does without the formatting of `write!`, which costs many times what the digits do.
+//! Of short text: it takes no memory, and does without the formatting of `write!`, which costs many times what the digits do.
 #![tactic(auto)]
 
 ghost use Rattle.std.specs.Prelude.{◌≡◌, ◌+◌, ◌*◌, ◌≤◌, ◌<◌, ◌↔◌, ◌/◌, ◌%◌, [], ◌∷◌, ◌++◌, length, IsTrue, OnOk};
@@ -8,7 +9,10 @@ ghost use Rattle.std.specs.Io.KnownBytes.{Appends, Keeps, append_known};
 ghost use Rattle.std.specs.Fmt.{decimal};
 ghost use Rattle.hex_text.specs.Hex.{hex_digit, hex_digits};
 
+mod seen;
+
 use arrayvec::ArrayVec;
+pub use seen::{Seen, SeenCharacter, SeenForm, SeenWriter, is_hidden, nothing_hidden_is_shown};
 use std::io;
 use std::io::Write;
 use std::marker::Model;

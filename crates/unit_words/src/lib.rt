@@ -1,14 +1,13 @@
 //! Control units in words: by the texts of a shop, or else by what their NAMEs say of them (SAE J1939-81).
 #![tactic(auto)]
 
-mod columns;
-mod fault;
+mod key;
 mod reading;
 mod row;
 mod texts;
 mod words;
 
-pub use fault::UnitsFault;
+pub use csv_rows::SheetFault as UnitsFault;
 pub use row::UnitRow;
 pub use texts::UnitTexts;
 pub use words::{FieldWords, UnitWords};

@@ -1,27 +1,35 @@
-use crate::columns::{Column, Columns, word_at};
-use crate::fault::{UnitsFault, Wrong, WrongLines};
 use crate::row::UnitRow;
 use crate::texts::UnitTexts;
-use csv_rows::{CsvRow, CsvRows};
+use csv_rows::{ColumnNames, Sheet, SheetFault, Wrong, WrongLines};
 use name_field::Name;
 use std::alloc::{AllocError, Global};
 
+/// What the columns of the file may be.
+const NAMES: [&'static str; 4] = ["name", "function", "manufacturer", "text"];
+
+const NAME: usize = 0;
+
+const FUNCTION: usize = 1;
+
+const MANUFACTURER: usize = 2;
+
+const TEXT: usize = 3;
+
 impl UnitTexts {
-    /// The texts of comma-separated values.
+    /// The texts of a shop's file.
     ///
-    /// The first line names the columns, in any order: `text`, and one or more of `name` (16 hexadecimal digits), `function` (0 to
-    /// 255) and `manufacturer` (0 to 2047). Each line behind it is a text for the units that have what it gives; a value that is
-    /// empty gives nothing.
+    /// Its columns are `text` and one or more of `name` (16 hexadecimal digits), `function` (0 to 255) and `manufacturer` (0 to
+    /// 2047), in any order. Each line is a text for the units that have what it gives; a value that is empty gives nothing.
     ///
     /// # Errors
     /// - `Refused`: the first line names other columns; or a line has another number of values, a value that its column does not
     ///   take, an empty text, or nothing that it is for. Each is told.
     /// - `Memory`: memory was refused.
-    pub fn read(alloc: Global, text: &[u8]) -> Result<UnitTexts, UnitsFault> {
+    pub fn read(alloc: Global, text: &[u8]) -> Result<UnitTexts, SheetFault> {
         let mut texts = UnitTexts::new(alloc);
-        let mut telling = WrongLines::new(alloc);
-        read_all(alloc, text, &mut texts, &mut telling)?;
-        match telling.ended(alloc) {
+        let mut told = WrongLines::new(alloc, "units");
+        read_all(alloc, text, &mut texts, &mut told)?;
+        match told.ended() {
             Ok(()) => Ok(texts),
             Err(fault) => Err(fault),
         }
@@ -33,46 +41,31 @@ fn read_all(
     alloc: Global,
     text: &[u8],
     texts: &mut UnitTexts,
-    telling: &mut WrongLines,
+    told: &mut WrongLines<'_>,
 ) -> Result<(), AllocError> {
-    let mut rows = CsvRows::of(text);
-    let mut row = CsvRow::new(alloc);
-    if !rows.read(&mut row)? {
-        return telling.tell(alloc, 1, Wrong::TooFewColumns);
+    match Sheet::open(alloc, ColumnNames(&NAMES), text, told) {
+        Ok(Some(sheet)) => read_rows(alloc, sheet, texts, told),
+        Ok(None) => Ok(()),
+        Err(error) => Err(error),
     }
-    let columns = match Columns::read(&row) {
-        Ok(columns) => columns,
-        Err(wrong) => return telling.tell(alloc, row.line(), wrong),
-    };
-    for _ in 0..u64::MAX {
-        if !rows.read(&mut row)? {
-            break;
-        }
-        add_row(alloc, &row, &columns, texts, telling)?;
-    }
-    Ok(())
 }
 
-/// Adds the text of a row, or tells what is wrong with it.
-fn add_row(
+fn read_rows(
     alloc: Global,
-    row: &CsvRow,
-    columns: &Columns,
+    mut sheet: Sheet<'_>,
     texts: &mut UnitTexts,
-    telling: &mut WrongLines,
+    told: &mut WrongLines<'_>,
 ) -> Result<(), AllocError> {
-    match values_of(row, columns) {
-        Ok(values) => {
-            let text = String::from_str(alloc, values.text)?;
-            texts.add(UnitRow {
-                name: values.name,
-                function: values.function,
-                manufacturer: values.manufacturer,
-                text,
-            })
+    for _ in 0..u64::MAX {
+        if !sheet.read(told)? {
+            break;
         }
-        Err(wrong) => telling.tell(alloc, row.line(), wrong),
+        match values_of(&sheet) {
+            Ok(values) => texts.add(values.row(alloc)?)?,
+            Err(wrong) => told.tell(sheet.line(), wrong)?,
+        }
     }
+    Ok(())
 }
 
 /// What a row says.
@@ -84,16 +77,26 @@ struct Values<'a> {
     text: &'a str,
 }
 
-fn values_of<'a>(row: &'a CsvRow, columns: &Columns) -> Result<Values<'a>, Wrong<'a>> {
-    if row.len() != columns.count() {
-        return Err(Wrong::Values(row.len(), columns.count()));
+impl Values<'_> {
+    /// The same, with its text kept.
+    fn row(self, alloc: Global) -> Result<UnitRow, AllocError> {
+        let text = String::from_str(alloc, self.text)?;
+        Ok(UnitRow {
+            name: self.name,
+            function: self.function,
+            manufacturer: self.manufacturer,
+            text,
+        })
     }
-    let name = name_of(word_of(row, columns, Column::Name)?)?;
-    let function = function_of(word_of(row, columns, Column::Function)?)?;
-    let manufacturer = manufacturer_of(word_of(row, columns, Column::Manufacturer)?)?;
-    let text = word_of(row, columns, Column::Text)?;
+}
+
+fn values_of<'a>(sheet: &'a Sheet<'_>) -> Result<Values<'a>, Wrong<'a>> {
+    let name = name_of(sheet)?;
+    let function = function_of(sheet)?;
+    let manufacturer = manufacturer_of(sheet)?;
+    let text = sheet.word(TEXT)?;
     if name.is_none() && function.is_none() && manufacturer.is_none() {
-        return Err(Wrong::NoUnit);
+        return Err(Wrong::NoKey(sheet.names()));
     }
     if text.is_empty() {
         return Err(Wrong::Empty);
@@ -106,37 +109,27 @@ fn values_of<'a>(row: &'a CsvRow, columns: &Columns) -> Result<Values<'a>, Wrong
     })
 }
 
-/// The word of a row in this column; an empty one where there is no such column.
-fn word_of<'a>(row: &'a CsvRow, columns: &Columns, column: Column) -> Result<&'a str, Wrong<'a>> {
-    word_at(row, columns.place_of(column).unwrap_or(usize::MAX), column)
-}
-
-fn name_of(word: &str) -> Result<Option<Name>, Wrong<'_>> {
+fn name_of<'a>(sheet: &'a Sheet<'_>) -> Result<Option<Name>, Wrong<'a>> {
+    let word = sheet.word(NAME)?;
     if word.is_empty() {
         return Ok(None);
     }
     match Name::read_hex(word) {
         Ok(name) => Ok(Some(name)),
-        Err(_) => Err(Wrong::NoValue(Column::Name, word)),
+        Err(_) => Err(sheet.refused(NAME, word, "16 hexadecimal digits")),
     }
 }
 
-fn function_of(word: &str) -> Result<Option<u8>, Wrong<'_>> {
-    if word.is_empty() {
-        return Ok(None);
-    }
-    match word.parse::<u8>() {
-        Ok(function) => Ok(Some(function)),
-        Err(_) => Err(Wrong::NoValue(Column::Function, word)),
+fn function_of<'a>(sheet: &'a Sheet<'_>) -> Result<Option<u8>, Wrong<'a>> {
+    match sheet.number(FUNCTION, 255, "0 to 255")? {
+        Some(number) => Ok(Some(number as u8)),
+        None => Ok(None),
     }
 }
 
-fn manufacturer_of(word: &str) -> Result<Option<u16>, Wrong<'_>> {
-    if word.is_empty() {
-        return Ok(None);
-    }
-    match word.parse::<u16>() {
-        Ok(manufacturer) if manufacturer < 2048 => Ok(Some(manufacturer)),
-        _ => Err(Wrong::NoValue(Column::Manufacturer, word)),
+fn manufacturer_of<'a>(sheet: &'a Sheet<'_>) -> Result<Option<u16>, Wrong<'a>> {
+    match sheet.number(MANUFACTURER, 2047, "0 to 2047")? {
+        Some(number) => Ok(Some(number as u16)),
+        None => Ok(None),
     }
 }

@@ -1,25 +1,34 @@
 ghost use Rattle.std.specs.Prelude.{◌≡◌, [], ◌∷◌, ◌++◌, IfSome, IfNone, OnOk, OnErr};
 ghost use Rattle.unit_words.specs.Exact.{IsPlaceOf, IsTextOf, NoneFits};
 
+use crate::key::UnitKey;
 use crate::row::UnitRow;
 use crate::words::UnitWords;
+use indexmap::IndexMap;
 use name_field::Name;
 use std::alloc::{AllocError, Global};
 use std::marker::Model;
 
 /// A shop's texts for units, seen as their rows in the order of the file.
+///
+/// A row is found by what it gives, in eight steps at most, however many rows there are.
 #[derive(Drop)]
 pub struct UnitTexts {
     rows: Vec<UnitRow>,
+    /// The place of the last row that gives this.
+    index: IndexMap<UnitKey, usize>,
 }
 
 impl Model for UnitTexts {
     ghost use Rattle.std.specs.Prelude.{List};
+    ghost use Rattle.unit_words.specs.Index.{IsIndexed};
     ghost use Rattle.unit_words.specs.declared.row.UnitRow.{UnitRow};
 
     ghost Value = { List UnitRow };
 
     ghost view = { λ t. t.rows.items };
+
+    ghost invariant = { λ t. IsIndexed t.rows.items t.index };
 }
 
 impl UnitTexts {
@@ -29,6 +38,7 @@ impl UnitTexts {
     {
         UnitTexts {
             rows: Vec::new(alloc),
+            index: IndexMap::new(alloc),
         }
     }
 
@@ -40,7 +50,10 @@ impl UnitTexts {
         ensures ok { OnOk result (self.new ≡ self.old ++ row ∷ []) }
         ensures err { OnErr result (self.new ≡ self.old) }
     {
-        self.rows.push(row)?;
+        let (place, key) = (self.rows.len(), UnitKey::of(&row));
+        self.rows.reserve(1)?;
+        self.index.insert(key, place)?;
+        self.rows.push_reserved(row);
         Ok(())
     }
 
@@ -67,21 +80,18 @@ impl UnitTexts {
         }
     }
 
-    /// The place of the most exact row for a unit.
-    #[tactic(auto, using(crate::proofs::Exact::nothing_yet))]
+    /// The place of the most exact row for a unit: rows that give more are looked for first.
+    #[tactic(auto, using(crate::proofs::Index::at_most_seven))]
     fn place_of(&self, name: Name) -> Option<usize>
         ensures found { IfSome result (λ place. IsPlaceOf self.now name place) }
         ensures none { IfNone result (NoneFits self.now name) }
     {
-        let mut best: Option<usize> = None;
-        let mut most = 0;
-        for (place, row) in self.rows.iter().enumerate() {
-            let exactness = row.exactness();
-            if row.fits(name) && exactness >= most {
-                best = Some(place);
-                most = exactness;
+        for less in 0..8u8 {
+            let key = UnitKey::of_unit(name, 7 - less);
+            if let Some(place) = self.index.get(&key) {
+                return Some(*place);
             }
         }
-        best
+        None
     }
 }

@@ -1,10 +1,14 @@
-use Rattle.std.proofs.Common.{◌≡◌, ℕ, ◌+◌, ◌<◌, List, [], ◌∷◌, ◌++◌, Option, Some, None, take, length, get_or, ap, sym, subst, refl, ◌∙◌}
+use Rattle.std.proofs.Common.{◌≡◌, ◌≢◌, ℕ, ◌+◌, ◌<◌, List, [], ◌∷◌, ◌++◌, Option, Some, None, take, length, get_or, ap, sym, subst, refl, ◌∙◌}
 use Rattle.std.proofs.lemmas.List.{take_more}
 use Rattle.toml.specs.declared.value.Value.{Value}
 use Rattle.toml.specs.Data.{Data, Items, no_items, item, push_item}
 use Rattle.toml.specs.View.{view, items_view}
 use Rattle.toml.proofs.Views.{items_view-push}
+use Rattle.std.proofs.lemmas.List.Quantifiers.{all_pairs_push}
+use Rattle.std.specs.List.{All}
 use Rattle.vehicle.specs.Holding.{EachHolds, EachHoldsAt, HasItemsAt}
+use Rattle.vehicle.specs.Live.{HaveDistinctNames}
+use Rattle.vehicle.specs.declared.live.LiveLine.{LiveLine}
 
 pushed : {A : Type 0} (holds : Data → A → Type 0) (ds : Items) (xs : List A) (d : Data) (x : A) → EachHolds holds ds xs → holds d x → EachHolds holds (push_item ds d) (xs ++ x ∷ [])
 pushed holds no_items [] d x h k = (k, tt)
@@ -28,3 +32,10 @@ none_held holds (x ∷ xs) h = absurd h
 pub held : {A : Type 0} (holds : Data → A → Type 0) (o : Option Data) (ds : Items) (xs : List A) → HasItemsAt o ds → EachHolds holds ds xs → EachHoldsAt holds o xs
 held holds None ds xs e h = none_held holds xs (subst (λ items. EachHolds holds items xs) e h)
 held holds (Some d) ds xs e h = (ds, e, h)
+
+-- one more unit, which has another NAME than those before
+pub one_more_name : (units : List LiveLine) (i : ℕ) (unit : LiveLine) → i < length units → unit ≡ get_or units i unit → HaveDistinctNames (take i units)
+    → All (λ one. one.unit.name ≢ unit.unit.name) (take i units) → HaveDistinctNames (take (i + 1) units)
+one_more_name units i unit l is h k =
+    let here : take (i + 1) units ≡ take i units ++ unit ∷ [] = take_more units i unit l ∙ ap (λ y. take i units ++ y ∷ []) (sym is) in
+    rw here (all_pairs_push (λ (one other : LiveLine). one.unit.name ≢ other.unit.name) (take i units) unit h k)

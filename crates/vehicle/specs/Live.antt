@@ -1,5 +1,6 @@
 -- Which units a TOML document describes, as they take part in a real bus.
-use Rattle.std.specs.Prelude.{ℕ, ◌≡◌, ◌⊎◌, ◌/◌, ◌%◌, ◌≤◌, true, List, [], ◌∷◌, ◌++◌, Option, Some, None, codes}
+use Rattle.std.specs.Prelude.{ℕ, ◌≡◌, ◌≢◌, ◌⊎◌, ◌/◌, ◌%◌, ◌≤◌, true, List, [], ◌∷◌, ◌++◌, Option, Some, None, codes, length}
+use Rattle.std.specs.List.{AllPairs}
 use Rattle.hex_text.specs.Hex.{IsHexText, hex_value}
 use Rattle.toml.specs.Data.{Data, get, as_str}
 use Rattle.script_line.specs.Numbers.{IsNumberBelow, SpellsNumber, decimal_value}
@@ -105,6 +106,13 @@ pub record HoldsLiveUnit (d : Data) (u : LiveLine) : Type 0 where
 abbrev pub HoldsLiveUnitsAt : Option Data → List LiveLine → Type 0
 HoldsLiveUnitsAt = EachHoldsAt HoldsLiveUnit
 
+-- no two have one NAME (J1939-81: each unit of a network has its own)
+abbrev pub HaveDistinctNames : List LiveLine → Type 0
+HaveDistinctNames us = AllPairs (λ one other. one.unit.name ≢ other.unit.name) us
+
 pub record HoldsLiveUnits (d : Data) (us : List LiveLine) : Type 0 where
   pub only : HasOnly (codes "station" ∷ codes "second" ∷ codes "unit" ∷ []) d
   pub units : HoldsLiveUnitsAt (get (codes "unit") d) us
+  -- one takes part at least
+  pub some : 1 ≤ length us
+  pub apart : HaveDistinctNames us

@@ -1,10 +1,11 @@
 //! The units of a vehicle as they take part in a real bus.
-ghost use Rattle.std.specs.Prelude.{◌≡◌, IfOk, Some, codes};
+ghost use Rattle.std.specs.Prelude.{◌≡◌, ◌≢◌, ◌≤◌, IfOk, None, Some, codes, length};
+ghost use Rattle.std.specs.List.{All};
 ghost use Rattle.toml.specs.Data.{Members, get, table};
 ghost use Rattle.toml.specs.Parse.{parse_document};
 ghost use Rattle.toml.specs.View.{view, items_view};
 ghost use Rattle.vehicle.specs.Holding.{EachHolds, HoldsUnitOf};
-ghost use Rattle.vehicle.specs.Live.{HoldsLiveUnit, HoldsLiveUnits, HoldsMemory, HoldsRest, live_keys_of_kind};
+ghost use Rattle.vehicle.specs.Live.{HaveDistinctNames, HoldsLiveUnit, HoldsLiveUnits, HoldsMemory, HoldsRest, live_keys_of_kind};
 
 use crate::UnitLine;
 use crate::codes::{read_codes, read_lamps_of};
@@ -13,6 +14,7 @@ use crate::misfit::{KeyPlace, Unread, Wrong};
 use crate::read::{fault_of, has_document_keys, items_at, read_station, read_unit_of, second_of};
 use crate::send_line::SendLine;
 use crate::sends::read_sends;
+use name_field::Name;
 use std::alloc::Global;
 use toml::Value;
 use trouble_code::{Dtc, Lamps};
@@ -42,8 +44,8 @@ pub struct LiveLine {
 /// anywhere. Whether a unit can hold its codes together is not looked at: that no code stands twice, and that they are 445 at most.
 ///
 /// # Errors
-/// - `Refused`: the text is no TOML, a key is missing or not known, a value is of another type or out of its range, or both
-///   stations have one NAME.
+/// - `Refused`: the text is no TOML, a key is missing or not known, a value is of another type or out of its range, both
+///   stations or two units have one NAME (SAE J1939-81: each unit of a network has its own), or there is no unit.
 /// - `Memory`: memory ran out.
 pub fn read_live_units(alloc: Global, text: &str) -> Result<Vec<LiveLine>, VehicleFault>
     ensures holds { IfOk result (λ units. (t : Members) × (parse_document text.now ≡ Some t) × HoldsLiveUnits (table t) units.items) }
@@ -66,7 +68,10 @@ fn units_of(alloc: Global, root: &Value) -> Result<Vec<LiveLine>, Unread<'_>>
     has_document_keys(root)?;
     look_at_stations(root)?;
     let lines = items_at(KeyPlace::Whole, root, "unit", Wrong::NoTables)?;
-    read_units(alloc, lines)
+    match read_units(alloc, lines) {
+        Ok(units) => some_apart(units),
+        Err(unread) => Err(unread),
+    }
 }
 
 /// Looks at the stations of a vehicle, which take no part: they are as they have to be, where they are there.
@@ -90,6 +95,44 @@ fn read_units(alloc: Global, lines: &[Value]) -> Result<Vec<LiveLine>, Unread<'_
         units.push(read_unit(alloc, number, line)?)?;
     }
     Ok(units)
+}
+
+/// Units, where there is one at least, and no two have one NAME.
+fn some_apart<'a>(units: Vec<LiveLine>) -> Result<Vec<LiveLine>, Unread<'a>>
+    ensures same { IfOk result (λ some. some ≡ units) }
+    ensures some { IfOk result (λ some. 1 ≤ length some.items) }
+    ensures apart { IfOk result (λ some. HaveDistinctNames some.items) }
+{
+    if units.is_empty() {
+        return Err(Unread::at(KeyPlace::Whole, "unit", Wrong::NoUnit));
+    }
+    match twins(units.as_slice()) {
+        Some((first, second)) => {
+            let place = KeyPlace::Unit(second);
+            Err(Unread::at(place, "name", Wrong::OfUnit(first)))
+        }
+        None => Ok(units),
+    }
+}
+
+/// The places of two units that have one NAME.
+#[tactic(auto, using(crate::proofs::UnitLemmas::one_more_name))]
+fn twins(units: &[LiveLine]) -> Option<(usize, usize)>
+    ensures none { result ≡ None → HaveDistinctNames units.now }
+{
+    for (place, unit) in units.iter().enumerate() {
+        if let Some(first) = place_of(&units[..place], unit.unit.name) {
+            return Some((first, place));
+        }
+    }
+    None
+}
+
+/// The place of a unit that has this NAME.
+fn place_of(units: &[LiveLine], name: Name) -> Option<usize>
+    ensures none { result ≡ None → All (λ u. u.unit.name ≢ name) units.now }
+{
+    units.iter().position(|unit| unit.unit.name == name)
 }
 
 fn read_unit(alloc: Global, number: usize, value: &Value) -> Result<LiveLine, Unread<'_>>

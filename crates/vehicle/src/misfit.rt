@@ -27,6 +27,10 @@ pub(crate) enum Wrong {
     OfLive,
     /// The first station has this NAME.
     InUse,
+    /// The unit at this place, from 0 on, has this NAME.
+    OfUnit(usize),
+    /// There is no unit.
+    NoUnit,
     /// It is no key that is wrong: what should be the table itself is none.
     NoTable,
     /// It has no text.
@@ -74,6 +78,7 @@ impl Wrong {
             Wrong::NotKnown => "no such key is known",
             Wrong::OfLive => "only live takes this key",
             Wrong::InUse => "the first station has this NAME",
+            Wrong::NoUnit => "at least one unit is wanted",
             Wrong::NoTable => "no table",
             Wrong::NoText => "no text",
             Wrong::NoNumber => "no whole number",
@@ -84,7 +89,7 @@ impl Wrong {
             Wrong::NotLamps => "4 hexadecimal digits",
             Wrong::NotCode => "SPN/FMI or SPN/FMI/COUNT",
             Wrong::NotBytes => "1 to 8 bytes of two hexadecimal digits each",
-            Wrong::Outside { .. } | Wrong::NotFree(_) => "",
+            Wrong::Outside { .. } | Wrong::NotFree(_) | Wrong::OfUnit(_) => "",
         }
     }
 
@@ -192,6 +197,7 @@ impl Misfit<'_> {
         match self.wrong {
             Wrong::Outside { found, least, most } => write!(f, "{found} is not {least} to {most}"),
             Wrong::NotFree(pgn) => write_not_free(f, pgn),
+            Wrong::OfUnit(place) => write!(f, "unit {place} has this NAME"),
             wrong => self.write_words(f, wrong),
         }
     }

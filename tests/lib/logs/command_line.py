@@ -5,7 +5,7 @@ import tempfile
 from harness import TOP
 from logs.common import CLAIM, LOGS, log_of, run, same
 
-# Words that are refused, and what is told behind the line of the fault: that is where the subcommand is one of these four.
+# Words that are refused, and what is told behind the line of the fault: that is but for the subcommands that programs drive.
 REFUSED = [
     ("watch --colour", "error: unexpected argument '--colour' found"),
     ("watch --adress 249", "tip: a similar argument exists: '--address'"),
@@ -42,7 +42,9 @@ REFUSED = [
     ("decode --texts", "error: a value is required for '--texts <FILE>' but none was supplied"),
     ("decode a.log b.log", "Usage: j1939bench decode [OPTIONS] [FILE]"),
     ("check --strict", "Usage: j1939bench check"),
-    ("watc", None),
+    ("watc", "tip: a similar subcommand exists: 'watch'"),
+    ("nothing", "error: unrecognized subcommand 'nothing'"),
+    ("", "[subcommands: script, threads, log, check, watch, decode, live, help]"),
     ("script --fast", None),
     ("threads --turn 3", None),
 ]

@@ -4,8 +4,11 @@ import collections
 import csv
 import io
 import json
+import shutil
+import subprocess
+import tempfile
 
-from harness import TOP
+from harness import TOP, program, skipped
 from logs.common import KINDS, entry_of, is_change, joined, log_of, run, same, units_of_json
 
 
@@ -93,3 +96,45 @@ def late_packets():
     status, out, err = run(["watch", "--format", "json", "--unclaimed", "hide"], log_of("03-lost-frames"))
     report = json.loads(out.splitlines()[-1])
     return same(units_of_json(report), wanted, "units") + ([] if report["lines"]["withheld"] > 0 else ["nothing is withheld"])
+
+
+# Units that claim, and two that do not, whose addresses have gaps between them.
+MIXED = b"""(1.000000) can0 18EEFF00#0799410100000010
+(1.010000) can0 18EEFF01#0899410100000010
+(1.100000) can0 18FECA00#04FF64000301FFFF
+(1.200000) can0 18FECA05#04FF65000301FFFF
+(1.300000) can0 18FECA06#04FF66000301FFFF
+DROPCOUNT: dropped 1 CAN frames on 'can0' socket (total drops 1)
+(1.400000) can0 18FECA05#04FF67000301FFFF
+(1.500000) can0 18FECA06#00FF00000000FFFF
+(1.600000) can0 18EEFF01#0899410100000010
+(1.700000) can0 18EEFF01#0599410100000010
+"""
+
+
+def recipes_of(page):
+    """The lines of the part `Recipes` of a page."""
+    part = (TOP / page).read_text().partition("## Recipes\n")[2].partition("\n## ")[0]
+    return [line[4:] for line in part.splitlines() if line.startswith("    ")]
+
+
+def recipes():
+    """Each line of the recipes for jq in docs/WATCH.md tells units apart that nobody claimed."""
+    if shutil.which("jq") is None:
+        skipped("the recipes of docs/WATCH.md: there is no jq")
+        return []
+    lines, told = recipes_of("docs/WATCH.md"), {}
+    with tempfile.NamedTemporaryFile(suffix=".log") as log:
+        log.write(MIXED)
+        log.flush()
+        for what, line in zip(lines[1:], lines[2:]):
+            if what.startswith("#") and "jq" in line:
+                line = line.replace("./j1939bench", program("watch")).replace(" LOG", f" {log.name}")
+                ran = subprocess.run(["sh", "-c", f"{lines[0]}\n{line}"], capture_output=True, text=True, check=False)
+                told[what] = (ran.returncode, ran.stdout, ran.stderr)
+    five, six = "address 5, no claim seen", "address 6, no claim seen"
+    return same(list(told.values()), [
+        (0, f"1000000001419907: 100/3\n{five}: 101/3\n{six}: 102/3\n{five} since gap 1: 103/3\n", ""),
+        (0, f"1000000001419907\t100/3\t1.100000\n{five}\t101/3\t1.200000\n{five} since gap 1\t103/3\t1.400000\n{six}\t102/3\t1.300000\n", ""),
+        (0, "1.700000 1000000001419908\n", ""),
+    ], "recipes")

@@ -1,10 +1,9 @@
 """Live pipes, signals, inputs and outputs that fail."""
 
 import os
-import pathlib
+import re
 import select
 import shlex
-import shutil
 import signal
 import subprocess
 import tempfile
@@ -51,28 +50,19 @@ def interrupted_pipe():
     return found
 
 
-def signalled_wrapper():
-    """./j1939bench turns a signal that would end `watch` into the end of its input: the report follows, though what writes the pipe goes on."""
-    found = []
-    with tempfile.TemporaryDirectory() as room:
-        top = pathlib.Path(room)
-        (top / "crates/j1939bench_lines/out").mkdir(parents=True)
-        (top / "crates/j1939bench_lines/out/j1939bench_lines").symlink_to(program("watch"))
-        for name in ("j1939bench", "program_for", "programs.txt", "run_program"):
-            shutil.copy(TOP / name, top)
-        for number in (signal.SIGTERM, signal.SIGHUP, signal.SIGINT):
-            heeds = lambda number=number: signal.signal(number, signal.SIG_DFL)
-            reader, writer = os.pipe()
-            child = subprocess.Popen([top / "j1939bench", "watch"], stdin=reader, stdout=subprocess.PIPE, start_new_session=True, preexec_fn=heeds)
-            os.close(reader)
-            os.write(writer, CLAIM)
-            ready, _, _ = select.select([child.stdout], [], [], 10)
-            first = os.read(child.stdout.fileno(), 65536).decode() if ready else "nothing"
-            child.send_signal(number)
-            rest = child.communicate(timeout=10)[0].decode()
-            os.close(writer)
-            found += same(first, CLAIMED, "what was written before")
-            found += same(child.returncode, 0, f"the status after {number.name}") + ([] if "missed 0 unread 0\n" in rest else [f"no report after {number.name}: {rest!r}"])
+def input_beside_a_file():
+    """Where a file is named, nothing is read of standard input, whatever option of the page of help stands before it: so a loop over files goes on."""
+    values = {"unit": "0", "from": "0", "to": "9", "assume": "0=00000000000000A0", "name": "00000000000000A0"}
+    options = re.findall(r"(?m)^      --(\w+)(?: <(.*?)>)?  ", run(["watch", "--help"])[1])
+    given = [["watch", f"--{name}", *([values.get(name, value.split("|")[0])] if value else [])] for name, value in options]
+    found, path = [] if len(given) > 15 else [f"few options: {options}"], str(TOP / "examples/logs" / f"{LOGS[0]}.log")
+    for words in (["watch"], ["decode"], ["watch", "--bus=can0"], ["watch", "--"], *given):
+        reader, writer = os.pipe()
+        os.write(writer, CLAIM)
+        os.close(writer)
+        subprocess.run([TOP / "run_program", program(words[0]), *words, path], stdin=reader, capture_output=True, timeout=60)
+        found += same(os.read(reader, 4096), CLAIM, f"{words}: what is left of standard input")
+        os.close(reader)
     return found
 
 

@@ -6,6 +6,7 @@ import io
 import itertools
 import json
 import random
+import re
 import tempfile
 
 from harness import TOP
@@ -106,10 +107,10 @@ def lines_in_json():
 BAD_TEXTS = [
     (b"524288,1,too large\n", "line 2: spn: 524288 is not 0 to 524287"),
     (b"1,32,too large\n", "line 2: fmi: 32 is not 0 to 31"),
-    (b"1,2,good\n,,none\n", "line 3: spn, fmi: both are empty"),
+    (b"1,2,good\n,,none\n", "line 3: spn, fmi: all are empty"),
     (b"1,2\n", "line 2: 2 values, and the first line has 3"),
     (b"1,x,y\n", "line 2: fmi: x is not 0 to 31"),
-    (b"1,2,\"of\ntwo lines\"\n1,2,\xff\n", "line 4: text: no UTF-8"),
+    (b"1,2,\"of\ntwo lines\"\n1,2,\xff\n", "line 4: text: no UTF-8 (a spreadsheet saves it as CSV UTF-8)"),
     (b"1,2,x\n" * 300 + b"1,99,y\n", "line 302: fmi: 99 is not 0 to 31"),
 ]
 
@@ -138,10 +139,82 @@ def own_texts():
             texts.truncate()
             texts.write(b"spn,fmi,text\n" + bad)
             texts.flush()
-            found += same(run(["decode", "--texts", texts.name], lines), (2, "", f"fault: texts\n{told}\n"), f"{bad!r}")
+            found += same(run(["decode", "--texts", texts.name], lines), (2, "", f"fault: texts\ntexts, {told}\n"), f"{bad!r}")
     told = "fault: read\n/nowhere: "
     status, out, err = run(["decode", "--texts", "/nowhere"], lines)
     return found + same((status, out, err[: len(told)], err.count("\n")), (1, "", told, 2), "no file")
+
+
+OIL = b"18FECA00#04FF64000301FFFF\n"
+# What is read of a file, and what it gives the code 100/3 or the unit of function 0; or what is told where it is refused. `KEY` is `spn` or `function`.
+FIRST_LINES = [
+    (b"KEY,text\nN,Oil\n", "Oil"), (b"text,KEY\nOil,N\n", "Oil"), (b"Text , KEY\nOil,N\n", "Oil"), (b"TEXT;KEY\n\"a;b\";N\n", "a;b"), (b"KEY;text\nN;Oil, hot\n", "Oil, hot"),
+    (b"KEY\ttext\r\nN\tOil; hot\r\n", "Oil; hot"), (b"\xef\xbb\xbfKEY;text\nN;Oil\n", "Oil"), (b"\n\nKEY,text\n\nN,Oil", "Oil"), (b'"KEY","text"\n"N","O""il"\n', 'O"il'),
+    (b"#who,KEY,text,# when\nme,N,Oil,\"now\n\"\n", "Oil"), (b"KEY,text,\nN,Oil,\n", "Oil"), (b"KEY,text,,\nN,Oil, ,\n", "Oil"),
+    (b"KEY,text,\nN,Oil, hot\n", "line 2: value 3 stands below no name of a column"), (b"KEY,text\nN,Oil, hot\n", "line 2: 3 values, and the first line has 2"),
+    (b"N,Oil\n", "line 1: N is none of the columns NAMES (one of notes begins with #)"), (b"KEY,notes,text\nN,x,Oil\n", "line 1: notes is none of the columns NAMES (one of notes begins with #)"),
+    (b"KEY,text,KEY\nN,Oil,N\n", "line 1: KEY stands there twice"), (b"KEY\nN\n", "line 1: no column text, or none of KEYS"), (b"#KEY,text\nN,Oil\n", "line 1: no column text, or none of KEYS"),
+    (b"KEY,te\xfft\nN,Oil\n", "line 1: column: no UTF-8 (a spreadsheet saves it as CSV UTF-8)"), (b"KEY:text\nN:Oil\n", "line 1: KEY:text is none of the columns NAMES (one of notes begins with #)"),
+    (b"KEY,text\nN,Oil\n1,\"Pump\n2,Valve\n3,Fan\n", "line 3: a quote that does not end"), (b"KEY,text\n1,\"Pump\nN,\"Oil\"\n", "line 2: a quote with more behind its end"),
+    (b"\"KEY,text\nN,Oil\n", "line 1: a quote that does not end"), (b"KEY,text\nN,\"Oil\" hot\n", "line 2: a quote with more behind its end"), (b"KEY,text\nN,Oil \"hot\"\n", 'Oil "hot"'),
+]
+
+
+def first_lines():
+    """The first line of either file names its columns, in any order, by any separator; a wrong one is told, and a quote that takes in the rest."""
+    found = []
+    kinds = (("--texts", b"spn", b"100", "spn, fmi", OIL, lambda line: line.split("(100/3: ")[1][:-1]),
+             ("--units", b"function", b"0", "name, function, manufacturer", CLAIM, lambda line: line.partition("; ")[2]))
+    for (text, wanted), (option, key, number, keys, line, told_of) in itertools.product(FIRST_LINES, kinds):
+        text = text.replace(b"KEY", key).replace(b"N", number) if b"UTF" not in text else text
+        with tempfile.NamedTemporaryFile(suffix=".csv") as file:
+            file.write(text)
+            file.flush()
+            status, out, err = run(["decode" if option == "--texts" else "watch", option, file.name], line)
+        if wanted.startswith("line "):
+            wanted = wanted.replace("KEYS", keys).replace("NAMES", keys + ", text").replace("KEY", key.decode()).replace("N ", number.decode() + " ", 1)
+            found += same((status, out, err), (2, "", f"fault: texts\n{option[2:]}, {wanted}\n"), f"{option} {text!r}")
+        else:
+            row = out.splitlines()[0 if option == "--texts" else 1] if status == 0 else out
+            found += same((status, told_of(row) if status == 0 else row, err), (0, wanted, ""), f"{option} {text!r}")
+    return found
+
+
+def wrong_lines():
+    """Of many wrong lines of a file the first ten are told, and the rest counted; a quote without an end is told behind those before it."""
+    told = "".join(f"texts, line {line}: fmi: 32 is not 0 to 31\n" for line in range(2, 12))
+    found = []
+    for rows, more in ((b"1,32,x\n" * 12, "texts: and 2 more lines\n"), (b"1,32,x\n" * 10 + b'1,2,"x\n', "texts: and 1 more lines\n")):
+        with tempfile.NamedTemporaryFile(suffix=".csv") as file:
+            file.write(b"spn,fmi,text\n" + rows)
+            file.flush()
+            found += same(run(["decode", "--texts", file.name], OIL), (2, "", f"fault: texts\n{told}{more}"), more)
+    return found
+
+
+def most_exact_rows():
+    """The most exact of many rows counts, the last of equally exact ones; looked up against a search of all rows."""
+    chance, found = random.Random(64), []
+    names = [chance.getrandbits(64) & ~(0xFF << 40 | 0x7FF << 21) | chance.randrange(3) << 40 | chance.randrange(3) << 21 for _ in range(12)]
+    for count in (0, 1, 5, 40, 2000):
+        rows = []
+        for at in range(count):
+            name = chance.choice(names) if chance.random() < 0.4 else None
+            function = chance.randrange(4) if chance.random() < 0.5 else None
+            manufacturer = chance.randrange(4) if chance.random() < 0.5 or name is function is None else None
+            rows.append((name, function, manufacturer, f"row {at}"))
+        with tempfile.NamedTemporaryFile("w", suffix=".csv") as file:
+            file.write("name,function,manufacturer,text\n" + "".join(f"{'' if n is None else f'{n:016X}'},{'' if f is None else f},{'' if m is None else m},{t}\n" for n, f, m, t in rows))
+            file.flush()
+            lines = "".join(f"(1.{at:06}) can0 18EEFF{at:02X}#{name.to_bytes(8, 'little').hex()}\n" for at, name in enumerate(names))
+            out = run(["watch", "--units", file.name], lines.encode())[1].splitlines()
+        told = {row[:16]: row.partition("; ")[2] for row in out if re.match("[0-9A-F]{16} ", row)}
+        for name in names:
+            fields = (name >> 40 & 0xFF, name >> 21 & 0x7FF)
+            fit = [(4 * (n is not None) + 2 * (f is not None) + (m is not None), at, t) for at, (n, f, m, t) in enumerate(rows)
+                   if n in (None, name) and f in (None, fields[0]) and m in (None, fields[1])]
+            found += same(told[f"{name:016X}"] if fit else "", max(fit)[2] if fit else "", f"{count} rows: {name:016X}")
+    return found
 
 
 def texts_of_rows():
@@ -172,4 +245,25 @@ def identifiers():
         told = json.loads(line)
         wanted = [int(row["priority"]), int(row["pgn"]), int(row["destination"] or 255), int(row["source"])]
         found += same([told["priority"], told["pgn"], told["destination"], told["source"]], wanted, row["id"])
+    return found
+
+
+# The two bytes of lamps, and what is told of them.
+LAMPS = [
+    ("00FF", "no lamp"), ("04FF", "amber"), ("54FF", "mil, stop, amber"), ("10FF", "stop"), ("10DF", "stop flashing fast"), ("10CF", "stop flashing slowly"), ("1000", "stop flashing slowly"), ("0155", "protect flashing fast"),
+    ("FFFF", "lamps not available"), ("C3FF", "no lamp, mil/protect not available"), ("C7FF", "amber, mil/protect not available"), ("F7FF", "amber, mil/stop/protect not available"),
+    ("80FF", "no lamp, mil reserved"), ("AAFF", "mil/stop/amber/protect reserved"), ("DBFF", "stop, mil/protect not available, amber reserved"), ("FEFF", "mil/stop/amber not available, protect reserved"),
+]
+
+
+def lamps_in_words():
+    """One word for a lamp in every text, and that nothing is said of it where that is so (SAE J1939-73, 5.7.1)."""
+    found = []
+    for lamps, words in LAMPS:
+        frame = f"(1.000000) can0 18FECA00#{lamps}64000301FFFF\n".encode()
+        found += same(run(["decode"], frame)[1], f"(1.000000) can0 p6 0>all 65226 DM1: {words} ({lamps}); 100/3/1\n", f"decode of {lamps}")
+        found += same(json.loads(run(["decode", "--format", "json"], frame)[1])["says"], f"DM1: {words}; 100/3/1", f"decode's JSON of {lamps}")
+        status, out, err = run(["watch"], frame)
+        found += same((status, err, out.splitlines()[:2]), (0, "", [f"1.000000 dm1 address 0, no claim seen: {words} ({lamps}); 100/3/1",
+                                                                    f"address 0, no claim seen      1      0      0    1 {words} ({lamps})"]), f"watch of {lamps}")
     return found

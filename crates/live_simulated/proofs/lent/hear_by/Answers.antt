@@ -3,11 +3,9 @@ use Rattle.std.proofs.lemmas.Result.{IfOk-weaker, on_err_weaker}
 use borrow.Pointer.Hide.{carried_sameᵐ, carryᵐ}
 use denote.Ref.{MutBor}
 use Rattle.node_core.specs.Asking.{IsAsked}
-use Rattle.node_core.specs.GivingUp.{is_held_open}
 use Rattle.node_core.specs.Reaction.{question}
 use Rattle.parameter_group.specs.Group.{group_of}
-use Rattle.live_unit.specs.Steps.{HasHeardFrame, has_lost, standing}
-use Rattle.live_unit.specs.Times.{clock_after_hearing}
+use Rattle.live_unit.specs.Steps.{HasHeardFrame, clock_heard, standing}
 use Rattle.simulated_unit.specs.declared.Simulated.{Simulated}
 use Rattle.live_simulated.proofs.Asked.{agrees_willing, either_way, kind_kept}
 use Rattle.live_simulated.proofs.lent.hear_by.OwnLists.{own-1, at-1-1, entry-1-1, same-1-1}
@@ -22,7 +20,7 @@ unfolding group_of
 returns-clause-clock c =
     let before = c.args.live.now in let after = c.hear.new.self in
     subst (λ (T : Type 0). T)
-    (carried_sameᵐ _ _ entry-1-1 (own-1.entry at-1-1) same-1-1 (Type 0) (λ j y. OnOk c.hear.result (after.clock ≡ clock_after_hearing (is_held_open before.node (group_of c.args.frame.now)) (has_lost before.node.claimer.held after.node.claimer.held) (j.1.name_of y.now) c.args.now before.clock)) (lent_unit c))
+    (carried_sameᵐ _ _ entry-1-1 (own-1.entry at-1-1) same-1-1 (Type 0) (λ j y. OnOk c.hear.result (after.clock ≡ clock_heard c.args.frame.now (j.1.name_of y.now) c.args.now before.node before.queue after.node after.queue before.clock)) (lent_unit c))
     c.hear.ensures.clock
 
 pub returns-clause-name : goal.returns-clause-name

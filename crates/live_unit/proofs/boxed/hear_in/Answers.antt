@@ -1,10 +1,7 @@
 use Rattle.std.proofs.Common.{◌≡◌, subst, IfOk, OnOk}
 use Rattle.node_core.specs.Asking.{IsAsked}
-use Rattle.node_core.specs.GivingUp.{is_held_open}
 use Rattle.node_core.specs.Reaction.{question}
-use Rattle.parameter_group.specs.Group.{group_of}
-use Rattle.live_unit.specs.Steps.{HasHeardFrame, has_lost, standing}
-use Rattle.live_unit.specs.Times.{clock_after_hearing}
+use Rattle.live_unit.specs.Steps.{HasHeardFrame, clock_heard, standing}
 use Rattle.live_unit.proofs.Lent.{given_back_on_err, lent_if_ok}
 use Rattle.live_unit.proofs.boxed.hear_in.Goals as goal
 
@@ -18,7 +15,7 @@ returns-clause-heard g c =
 pub returns-clause-clock : goal.returns-clause-clock
 returns-clause-clock g c =
     let before = c.args.live.now in let after = c.hear.new.self in
-    subst (λ s. OnOk c.hear.result (after.clock ≡ clock_after_hearing (is_held_open before.node (group_of c.args.frame.now)) (has_lost before.node.claimer.held after.node.claimer.held) ((goal.Unit-dyn g s).name_of s.1) c.args.now before.clock))
+    subst (λ s. OnOk c.hear.result (after.clock ≡ clock_heard c.args.frame.now ((goal.Unit-dyn g s).name_of s.1) c.args.now before.node before.queue after.node after.queue before.clock))
     c.deref_box_mut-1.ensures.value.1 c.hear.ensures.clock
 
 pub returns-clause-asked : goal.returns-clause-asked

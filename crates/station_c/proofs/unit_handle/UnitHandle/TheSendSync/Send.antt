@@ -13,6 +13,7 @@ use Rattle.station_c.specs.contracts.unit_handle.UnitHandle as handle
 use Rattle.live_simulated.specs.contracts.simulated.LiveSimulated as unit
 use Rattle.live_unit.specs.contracts.node.LiveNode as node
 use Rattle.live_unit.specs.contracts.queue.Queue as queue
+use Rattle.live_unit.specs.contracts.told.Told as told
 use Rattle.node_core.specs.contracts.node.Node as place
 use Rattle.simulated_unit.specs.contracts.Simulated as simulated
 
@@ -22,8 +23,11 @@ queue_send = search (sendable, crosses) depth 60 fits 20000
 place_send : IsSend place.the_row
 place_send = search (sendable, crosses, maps.crosses) depth 60 fits 20000
 
+told_send : IsSend told.the_row
+told_send = search (sendable, crosses) depth 60 fits 20000
+
 node_send : IsSend node.the_field.row
-node_send = search (sendable, crosses, queue_send, place_send) depth 60 fits 20000
+node_send = search (sendable, crosses, queue_send, told_send, place_send) depth 60 fits 20000
 
 simulated_send : IsSend simulated.the_field.row
 simulated_send = search (sendable, crosses) depth 60 fits 20000

@@ -1,30 +1,35 @@
-use Rattle.std.proofs.Common.{◌≡◌, ◌<◌, true, false, sym, ◌∙◌, rules}
-use Rattle.unit_words.specs.Exact.{fits, exactness}
-use Rattle.unit_words.proofs.Exact.{taken, passed, all_seen, none_seen}
-use Rattle.unit_words.proofs.texts.UnitTexts.place_of.Goals.{then-fits+then-exactness-most, else-fits, else-fits-via-then-fits+else-exactness-most, else-fits-via-else-fits}
+use Rattle.std.proofs.Common.{◌≡◌, ◌+◌, ◌-◌, List, None, Some, sym, subst, arith}
+use Rattle.std.specs.HashMap.{get}
+use Rattle.std.specs.List.{All}
+use Rattle.unit_words.specs.Exact.{IsPlaceOf}
+use Rattle.unit_words.specs.Index.{is_same, NoneGives, IsLastRow}
+use Rattle.unit_words.specs.declared.row.UnitRow.{UnitRow}
+use Rattle.unit_words.proofs.Index.{IsBelow, passed, found}
 use Rattle.unit_words.proofs.texts.UnitTexts.place_of.Goals as goal
 
-pub loop-place-preserved : goal.loop-place-preserved
-loop-place-preserved c =
-    let row = c.row-item.result in
-    let within = c.loop-place-test.true in
-    let known = c.loop-place.invariant in
-    let amount = c.exactness-exactness.ensures in
-    elim c.if-fits.branch [
-      | then-fits+then-exactness-most w ↦
-          let is_for : fits row c.args.name ≡ true = sym c.fits.ensures ∙ w.if-fits.true in
-          rw (w.best-is, w.most-is, amount) (taken _ _ _ _ _ row within c.row-item.is known is_for (rw amount at w.if-exactness-most.true))
-      | else-fits w ↦
-          let less : fits row c.args.name ≡ true → exactness row < c.loop-place.most =
-          elim w.else-fits.branch [
-            | else-fits-via-then-fits+else-exactness-most w' ↦ (λ yes'. rw amount at w'.if-exactness-most.false)
-            | else-fits-via-else-fits w' ↦ (λ yes'. let no' : fits row c.args.name ≡ false = sym c.fits.ensures ∙ w'.if-fits.false in absurd cc)
-          ] in
-          rw (w.best-is, w.most-is) (passed _ _ _ _ _ row within c.row-item.is known less)
-    ]
+pub loop-less-preserved : goal.loop-less-preserved
+loop-less-preserved c =
+    let rows = c.self.inside.rows.items in
+    let key = c.of_unit-key.result in
+    let name = c.args.name in
+    let exact = 7 - c.loop-less.less in
+    let none : get is_same c.self.inside.index key ≡ None = sym c.in_default.ensures.value in
+    let gone : NoneGives key rows = subst (IsLastRow rows key) none (c.self.invariant key) in
+    let more : 8 - c.loop-less.less ≡ exact + 1 = omega (arith, c.loop-less-test.true) in
+    let below : All (IsBelow name (exact + 1)) rows = subst (λ limit. All (IsBelow name limit) rows) more c.loop-less.invariant in
+    let fewer : All (IsBelow name exact) rows = passed rows name exact key c.of_unit-key.ensures below gone in
+    let same : exact ≡ 8 - (c.loop-less.less + 1) = omega (arith, c.loop-less-test.true) in
+    subst (λ limit. All (IsBelow name limit) rows) same fewer
 
-pub returns-clause-found : goal.returns-clause-found
-returns-clause-found c = search (rules, all_seen)
-
-pub returns-clause-none : goal.returns-clause-none
-returns-clause-none c = search (rules, none_seen)
+pub returns-in-Some-clause-found : goal.returns-in-Some-clause-found
+returns-in-Some-clause-found c =
+    let rows = c.self.inside.rows.items in
+    let key = c.of_unit-key.result in
+    let name = c.args.name in
+    let exact = 7 - c.loop-less.less in
+    let place = c.in-Some.place.now in
+    let some : get is_same c.self.inside.index key ≡ Some place = sym c.in-Some.ensures.value in
+    let last : IsLastRow rows key (Some place) = subst (IsLastRow rows key) some (c.self.invariant key) in
+    let more : 8 - c.loop-less.less ≡ exact + 1 = omega (arith, c.loop-less-test.true) in
+    let below : All (IsBelow name (exact + 1)) rows = subst (λ limit. All (IsBelow name limit) rows) more c.loop-less.invariant in
+    subst (λ (seen : List UnitRow). IsPlaceOf seen name place) c.self.view_is (found rows name exact place key c.of_unit-key.ensures below last)

@@ -1,6 +1,7 @@
-use Rattle.std.proofs.Common.{take}
-use Rattle.unit_words.proofs.Exact.{IsBest}
+use Rattle.std.proofs.Common.{◌-◌}
+use Rattle.std.specs.List.{All}
+use Rattle.unit_words.proofs.Index.{IsBelow}
 use Rattle.unit_words.proofs.texts.UnitTexts.place_of.Given as goal
 
-abbrev pub invariant-loop-place : goal.invariant-loop-place
-invariant-loop-place l = IsBest (take l.place l.row-items) l.fn.name l.best l.most
+abbrev pub invariant-loop-less : goal.invariant-loop-less
+invariant-loop-less l = All (IsBelow l.fn.name (8 - l.less)) l.self-inside.rows.items

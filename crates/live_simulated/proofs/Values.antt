@@ -1,7 +1,7 @@
 -- A unit whose parts are those of another one is that one.
 use Rattle.std.proofs.Common.{ℕ, ◌≡◌}
 use Rattle.fault_memory.specs.Memory.{MemoryValue}
-use Rattle.script_line.specs.declared.command.UnitKind.{UnitKind}
+use Rattle.unit_trait.specs.declared.kind.UnitKind.{UnitKind}
 use Rattle.node_core.specs.NodeValue.{NodeValue}
 use Rattle.live_unit.specs.Queue.{QueueValue}
 use Rattle.live_unit.specs.declared.clock.UnitClock.{UnitClock}

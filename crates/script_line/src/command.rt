@@ -5,23 +5,13 @@ use can_frame::{Frame, FrameError, Pgn, PgnTooLarge};
 use dm_messages::Kind;
 use name_field::{Name, NameError};
 use trouble_code::Lamps;
+use unit_trait::UnitKind;
 
 /// A NAME as a word spells it: sixteen hexadecimal digits of either case, or none.
 pub type NameWord = Result<Name, NameError>;
 
 /// A frame as words spell it: an identifier of eight hexadecimal digits and bytes of two digits each, or why there is none such.
 pub type FrameWords = Result<Frame, FrameError>;
-
-/// What a unit is like.
-#[derive(Clone, Copy, Debug, PartialEq, Eq)]
-pub enum UnitKind {
-    /// `plain`: it clears, obeys commands and wants to tell of its active codes.
-    Plain,
-    /// `guarded`: it neither clears nor obeys, and wants to tell nothing.
-    Guarded,
-    /// `flicker SPN FMI`: a plain unit whose code comes and goes as it thinks.
-    Flicker { spn: u32, fmi: u8 },
-}
 
 /// What a unit's fault memory is told of a trouble code.
 #[derive(Clone, Copy)]

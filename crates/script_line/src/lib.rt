@@ -14,7 +14,7 @@ mod reasons;
 mod words;
 
 pub use command::{
-    Asked, CodeChange, Command, FrameWords, NameWord, Receiver, ScriptLine, StationWords, UnitKind,
+    Asked, CodeChange, Command, FrameWords, NameWord, Receiver, ScriptLine, StationWords,
 };
 pub use numbers::{read_lamps, read_number, read_small_number};
 pub use read::{is_silent, read_line};

@@ -3,15 +3,14 @@ ghost use Rattle.script_line.specs.Line.{IsSilent, first_word};
 ghost use Rattle.script_line.specs.Numbers.{SpellsNumber};
 ghost use Rattle.script_line.specs.Station.{NamesStation, is_of_station, station_word};
 
-use crate::command::{
-    Asked, CodeChange, Command, NameWord, Receiver, ScriptLine, StationWords, UnitKind,
-};
+use crate::command::{Asked, CodeChange, Command, NameWord, Receiver, ScriptLine, StationWords};
 use crate::frames::read_frame;
 use crate::numbers::{read_lamps, read_number, read_small_number};
 use crate::words::Words;
 use can_frame::Pgn;
 use dm_messages::Kind;
 use name_field::Name;
+use unit_trait::UnitKind;
 
 /// Whether a line has no answer: it is empty, or begins with `#`.
 pub fn is_silent(line: &str) -> bool

@@ -1,8 +1,8 @@
 -- What a simulated unit of a kind does of its own.
 use Rattle.std.specs.Prelude.{◌≡◌, Bool, true, false}
 use Rattle.fault_memory.specs.Memory.{MemoryValue}
-use Rattle.script_line.specs.declared.command.UnitKind.{UnitKind}
-use Rattle.script_line.specs.declared.command.UnitKind.TheVariants.{Guarded, Flicker}
+use Rattle.unit_trait.specs.declared.kind.UnitKind.{UnitKind}
+use Rattle.unit_trait.specs.declared.kind.UnitKind.TheVariants.{Guarded, Flicker}
 
 -- it clears and obeys, and wants to tell of its active codes
 abbrev pub is_willing : UnitKind → Bool

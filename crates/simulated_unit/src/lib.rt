@@ -7,9 +7,8 @@ ghost use Rattle.simulated_unit.specs.Kinds.{is_willing, MayWork};
 
 use fault_memory::{FaultChange, FaultError, FaultMemory};
 use name_field::Name;
-use script_line::UnitKind;
 use std::alloc::Global;
-use unit_trait::{Refused, Unit};
+use unit_trait::{Refused, Unit, UnitKind};
 
 /// A simulated unit of a kind.
 ///

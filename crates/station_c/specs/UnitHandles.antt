@@ -6,8 +6,8 @@ use Rattle.fault_memory.specs.declared.change.FaultChange.{FaultChange}
 use Rattle.fault_memory.specs.declared.error.FaultError.{FaultError}
 use Rattle.live_unit.specs.declared.clock.UnitSettings.{UnitSettings}
 use Rattle.live_simulated.specs.Simulating.{ChangesMemory}
-use Rattle.script_line.specs.declared.command.UnitKind.{UnitKind}
-use Rattle.script_line.specs.declared.command.UnitKind.TheVariants.{Plain, Guarded}
+use Rattle.unit_trait.specs.declared.kind.UnitKind.{UnitKind}
+use Rattle.unit_trait.specs.declared.kind.UnitKind.TheVariants.{Plain, Guarded}
 use Rattle.station_c.specs.Held.{is_there}
 use Rattle.station_c.specs.Records.{frame_recorded}
 use Rattle.station_c.specs.Statuses.{Answers, status_of_fault}

@@ -2,7 +2,7 @@
 ghost use Rattle.std.specs.Prelude.{◌≡◌};
 
 use live_unit::{QueueCounts, UnitSettings};
-use script_line::UnitKind;
+use unit_trait::UnitKind;
 
 /// What a unit keeps to.
 #[repr(C)]

@@ -5,12 +5,10 @@ use Rattle.can_frame.specs.declared.address.TheConstants.{GREATEST_ADDRESS}
 use Rattle.name_field.specs.NameText.{IsNameText}
 use Rattle.hex_text.specs.Hex.{hex_value}
 use Rattle.toml.specs.Data.{Data, Items, no_items, item, Members, no_members, member, get, as_integer, as_str, as_array, as_table}
-use Rattle.script_line.specs.declared.command.UnitKind.{UnitKind}
-use Rattle.script_line.specs.declared.command.UnitKind.TheVariants.{Plain, Guarded, Flicker}
+use Rattle.unit_trait.specs.declared.kind.UnitKind.{UnitKind}
+use Rattle.unit_trait.specs.declared.kind.UnitKind.TheVariants.{Plain, Guarded, Flicker}
 use Rattle.trouble_code.specs.declared.dtc.TheConstants.{GREATEST_SPN, GREATEST_FMI}
-use Rattle.bus_ledger.specs.declared.bus.TheConstants.{MOST_UNREAD}
-use Rattle.journal.specs.declared.notes.TheConstants.{MOST_EVENTS}
-use Rattle.vehicle.specs.declared.read.TheConstants.{MOST_GRANTED}
+use Rattle.vehicle.specs.declared.read.TheConstants.{GREATEST_WINDOW, GREATEST_LIMIT, MOST_GRANTED}
 use Rattle.vehicle.specs.declared.StationTable.{StationTable}
 use Rattle.vehicle.specs.declared.Second.{Second}
 use Rattle.vehicle.specs.declared.UnitLine.{UnitLine}
@@ -46,16 +44,16 @@ pub record HoldsStation (d : Data) (s : StationTable) : Type 0 where
   pub only : HasOnly (codes "name" ∷ codes "address" ∷ codes "window" ∷ codes "grant" ∷ codes "limit" ∷ []) d
   pub name : HasName d s.name
   pub address : HasNumber d (codes "address") s.address 0 GREATEST_ADDRESS
-  pub window : HasNumber d (codes "window") s.window 1 MOST_UNREAD
+  pub window : HasNumber d (codes "window") s.window 1 GREATEST_WINDOW
   pub grant : HasNumber d (codes "grant") s.grant 1 MOST_GRANTED
-  pub limit : HasNumber d (codes "limit") s.limit 1 MOST_EVENTS
+  pub limit : HasNumber d (codes "limit") s.limit 1 GREATEST_LIMIT
 
 -- a station's NAME, and three numbers in their ranges; no key but these
 pub record HoldsTable (keys : List (List ℕ)) (d : Data) (s : Second) : Type 0 where
   pub only : HasOnly keys d
   pub name : HasName d s.name
   pub address : HasNumber d (codes "address") s.address 0 GREATEST_ADDRESS
-  pub window : HasNumber d (codes "window") s.window 1 MOST_UNREAD
+  pub window : HasNumber d (codes "window") s.window 1 GREATEST_WINDOW
   pub grant : HasNumber d (codes "grant") s.grant 1 MOST_GRANTED
 
 -- the second station's NAME, and three numbers in their ranges; nothing else

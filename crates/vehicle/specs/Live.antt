@@ -4,7 +4,7 @@ use Rattle.std.specs.List.{AllPairs}
 use Rattle.hex_text.specs.Hex.{IsHexText, hex_value}
 use Rattle.toml.specs.Data.{Data, get, as_str}
 use Rattle.script_line.specs.Numbers.{IsNumberBelow, SpellsNumber, decimal_value}
-use Rattle.script_line.specs.declared.command.UnitKind.{UnitKind}
+use Rattle.unit_trait.specs.declared.kind.UnitKind.{UnitKind}
 use Rattle.trouble_code.specs.Code.{Code, IsCode}
 use Rattle.trouble_code.specs.LampBytes.{LampsValue, lamps_off, lamps_value}
 use Rattle.vehicle.specs.Sending.{SpellsBytes, is_free_group}

@@ -59,9 +59,9 @@ mod sends;
 pub use fault::VehicleFault;
 pub use live::{LiveLine, read_live_units};
 use name_field::Name;
-pub use read::read_vehicle;
-pub use script_line::UnitKind;
+pub use read::{GREATEST_LIMIT, GREATEST_WINDOW, read_vehicle};
 pub use send_line::SendLine;
+pub use unit_trait::UnitKind;
 
 /// The station of a vehicle, and the settings of its bus.
 #[derive(Clone, Copy, PartialEq, Eq)]

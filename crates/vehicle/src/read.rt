@@ -1,6 +1,6 @@
 ghost use Rattle.std.specs.Prelude.{ℕ, ◌≡◌, ◌≢◌, ◌≤◌, ◌∷◌, [], IfOk, IfSome, pos, Some, codes, map, true};
 ghost use Rattle.std.specs.List.{IsAmong};
-ghost use Rattle.script_line.specs.declared.command.UnitKind.TheVariants.{Flicker};
+ghost use Rattle.unit_trait.specs.declared.kind.UnitKind.TheVariants.{Flicker};
 ghost use Rattle.name_field.specs.NameText.{IsNameText};
 ghost use Rattle.hex_text.specs.Hex.{hex_value};
 ghost use Rattle.toml.specs.Data.{Data, Members, get, table};
@@ -11,15 +11,17 @@ ghost use Rattle.vehicle.specs.Holding.{number_at, text_at, HasItemsAt, HasName,
 use crate::fault::VehicleFault;
 use crate::misfit::{KeyPlace, Unread, Wrong};
 use crate::{Second, StationTable, UnitKind, UnitLine, Vehicle};
-use bus_ledger::MOST_UNREAD;
 use can_frame::GREATEST_ADDRESS;
-use journal::MOST_EVENTS;
 use name_field::Name;
 use std::alloc::Global;
 use toml::Value;
 use toml::de::Error;
 use trouble_code::{GREATEST_FMI, GREATEST_SPN};
 
+/// The most frames that a station may leave unread, as a garage takes it.
+pub const GREATEST_WINDOW: u32 = 4096;
+/// The most events of a bus, as a garage takes it.
+pub const GREATEST_LIMIT: u32 = 1 << 24;
 /// The most packets that are asked for at once.
 const MOST_GRANTED: u32 = 255;
 
@@ -145,7 +147,7 @@ pub(crate) fn read_station(value: &Value) -> Result<StationTable, Unread<'_>>
             address: table.address,
             window: table.window,
             grant: table.grant,
-            limit: read_number(place, value, "limit", 1, MOST_EVENTS)?,
+            limit: read_number(place, value, "limit", 1, GREATEST_LIMIT)?,
         }),
         Err(unread) => Err(unread),
     }
@@ -192,13 +194,13 @@ fn read_free_name(place: KeyPlace, value: &Value, taken: Option<Name>) -> Result
 fn read_numbers(place: KeyPlace, value: &Value, name: Name) -> Result<Second, Unread<'_>>
     ensures name { IfOk result (λ s. s.name ≡ name) }
     ensures address { IfOk result (λ s. HasNumber (view value.now) (codes "address") s.address 0 GREATEST_ADDRESS) }
-    ensures window { IfOk result (λ s. HasNumber (view value.now) (codes "window") s.window 1 MOST_UNREAD) }
+    ensures window { IfOk result (λ s. HasNumber (view value.now) (codes "window") s.window 1 GREATEST_WINDOW) }
     ensures grant { IfOk result (λ s. HasNumber (view value.now) (codes "grant") s.grant 1 MOST_GRANTED) }
 {
     Ok(Second {
         name,
         address: read_address(place, value)?,
-        window: read_number(place, value, "window", 1, MOST_UNREAD)?,
+        window: read_number(place, value, "window", 1, GREATEST_WINDOW)?,
         grant: read_number(place, value, "grant", 1, MOST_GRANTED)? as u8,
     })
 }

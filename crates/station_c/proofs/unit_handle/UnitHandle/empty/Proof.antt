@@ -15,7 +15,7 @@ use denote.Steps.{nothing}
 use denote.Triple.Walked.{walk_of}
 use Rattle.std.proofs.raw_atomic.Walks.{proved_at, leaves}
 use Rattle.live_simulated.specs.Simulating.{SimulatedValue, new_simulated}
-use Rattle.script_line.specs.declared.command.UnitKind.TheVariants.{Plain}
+use Rattle.unit_trait.specs.declared.kind.UnitKind.TheVariants.{Plain}
 use Rattle.station_c.proofs.MachineValues.{both}
 use Rattle.station_c.proofs.UnitHandleValues.{handle_in}
 use Rattle.station_c.specs.contracts.unit_handle.UnitHandle.empty.{ended, clauses}

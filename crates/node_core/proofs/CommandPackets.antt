@@ -2,9 +2,10 @@
 use Rattle.std.proofs.Common.{◌≡◌, ◌≤◌, ◌+◌, ℕ, Bool, true, false, ◌&&◌, ◌==◌, nat_lt, List, [], ◌∷◌, ◌++◌, length, drop, Option, Some, None, arith, refl, sym, ap, ◌∙◌}
 use Rattle.std.specs.Prelude.{slice_index}
 use Rattle.std.proofs.lemmas.Bool.{lt-ltb}
-use Rattle.node_core.specs.Commanding.{completed, continued}
+use Rattle.node_core.specs.Commanding.{command_of, completed, continued, for_name, partial_of, taken_with}
 use Rattle.requests.specs.Layouts.{commanded_of}
 use Rattle.requests.specs.declared.commanded.Commanded.{Commanded}
+use Rattle.node_core.specs.declared.commanding.PartialCommand.{PartialCommand}
 use Rattle.node_core.specs.declared.commanding.PartialCommand.TheVariants.{Nothing, Started, First}
 use Rattle.transport.specs.Assembling.{is_next}
 use Rattle.transport.specs.Pieces.{joined}
@@ -52,3 +53,13 @@ pub second_taken : (b : Bool) (piece bytes nine : List ℕ) (o : Option Commande
 second_taken b piece bytes nine o next taken p q e is =
     let t : is_next 9 (piece ∷ []) bytes ≡ true = sym next ∙ taken in
     is ∙ (ap (λ (l : List ℕ). Some (commanded_of l)) (e ∙ sym (nine_joined piece bytes p q)) ∙ (rw t refl))
+
+-- the last one leaves nothing half joined
+pub last_leaves_nothing : (name : ℕ) (partial : PartialCommand) (bytes : List ℕ) (c : Commanded) → for_name name (completed partial bytes) ≡ Some c → continued partial bytes ≡ Nothing
+last_leaves_nothing name partial bytes c e = go (taken_with partial bytes) e
+  where
+    go : (t : Option (List (List ℕ))) → for_name name (command_of t) ≡ Some c → partial_of t ≡ Nothing
+    go None e = absurd cc
+    go (Some []) e = absurd cc
+    go (Some (p ∷ [])) e = absurd cc
+    go (Some (p ∷ q ∷ r)) e = refl

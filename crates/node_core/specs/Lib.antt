@@ -11,3 +11,4 @@ pub mod Refusals
 pub mod Pieces
 pub mod PartialCommands
 pub mod GivingUp
+pub mod Staying

@@ -1,4 +1,5 @@
-ghost use Rattle.std.specs.Prelude.{◌≡◌, ◌≤◌, IfOk, IfErr, OnOk, OnErr, IfSome, Some, length};
+ghost use Rattle.std.specs.Prelude.{◌≡◌, ◌≤◌, ◌↔◌, IfOk, IfErr, IsSome, OnOk, OnErr, IfSome, None, Some, length, true};
+ghost use Rattle.can_frame.specs.declared.address.TheConstants.{GREATEST_ADDRESS};
 
 use crate::commanding::{PartialCommand, for_name, is_broadcast};
 use crate::error::NodeError;
@@ -6,7 +7,8 @@ use crate::heard::{Answer, Heard, Withdraw};
 use crate::node::Node;
 use crate::out::Outs;
 use crate::requested::put;
-use can_frame::{GREATEST_ADDRESS, Pgn};
+use can_frame::{Frame, GREATEST_ADDRESS, Pgn};
+use parameter_group::ParameterGroup;
 use requests::Commanded;
 use std::alloc::{AllocError, Global};
 use unit_trait::{Question, Unit};
@@ -14,7 +16,63 @@ use unit_trait::{Question, Unit};
 impl Node {
     ghost use Rattle.node_core.specs.Deed.{heard_of, after_deed, Claims};
     ghost use Rattle.node_core.specs.Asking.{IsAnswerTo, IsAsked};
-    ghost use Rattle.node_core.specs.Reaction.{announced, command_heard, put_by_command, packet_heard, on_packet};
+    ghost use Rattle.node_core.specs.Reaction.{announced, command_heard, noted_from, put_by_command, packet_heard, on_packet, question};
+    ghost use Rattle.node_core.specs.Staying.{is_commanded_to_stay};
+    ghost use Rattle.parameter_group.specs.Group.{group_of};
+
+    /// Whether a frame makes whole a command to hold the address that is held. Nothing changes by it.
+    ///
+    /// `hear_command_to_stay` hears it as no change, and `hear` as any other command (SAE J1939-81).
+    pub fn is_commanded_to_stay(&self, frame: &Frame) -> bool
+        ensures { result ≡ is_commanded_to_stay self.now (group_of frame.now) }
+    {
+        let ParameterGroup::DataTransfer {
+            source,
+            dest,
+            bytes,
+        } = ParameterGroup::read(frame)
+        else {
+            return false;
+        };
+        match self.command_heard(source, dest, bytes) {
+            Some(command) => self.is_held(command.address),
+            None => false,
+        }
+    }
+
+    /// Hears a command to hold the address that is held, as one that changes nothing (SAE J1939-81).
+    ///
+    /// - It is put to the unit, in one call. If the unit agreed, its claim is owed (`start`). Its session stays.
+    /// - None: the frame is no such command, which `hear` is to hear. Node and unit are as they were.
+    ///
+    /// Takes no memory.
+    #[tactic(auto, using(crate::proofs::CommandPackets::last_leaves_nothing))]
+    pub fn hear_command_to_stay(&mut self, frame: &Frame, unit: &mut dyn Unit) -> Option<Answer>
+        ensures stays { IsSome result ↔ (is_commanded_to_stay self.old (group_of frame.now) ≡ true) }
+        ensures node { IfSome result (λ a. self.new ≡ noted_from self.old (group_of frame.now)) }
+        ensures claimer { self.new.claimer ≡ self.old.claimer }
+        ensures asked { IfSome result (λ a. (u : _) × (unit.new ≡ (unit.old.0, u))
+            × IsAsked (Answers unit.old) (question self.old frame.now) a unit.old.1 u) }
+        ensures answer { IfSome result (λ a. IsAnswerTo (question self.old frame.now) a) }
+        ensures name { name_of unit.new ≡ name_of unit.old }
+        ensures memory { memory_of unit.new ≡ memory_of unit.old }
+        ensures left { result ≡ None → (self.new ≡ self.old) × (unit.new ≡ unit.old) }
+    {
+        let ParameterGroup::DataTransfer {
+            source,
+            dest,
+            bytes,
+        } = ParameterGroup::read(frame)
+        else {
+            return None;
+        };
+        let command = self.command_heard(source, dest, bytes)?;
+        if !self.is_held(command.address) {
+            return None;
+        }
+        self.partial_commands.forget(source);
+        Some(put(Question::Hold(command.address), unit))
+    }
 
     /// Notes a broadcast announcement.
     ///
@@ -83,6 +141,7 @@ impl Node {
     fn command_heard(&self, source: u8, destination: u8, bytes: &[u8]) -> Option<Commanded>
         ensures value { result ≡ command_heard self.now source destination bytes.now }
         ensures fits { IfSome result (λ c. c.address ≤ GREATEST_ADDRESS) }
+        ensures from { IfSome result (λ c. source ≤ GREATEST_ADDRESS) }
     {
         if !is_broadcast(destination, source) {
             return None;

@@ -43,7 +43,7 @@ class Lines:
         self.chance = chance = random.Random(seed)
         self.notes = NOTES + ODD
         self.buses = [Frames(chance) for _ in range(1 if chance.random() < 0.6 else 2)]
-        self.words = chance.choice([["can0", "can1"], ["can0", "can1"], ["vcan0", "can0"], ["can1", "c\u00e4n\"1\\"], ["slcan_0123456789", "slcan_012345678"]])
+        self.words = chance.choice([["can0", "can1"], ["can0", "can1"], ["vcan0", "can0"], ["can1", "c\u00e4n\"1\\"], ["c\x1b[7mn", "c\u009b1\u202e"], ["slcan_0123456789", "slcan_012345678"]])
         self.now = chance.choice([0, 1_000_000, 1_792_915_200_000_000, 1_792_915_200_000_000, LARGEST - 30_000_000])
         self.other_forms = chance.choice([0, 0.02, 0.05, 0.3])
         self.odd = chance.choice([0, 0.01, 0.03, 0.1])  # what is no frame of J1939
@@ -59,13 +59,16 @@ class Lines:
         self.often = self.bad_line(0) if chance.random() < 0.1 else None  # a bad line that comes again and again
 
     def written(self, count):
-        """A log of so many lines, or a few more. Some begin with what names no bus, some are short, some have no frame."""
+        """A log of so many lines, or a few more. Some begin with what names no bus, some are short, some have no frame, or none of J1939."""
         way = self.chance.random()
         if way < 0.2:
             return self.end.join([*self.chance.choice(self.chance.choice(WITHOUT_FRAMES)), *self.chance.choices([b"", b"#", b"text"], k=self.chance.randint(0, 3))])
         if way < 0.26:
             times = sorted(self.chance.sample(range(99_000_000), self.chance.randint(1, 8)))
             return self.end.join(f" ({at // 1_000_000:03d}.{at % 1_000_000:06d})  can0  18FECA00   [8]  00 FF 00 00 00 00 FF FF".encode() for at in times)
+        if way > 0.94:
+            what = self.chance.choice([lambda at: b"", self.lost_frames, self.odd_line, self.odd_line])
+            return self.end.join([line for line in (what(self.chance.randint(0, 1)) for _ in range(self.chance.randint(0, 9))) if line])
         while self.chance.random() < 0.15:
             at = len(self.buses) - 1
             self.lines.append(self.chance.choice([self.bad_line, self.lost_frames, self.odd_line])(at))

@@ -7,8 +7,8 @@ import io
 from .frames import ABORT, BAM, END_OF_MESSAGE, GLOBAL, PACKET, RTS, TITLES, claimed_name, control_of, control_pgn, control_size, packets_of
 from .log_cases import reach
 from .memory import read_message
-from .notices import BadLines, without_frames
-from .words import DATA_GROUPS, address_words, code_object, dumped, message_words, name_fields, name_text, payload_words, time_text
+from .notices import Absence, BadLines, without_frames
+from .words import DATA_GROUPS, address_words, code_object, dumped, message_words, name_fields, name_text, payload_words, seen, seen_json, time_text
 
 MOST_BUSES = 16  # of which packets are joined
 
@@ -37,7 +37,7 @@ class Texts:
 def words_of(line):
     """What a line says that is no frame of J1939."""
     return {"dropped": lambda: f"dropped {line.what} frames", "overflow": lambda: "dropped a frame or more",
-            "foreign": lambda: f"not J1939: {line.what}", "note": lambda: "-", "bad": lambda: f"bad: {line.what}"}[line.kind]()
+            "foreign": lambda: f"not J1939: {line.what}", "note": lambda: "-", "bad": lambda: f"bad: {seen(line.what)}"}[line.kind]()
 
 
 def shown_by(frame):
@@ -47,7 +47,7 @@ def shown_by(frame):
 
 def place_words(line):
     """The time and the bus, each where the line has it."""
-    return (f"({time_text(line.time)}) " if line.time is not None else "") + (f"{line.bus} " if line.bus is not None else "")
+    return (f"({time_text(line.time)}) " if line.time is not None else "") + (f"{seen(line.bus)} " if line.bus is not None else "")
 
 
 def place_object(line):
@@ -57,7 +57,7 @@ def place_object(line):
 def texts_behind(shown, texts):
     """The text of each code that has one, in parentheses."""
     told = [(code, texts.of(code)) for code in shown[1]] if shown else []
-    return "".join(f" ({code.spn}/{code.fmi}: {text})" for code, text in told if text is not None)
+    return "".join(f" ({code.spn}/{code.fmi}: {seen(text)})" for code, text in told if text is not None)
 
 
 def in_words(line, texts):
@@ -149,14 +149,15 @@ def joined_object(number, line, joined, texts):
 
 def decoded(lines, texts="", join=False):
     """What is written of lines in text and in JSON, what is told of bad ones, and the status."""
-    texts, text, objects, bad, errors, joining = Texts(texts), [], [], BadLines(), [], Joining()
+    texts, text, objects, bad, absence, errors, joining = Texts(texts), [], [], BadLines(), Absence(), [], Joining()
     for number, line in enumerate(lines, 1):
         errors.append(bad.told(number, line))
+        absence.take(line, "told")
         text.append(in_words(line, texts) + "\n")
-        objects.append(dumped(in_json(number, line, texts)) + "\n")
+        objects.append(seen_json(dumped(in_json(number, line, texts))) + "\n")
         joined = joining.take(line) if join else None
         if joined:
             text.append(joined_words(line, joined, texts) + "\n")
-            objects.append(dumped(joined_object(number, line, joined, texts)) + "\n")
-    errors = "".join([*errors, bad.rest(), without_frames(lines)])
+            objects.append(seen_json(dumped(joined_object(number, line, joined, texts))) + "\n")
+    errors = "".join([*errors, bad.rest(), without_frames(lines), absence.rest()])
     return {"text": "".join(text), "json": "".join(objects)}, errors, 3 if errors else 0

@@ -203,6 +203,9 @@ an input without frames that looks like compressed (zip)
 an input without frames that looks like compressed (bzip2)
 an input without frames that looks like UTF-16
 an input without frames that looks like binary
+no line was read
+frames of no group alone
+dropped frames alone
 """
 
 COUNTS = {case: 0 for part in (LINES, WORDS, HEARD, STATION, LISTENER, WATCH, NOTICES) for case in part.strip().splitlines()}

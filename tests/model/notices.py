@@ -1,10 +1,11 @@
-"""What is told on standard error of the lines of a log, beside what is written of them: bad lines, times that do not count, an input without frames."""
+"""What is told on standard error of the lines of a log, beside what is written of them: bad lines, times that do not count, an input without frames, or
+without frames of what is asked for."""
 
 import re
 
 from .log_cases import reach
-from .log_line import Line
-from .words import seen
+from .log_line import ERROR, FD, REMOTE, SHORT, Line
+from .words import seen, time_text
 
 TOLD = 10  # bad lines of one kind that are told each
 ENOUGH = 10  # relative times that are looked at
@@ -123,3 +124,68 @@ def without_frames(lines):
     reach("an input without frames that looks like " + (looks[0] if looks else "no log"))
     words = looks[1] if looks else "this looks like no log of candump (candump -L can0 > OUT.log)"
     return f"no frame in {len(lines)} lines: {words}\n"
+
+
+NAMES_TOLD, NAMES_KEPT = 8, 64
+FOREIGN = {SHORT: ("frame with an 11-bit identifier", "frames with 11-bit identifiers"), REMOTE: ("remote frame", "remote frames"),
+           FD: ("CAN FD frame", "CAN FD frames"), ERROR: ("error frame", "error frames")}
+
+
+def joined(items):
+    """One after the other, with `and` before the last."""
+    return " and ".join(filter(None, [", ".join(items[:-1]), *items[-1:]]))
+
+
+class Absence:
+    """What was there where it is told of no frame. The fate of a frame is `told`, `bus` where it is of another bus than is asked for, or the time of
+    which it is not told."""
+
+    def __init__(self):
+        self.told, self.lines, self.passed, self.names, self.first, self.foreign, self.drops = False, 0, [], {}, None, dict.fromkeys(FOREIGN, 0), False
+
+    def take(self, line, fate):
+        self.lines += 1
+        if line.kind == "frame":
+            self.told |= fate == "told"
+            if fate == "bus":
+                self.names[line.bus] = True
+            elif fate != "told":
+                self.passed.append(fate)
+        elif line.kind == "foreign":
+            self.foreign[line.what] += 1
+        self.drops |= line.kind in ("dropped", "overflow")
+        if line.kind in ("foreign", "overflow") and self.first is None:
+            self.first = line.bus
+
+    def rest(self, wanted=None, first=None, last=None):
+        """What is told at the end of a whole input: of the bus that is wanted, None for each, "" for the first that a line names, from the first time to the last."""
+        if self.told:
+            return ""
+        if not self.lines:
+            reach("no line was read")
+            return "no line was read\n"
+        if self.passed:
+            reach("frames of other times alone")
+            first, last = (None if it is None else time_text(it) for it in (first, last))
+            when = f"from {first} on" if last is None else f"until {last}" if first is None else f"between {first} and {last}"
+            return f"frames from {time_text(min(self.passed))} to {time_text(max(self.passed))} were read; none {when}\n"
+        if self.names:
+            return self.of_buses(wanted)
+        kinds = [(count, words) for kind, words in FOREIGN.items() if (count := self.foreign[kind])]
+        if kinds:
+            total = sum(count for count, _ in kinds)
+            reach("frames of no group alone")
+            told = joined([f"{count} {words[count > 1]}" for count, words in kinds])
+            return f"{told} {'was' if total == 1 else 'were'} read, {'none' if total == self.foreign[SHORT] else 'no data frame'} with 29 bits\n"
+        if self.drops:
+            reach("dropped frames alone")
+            return "frames were dropped, and none was read\n"
+        return ""
+
+    def of_buses(self, wanted):
+        reach("frames of other buses alone")
+        names = [name for name in self.names if name is not None]
+        more = max(0, min(len(names), NAMES_KEPT) - NAMES_TOLD)
+        told = names[:NAMES_TOLD] + [f"{'at least ' if len(names) >= NAMES_KEPT else ''}{more} more"] * (more > 0)
+        other = wanted or (f"{self.first}, which is named first (--bus)" if wanted == "" and self.first else "a bus that is watched")
+        return seen(("frames of " + joined(told) if told else "frames that name no bus") + f" were read; none of {other}") + "\n"

@@ -35,6 +35,11 @@ def seen(text):
     return re.sub(HIDDEN, lambda found: f"\\x{ord(found[0]):02X}" if ord(found[0]) < 256 else f"\\u{ord(found[0]):04X}", text)
 
 
+def seen_json(text):
+    """The same in JSON without line feeds."""
+    return re.sub(HIDDEN, lambda found: f"\\u{ord(found[0]):04X}", text)
+
+
 dumped = json.JSONEncoder(ensure_ascii=False, separators=(",", ":")).encode
 
 

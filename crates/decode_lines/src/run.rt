@@ -5,11 +5,12 @@ use candump_line::{Line, Time, read_line};
 use code_texts::Texts;
 use dm_messages::{Shown, read};
 use frame_words::{write_joined_words, write_line_words};
-use log_lines::{LinesEnd, LogFault, Notices, ROOM, next_line};
+use log_lines::{Absence, FrameFate, LinesEnd, LogFault, Notices, ROOM, Wanted, next_line};
 use pair_joining::Joined;
 use parameter_group::ParameterGroup;
 use std::alloc::Global;
 use std::io::{BufReader, BufWriter, Read, Write};
+use text_buffer::Seen;
 use trouble_code::Dtc;
 use unit_words::UnitTexts;
 
@@ -34,7 +35,7 @@ pub struct DecodeOptions<'a> {
 }
 
 /// Reads lines to their end and answers each by one. Of bad lines the first ten of each kind are told on `errors` besides, with
-/// their numbers, and how many further ones there were; so is that no line is a frame. Where packets are joined, a message has a
+/// their numbers, and how many further ones there were; so is that no line is a frame, or none of SAE J1939. Where packets are joined, a message has a
 /// line of its own behind that of its last packet.
 ///
 /// Lines are answered before the program waits for another.
@@ -69,9 +70,40 @@ fn answer_lines<R: Read + Drop, W: Write + Drop, E: Write>(
     errors: &mut E,
     options: &DecodeOptions<'_>,
 ) -> LinesEnd {
-    let mut notices = Notices::new();
-    let end = answer_each(alloc, reader, writer, errors, options, &mut notices);
-    notices.ended(errors, end)
+    let mut asides = Asides {
+        notices: Notices::new(),
+        absence: Absence::new(alloc),
+    };
+    let end = answer_each(alloc, reader, writer, errors, options, &mut asides);
+    asides.ended(errors, end)
+}
+
+/// What is told beside the answers.
+#[derive(Drop)]
+struct Asides {
+    notices: Notices,
+    absence: Absence,
+}
+
+impl Asides {
+    /// Takes a line and what it says: each frame is told of.
+    fn take<E: Write>(
+        &mut self,
+        errors: &mut E,
+        number: u64,
+        text: &[u8],
+        said: &Line<'_>,
+    ) -> Result<(), LogFault> {
+        self.notices.take(errors, number, text, said)?;
+        self.absence.take(said, FrameFate::Told)
+    }
+
+    /// How a run ended that came to the end of the input or not, or failed.
+    fn ended<E: Write>(&self, errors: &mut E, end: Result<bool, LogFault>) -> LinesEnd {
+        let ended = self.notices.ended(errors, end);
+        let is_whole = end.unwrap_or(false);
+        self.absence.ended(errors, &Wanted::all(), is_whole, ended)
+    }
 }
 
 /// Answers line by line. Tells whether the input came to its end.
@@ -81,7 +113,7 @@ fn answer_each<R: Read + Drop, W: Write + Drop, E: Write>(
     writer: &mut BufWriter<W>,
     errors: &mut E,
     options: &DecodeOptions<'_>,
-    notices: &mut Notices,
+    asides: &mut Asides,
 ) -> Result<bool, LogFault> {
     let mut line = Vec::new(alloc);
     let mut joining = Joining::new(alloc);
@@ -91,7 +123,7 @@ fn answer_each<R: Read + Drop, W: Write + Drop, E: Write>(
         }
         let text = line.as_slice();
         let said = read_line(text);
-        notices.take(errors, number, text, &said)?;
+        asides.take(errors, number, text, &said)?;
         answer(alloc, writer, options, &mut joining, &said, number)?;
     }
     Ok(true)
@@ -170,11 +202,10 @@ pub(crate) fn place_of<'a>(line: &Line<'a>) -> (Option<Time>, Option<&'a str>) {
     }
 }
 
-/// Writes a JSON object in a line of its own.
+/// Writes a JSON object in a line of its own. What a terminal obeys in texts from outside stands by its number.
 fn write_object<W: Write>(writer: &mut W, object: Vec<u8>) -> Result<(), LogFault> {
-    let mut line = object;
-    line.push(b'\n')?;
-    match writer.write_all(line.as_slice()) {
+    let seen = Seen::json(std::str::from_utf8(object.as_slice()).unwrap_or(""));
+    match writeln!(writer, "{seen}") {
         Ok(()) => Ok(()),
         Err(_) => Err(LogFault::Write),
     }
@@ -213,6 +244,7 @@ fn write_unit_of<W: Write>(
     let Some(text) = units.text_of(name) else {
         return Ok(());
     };
+    let text = Seen::line(text);
     match write!(writer, " ({text})") {
         Ok(()) => Ok(()),
         Err(_) => Err(LogFault::Write),
@@ -256,6 +288,7 @@ fn write_text<W: Write>(
     let Some(text) = texts.text_of(alloc, spn, fmi)? else {
         return Ok(());
     };
+    let text = Seen::line(text.as_str());
     match write!(writer, " ({spn}/{fmi}: {text})") {
         Ok(()) => Ok(()),
         Err(_) => Err(LogFault::Write),

@@ -5,15 +5,16 @@ use crate::audience::Audience;
 use crate::group::AddressWords;
 use crate::message::{write_message, write_payload};
 use can_frame::{Frame, GLOBAL_ADDRESS, Pgn};
-use candump_line::{Foreign, Line, Time};
+use candump_line::{Foreign, Line, Reason, Time};
 use std::alloc::Global;
 use std::io;
 use std::io::Write;
+use text_buffer::{Seen, SeenCharacter};
 
 /// Writes what a line says for people, without a line end: `(TIME) BUS pPRIORITY SOURCE>DESTINATION GROUP WORDS`.
 ///
 /// The time and the bus are left out where the line has none. A line that is no data frame of SAE J1939 is told as such,
-/// and a note as `-`.
+/// and a note as `-`. What a terminal obeys in the name of a bus stands by its number.
 pub fn write_line_words<W: Write>(
     writer: &mut W,
     alloc: Global,
@@ -31,7 +32,7 @@ pub fn write_line_words<W: Write>(
             write!(writer, "not J1939: {what}")
         }
         Line::Note => write!(writer, "-"),
-        Line::Bad(reason) => write!(writer, "bad: {reason}"),
+        Line::Bad(reason) => write_bad(writer, *reason),
     }
 }
 
@@ -41,9 +42,22 @@ fn write_place<W: Write>(writer: &mut W, time: Option<Time>, bus: Option<&str>) 
         write!(writer, "({time}) ")?;
     }
     if let Some(bus) = bus {
+        let bus = Seen::line(bus);
         write!(writer, "{bus} ")?;
     }
     Ok(())
+}
+
+/// Why a line is bad. A character of it that a terminal obeys stands by its number.
+fn write_bad<W: Write>(writer: &mut W, reason: Reason) -> io::Result<()> {
+    match reason {
+        Reason::NoDigit(character) => {
+            let kind = reason.kind();
+            let character = SeenCharacter::line(character);
+            write!(writer, "bad: {kind}: {character}")
+        }
+        _ => write!(writer, "bad: {reason}"),
+    }
 }
 
 /// Writes what a message says that was joined from packets, without a line end: `(TIME) BUS joined SOURCE>DESTINATION GROUP WORDS`,

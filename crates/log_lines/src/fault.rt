@@ -57,7 +57,7 @@ impl LogFault {
 pub struct LinesEnd {
     /// How many lines were bad.
     pub bad: u64,
-    /// Whether all lines were read, and none was a frame.
+    /// Whether all lines were read, and nothing is told of them: none was a frame, or none for whom they were read.
     pub is_unread: bool,
     /// Why it ended before the last line, where it did.
     pub fault: Option<LogFault>,

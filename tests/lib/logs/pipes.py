@@ -94,7 +94,7 @@ def closed_output():
 
 def empty_input():
     found = []
-    for words, wanted in ((["watch"], 2), (["decode"], 0), (["log"], 0), (["check"], 0)):
+    for words, wanted in ((["watch"], (0, 2, "")), (["decode"], (3, 0, "no line was read\n")), (["log"], (0, 0, "")), (["check"], (0, 0, ""))):
         status, out, err = run(words)
-        found += same((status, len(out.splitlines()), err), (0, wanted, ""), words[0])
+        found += same((status, len(out.splitlines()), err), wanted, words[0])
     return found

@@ -2,6 +2,7 @@ use crate::reading::{Numbers, Values};
 use indexmap::IndexMap;
 use std::alloc::{AllocError, Global};
 use std::fmt;
+use text_buffer::Seen;
 use trouble_code::Dtc;
 
 /// The texts of a shop for SPNs, for FMIs, and for both together.
@@ -80,7 +81,8 @@ impl Texts {
     }
 }
 
-/// The texts of codes as people read them behind these: ` (190/2: Engine speed, erratic)` for each that has one.
+/// The texts of codes as people read them behind these: ` (190/2: Engine speed, erratic)` for each that has one. No terminal obeys
+/// them: what is hidden of a text stands by its number.
 #[derive(Clone, Copy)]
 pub struct TextWords<'a> {
     pub texts: &'a Texts,
@@ -113,8 +115,14 @@ impl Texts {
     fn write_text<W: fmt::Write>(&self, f: &mut fmt::Formatter<W>, code: Dtc) -> fmt::Result {
         let (spn, fmi) = (code.spn(), code.fmi());
         match self.parts_of(spn, fmi) {
-            Some((text, Some(more))) => write!(f, " ({spn}/{fmi}: {text}, {more})"),
-            Some((text, None)) => write!(f, " ({spn}/{fmi}: {text})"),
+            Some((text, Some(more))) => {
+                let (text, more) = (Seen::line(text), Seen::line(more));
+                write!(f, " ({spn}/{fmi}: {text}, {more})")
+            }
+            Some((text, None)) => {
+                let text = Seen::line(text);
+                write!(f, " ({spn}/{fmi}: {text})")
+            }
             None => Ok(()),
         }
     }

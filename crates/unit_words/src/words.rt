@@ -1,5 +1,6 @@
 use name_field::Name;
 use std::fmt;
+use text_buffer::Seen;
 
 /// What a NAME says of its unit: its function and which of several it is, who made it, and its identity number (SAE J1939-81).
 ///
@@ -21,7 +22,8 @@ impl fmt::Display for FieldWords {
     }
 }
 
-/// A unit in words, beside its NAME: the shop's text for it, or else what its NAME says of it.
+/// A unit in words, beside its NAME: the shop's text for it, or else what its NAME says of it. No terminal obeys it: what is hidden
+/// of a text stands by its number.
 #[derive(Clone, Copy)]
 pub struct UnitWords<'a> {
     pub name: Name,
@@ -32,7 +34,10 @@ pub struct UnitWords<'a> {
 impl fmt::Display for UnitWords<'_> {
     fn fmt<W: fmt::Write>(&self, f: &mut fmt::Formatter<W>) -> fmt::Result {
         match self.text {
-            Some(text) => write!(f, "{text}"),
+            Some(text) => {
+                let seen = Seen::line(text);
+                write!(f, "{seen}")
+            }
             None => {
                 let fields = FieldWords(self.name);
                 write!(f, "{fields}")

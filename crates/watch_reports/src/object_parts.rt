@@ -9,6 +9,7 @@ use code_texts::Texts;
 use dm_words::{LampBytes, NO_COUNT};
 use name_field::Name;
 use std::io::Write;
+use text_buffer::is_hidden;
 use trouble_code::Dtc;
 use unit_words::UnitTexts;
 
@@ -173,10 +174,10 @@ fn escape_of(letter: char) -> Option<&'static str> {
     }
 }
 
-/// A letter without a short escape: any other control character by its number.
+/// A letter without a short escape: any other control character by its number, and so a mark that turns the direction of text.
 fn write_plain<W: Write>(report: &mut ReportWriter<'_, W>, letter: char) {
-    let number = letter as u32;
-    if number < 0x20 {
+    if is_hidden(letter) {
+        let number = letter as u32;
         write!(report, "\\u{number:04x}");
     } else {
         write!(report, "{letter}");

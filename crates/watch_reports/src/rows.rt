@@ -11,6 +11,7 @@ use dm_messages::Kind;
 use dm_words::{LampBytes, NO_COUNT};
 use name_field::Name;
 use std::io::Write;
+use text_buffer::{Seen, SeenCharacter};
 use trouble_code::Dtc;
 use unit_words::UnitTexts;
 
@@ -19,8 +20,8 @@ const HEADER: &str =
     "name,address,kind,first_time,last_time,entries,lamps,spn,fmi,count,contested,to";
 
 /// Writes the report: a row for each code of each run of equal entries, one without a code for a run without codes, and one
-/// without a kind for a unit without entries. Where each bus is watched, the bus follows; the last values are what the NAME says of
-/// the unit, and the shop's texts for the unit and for the code.
+/// without a kind for a unit without entries. Where each bus is watched, the bus follows; then come what the NAME says of the unit,
+/// the shop's texts for the unit and for the code, and the NAME again.
 /// The names of the values stand before the first part.
 pub(crate) fn write_rows<W: Write>(
     report: &mut ReportWriter<'_, W>,
@@ -50,7 +51,7 @@ fn write_header<W: Write>(report: &mut ReportWriter<'_, W>, names_bus: bool) {
     if names_bus {
         report.text(",bus");
     }
-    report.text(",function,instance,manufacturer,identity,unit_text,code_text\n");
+    report.text(",function,instance,manufacturer,identity,unit_text,code_text,name_hex\n");
 }
 
 /// The rows of a bus.
@@ -214,7 +215,16 @@ fn end_row<W: Write>(
     if let Some(code) = code {
         write_code_text(report, options.texts, code.spn(), code.fmi());
     }
+    write_name_hex(report, who);
     report.text("\n");
+}
+
+/// The NAME behind a comma as no spreadsheet takes it for a number, of which that would keep 15 digits.
+fn write_name_hex<W: Write>(report: &mut ReportWriter<'_, W>, who: &Who) {
+    match *who {
+        Who::Named(name) => write!(report, ",0x{name}"),
+        Who::Unclaimed { .. } => report.text(","),
+    }
 }
 
 /// The name of the bus behind a comma, where each is watched.
@@ -248,28 +258,48 @@ fn write_code_text<W: Write>(report: &mut ReportWriter<'_, W>, texts: &Texts, sp
 /// A text for the SPN and one for the FMI, in quotes.
 fn write_both<W: Write>(report: &mut ReportWriter<'_, W>, text: &str, more: &str) {
     report.text("\"");
+    write_guard(report, text);
     write_quoted(report, text);
     report.text(", ");
     write_quoted(report, more);
     report.text("\"");
 }
 
-/// A text, in quotes where it has a comma, a quote or an end of a line.
+/// A text from outside, in quotes where it has a comma or a quote. Neither a terminal nor a spreadsheet obeys it: what is hidden
+/// stands by its number, and an apostrophe stands before what begins as a formula.
 fn write_text<W: Write>(report: &mut ReportWriter<'_, W>, text: &str) {
-    if !needs_quotes(text) {
-        report.text(text);
-        return;
+    if needs_quotes(text) {
+        report.text("\"");
+        write_guard(report, text);
+        write_quoted(report, text);
+        report.text("\"");
+    } else {
+        write_guard(report, text);
+        let seen = Seen::line(text);
+        write!(report, "{seen}");
     }
-    report.text("\"");
-    write_quoted(report, text);
-    report.text("\"");
 }
 
-/// Whether a text has a comma, a quote or an end of a line.
+/// An apostrophe before a text that begins as a formula does.
+fn write_guard<W: Write>(report: &mut ReportWriter<'_, W>, text: &str) {
+    if begins_a_formula(text) {
+        report.text("'");
+    }
+}
+
+/// Whether a spreadsheet takes a text for a formula.
+fn begins_a_formula(text: &str) -> bool {
+    match text.as_bytes().first() {
+        Some(b'=' | b'+' | b'-' | b'@') => true,
+        _ => false,
+    }
+}
+
+/// Whether a text has a comma or a quote.
 fn needs_quotes(text: &str) -> bool {
     for byte in text.as_bytes() {
         match *byte {
-            b',' | b'"' | b'\r' | b'\n' => return true,
+            b',' | b'"' => return true,
             _ => {}
         }
     }
@@ -282,6 +312,7 @@ fn write_quoted<W: Write>(report: &mut ReportWriter<'_, W>, text: &str) {
         if letter == '"' {
             report.text("\"");
         }
-        write!(report, "{letter}");
+        let seen = SeenCharacter::line(letter);
+        write!(report, "{seen}");
     }
 }

@@ -13,6 +13,7 @@ use dm_words::{CodeWords, LampBytes, LampWords};
 use frame_words::{Audience, ControlWords, GroupWords, UnreadWords};
 use name_field::Name;
 use std::io::Write;
+use text_buffer::Seen;
 use unit_words::UnitTexts;
 
 /// Writes a line for a change, with the time of the line that made it, or `-` where no line has a time, and its bus where each is
@@ -38,6 +39,7 @@ pub(crate) fn write_change<W: Write>(
 /// Its bus, where each is watched.
 fn write_bus<W: Write>(report: &mut ReportWriter<'_, W>, one: &BusWatch) {
     if let Some(bus) = &one.bus {
+        let bus = Seen::line(bus.as_str());
         write!(report, " {bus}");
     }
 }

@@ -8,6 +8,7 @@ use bus_watch::{BusWatch, Buses, EntryRun, Watch, WatchCounts, Who};
 use dm_messages::Kind;
 use dm_words::{LampBytes, LampWords};
 use std::io::Write;
+use text_buffer::Seen;
 
 /// Writes for each bus a line for each unit, and the counts of what was heard; then those of the lines.
 pub(crate) fn write_report<W: Write>(
@@ -57,6 +58,7 @@ fn write_rows<W: Write>(
 /// The name of a bus before what is told of it, where each is watched.
 fn write_bus_name<W: Write>(report: &mut ReportWriter<'_, W>, one: &BusWatch) {
     if let Some(bus) = &one.bus {
+        let bus = Seen::line(bus.as_str());
         write!(report, "{bus} ");
     }
 }

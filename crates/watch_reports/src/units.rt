@@ -3,6 +3,7 @@ use dm_messages::Kind;
 use frame_words::{AddressWords, Audience};
 use name_field::Name;
 use std::fmt;
+use text_buffer::Seen;
 use unit_words::UnitTexts;
 
 /// The kinds of messages that are listed, in the order in which a report has them.
@@ -30,7 +31,10 @@ impl fmt::Display for NameWords<'_> {
     fn fmt<W: fmt::Write>(&self, f: &mut fmt::Formatter<W>) -> fmt::Result {
         let name = self.0;
         match self.1.text_of(name) {
-            Some(text) => write!(f, "{name} ({text})"),
+            Some(text) => {
+                let seen = Seen::line(text);
+                write!(f, "{name} ({seen})")
+            }
             None => write!(f, "{name}"),
         }
     }

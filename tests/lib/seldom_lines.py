@@ -76,16 +76,17 @@ def contested_anew(run, same):
     return found
 
 
-BUSES = ["a,b", 'c"d', ",", '""', "e\\f", "g\x08h", "i\x1bj", "k\x7fl", "m\u00e4n", "o'p"]
+BUSES = ["a,b", 'c"d', ",", '""', "e\\f", "g\x08h", "i\x1bj", "k\x7fl", "m\u00e4n", "o'p", "q\u009br", "s\u202et", "=u", "+v", "-w,x", "@y"]
 
 
 def names_of_buses(run, same):
-    """Each stands in CSV and in JSON as it is in the log, whatever has to be quoted in it."""
+    """Each stands in JSON as it is in the log, whatever has to be quoted in it; so it does in CSV, but what a terminal or a spreadsheet obeys."""
+    in_csv = ["a,b", 'c"d', ",", '""', "e\\f", "g\\x08h", "i\\x1Bj", "k\\x7Fl", "m\u00e4n", "o'p", "q\\x9Br", "s\\u202Et", "'=u", "'+v", "'-w,x", "'@y"]
     data = "".join(f"(1.000000) {bus} 18EEFF00#A000000000000000\n(1.000000) {bus} 18FECA00#04FF64000101FFFF\n" for bus in BUSES).encode()
     status, out, err = run(["watch", "--bus", "all", "--format", "csv"], data)
     rows = list(csv.reader(io.StringIO(out)))
     place = rows[0].index("bus")
-    found = same((status, err, [row[place] for row in rows], {len(row) for row in rows}), (0, "", ["bus", *BUSES], {len(rows[0])}), "csv")
+    found = same((status, err, [row[place] for row in rows], {len(row) for row in rows}), (0, "", ["bus", *in_csv], {len(rows[0])}), "csv")
     *changes, report = [json.loads(line) for line in run(["watch", "--bus", "all", "--format", "json"], data)[1].splitlines()]
     found += same([it["bus"] for it in changes], [bus for bus in BUSES for _ in range(2)], "changes")
     found += same([[it["bus"] for it in report[key]] for key in ("rows", "buses")], [BUSES, BUSES], "the report")

@@ -11,7 +11,7 @@ from .listener import Listener, Unclaimed
 from .log_cases import reach
 from .log_line import ERROR, FD, REMOTE, SHORT
 from .notices import BadLines, Clock, without_frames
-from .words import ANSWERS, NOT_AVAILABLE, address_words, dumped, group_words, lamp_words, name_fields, name_text, shown_object, shown_words, time_text
+from .words import ANSWERS, NOT_AVAILABLE, address_words, dumped, group_words, lamp_words, name_fields, name_text, seen, seen_json, shown_object, shown_words, time_text
 
 # What the program has. To be switched on with it: all tests of lines of a log then try the program as one that listens.
 PROGRAM_LISTENS = True  # whether a listener stands behind `watch`, or still a station
@@ -103,8 +103,14 @@ def unit_keys(name):
 
 
 def unit_values(who):
-    """The same in a row of CSV, and the shop's texts for the unit and for the code, of which there are none."""
-    return [""] * 6 if isinstance(who, Unclaimed) else [*map(str, unit_keys(who).values()), "", ""]
+    """The same in a row of CSV, the shop's texts for the unit and for the code, of which there are none, and the NAME, which is no number there."""
+    return [""] * 7 if isinstance(who, Unclaimed) else [*map(str, unit_keys(who).values()), "", "", "0x" + name_text(who)]
+
+
+def csv_text(text):
+    """A text from outside in a row of CSV: no terminal obeys it, and no spreadsheet, which takes one that begins so for a formula. In quotes where it has to be."""
+    text = ("'" if text[:1] in tuple("=+-@") else "") + seen(text)
+    return '"' + text.replace('"', '""') + '"' if any(mark in text for mark in ',"') else text
 
 
 def field_words(name):
@@ -297,12 +303,12 @@ class Watch:
             reach("an event before any time")
         time = None if self.now is None else time_text(self.now)
         self.text.append(f"{time or '-'} {self.place()}{words}\n")
-        self.objects.append(dumped({"line": number, "time": time, "event": event, **told, **self.bus_object(),
-                                    **({} if unit is None else unit_keys(unit))}) + "\n")
+        self.objects.append(seen_json(dumped({"line": number, "time": time, "event": event, **told, **self.bus_object(),
+                                              **({} if unit is None else unit_keys(unit))})) + "\n")
 
     def place(self):
         """A line says its bus where each is watched."""
-        return f"{self.name} " if self.name else ""
+        return f"{seen(self.name)} " if self.name else ""
 
     def bus_object(self):
         return {"bus": self.name} if self.name else {}
@@ -514,15 +520,15 @@ class Watch:
     @staticmethod
     def report_object(watches, counts, options, head={"event": "report"}):
         buses = [watch.bus_object() | {"missed": watch.missed(), "unread": watch.unread()} for watch in watches]
-        return dumped(head | {"rows": [watch.row_object(who) for watch in watches for who in watch.rows()],
+        return seen_json(dumped(head | {"rows": [watch.row_object(who) for watch in watches for who in watch.rows()],
                        "missed": sum(bus["missed"] for bus in buses), "unread": sum(bus["unread"] for bus in buses),
                        "lines": {key: counts[key] for key in COUNTS}, "not_attributed": counts["not_attributed"],
                        "not_sent": sum(watch.heard.not_sent for watch in watches)}
-                      | ({"buses": buses} if options.each else {})) + "\n"
+                      | ({"buses": buses} if options.each else {}))) + "\n"
 
     @staticmethod
     def header(options):
-        return HEADER + (",to" if options.listens else "") + (",bus" if options.each else "") + ",function,instance,manufacturer,identity,unit_text,code_text\n"
+        return HEADER + (",to" if options.listens else "") + (",bus" if options.each else "") + ",function,instance,manufacturer,identity,unit_text,code_text,name_hex\n"
 
     @staticmethod
     def report_rows(watches, options):
@@ -531,8 +537,7 @@ class Watch:
                                 for watch in watches for who in watch.rows() for row in watch.rows_of(who))
 
     def csv_bus(self):
-        """In quotes where it has one."""
-        return '"' + self.name.replace('"', '""') + '"' if any(mark in self.name for mark in ',"') else self.name
+        return csv_text(self.name)
 
     def rows_of(self, who):
         address, found = self.address_of(who), False

@@ -174,11 +174,13 @@ fn escape_of(letter: char) -> Option<&'static str> {
     }
 }
 
-/// A letter without a short escape: any other control character by its number, and so a mark that turns the direction of text.
+/// A letter without a short escape: any other that is hidden from people by its number, and else as it is.
 fn write_plain<W: Write>(report: &mut ReportWriter<'_, W>, letter: char) {
-    if is_hidden(letter) {
-        let number = letter as u32;
+    let number = letter as u32;
+    if number < 0x20 {
         write!(report, "\\u{number:04x}");
+    } else if is_hidden(letter) {
+        write!(report, "\\u{number:04X}");
     } else {
         write!(report, "{letter}");
     }

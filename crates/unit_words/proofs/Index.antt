@@ -1,11 +1,11 @@
 -- The most exact row is the last that gives what no row gives more of.
-use Rattle.std.proofs.Common.{◌≡◌, ◌↔◌, ℕ, ◌+◌, ◌<◌, ◌≤◌, ◌==◌, ◌&&◌, Bool, true, false, ◌*◌, cond, ltb, ltb-true, ltb-false, append_assoc, nat_eq, if◌then◌else◌, Option, None, Some, is_some, List, [], ◌∷◌, ◌++◌, length, refl, sym, ap, ◌∙◌, subst, arith, IfSome, IfNone}
-use Rattle.std.proofs.lemmas.List.Elements.{All-nil, All-append, All-cons, All-push, All-weaker, All-head, All-tail}
+use Rattle.std.proofs.Common.{◌≡◌, ◌↔◌, ℕ, ◌+◌, ◌<◌, ◌≤◌, ◌&&◌, Bool, true, false, ◌*◌, cond, ltb, ltb-true, ltb-false, append_assoc, nat_eq, if◌then◌else◌, Option, None, Some, is_some, List, [], ◌∷◌, ◌++◌, length, refl, ap, ◌∙◌, arith}
+use Rattle.std.proofs.lemmas.List.Elements.{All-nil, All-cons, All-push, All-weaker, All-head, All-tail}
 use Rattle.std.specs.Prelude.{slice_index_or}
 use Rattle.std.specs.HashMap.{HashMap, get, Updates}
 use Rattle.std.specs.List.{All}
 use Rattle.std.specs.Option.{option_eq}
-use Rattle.unit_words.specs.Exact.{is_given_as, fits, exactness, NoneFits, IsMostExact, IsPlaceOf}
+use Rattle.unit_words.specs.Exact.{is_given_as, fits, exactness, NoneFits, IsPlaceOf}
 use Rattle.unit_words.specs.Index.{is_same, key_of_row, exactness_of, IsKeyOf, NoneGives, IsLastRow, IsIndexed}
 use Rattle.unit_words.specs.declared.key.UnitKey.{UnitKey}
 use Rattle.unit_words.specs.declared.row.UnitRow.{UnitRow}

@@ -1,5 +1,5 @@
 -- Which text a unit has: that of the most exact row that is for it.
-use Rattle.std.specs.Prelude.{◌≡◌, ℕ, ◌+◌, ◌<◌, ◌≤◌, ◌==◌, ◌&&◌, Bool, true, false, Option, None, Some, is_some, if◌then◌else◌, List, [], ◌∷◌, ◌++◌, length, string_bytes}
+use Rattle.std.specs.Prelude.{◌≡◌, ℕ, ◌+◌, ◌<◌, ◌≤◌, ◌==◌, ◌&&◌, Bool, true, false, Option, None, Some, is_some, if◌then◌else◌, List, ◌∷◌, ◌++◌, length, string_bytes}
 use Rattle.std.specs.List.{All}
 use Rattle.name_field.specs.Fields.{fields_of}
 use Rattle.unit_words.specs.declared.row.UnitRow.{UnitRow}

@@ -1,4 +1,4 @@
-use Rattle.std.proofs.Common.{◌≡◌, ℕ, List, [], ◌∷◌, ◌++◌, Some, length, subst, ap, ◌∙◌}
+use Rattle.std.proofs.Common.{ℕ, List, [], ◌∷◌, ◌++◌, Some, length, subst, ap, ◌∙◌}
 use Rattle.std.specs.HashMap.{Updates}
 use Rattle.unit_words.specs.Index.{is_same, key_of_row}
 use Rattle.unit_words.specs.declared.key.UnitKey.{UnitKey}

@@ -4,7 +4,7 @@ Written from docs/LIVE.md and docs/DECISIONS.md ("Times on a real bus" and those
 `model.unit`'s; here stand the lanes in which it waits, and the times.
 """
 
-from .frames import (ABORT, CLAIM, CONTROL, CTS, DM1, GLOBAL, PACKET, REQUEST, RTS, TITLES, broadcast, claimed_name, control_of, control_pgn,
+from .frames import (ABORT, CLAIM, CONTROL, CTS, DM1, GLOBAL, PACKET, REQUEST, RTS, TITLES, broadcast, claim, claimed_name, control_of, control_pgn,
                      requested, three, to_all, to_one)
 from .memory import Code
 from .unit import ALL, Unit
@@ -90,9 +90,17 @@ class LiveUnit(Unit):
         self.counted += len(frames)
 
     def withdraw(self, which):
-        for lane in LANES if which == ALL else ("session",):
+        for lane in LANES if which == ALL else (which,):
             self.withdrawn += sum(len(piece) for piece in self.lanes[lane])
             self.lanes[lane] = []
+
+    def obey(self, address):
+        """A command to hold the address that is held is no change: the claim goes, in the place of those that wait, and nothing else is cut (J1939-81)."""
+        if address != self.held:
+            super().obey(address)
+        else:
+            self.withdraw("claims")
+            self.put(claim(self.name, self.held))
 
     @property
     def queue(self):

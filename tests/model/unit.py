@@ -333,8 +333,11 @@ class Unit:
         else:
             reach("a unit obeys a command without an address" if self.held is None else
                   "a unit obeys a command to the address that it holds" if self.held == address else "a unit obeys a command")
-            self.held = address
-            self.start_anew()
+            self.obey(address)
+
+    def obey(self, address):
+        self.held = address
+        self.start_anew()
 
     # What the unit is told to do.
 

@@ -45,7 +45,7 @@ source_fits None h = omega arith
 source_fits (Some a) h = omega arith
 
 -- a claim
-claim_from_holder : (name : ℕ) (held : Option ℕ) → CanHold held → source_of (claim_frame_value name held).id ≡ claim_source held
+pub claim_from_holder : (name : ℕ) (held : Option ℕ) → CanHold held → source_of (claim_frame_value name held).id ≡ claim_source held
 claim_from_holder name held h = source_to_one 6 60928 255 (claim_source held) (source_fits held h)
 
 -- a part of a message

@@ -1,13 +1,12 @@
 -- Codes that were told as they are are no news, and no more is as long as no second ends.
-use Rattle.std.proofs.Common.{ℕ, ◌≡◌, ◌≤◌, ◌<◌, ◌⊎◌, inl, inr, Bool, true, false, not, ◌&&◌, ◌||◌, ◌==◌, nat_le, nat_lt, List, [], ◌∷◌, length, refl, sym, ap, ◌∙◌, eqb, arith, if◌then◌else◌}
+use Rattle.std.proofs.Common.{ℕ, ◌≡◌, ◌≤◌, ◌<◌, ◌⊎◌, inl, inr, Bool, true, false, not, ◌&&◌, ◌||◌, ◌==◌, nat_le, nat_lt, List, [], ◌∷◌, refl, sym, ◌∙◌, arith}
 use Rattle.std.specs.List.{list_any, All}
 use Rattle.std.proofs.lemmas.Bool.{and_from, eq-eqb, le-ltb, lt-ltb, le-leb, lt-leb, or_left, or_right}
-use Rattle.std.proofs.lemmas.List.Elements.{All-head, All-drop, All-nil, All-cons}
+use Rattle.std.proofs.lemmas.List.Elements.{All-head, All-drop, All-cons}
 use Rattle.trouble_code.specs.Code.{Code, same_fault}
 use Rattle.fault_memory.specs.Memory.{MemoryValue}
 use Rattle.live_unit.specs.declared.told.ToldChange.{ToldChange}
-use Rattle.live_unit.specs.declared.told.TheConstants.{MOST_CHANGES}
-use Rattle.live_unit.specs.Telling.{EndsBy, ToldValue, has_news, holds_back, is_among, is_change_due, is_code_news, is_held_back, is_lamp_news}
+use Rattle.live_unit.specs.Telling.{EndsBy, ToldValue, has_news, is_among, is_change_due, is_held_back}
 
 -- ---- the same codes
 

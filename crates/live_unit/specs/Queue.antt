@@ -5,6 +5,7 @@ use Rattle.std.specs.List.{All, flat_map}
 use Rattle.can_frame.specs.Fields.{pgn_of, source_of}
 use Rattle.can_frame.specs.FrameValue.{FrameValue}
 use Rattle.can_frame.specs.declared.group_numbers.TheConstants.{ADDRESS_CLAIMED}
+use Rattle.node_core.specs.Deed.{plain}
 use Rattle.node_core.specs.Pieces.{outs_of}
 use Rattle.node_core.specs.declared.heard.Withdraw.{Withdraw}
 use Rattle.node_core.specs.declared.heard.Withdraw.TheVariants as withdraw
@@ -140,6 +141,14 @@ after_withdrawing withdraw.All source q = record (empty_queue source) { put = q.
 -- what a node withdraws is withdrawn, then what it puts is put
 abbrev pub after_heard : Heard → ℕ → QueueValue → QueueValue
 after_heard heard source q = putting (goes_to_all heard.begun) heard.put (after_withdrawing heard.withdraw source q)
+
+-- a claim in the place of those that wait, which say the same; nothing else is withdrawn
+abbrev pub claiming_anew : FrameValue → QueueValue → QueueValue
+claiming_anew claim q = record q {
+  claims = lengthened (plain claim ∷ []) empty_lane;
+  put = q.put + 1;
+  withdrawn = q.withdrawn + length q.claims.outs;
+}
 
 -- a piece more may wait in each lane
 pub record HasFreeLanes (q : QueueValue) : Type 0 where

@@ -1,19 +1,21 @@
 -- What one call changes of a unit that takes part in a bus.
-use Rattle.std.specs.Prelude.{ℕ, ◌≡◌, ◌⊎◌, ◌≤◌, ◌<◌, ◌&&◌, Bool, true, false, nat_le, Option, Some, slice_get}
+use Rattle.std.specs.Prelude.{ℕ, ◌≡◌, ◌⊎◌, ◌≤◌, ◌<◌, Bool, true, false, nat_le, Some, slice_get, if◌then◌else◌}
 use Rattle.can_frame.specs.FrameValue.{FrameValue}
 use Rattle.can_frame.specs.declared.address.TheConstants.{GLOBAL_ADDRESS}
 use Rattle.transport.specs.declared.control.Control.{Control}
 use Rattle.transport.specs.declared.control.Control.TheVariants.{Rts, Cts}
 use Rattle.parameter_group.specs.Group.{Group, Request, ConnectionManagement, group_of}
-use Rattle.address_claim.specs.Frames.{claim_source}
+use Rattle.address_claim.specs.Frames.{claim_frame_value, claim_source}
 use Rattle.fault_memory.specs.Memory.{MemoryValue}
 use Rattle.dm_messages.specs.View.{payload_of, pgn_of_kind}
 use Rattle.dm_messages.specs.declared.kind.Kind.{Kind}
 use Rattle.dm_messages.specs.declared.kind.Kind.TheVariants.{Dm1}
+use Rattle.node_core.specs.Asking.{IsAnswerTo, is_agreed}
 use Rattle.node_core.specs.NodeValue.{NodeValue, is_open}
 use Rattle.node_core.specs.Deed.{EndsSession, after_deed, parts_begun}
 use Rattle.node_core.specs.GivingUp.{given_up, is_held_open}
-use Rattle.node_core.specs.Reaction.{Reacts}
+use Rattle.node_core.specs.Reaction.{Reacts, noted_from, question}
+use Rattle.node_core.specs.Staying.{is_commanded_to_stay}
 use Rattle.node_core.specs.declared.heard.Answer.{Answer}
 use Rattle.node_core.specs.declared.heard.Heard.{Heard}
 use Rattle.node_core.specs.declared.out.Out.{Out}
@@ -24,7 +26,7 @@ use Rattle.live_unit.specs.declared.queue.Lane.{Lane}
 use Rattle.live_unit.specs.declared.queue.TheConstants.{MOST_PUT}
 use Rattle.live_unit.specs.declared.node.Act.{Act}
 use Rattle.live_unit.specs.declared.node.Act.TheVariants as act
-use Rattle.live_unit.specs.Queue.{HasFreeLanes, QueueValue, TakesFirst, lane_of, putting, after_heard}
+use Rattle.live_unit.specs.Queue.{HasFreeLanes, QueueValue, TakesFirst, claiming_anew, lane_of, putting, after_heard}
 use Rattle.live_unit.specs.Telling.{after_telling}
 use Rattle.live_unit.specs.Times.{clock_after_hearing, clock_cut, clock_written, is_cut, is_dm1_due, is_left_alone, lane_due}
 use Rattle.live_unit.specs.Waits.{later}
@@ -39,11 +41,24 @@ abbrev pub standing : NodeValue → MemoryValue → QueueValue → Standing
 standing node memory queue = record { node = node; memory = memory; queue = queue }
 
 -- a frame was heard: the answer, the node and the memory are what is owed; what is withdrawn and put for it is withdrawn and put
-pub record HasHeardFrame (f : FrameValue) (answer : Answer) (u u' : Standing) : Type 0 where
+pub record HasHeardInFull (f : FrameValue) (answer : Answer) (u u' : Standing) : Type 0 where
   pub heard : Heard
   pub answer_is : heard.answer ≡ answer
   pub reacts : Reacts f u.node u.memory heard u'.node u'.memory
   pub queue : u'.queue ≡ after_heard heard (claim_source u'.node.claimer.held) u.queue
+
+-- a command to hold the address that is held was heard (SAE J1939-81): it counts as heard, and is put to the unit. Where that agreed its claim
+-- is put, in the place of claims that wait. Nothing else changes: its session stays, and so does all else that waits
+pub record HasStayed (f : FrameValue) (answer : Answer) (u u' : Standing) : Type 0 where
+  pub answered : IsAnswerTo (question u.node f) answer
+  pub node : u'.node ≡ noted_from u.node (group_of f)
+  pub memory : u'.memory ≡ u.memory
+  pub queue : u'.queue ≡ (if is_agreed answer then claiming_anew (claim_frame_value u.node.claimer.name u.node.claimer.held) u.queue else u.queue)
+
+-- a frame was heard: such a command, or any other
+pub record HasHeardFrame (f : FrameValue) (answer : Answer) (u u' : Standing) : Type 0 where
+  pub stays : is_commanded_to_stay u.node (group_of f) ≡ true → HasStayed f answer u u'
+  pub in_full : is_commanded_to_stay u.node (group_of f) ≡ false → HasHeardInFull f answer u u'
 
 -- the times after a frame was heard by the unit of this NAME: what it was and what waited before and after that
 abbrev pub clock_heard : FrameValue → ℕ → ℕ → NodeValue → QueueValue → NodeValue → QueueValue → UnitClock → UnitClock

@@ -24,7 +24,7 @@ pub(crate) const LONGEST_PAUSE: u64 = 153;
 pub struct UnitSettings {
     /// How long it is at least from a packet of a broadcast to the next: 10,000 to 200,000 (SAE J1939-21).
     pub gap: u64,
-    /// How long it is from the first claim of an address to anything but a claim: 250,000 (SAE J1939-81).
+    /// How long it is from the first claim since the unit took its address to anything but a claim: 250,000 (SAE J1939-81).
     pub settle: u64,
     /// Whether the unit sends its DM1 each second also while it has nothing to tell.
     pub always: bool,
@@ -43,7 +43,7 @@ pub struct UnitClock {
     pub packet_from: u64,
     /// The open session counts as left alone.
     pub alone_from: u64,
-    /// The second since the latest DM1 of the unit's own is over.
+    /// The second since the latest DM1 of the unit's own is over; or, where a message to all was cut since, when that was.
     pub dm1_from: u64,
     /// What its DM1s of its own told.
     pub told: Told,

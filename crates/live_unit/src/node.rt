@@ -8,7 +8,8 @@ ghost use Rattle.node_core.specs.Reaction.{question};
 ghost use Rattle.parameter_group.specs.Group.{group_of};
 ghost use Rattle.node_core.specs.Deed.{plain};
 ghost use Rattle.live_unit.specs.Queue.{HasFreeLanes, empty_queue, frames_waiting, putting};
-ghost use Rattle.live_unit.specs.Steps.{Acts, BeginsToAll, CanPut, GivesUp, HasHeardFrame, LacksRoomFor, Writes, clock_heard, standing};
+ghost use Rattle.node_core.specs.Staying.{is_commanded_to_stay};
+ghost use Rattle.live_unit.specs.Steps.{Acts, BeginsToAll, CanPut, GivesUp, HasHeardFrame, HasHeardInFull, HasStayed, LacksRoomFor, Writes, clock_heard, standing};
 ghost use Rattle.live_unit.specs.Steps as steps;
 ghost use Rattle.live_unit.specs.Times.{clock_at_start, is_dm1_due, is_free_for_dm1, is_left_alone, lane_due};
 ghost use Rattle.live_unit.specs.Telling as telling;
@@ -97,7 +98,7 @@ impl LiveNode {
     /// Hears a frame of the bus, and answers what the unit answered to what the frame puts to it: to clear, or to hold a commanded
     /// address. What it owes for the frame is withdrawn and put as `node_core` has it; it is asked exactly what the frame puts to
     /// it, in one call, and is else as it was. A frame of its own, which the bus told it of, it hears as any other: it owes nothing
-    /// for it.
+    /// for it. A command to hold the address that is held cuts nothing: its claim goes, where the unit agreed (SAE J1939-81).
     ///
     /// Refused: `Full`, where as much waits as there is room for and the frame is a request, a request to send or a clear to send;
     /// `OutOfMemory`. Then nothing changed, and the unit was not asked.
@@ -324,6 +325,7 @@ impl LiveNode {
 
 /// Has a node hear a frame, and withdraws and puts what it withdraws and puts; answers what the unit answered.
 ///
+/// A command to hold the address that is held withdraws nothing but claims that wait, in whose place its claim is put.
 /// Where memory is refused nothing changed, and the unit was not asked.
 fn hear_frame(
     node: &mut Node,
@@ -336,6 +338,57 @@ fn hear_frame(
     requires few { queue.old.put < MOST_PUT }
     requires room { (steps.needs_room (group_of frame.now) ≡ false) ⊎ HasFreeLanes queue.old }
     ensures heard { IfOk result (λ a. HasHeardFrame frame.now a (standing node.old (memory_of unit.old) queue.old)
+        (standing node.new (memory_of unit.new) queue.new)) }
+    ensures asked { IfOk result
+        (λ a. (u : _) × (unit.new ≡ (unit.old.0, u)) × IsAsked (Answers unit.old) (question node.old frame.now) a unit.old.1 u) }
+    ensures sourced { queue.new.source ≡ claim_source node.new.claimer.held }
+    ensures name { name_of unit.new ≡ name_of unit.old }
+    ensures only { IfErr result (λ e. e ≡ LiveError.OutOfMemory) }
+    ensures err { OnErr result ((node.new ≡ node.old) × (queue.new ≡ queue.old)) }
+    ensures unasked { OnErr result (unit.new ≡ unit.old) }
+{
+    if node.is_commanded_to_stay(frame) {
+        return Ok(stay(node, queue, frame, unit));
+    }
+    hear_in_full(node, queue, alloc, frame, unit)
+}
+
+/// Has a node hear a command to hold the address that it holds, and puts its claim where the unit agrees; answers what the unit
+/// answered.
+fn stay(node: &mut Node, queue: &mut Queue, frame: &Frame, unit: &mut dyn Unit) -> Answer
+    requires commanded { is_commanded_to_stay node.old (group_of frame.now) ≡ true }
+    requires sourced { queue.old.source ≡ claim_source node.old.claimer.held }
+    requires few { queue.old.put < MOST_PUT }
+    ensures stays { HasStayed frame.now result (standing node.old (memory_of unit.old) queue.old)
+        (standing node.new (memory_of unit.new) queue.new) }
+    ensures asked { (u : _) × (unit.new ≡ (unit.old.0, u)) × IsAsked (Answers unit.old) (question node.old frame.now) result unit.old.1 u }
+    ensures sourced { queue.new.source ≡ claim_source node.new.claimer.held }
+    ensures name { name_of unit.new ≡ name_of unit.old }
+{
+    let _before = node.held();
+    let Some(answer) = node.hear_command_to_stay(frame, unit) else {
+        unreachable!()
+    };
+    if answer == Answer::Agreed {
+        queue.claim_anew(node.start());
+    }
+    answer
+}
+
+/// Has a node hear a frame that is no such command, and withdraws and puts what it withdraws and puts.
+///
+/// Where memory is refused nothing changed, and the unit was not asked.
+fn hear_in_full(
+    node: &mut Node,
+    queue: &mut Queue,
+    alloc: Global,
+    frame: &Frame,
+    unit: &mut dyn Unit,
+) -> Result<Answer, LiveError>
+    requires sourced { queue.old.source ≡ claim_source node.old.claimer.held }
+    requires few { queue.old.put < MOST_PUT }
+    requires room { (steps.needs_room (group_of frame.now) ≡ false) ⊎ HasFreeLanes queue.old }
+    ensures heard { IfOk result (λ a. HasHeardInFull frame.now a (standing node.old (memory_of unit.old) queue.old)
         (standing node.new (memory_of unit.new) queue.new)) }
     ensures asked { IfOk result
         (λ a. (u : _) × (unit.new ≡ (unit.old.0, u)) × IsAsked (Answers unit.old) (question node.old frame.now) a unit.old.1 u) }

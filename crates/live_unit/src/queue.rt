@@ -3,7 +3,7 @@ ghost use Rattle.std.specs.List.{All};
 ghost use Rattle.can_frame.specs.Fields.{source_of};
 ghost use Rattle.node_core.specs.Pieces.{outs_of};
 ghost use Rattle.node_core.specs.declared.heard.Withdraw.TheVariants as withdraw;
-ghost use Rattle.live_unit.specs.Queue.{HasFreeLanes, HoldsSome, IsSentFrom, TakesFirst, empty_queue, frames_waiting, lane_by, is_claim_frame, lane_of, put_into, putting, after_heard, waits, after_withdrawing};
+ghost use Rattle.live_unit.specs.Queue.{HasFreeLanes, HoldsSome, IsSentFrom, TakesFirst, claiming_anew, empty_queue, frames_waiting, lane_by, is_claim_frame, lane_of, put_into, putting, after_heard, waits, after_withdrawing};
 ghost use Rattle.live_unit.specs.Queue as spec;
 
 use crate::waiting::{Waiting, count};
@@ -222,6 +222,20 @@ impl Queue {
         let to_all = goes_to_all(begun);
         self.withdraw(withdraw, source);
         self.put(put, to_all);
+    }
+
+    /// Puts a claim in the place of those that wait; `claim` is from the address from which all that waits is.
+    pub(crate) fn claim_anew(&mut self, claim: Frame)
+        requires few { self.old.put < MOST_PUT }
+        requires from { source_of claim.id ≡ self.old.source }
+        ensures { self.new ≡ claiming_anew claim self.old }
+    {
+        self.withdrawn += self.claims.clear();
+        self.claims.put(Piece::One(Out {
+            frame: claim,
+            part: None,
+        }));
+        self.put += 1;
     }
 
     /// Withdraws what waits of a session, or all, or nothing; where it is all, what will wait is from `source`.

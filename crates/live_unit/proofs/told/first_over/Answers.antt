@@ -1,4 +1,4 @@
-use Rattle.std.proofs.Common.{rules, arith, ◌≡◌, ◌≤◌, ◌∷◌, List, inl, inr, subst, sym}
+use Rattle.std.proofs.Common.{rules, arith, ◌≡◌, ◌∷◌, List, inl, inr, subst, sym}
 use Rattle.std.specs.List.{All}
 use Rattle.live_unit.specs.Telling.{EndsBy}
 use Rattle.live_unit.specs.declared.told.ToldChange.{ToldChange}

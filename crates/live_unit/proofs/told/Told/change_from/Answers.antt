@@ -1,4 +1,4 @@
-use Rattle.std.proofs.Common.{rules, arith, ◌≡◌, ◌<◌, ◌≤◌, false, inl, inr, sym, ◌∙◌}
+use Rattle.std.proofs.Common.{rules, arith, ◌≡◌, false, inl, inr}
 use Rattle.live_unit.specs.Telling as telling
 use Rattle.live_unit.proofs.Telling.{due_as_before}
 use Rattle.live_unit.proofs.told.Told.change_from.Goals as goal

@@ -1,4 +1,4 @@
-use Rattle.std.proofs.Common.{ℕ, ◌≡◌, ap, ◌∙◌}
+use Rattle.std.proofs.Common.{ℕ, ap, ◌∙◌}
 use Rattle.node_core.specs.NodeValue.{new_node}
 use Rattle.live_unit.proofs.unit.LiveUnit.new.Goals as goal
 

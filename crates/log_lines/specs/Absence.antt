@@ -9,6 +9,6 @@ abbrev pub is_fate_told : FrameFate → Bool
 is_fate_told fate.Told = true
 is_fate_told _ = false
 
-abbrev pub is_told : Line → FrameFate → Bool
-is_told (line.Frame time bus frame) f = is_fate_told f
-is_told _ f = false
+abbrev pub is_frame_told : Line → FrameFate → Bool
+is_frame_told (line.Frame time bus frame) f = is_fate_told f
+is_frame_told _ f = false

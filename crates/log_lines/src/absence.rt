@@ -1,6 +1,6 @@
 //! What an input has where it is told of no frame.
 ghost use Rattle.std.specs.Prelude.{◌≡◌, ◌||◌, false, true, not, None, OnOk};
-ghost use Rattle.log_lines.specs.Absence.{is_fate_told, is_told};
+ghost use Rattle.log_lines.specs.Absence.{is_fate_told, is_frame_told};
 
 use crate::fault::{LinesEnd, LogFault};
 use crate::foreign_counts::ForeignCounts;
@@ -68,7 +68,7 @@ impl Absence {
     /// # Errors
     /// `Memory`: memory was refused.
     pub fn take(&mut self, said: &Line<'_>, fate: FrameFate) -> Result<(), LogFault>
-        ensures { OnOk result (self.new.has_told ≡ (self.old.has_told || is_told said.now fate)) }
+        ensures { OnOk result (self.new.has_told ≡ (self.old.has_told || is_frame_told said.now fate)) }
     {
         if self.has_told {
             return Ok(());

@@ -32,3 +32,5 @@ pub mod Recorded
 pub mod Keeping
 pub mod Over
 pub mod Storing
+pub mod Fitting
+pub mod Examples

@@ -6,3 +6,4 @@ pub mod Worlds
 pub mod Promises
 pub mod Notes
 pub mod Inside
+pub mod Example

@@ -6,6 +6,7 @@ ghost use Rattle.bus_model.specs.Heard.{entries_heard};
 ghost use Rattle.bus_model.specs.Machine.{Event as Step, Run, Seat, start};
 ghost use Rattle.station_table.specs.StandsFor.{StandsFor};
 ghost use Rattle.bus_model.specs.Marks.{IsMarkedBy};
+ghost use Rattle.journal.specs.Example.{ShowsEachKind, TakesOver};
 ghost use Rattle.journal.specs.Fits.{Fits};
 ghost use Rattle.journal.specs.Journal.{AllFit, GarageValue, injected_of, readings_at, state_after, state_of};
 ghost use Rattle.journal.specs.Promises.{IsLawful, wire_of};
@@ -67,4 +68,16 @@ pub fn path_is_marked()
 /// A command that fits is to an address that can be held, 0 to 253.
 pub fn commanded_addresses_can_be_held()
     ensures { (s : State) (y name address : ℕ) → Fits s (Ordered y (Command name address)) → address ≤ GREATEST_ADDRESS }
+{}
+
+/// Two concrete journals that fit, so the laws of journals speak of something.
+///
+/// Each has two stations, and no frame from outside:
+/// - `each_kind`: a unit claims an address and begins a DM1. Asked for its DM2, it sends that in a session to the station that asked,
+///   which is number 1; asked for its DM6, in a frame to all. Both stations are to show the DM1 and the DM6, and that one alone the DM2.
+/// - `takeover`: a unit of NAME 4 takes the address of one of NAME 5, whose DM1 is on its way. The rest is withdrawn, and that unit has
+///   no address. Both stations are to show nothing of its DM1, and then the DM1 that the other begins.
+pub fn journal_is_not_empty()
+    ensures each_kind { (g : GarageValue) × ShowsEachKind 1 g }
+    ensures takeover { (g : GarageValue) × TakesOver 4 5 g }
 {}

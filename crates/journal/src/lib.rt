@@ -17,8 +17,8 @@ mod tally;
 
 pub use event::Event;
 pub use laws::{
-    commanded_addresses_can_be_held, journal_is_a_run, nothing_stays_unread, path_is_marked,
-    shown_is_expected, station_stands_for_its_readings,
+    commanded_addresses_can_be_held, journal_is_a_run, journal_is_not_empty, nothing_stays_unread,
+    path_is_marked, shown_is_expected, station_stands_for_its_readings,
 };
 pub use notes::{Journal, MOST_EVENTS};
 pub use order::Order;

@@ -1,7 +1,6 @@
 -- Spans are joined with their neighbours, and one more is told.
-use Rattle.std.proofs.Common.{◌≡◌, ℕ, ◌+◌, ◌-◌, ◌^◌, ◌<◌, ◌≤◌, min, max, List, [], ◌∷◌, ◌++◌, length, Result, Ok, Err, OnOk, refl, sym, ap, ◌∙◌, arith, append_assoc, length-append}
-use Rattle.std.proofs.lemmas.List.{append-nil}
-use Rattle.picture.specs.Spans.{rank_of, worst_rank, told_in, IsDrawnAs, AreDrawnAs, IsJoined}
+use Rattle.std.proofs.Common.{◌≡◌, ◌+◌, ◌≤◌, max, List, [], ◌∷◌, ◌++◌, length, Result, Ok, Err, OnOk, refl, sym, ap, ◌∙◌, arith, append_assoc, length-append}
+use Rattle.picture.specs.Spans.{worst_rank, told_in, IsDrawnAs, AreDrawnAs, IsJoined}
 use Rattle.picture.specs.Tracks.{TrackValue, Keeps}
 use Rattle.picture.specs.declared.span.Span.{Span}
 

@@ -1,3 +1,6 @@
 pub mod Joining
 pub mod Places
 pub mod Remembering
+pub mod Appearing
+pub mod KeepingCodes
+pub mod Going

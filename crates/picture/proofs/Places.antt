@@ -1,6 +1,6 @@
 -- Neighbours are joined in place: what is done stands at the front, what is still to be looked at at the end.
-use Rattle.std.proofs.Common.{◌≡◌, ℕ, ◌+◌, ◌<◌, ◌≤◌, List, [], ◌∷◌, ◌++◌, length, take, drop, set, get_or, refl, sym, ap, ◌∙◌, arith, append_assoc}
-use Rattle.std.proofs.lemmas.List.{append-nil, drop_all, drop_more, drop-set-lt, take_all, take_more, take_more_set, take-append-drop}
+use Rattle.std.proofs.Common.{◌≡◌, ℕ, ◌+◌, ◌<◌, ◌≤◌, List, [], ◌∷◌, ◌++◌, length, take, drop, set, get_or, sym, ap, ◌∙◌, arith, append_assoc}
+use Rattle.std.proofs.lemmas.List.{append-nil, drop_all, drop_more, drop-set-lt, take_more, take_more_set, take-append-drop}
 use Rattle.picture.specs.Spans.{AreDrawnAs, IsJoined}
 use Rattle.picture.proofs.Joining.{drawn_joined}
 use Rattle.picture.specs.declared.span.Span.{Span}

@@ -1,5 +1,5 @@
 -- What is remembered of the changes of a log.
-use Rattle.std.specs.Prelude.{◌≡◌, ℕ, ◌-◌, ◌^◌, ◌<◌, min, List, [], ◌∷◌, ◌++◌, length}
+use Rattle.std.specs.Prelude.{◌≡◌, ℕ, ◌-◌, ◌^◌, ◌<◌, min, List, [], ◌++◌, length}
 use Rattle.picture.specs.declared.history.Happened.{Happened}
 use Rattle.picture.specs.declared.history.TheConstants.{FIRST, LAST}
 

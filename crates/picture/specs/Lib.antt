@@ -1,3 +1,4 @@
 pub mod Spans
 pub mod Tracks
 pub mod Histories
+pub mod Ever

@@ -1,5 +1,5 @@
 -- Spans of time, and which spans others are drawn as.
-use Rattle.std.specs.Prelude.{◌≡◌, ℕ, ◌+◌, ◌-◌, ◌^◌, min, max, List, [], ◌∷◌, ◌++◌, map, nat_lt, if◌then◌else◌, length, ⊤}
+use Rattle.std.specs.Prelude.{◌≡◌, ℕ, ◌+◌, ◌-◌, ◌^◌, min, max, List, [], ◌∷◌, ◌++◌, length}
 use Rattle.picture.specs.declared.severity.Severity.{Severity}
 use Rattle.picture.specs.declared.severity.Severity.TheVariants as bad
 use Rattle.picture.specs.declared.span.Shows.{Shows}

@@ -6,7 +6,11 @@
 //! span begins and ends as they do, and has how many they were and the worst of what they show.
 #![tactic(auto)]
 
+mod appearance;
 mod brief;
+mod ever;
+mod ever_in_log;
+mod ever_lamps;
 mod handover;
 mod history;
 mod lane;
@@ -16,7 +20,10 @@ mod span;
 mod track;
 mod unit;
 
-pub use brief::{Brief, BriefCode, LISTED};
+pub use appearance::Appearance;
+pub use brief::{Brief, LISTED};
+pub use ever::{EVER_CODES, Ever, EverCode};
+pub use ever_in_log::{EVER_UNITS, EverInLog, SILENCE};
 pub use handover::Handover;
 pub use history::{Happened, History, Occurrence};
 pub use lane::{Holding, RunEnd, UnitLane};

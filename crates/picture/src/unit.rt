@@ -1,7 +1,7 @@
 use name_field::Name;
 
 /// A unit of a log.
-#[derive(Clone, Copy, PartialEq, Eq)]
+#[derive(Clone, Copy, PartialEq, Eq, PartialOrd, Ord)]
 pub struct DrawnUnit {
     /// The place of its bus among those that are read, from 0.
     pub bus: u16,
@@ -19,7 +19,7 @@ impl DrawnUnit {
 }
 
 /// Who sends on a bus.
-#[derive(Clone, Copy, PartialEq, Eq)]
+#[derive(Clone, Copy, PartialEq, Eq, PartialOrd, Ord)]
 pub enum Sender {
     /// The unit whose NAME has this number.
     Named(u64),

@@ -17,7 +17,7 @@ impl Heard {
     /// Memory was refused.
     pub(crate) fn new(alloc: Global, options: &WatchOptions<'_>) -> Result<Heard, AllocError> {
         let buses = Buses::new(alloc, options.settings, options.bus);
-        let kept = PageHistory::new(alloc, options.form);
+        let kept = PageHistory::new(alloc, options.form, options.settings.selection.to);
         of_both(buses, kept)
     }
 }

@@ -1,32 +1,42 @@
+use crate::ever::{settle_ever, tell_ever};
+use crate::units::{bus_at, lost_unit, unit_of, who_of};
 use bus_watch::{BusWatch, Buses, Changes, EntryRun, Watch, WatchChange, Who};
 use candump_line::{Line, Time};
 use dm_messages::Kind;
 use log_lines::LogFault;
-use name_field::Name;
-use picture::{Brief, DrawnUnit, Occurrence, Picture, RunEnd, Sender};
+use picture::{Brief, DrawnUnit, EverInLog, Occurrence, Picture, RunEnd};
 use std::alloc::{AllocError, Global};
 use watch_reports::{KINDS, WatchForm};
 
-/// What is kept beside the watches while lines are read: when the first of them was, and for a page its picture.
+/// What is kept beside the watches while lines are read: when the first of them was, what units told at any time, and for a page its
+/// picture.
 #[derive(Drop)]
 pub(crate) struct PageHistory {
     start: Option<Time>,
+    last_shown: Option<Time>,
+    ever: EverInLog,
     picture: Option<Picture>,
     anew_at: Option<u64>,
 }
 
 impl PageHistory {
-    /// Nothing yet, in this form.
+    /// Nothing yet, in this form. It is told of lines up to this time, where there is one.
     ///
     /// # Errors
     /// Memory was refused.
-    pub(crate) fn new(alloc: Global, form: WatchForm) -> Result<PageHistory, AllocError> {
+    pub(crate) fn new(
+        alloc: Global,
+        form: WatchForm,
+        last_shown: Option<Time>,
+    ) -> Result<PageHistory, AllocError> {
         let picture = match form {
             WatchForm::Html => Some(Picture::new(alloc)?),
             _ => None,
         };
         Ok(PageHistory {
             start: None,
+            last_shown,
+            ever: EverInLog::new(alloc),
             picture,
             anew_at: None,
         })
@@ -45,16 +55,28 @@ impl PageHistory {
         }
     }
 
+    /// What units told at any time, until now where `settle` was called.
+    pub(crate) fn ever(&self) -> &EverInLog {
+        &self.ever
+    }
+
     /// The line of this number is read.
     pub(crate) fn pass(&mut self, number: u64, line: &Line<'_>) {
-        if self.start.is_some() && self.picture.is_none() {
-            return;
-        }
-        if self.start.is_none() {
-            self.start = time_of(line);
+        if let Some(time) = time_of(line) {
+            self.pass_time(&time);
         }
         if let Some(picture) = &mut self.picture {
             picture.pass(number, time_of(line));
+        }
+    }
+
+    /// The line that is read has this time. What comes behind the last time of which it is told ends no unit's messages.
+    fn pass_time(&mut self, time: &Time) {
+        if self.start.is_none() {
+            self.start = Some(*time);
+        }
+        if is_until(time, &self.last_shown) {
+            self.ever.pass(*time);
         }
     }
 
@@ -68,13 +90,14 @@ impl PageHistory {
         one: &BusWatch,
         changes: &Changes,
     ) -> Result<(), LogFault> {
-        let Some(picture) = &mut self.picture else {
-            return Ok(());
-        };
         let Some(change) = &changes.change else {
             return Ok(());
         };
         let bus = bus_at(place);
+        tell_ever(&mut self.ever, &one.watch, bus, change)?;
+        let Some(picture) = &mut self.picture else {
+            return Ok(());
+        };
         tell_change(
             picture,
             &one.watch,
@@ -83,6 +106,11 @@ impl PageHistory {
             lost_unit(bus, &changes.lost),
         )?;
         Ok(())
+    }
+
+    /// Until when each newest message was heard is told before a report.
+    pub(crate) fn settle(&mut self, buses: &Buses) {
+        settle_ever(&mut self.ever, buses);
     }
 
     /// The line before which the watches were last begun anew, where they were.
@@ -234,33 +262,11 @@ fn tell_entry(
     )
 }
 
-/// The number of the bus at a place.
-fn bus_at(place: usize) -> u16 {
-    place.min(usize::from(u16::MAX)) as u16
-}
-
-/// The unit of a bus that sends so.
-fn unit_of(bus: u16, who: Who) -> DrawnUnit {
-    let sender = match who {
-        Who::Named(name) => Sender::Named(name.number()),
-        Who::Unclaimed { address, gaps } => Sender::Unclaimed { address, gaps },
-    };
-    DrawnUnit { bus, sender }
-}
-
-/// The unit of a bus that lost its address, where one did.
-fn lost_unit(bus: u16, lost: &Option<Name>) -> Option<DrawnUnit> {
-    match lost {
-        Some(name) => Some(DrawnUnit::named(bus, *name)),
-        None => None,
-    }
-}
-
-/// Whom a watch has there.
-fn who_of(sender: &Sender) -> Who {
-    match *sender {
-        Sender::Named(name) => Who::Named(Name::from_number(name)),
-        Sender::Unclaimed { address, gaps } => Who::Unclaimed { address, gaps },
+/// Whether a time is no later than another one, where there is one.
+fn is_until(time: &Time, last: &Option<Time>) -> bool {
+    match last {
+        Some(last) => time.micros() <= last.micros(),
+        None => true,
     }
 }
 

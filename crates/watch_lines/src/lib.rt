@@ -2,6 +2,7 @@
 //! report by NAME.
 #![tactic(auto)]
 
+mod ever;
 mod heard;
 mod hearing;
 mod kept;
@@ -10,6 +11,7 @@ mod options;
 mod over;
 mod page;
 mod run;
+mod units;
 
 pub use options::WatchOptions;
 pub use run::{Watched, watch};

@@ -53,7 +53,8 @@ impl Over {
         number: u64,
     ) -> Result<(), LogFault> {
         self.tell(errors, options.limits, number)?;
-        self.report(writer, &heard.buses, &options.reports, number)?;
+        heard.kept.settle(&heard.buses);
+        self.report(writer, heard, &options.reports, number)?;
         heard.kept.begin_anew(&heard.buses, number)?;
         self.is_anew = true;
         start_over(alloc, &mut heard.buses)
@@ -74,7 +75,7 @@ impl Over {
     fn report<W: Write>(
         &self,
         writer: &mut W,
-        buses: &Buses,
+        heard: &Heard,
         options: &ReportOptions<'_>,
         number: u64,
     ) -> Result<(), LogFault> {
@@ -82,7 +83,7 @@ impl Over {
             line: number,
             is_first: !self.is_anew,
         };
-        write_report(writer, buses, options, part)
+        write_report(writer, &heard.buses, options, part)
     }
 }
 

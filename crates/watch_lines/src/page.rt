@@ -32,6 +32,7 @@ fn write_finished<W: Write>(
         alloc,
         title: options.title,
         picture,
+        ever: heard.kept.ever(),
         buses: heard.buses.watches(),
         units: reports.units,
         texts: reports.texts,

@@ -119,6 +119,7 @@ fn written_out<W: Write>(
     options: &RunOptions<'_>,
     is_all: bool,
 ) -> Result<(), LogFault> {
+    heard.kept.settle(&heard.buses);
     match options.reports.form {
         WatchForm::Html => write_page(writer, alloc, heard, options)?,
         _ => {

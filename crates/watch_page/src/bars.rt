@@ -2,7 +2,8 @@ ghost use Rattle.std.specs.Prelude.{◌+◌, ◌≤◌};
 ghost use Rattle.watch_page.specs.declared.axis.TheConstants.{FULL};
 
 use crate::axis::{FULL, Scale, write_part};
-use crate::message_words::{class_of, kind_word, severity_word, write_brief, write_numbers};
+use crate::bar_label::{BarLabel, LabelTold};
+use crate::message_words::{class_of, kind_word, label_word, severity_word, write_brief};
 use crate::moment::write_range;
 use crate::pieces::write_count;
 use crate::words::PageWords;
@@ -22,27 +23,33 @@ pub(crate) struct BarRow {
     pub(crate) bar: &'static str,
     /// Those of its words.
     pub(crate) words: &'static str,
+    /// What its words begin with.
+    pub(crate) before: &'static str,
 }
 
 /// The rows of a lane.
 pub(crate) const ADDRESSES: BarRow = BarRow {
     bar: " y=\"2\" height=\"16\" role=\"img\"><title>",
-    words: "<text x=\"4\" y=\"12\">",
+    words: " x=\"4\" y=\"12\">",
+    before: "",
 };
 
 pub(crate) const DM1: BarRow = BarRow {
     bar: " y=\"21\" height=\"22\" role=\"img\"><title>",
-    words: "<text x=\"4\" y=\"15\">",
+    words: " x=\"4\" y=\"15\">",
+    before: "",
 };
 
 pub(crate) const DM2: BarRow = BarRow {
     bar: " y=\"46\" height=\"14\" role=\"img\"><title>",
-    words: "<text x=\"4\" y=\"11\">",
+    words: " x=\"4\" y=\"11\">",
+    before: "DM2 ",
 };
 
 pub(crate) const DM6: BarRow = BarRow {
     bar: " y=\"62\" height=\"14\" role=\"img\"><title>",
-    words: "<text x=\"4\" y=\"11\">",
+    words: " x=\"4\" y=\"11\">",
+    before: "DM6 ",
 };
 
 /// As many spans as may be drawn: of more, neighbours are joined.
@@ -64,18 +71,19 @@ fn bar_of(scale: Scale, from: u64, to: u64) -> (u64, u64)
     (place, width)
 }
 
-/// Begins a bar: what follows is its title.
+/// Begins a bar: what follows is its title. Answers how wide it is.
 pub(crate) fn begin_bar<W: Write>(
     page: &mut Page<W>,
     scale: Scale,
     from: u64,
     to: u64,
     bar: &'static str,
-) {
+) -> u64 {
     let (place, width) = bar_of(scale, from, to);
     write_part(page, "<svg x=\"", place);
     write_part(page, " width=\"", width);
     page.markup(bar);
+    width
 }
 
 /// Ends the title of a bar, and gives it a class.
@@ -85,6 +93,16 @@ pub(crate) fn fill_bar<W: Write>(page: &mut Page<W>, class: &'static str) {
     page.markup("\"/>");
 }
 
+/// Writes the words in a bar of this width, and ends it.
+fn end_bar<W: Write>(page: &mut Page<W>, row: BarRow, told: LabelTold<'_>, width: u64) {
+    let label = BarLabel {
+        before: row.before,
+        told,
+    };
+    label.write(page, row.words, width);
+    page.markup("</svg>");
+}
+
 /// Draws when an address was held.
 pub(crate) fn write_address_bar<W: Write>(
     page: &mut Page<W>,
@@ -92,45 +110,34 @@ pub(crate) fn write_address_bar<W: Write>(
     scale: Scale,
     span: &Span,
 ) {
-    begin_bar(page, scale, span.from, span.to, ADDRESSES.bar);
+    let width = begin_bar(page, scale, span.from, span.to, ADDRESSES.bar);
     match &span.shows {
-        Shows::Address(address) => write_held(page, words, span, u64::from(*address)),
-        _ => write_changing(page, words, span, ADDRESSES, "addresses", Severity::Fine),
+        Shows::Address(address) => write_held(page, words, span, u64::from(*address), width),
+        _ => write_moving(page, words, span, width),
     }
 }
 
-fn write_held<W: Write>(page: &mut Page<W>, words: &PageWords<'_>, span: &Span, address: u64) {
-    write_count(page, "address ", address, ", ");
-    write_range(page, words, span.from, span.to);
-    fill_bar(page, "held");
-    page.markup(ADDRESSES.words);
-    write_count(page, "address ", address, "</text></svg>");
-}
-
-/// Writes that several spans were joined.
-fn write_changing<W: Write>(
+fn write_held<W: Write>(
     page: &mut Page<W>,
     words: &PageWords<'_>,
     span: &Span,
-    row: BarRow,
-    what: &'static str,
-    severity: Severity,
+    address: u64,
+    width: u64,
 ) {
-    write_count(page, "", span.told, " changes of ");
-    page.markup(what);
-    page.markup(", ");
+    write_count(page, "address ", address, ", ");
     write_range(page, words, span.from, span.to);
-    write_worst(page, severity);
-    fill_bar(page, "changing");
-    write_count(page, row.words, span.told, " changes</text></svg>");
+    fill_bar(page, "held");
+    let told = LabelTold::Count("address ", address, "");
+    end_bar(page, ADDRESSES, told, width);
 }
 
-/// Writes how bad it was at worst, where it was.
-fn write_worst<W: Write>(page: &mut Page<W>, severity: Severity) {
-    if severity != Severity::Fine {
-        page.markup("; at worst ");
-        page.markup(severity_word(severity));
-    }
+/// Writes that several spans of addresses were joined.
+fn write_moving<W: Write>(page: &mut Page<W>, words: &PageWords<'_>, span: &Span, width: u64) {
+    write_count(page, "", span.told, " changes of addresses, ");
+    write_range(page, words, span.from, span.to);
+    fill_bar(page, "changing");
+    let told = LabelTold::Count("", span.told, " changes");
+    end_bar(page, ADDRESSES, told, width);
 }
 
 /// Draws what messages of a kind told.
@@ -142,21 +149,55 @@ pub(crate) fn write_message_bar<W: Write>(
     kind: Kind,
     row: BarRow,
 ) {
-    begin_bar(page, scale, span.from, span.to, row.bar);
+    let width = begin_bar(page, scale, span.from, span.to, row.bar);
     match &span.shows {
-        Shows::Message {
-            brief,
-            severity,
-            times,
-        } => {
+        Shows::Message { brief, times, .. } => {
             write_title(page, words, span, kind, *times);
-            write_message(page, words, row, kind, brief, *severity);
+            write_message(page, words, row, brief, width);
         }
-        _ => {
-            let severity = span.shows.severity();
-            write_changing(page, words, span, row, kind_word(kind), severity);
-        }
+        _ => write_changing(page, words, span, kind, row, width),
     }
+}
+
+/// Writes that several messages were joined: in the colour of the worst, striped.
+fn write_changing<W: Write>(
+    page: &mut Page<W>,
+    words: &PageWords<'_>,
+    span: &Span,
+    kind: Kind,
+    row: BarRow,
+    width: u64,
+) {
+    let severity = span.shows.severity();
+    write_joined_title(page, words, span, kind, severity);
+    fill_bar(page, class_of(severity));
+    page.markup(stripes());
+    end_bar(
+        page,
+        row,
+        LabelTold::Count("", span.told, " changes"),
+        width,
+    );
+}
+
+fn write_joined_title<W: Write>(
+    page: &mut Page<W>,
+    words: &PageWords<'_>,
+    span: &Span,
+    kind: Kind,
+    severity: Severity,
+) {
+    write_count(page, "", span.told, " changes of ");
+    page.markup(kind_word(kind));
+    page.markup(", ");
+    write_range(page, words, span.from, span.to);
+    page.markup("; at worst ");
+    page.markup(severity_word(severity));
+}
+
+/// The stripes of a bar that is made of several.
+fn stripes() -> &'static str {
+    "<rect width=\"100%\" height=\"100%\" class=\"many\"/>"
 }
 
 /// Writes when messages came and how many they were.
@@ -181,50 +222,22 @@ fn write_message<W: Write>(
     page: &mut Page<W>,
     words: &PageWords<'_>,
     row: BarRow,
-    kind: Kind,
     brief: &Brief,
-    severity: Severity,
+    width: u64,
 ) {
     write_brief(page, words, brief);
-    fill_bar(page, class_of(severity));
-    write_words(page, row, kind, brief);
-}
-
-/// Writes the words in a bar: its codes; and the sign of doubt.
-fn write_words<W: Write>(page: &mut Page<W>, row: BarRow, kind: Kind, brief: &Brief) {
+    fill_bar(page, class_of(brief.severity()));
     if brief.contested {
         page.markup("<rect width=\"100%\" height=\"100%\" class=\"doubt\"/>");
     }
-    page.markup(row.words);
-    if kind != Kind::Dm1 {
-        page.markup(kind_word(kind));
-        page.markup(" ");
-    }
-    write_told(page, brief);
-    page.markup("</text></svg>");
+    end_bar(page, row, label_of(brief), width);
 }
 
-/// Writes the codes of a message, or how bad it is where it has none.
-fn write_told<W: Write>(page: &mut Page<W>, brief: &Brief) {
+/// The codes of a message, or how bad it is where it has none.
+fn label_of(brief: &Brief) -> LabelTold<'_> {
     if brief.count == 0 {
-        page.markup(severity_word(brief.severity()));
-        return;
+        LabelTold::Word(label_word(brief.severity()))
+    } else {
+        LabelTold::Codes(brief)
     }
-    let listed = write_codes(page, brief);
-    if brief.count > listed {
-        write_count(page, "+", u64::from(brief.count.saturating_sub(listed)), "");
-    }
-}
-
-/// Writes the first codes. Tells how many.
-fn write_codes<W: Write>(page: &mut Page<W>, brief: &Brief) -> u16 {
-    let mut listed = 0u16;
-    for code in &brief.codes {
-        if let Some(code) = code {
-            write_numbers(page, code.spn, code.fmi);
-            page.markup(" ");
-            listed = listed.saturating_add(1);
-        }
-    }
-    listed
 }

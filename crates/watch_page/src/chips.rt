@@ -3,58 +3,82 @@ use crate::pieces::{by_count, write_between, write_count};
 use crate::standing::Standing;
 use crate::view::View;
 use page_text::Page;
-use picture::Handover;
+use picture::{EverInLog, Handover};
 use std::io::Write;
 use trouble_code::LampName;
 
 /// How many addresses that changed hands are named.
 const NAMED: u64 = 8;
 
-/// Writes how it stands, each in a few words: units with faults, lamps that are on, addresses that changed hands, frames that were
-/// missed.
+/// Writes how it stands, each in a few words: units with faults, lamps that are on, each also at any time of the log, addresses that
+/// changed hands, frames that were missed.
 pub(crate) fn write_chips<W: Write>(page: &mut Page<W>, view: &View<'_>, standing: &Standing) {
     page.markup("<h2>How it stands</h2>\n<ul class=\"chips\">\n");
-    write_faulty(page, standing.faulty, standing.on);
-    write_lamps(page, standing.lamps);
+    write_faulty(page, standing, view.ever.faulty());
+    write_lamps(page, standing.lamps, view.ever);
+    write_silent(page, standing.silent);
     write_handed(page, view.picture.handovers());
     write_missed(page, view.missed());
     page.markup("</ul>\n");
 }
 
-fn write_faulty<W: Write>(page: &mut Page<W>, faulty: u64, on: u64) {
-    page.markup(if faulty > 0 {
-        "<li class=\"bad\">"
-    } else {
-        "<li class=\"good\">"
-    });
-    write_count(page, "", faulty, " of ");
-    write_count(
-        page,
-        "",
-        on,
-        by_count(on, " unit on the bus reports", " units on the bus report"),
-    );
-    page.markup(" faults</li>\n");
+/// How many units report faults at the end, and how many did at any time.
+fn write_faulty<W: Write>(page: &mut Page<W>, standing: &Standing, ever: u64) {
+    page.markup(class_of(standing.faulty, ever));
+    write_count(page, "", standing.faulty, " of ");
+    write_on(page, standing.on);
+    if ever > 0 {
+        page.markup(" at the end, ");
+        write_count(page, "", ever, by_count(ever, " unit had", " units had"));
+        page.markup(" faults in this log");
+    }
+    page.markup("</li>\n");
 }
 
-/// How many units have each lamp on.
-fn write_lamps<W: Write>(page: &mut Page<W>, counts: [u64; 4]) {
+fn write_on<W: Write>(page: &mut Page<W>, on: u64) {
+    let words = by_count(
+        on,
+        " unit on the bus reports faults",
+        " units on the bus report faults",
+    );
+    write_count(page, "", on, words);
+}
+
+/// How it is marked that units report faults, or did.
+fn class_of(faulty: u64, ever: u64) -> &'static str {
+    if faulty > 0 {
+        "<li class=\"bad\">"
+    } else if ever > 0 {
+        "<li class=\"codes\">"
+    } else {
+        "<li class=\"good\">"
+    }
+}
+
+/// How many units have each lamp on at the end, and had at any time.
+fn write_lamps<W: Write>(page: &mut Page<W>, counts: [u64; 4], ever: &EverInLog) {
     for place in 0..4 {
-        if counts[place] > 0 {
-            write_lamp(page, LAMPS[place], counts[place]);
+        let had = ever.with_lamp(LAMPS[place]);
+        if had > 0 {
+            write_lamp(page, LAMPS[place], counts[place], had);
         }
     }
 }
 
-fn write_lamp<W: Write>(page: &mut Page<W>, lamp: LampName, count: u64) {
-    write_between(page, "<li class=\"", lamp_class(lamp), "\">");
-    page.markup(lamp_word(lamp));
-    write_count(
-        page,
-        " lamp on: ",
-        count,
-        by_count(count, " unit</li>\n", " units</li>\n"),
-    );
+fn write_lamp<W: Write>(page: &mut Page<W>, lamp: LampName, count: u64, had: u64) {
+    write_between(page, "<li class=\"", lamp_class(lamp), "\">lamp ");
+    write_between(page, "", lamp_word(lamp), " on: ");
+    let at_the_end = by_count(count, " unit at the end, ", " units at the end, ");
+    write_count(page, "", count, at_the_end);
+    write_count(page, "", had, " in this log</li>\n");
+}
+
+/// Of how many units a DM1 with a fault was not heard to the end.
+fn write_silent<W: Write>(page: &mut Page<W>, silent: u64) {
+    if silent > 0 {
+        let words = by_count(silent, " unit</li>\n", " units</li>\n");
+        write_count(page, "<li class=\"codes\">DM1 fell silent: ", silent, words);
+    }
 }
 
 /// Which addresses changed hands.

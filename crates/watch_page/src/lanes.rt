@@ -5,12 +5,12 @@ use crate::bars::{
 };
 use crate::labels::{write_identity, write_label};
 use crate::pieces::{by_count, write_count};
-use crate::standing::{ALL_ORDERS, Presence, order_of, presence_of};
+use crate::standing::{ALL_ORDERS, Presence, order_of, presence_of, severity_now};
 use crate::view::View;
 use crate::words::PageWords;
 use dm_messages::Kind;
 use page_text::Page;
-use picture::{Picture, Shows, Span, Track, UnitLane};
+use picture::{Picture, Severity, Shows, Span, Track, UnitLane};
 use std::io::Write;
 
 /// How large the page may be when a further bar is begun, in bytes, and how many bars all lanes have at most.
@@ -49,24 +49,29 @@ fn write_order<W: Write>(
 fn head() -> &'static str {
     "<h2>When</h2>\n<svg xmlns=\"http://www.w3.org/2000/svg\" class=\"defs\" width=\"0\" height=\"0\" aria-hidden=\"true\"><defs>\
 <pattern id=\"gap\" width=\"8\" height=\"8\" patternUnits=\"userSpaceOnUse\" patternTransform=\"rotate(45)\"><rect width=\"8\" height=\"8\" class=\"ground\"/><rect width=\"3\" height=\"8\" class=\"hatch\"/></pattern>\
+<pattern id=\"many\" width=\"6\" height=\"6\" patternUnits=\"userSpaceOnUse\"><rect width=\"1\" height=\"6\" class=\"shade\"/></pattern>\
 <pattern id=\"doubt\" width=\"6\" height=\"6\" patternUnits=\"userSpaceOnUse\" patternTransform=\"rotate(45)\"><rect width=\"2\" height=\"6\" class=\"shade\"/></pattern></defs></svg>\n"
 }
 
 /// What the colours say.
 fn key() -> &'static str {
     "<ul class=\"key\"><li><span class=\"k held\"></span>holds the address</li><li><span class=\"k fine\"></span>DM1 without fault</li>\
-<li><span class=\"k codes\"></span>faults, no lamp</li><li><span class=\"k protect\"></span>protect lamp</li><li><span class=\"k mil\"></span>malfunction lamp</li>\
-<li><span class=\"k amber\"></span>amber warning lamp</li><li><span class=\"k red\"></span>red stop lamp</li><li><span class=\"k changing\"></span>several changes</li>\
+<li><span class=\"k codes\"></span>faults, no lamp</li><li><span class=\"k protect\"></span>lamp protect</li><li><span class=\"k mil\"></span>lamp mil</li>\
+<li><span class=\"k amber\"></span>lamp amber</li><li><span class=\"k red\"></span>lamp stop</li><li><span class=\"k striped\"></span>several changes, in the colour of the worst</li>\
 <li><span class=\"k gapped\"></span>frames missed: who sends is not known until units claim again</li><li><span class=\"k doubted\"></span>in doubt</li></ul>\n"
 }
 
-/// In which order a lane stands: by the worst that its unit told at any time, those of units that are gone last.
+/// In which order a lane stands: by the worst that its unit told at any time, and then as the rows of the table.
 fn lane_order(view: &View<'_>, lane: &UnitLane) -> usize {
-    let presence = match view.watched(lane.unit()) {
-        Some((watch, _)) => presence_of(view.picture, watch, lane.unit()),
-        None => Presence::On,
-    };
-    order_of(presence, lane.worst())
+    let unit = lane.unit();
+    let worst = lane.worst().worse(view.worst_ever(unit));
+    match view.watched(unit) {
+        Some((watch, _)) => {
+            let presence = presence_of(view.picture, watch, unit);
+            order_of(worst, presence, severity_now(view, watch, unit))
+        }
+        None => order_of(worst, Presence::On, Severity::Fine),
+    }
 }
 
 fn write_lane<W: Write>(
@@ -217,7 +222,7 @@ fn next_claim(lane: &UnitLane, moment: u64) -> Option<u64> {
 }
 
 fn write_gap<W: Write>(page: &mut Page<W>, scale: Scale, gap: &Span, to: u64) {
-    begin_bar(page, scale, gap.from, to, gap_bar());
+    let _width = begin_bar(page, scale, gap.from, to, gap_bar());
     match &gap.shows {
         Shows::Missed { count, .. } => write_missed(page, *count),
         _ => page.markup("frames missed several times"),

@@ -5,16 +5,18 @@
 #![tactic(auto)]
 
 mod axis;
+mod bar_label;
 mod bars;
 mod changes;
 mod chips;
+mod ever_cell;
 mod labels;
 mod lanes;
 mod message_words;
 mod moment;
 mod page;
-mod past;
 mod pieces;
+mod silence;
 mod standing;
 mod style;
 mod table;

@@ -2,7 +2,7 @@ use crate::pieces::{by_count, write_between, write_count};
 use crate::words::PageWords;
 use dm_messages::Kind;
 use page_text::Page;
-use picture::{Brief, BriefCode, Severity};
+use picture::{Brief, Severity};
 use std::io::Write;
 use trouble_code::{Dtc, LampName, Lamps};
 
@@ -22,23 +22,13 @@ pub(crate) const LAMPS: [LampName; 4] = [
     LampName::Protect,
 ];
 
-/// The word of a lamp.
+/// The word of a lamp, as `decode` and the reports have it.
 pub(crate) fn lamp_word(lamp: LampName) -> &'static str {
     match lamp {
-        LampName::RedStop => "red stop",
-        LampName::Amber => "amber warning",
-        LampName::Malfunction => "malfunction",
+        LampName::RedStop => "stop",
+        LampName::Amber => "amber",
+        LampName::Malfunction => "mil",
         LampName::Protect => "protect",
-    }
-}
-
-/// The word on its plate.
-pub(crate) fn plate_word(lamp: LampName) -> &'static str {
-    match lamp {
-        LampName::RedStop => "STOP",
-        LampName::Amber => "WARNING",
-        LampName::Malfunction => "ENGINE",
-        LampName::Protect => "PROTECT",
     }
 }
 
@@ -78,10 +68,22 @@ pub(crate) fn severity_word(severity: Severity) -> &'static str {
     match severity {
         Severity::Fine => "no fault",
         Severity::Codes => "faults, no lamp",
-        Severity::Protect => "protect lamp",
-        Severity::Malfunction => "malfunction lamp",
-        Severity::Amber => "amber warning lamp",
-        Severity::Red => "red stop lamp",
+        Severity::Protect => "lamp protect",
+        Severity::Malfunction => "lamp mil",
+        Severity::Amber => "lamp amber",
+        Severity::Red => "lamp stop",
+    }
+}
+
+/// The words for it in a bar.
+pub(crate) fn label_word(severity: Severity) -> &'static str {
+    match severity {
+        Severity::Fine => "no fault",
+        Severity::Codes => "faults",
+        Severity::Protect => "protect",
+        Severity::Malfunction => "mil",
+        Severity::Amber => "amber",
+        Severity::Red => "stop",
     }
 }
 
@@ -156,7 +158,7 @@ pub(crate) fn write_seen<W: Write>(page: &mut Page<W>, code: Dtc) {
         return;
     }
     let count = u64::from(count);
-    write_count(page, "seen ", count, by_count(count, " time", " times"));
+    write_count(page, "; seen ", count, by_count(count, " time", " times"));
 }
 
 /// Writes a message in a line: its lamps, and its first codes with their texts.
@@ -166,44 +168,26 @@ pub(crate) fn write_brief<W: Write>(page: &mut Page<W>, words: &PageWords<'_>, b
     if brief.count == 0 {
         page.markup("no code");
     }
-    let listed = write_codes(page, words, &brief.codes);
-    write_more(page, brief.count.saturating_sub(listed));
+    write_codes(page, words, brief);
+    write_more(page, brief.left_out());
     if brief.contested {
         page.markup(" (in doubt)");
     }
 }
 
-/// Writes codes with their texts. Tells how many.
-fn write_codes<W: Write>(
-    page: &mut Page<W>,
-    words: &PageWords<'_>,
-    codes: &[Option<BriefCode>],
-) -> u16 {
-    let mut listed = 0u16;
-    for code in codes {
-        if let Some(code) = code {
-            write_listed(page, words, listed == 0, code);
-            listed = listed.saturating_add(1);
+/// Writes the codes that are told one by one, with their texts.
+fn write_codes<W: Write>(page: &mut Page<W>, words: &PageWords<'_>, brief: &Brief) {
+    for place in 0..brief.listed() {
+        if let Some(code) = brief.code(place) {
+            page.markup(if place > 0 { ", " } else { "" });
+            write_numbers(page, code.spn(), code.fmi());
+            write_text(page, words, " ", code.spn(), code.fmi());
         }
     }
-    listed
 }
 
-fn write_listed<W: Write>(
-    page: &mut Page<W>,
-    words: &PageWords<'_>,
-    is_first: bool,
-    code: &BriefCode,
-) {
-    if !is_first {
-        page.markup(", ");
-    }
-    write_numbers(page, code.spn, code.fmi);
-    write_text(page, words, " ", code.spn, code.fmi);
-}
-
-fn write_more<W: Write>(page: &mut Page<W>, more: u16) {
+fn write_more<W: Write>(page: &mut Page<W>, more: usize) {
     if more > 0 {
-        write_count(page, " and ", u64::from(more), " more");
+        write_count(page, " and ", more as u64, " more");
     }
 }

@@ -48,7 +48,7 @@ fn write_parts<W: Write>(page: &mut Page<W>, view: &View<'_>, standing: &Standin
 }
 
 fn write_head<W: Write>(page: &mut Page<W>, view: &View<'_>, words: &PageWords<'_>) {
-    write_title(page, view.title);
+    write_title(page, file_name(view.title));
     write_extent(page, words, view.picture.end());
     write_count(page, "", view.picture.lines(), " lines");
     write_buses(page, view.buses);
@@ -63,6 +63,17 @@ fn write_title<W: Write>(page: &mut Page<W>, title: &str) {
     page.markup(before_heading());
     page.short_text(title, MOST);
     page.markup("</span></h1>\n<p class=\"quiet\">");
+}
+
+/// The name of a file without its folders.
+fn file_name(path: &str) -> &str {
+    let mut name = path;
+    for part in path.split('/') {
+        if !part.is_empty() {
+            name = part;
+        }
+    }
+    name
 }
 
 fn write_bus<W: Write>(page: &mut Page<W>, before: &'static str, name: &Option<String>) {

@@ -1,3 +1,5 @@
+ghost use Rattle.std.specs.Prelude.{◌≤◌};
+
 use crate::message_words::{LAMPS, is_on};
 use crate::view::{View, places_of, sender_at, who_of};
 use bus_watch::{EntryRun, Watch};
@@ -10,8 +12,11 @@ use trouble_code::Lamps;
 /// How many units of each order are listed.
 const MOST: usize = 1_000;
 
-/// How many orders there are: by how bad it is what a unit on the bus tells, and then those that are gone.
-const ORDERS: usize = 7;
+/// How many orders there are of how bad it is what a unit on the bus tells, and then those that are gone.
+const NOW: usize = 7;
+
+/// How many orders there are: by the worst that a unit told at any time, and then by how it stands.
+const ORDERS: usize = 6 * NOW;
 
 /// Whether a unit is on the bus.
 #[derive(Clone, Copy, PartialEq, Eq)]
@@ -44,6 +49,8 @@ pub(crate) struct Standing {
     pub(crate) faulty: u64,
     /// How many of them have each lamp on, in the order of `LAMPS`.
     pub(crate) lamps: [u64; 4],
+    /// Of how many units a DM1 with a fault was not heard to the end.
+    pub(crate) silent: u64,
     /// The units that are listed.
     pub(crate) listed: Vec<Listed>,
     counts: [usize; ORDERS],
@@ -57,6 +64,7 @@ impl Standing {
             on: 0,
             faulty: 0,
             lamps: [0; 4],
+            silent: 0,
             listed: Vec::new(view.alloc),
             counts: [0; ORDERS],
         };
@@ -76,38 +84,35 @@ impl Standing {
                     bus: number.min(usize::from(u16::MAX)) as u16,
                     sender,
                 };
-                self.add(view.picture, &bus.watch, &unit)?;
+                self.add(view, &bus.watch, &unit)?;
             }
         }
         Ok(())
     }
 
-    fn add(
-        &mut self,
-        picture: &Picture,
-        watch: &Watch,
-        unit: &DrawnUnit,
-    ) -> Result<(), AllocError> {
-        let presence = presence_of(picture, watch, unit);
-        let newest = watch.runs(who_of(&unit.sender), Kind::Dm1).last();
-        let severity = severity_of(newest);
+    fn add(&mut self, view: &View<'_>, watch: &Watch, unit: &DrawnUnit) -> Result<(), AllocError> {
+        let presence = presence_of(view.picture, watch, unit);
+        let severity = severity_now(view, watch, unit);
         self.all = self.all.saturating_add(1);
+        if view.ever.silence(unit).is_some() {
+            self.silent = self.silent.saturating_add(1);
+        }
         if presence == Presence::On {
             self.on = self.on.saturating_add(1);
-            self.count_faults(newest, severity);
+            self.count_faults(watch, unit, severity);
         }
-        self.list(order_of(presence, severity), unit, presence)
+        let order = order_of(view.worst_ever(unit), presence, severity);
+        self.list(order, unit, presence)
     }
 
-    fn count_faults(&mut self, newest: Option<&EntryRun>, severity: Severity) {
+    fn count_faults(&mut self, watch: &Watch, unit: &DrawnUnit, severity: Severity) {
         if severity == Severity::Fine {
             return;
         }
         self.faulty = self.faulty.saturating_add(1);
-        let Some(run) = newest else {
-            return;
-        };
-        self.count_lamps(run.shown.lamps);
+        if let Some(run) = watch.runs(who_of(&unit.sender), Kind::Dm1).last() {
+            self.count_lamps(run.shown.lamps);
+        }
     }
 
     fn count_lamps(&mut self, lamps: Lamps) {
@@ -186,12 +191,28 @@ pub(crate) fn severity_of(newest: Option<&EntryRun>) -> Severity {
     }
 }
 
-/// In which order a unit stands: the worst on the bus first, those that are gone last.
-pub(crate) fn order_of(presence: Presence, severity: Severity) -> usize {
-    match presence {
-        Presence::Gone | Presence::Past => ORDERS - 1,
-        _ => 5usize.saturating_sub(usize::from(severity.rank())),
+/// How bad it is what a unit tells at the end: nothing where its DM1 fell silent.
+pub(crate) fn severity_now(view: &View<'_>, watch: &Watch, unit: &DrawnUnit) -> Severity {
+    if view.ever.silence(unit).is_some() {
+        return Severity::Fine;
     }
+    severity_of(watch.runs(who_of(&unit.sender), Kind::Dm1).last())
+}
+
+/// In which order a unit stands: the worst at any time first; of equal ones the worst on the bus at the end first, and those that are gone last.
+pub(crate) fn order_of(worst: Severity, presence: Presence, severity: Severity) -> usize {
+    let now = match presence {
+        Presence::Gone | Presence::Past => NOW - 1,
+        _ => steps_from_worst(severity),
+    };
+    (steps_from_worst(worst) * NOW).saturating_add(now)
+}
+
+/// How many steps it is better than the worst, 0 to 5.
+fn steps_from_worst(severity: Severity) -> usize
+    ensures { result ≤ 5 }
+{
+    5usize.saturating_sub(usize::from(severity.rank()))
 }
 
 /// The orders.

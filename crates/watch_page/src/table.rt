@@ -1,10 +1,11 @@
+use crate::ever_cell::write_ever;
 use crate::labels::{write_fields, write_identity, write_label};
 use crate::message_words::{
-    LAMPS, flash_word, is_on, lamp_class, plate_word, write_numbers, write_seen, write_text,
+    LAMPS, flash_word, is_on, lamp_class, lamp_word, write_numbers, write_seen, write_text,
 };
 use crate::moment::write_moment;
-use crate::past::Past;
 use crate::pieces::{write_between, write_count};
+use crate::silence::write_silence;
 use crate::standing::{ALL_ORDERS, Listed, Presence, Standing};
 use crate::view::View;
 use crate::words::PageWords;
@@ -33,7 +34,7 @@ pub(crate) fn write_table<W: Write>(
     words: &PageWords<'_>,
     standing: &Standing,
 ) {
-    page.markup("<h2>Units, as they stood at the end</h2>\n");
+    page.markup("<h2>Units, at the end and ever in this log</h2>\n");
     write_anew(page, view.anew_at);
     page.markup(head());
     let written = write_units(page, view, words, standing);
@@ -44,7 +45,8 @@ pub(crate) fn write_table<W: Write>(
 /// From which line on the table is.
 fn write_anew<W: Write>(page: &mut Page<W>, anew_at: Option<u64>) {
     if let Some(line) = anew_at {
-        write_count(page, anew_words(), line, " on.</p>\n");
+        let behind = " on. What is told of ever in this log is of all of it.</p>\n";
+        write_count(page, anew_words(), line, behind);
     }
 }
 
@@ -55,7 +57,7 @@ fn write_more<W: Write>(page: &mut Page<W>, more: u64) {
 }
 
 fn more_row() -> &'static str {
-    "<tr role=\"row\"><td role=\"cell\" colspan=\"7\">and "
+    "<tr role=\"row\"><td role=\"cell\" colspan=\"8\">and "
 }
 
 /// Writes rows as long as the page has room. Answers how many.
@@ -98,8 +100,8 @@ fn anew_words() -> &'static str {
 /// The head of the table. Its roles stay where a narrow page shows a row as a block.
 fn head() -> &'static str {
     "<table role=\"table\"><thead role=\"rowgroup\"><tr role=\"row\">\
-<th role=\"columnheader\">Unit</th><th role=\"columnheader\" class=\"num\">Address</th><th role=\"columnheader\">Lamps</th>\
-<th role=\"columnheader\">Faults</th><th role=\"columnheader\" class=\"num\">DM1</th><th role=\"columnheader\" class=\"num\">DM2</th>\
+<th role=\"columnheader\">Unit</th><th role=\"columnheader\" class=\"num\">Address</th><th role=\"columnheader\">Lamps at the end</th>\
+<th role=\"columnheader\">Faults at the end</th><th role=\"columnheader\">Ever in this log</th><th role=\"columnheader\" class=\"num\">DM1</th><th role=\"columnheader\" class=\"num\">DM2</th>\
 <th role=\"columnheader\" class=\"num\">DM6</th></tr></thead><tbody role=\"rowgroup\">\n"
 }
 
@@ -112,7 +114,7 @@ fn write_unit<W: Write>(
     if let Some((watch, who)) = view.watched(&listed.unit) {
         page.markup(row_begin(listed.presence));
         write_who(page, view, &listed.unit);
-        write_told(page, words, watch, &who, listed);
+        write_told(page, view, words, watch, &who, listed);
         page.markup("</tr>\n");
     }
 }
@@ -124,9 +126,10 @@ fn row_begin(presence: Presence) -> &'static str {
     }
 }
 
-/// What a unit told: its address, its lamps, its faults, and how many messages of each kind there were.
+/// What a unit told: its address, its lamps, its faults, at the end and at any time, and how many messages of each kind there were.
 fn write_told<W: Write>(
     page: &mut Page<W>,
+    view: &View<'_>,
     words: &PageWords<'_>,
     watch: &Watch,
     who: &Who,
@@ -134,24 +137,37 @@ fn write_told<W: Write>(
 ) {
     write_address(page, address_of(watch, &listed.unit), listed.presence);
     let newest = watch.runs(*who, Kind::Dm1).last();
-    write_lamps(page, newest);
-    write_faults(page, words, watch, who, listed.presence, newest);
+    let silence = view.ever.silence(&listed.unit);
+    write_lamps(page, newest, silence);
+    write_faults(page, words, watch, who, listed.presence, silence);
+    write_ever(page, view, words, &listed.unit);
     write_entries(page, watch.entries(*who, Kind::Dm1), "DM1");
     write_entries(page, watch.entries(*who, Kind::Dm2), "DM2");
     write_entries(page, watch.entries(*who, Kind::Dm6), "DM6");
 }
 
-/// The faults that a unit told, and whether it is gone.
+/// The faults that a unit told last, and whether it is gone.
 fn write_faults<W: Write>(
     page: &mut Page<W>,
     words: &PageWords<'_>,
     watch: &Watch,
     who: &Who,
     presence: Presence,
-    newest: Option<&EntryRun>,
+    silence: Option<u64>,
 ) {
-    page.markup("<td role=\"cell\" data-l=\"Faults\">");
+    let newest = watch.runs(*who, Kind::Dm1).last();
+    page.markup("<td role=\"cell\" data-l=\"Faults at the end\">");
+    if let Some(silence) = silence {
+        write_silence(page, words, silence);
+    }
     write_newest(page, words, newest);
+    write_others(page, words, watch, who);
+    write_standing(page, words, presence, newest);
+    page.markup("</td>");
+}
+
+/// The codes of the newest DM2 and DM6.
+fn write_others<W: Write>(page: &mut Page<W>, words: &PageWords<'_>, watch: &Watch, who: &Who) {
     write_other(
         page,
         words,
@@ -164,9 +180,6 @@ fn write_faults<W: Write>(
         "DM6, pending: ",
         watch.runs(*who, Kind::Dm6).last(),
     );
-    write_past(page, words, watch.runs(*who, Kind::Dm1));
-    write_standing(page, words, presence, newest);
-    page.markup("</td>");
 }
 
 /// How many messages of a kind there were.
@@ -217,11 +230,15 @@ fn address_of(watch: &Watch, unit: &DrawnUnit) -> Option<u8> {
     }
 }
 
-/// A plate for each lamp that is on.
-fn write_lamps<W: Write>(page: &mut Page<W>, newest: Option<&EntryRun>) {
-    page.markup("<td role=\"cell\" data-l=\"Lamps\">");
+/// A plate for each lamp that is on; a word where that is not current.
+fn write_lamps<W: Write>(page: &mut Page<W>, newest: Option<&EntryRun>, silence: Option<u64>) {
+    page.markup("<td role=\"cell\" data-l=\"Lamps at the end\">");
     if let Some(run) = newest {
-        write_plates(page, run.shown.lamps);
+        if silence.is_some() {
+            page.markup("<span class=\"quiet\">not known</span>");
+        } else {
+            write_plates(page, run.shown.lamps);
+        }
     }
     page.markup("</td>");
 }
@@ -237,7 +254,7 @@ fn write_plates<W: Write>(page: &mut Page<W>, lamps: Lamps) {
 
 fn write_plate<W: Write>(page: &mut Page<W>, lamp: LampName) {
     write_between(page, "<span class=\"lamp ", lamp_class(lamp), "\">");
-    write_between(page, "", plate_word(lamp), "</span>");
+    write_between(page, "", lamp_word(lamp), "</span>");
 }
 
 /// The codes of the newest DM1, or that there is none.
@@ -296,7 +313,7 @@ fn write_code<W: Write>(page: &mut Page<W>, words: &PageWords<'_>, code: Dtc) {
     if !write_text(page, words, "", code.spn(), code.fmi()) {
         page.markup("<span class=\"quiet\">no text</span>");
     }
-    page.markup("</span> <span class=\"quiet\">");
+    page.markup("</span><span class=\"quiet\">");
     write_seen(page, code);
     page.markup("</span></div>");
 }
@@ -344,24 +361,6 @@ fn write_line<W: Write>(page: &mut Page<W>, words: &PageWords<'_>, codes: &[Dtc]
 fn write_in_line<W: Write>(page: &mut Page<W>, words: &PageWords<'_>, code: Dtc) {
     write_numbers(page, code.spn(), code.fmi());
     write_text(page, words, " ", code.spn(), code.fmi());
-}
-
-/// The codes that earlier DM1 had, and the newest has not.
-fn write_past<W: Write>(page: &mut Page<W>, words: &PageWords<'_>, runs: &[EntryRun]) {
-    match Past::of(words.alloc, runs) {
-        Ok(past) => write_earlier(page, words, past.codes(), past.is_cut()),
-        Err(_) => page.refuse_memory(),
-    }
-}
-
-fn write_earlier<W: Write>(page: &mut Page<W>, words: &PageWords<'_>, codes: &[Dtc], is_cut: bool) {
-    if codes.is_empty() {
-        return;
-    }
-    write_listed(page, words, "earlier in this log: ", codes);
-    if is_cut {
-        page.markup("<div class=\"past\">and more</div>");
-    }
 }
 
 /// That a unit is gone, or not known.

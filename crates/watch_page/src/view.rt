@@ -1,8 +1,9 @@
 use bus_watch::{BusWatch, Watch, Who};
 use clock_words::ClockForm;
 use code_texts::Texts;
+use dm_messages::Kind;
 use name_field::Name;
-use picture::{DrawnUnit, Picture, Sender};
+use picture::{DrawnUnit, Ever, EverInLog, Picture, Sender, Severity};
 use std::alloc::Global;
 use unit_words::UnitTexts;
 
@@ -13,6 +14,8 @@ pub struct View<'a> {
     /// What was read: a file's name, or words for it.
     pub title: &'a str,
     pub picture: &'a Picture,
+    /// What units told at any time.
+    pub ever: &'a EverInLog,
     /// The buses, in the order of the numbers that units have.
     pub buses: &'a [BusWatch],
     pub units: &'a UnitTexts,
@@ -29,6 +32,16 @@ impl<'a> View<'a> {
     pub(crate) fn watched(&self, unit: &DrawnUnit) -> Option<(&'a Watch, Who)> {
         let bus = self.buses.get(usize::from(unit.bus))?;
         Some((&bus.watch, who_of(&unit.sender)))
+    }
+
+    /// What a unit told by DM1 at any time, as far as that is kept.
+    pub(crate) fn ever_active(&self, unit: &DrawnUnit) -> Option<&'a Ever> {
+        self.ever.of(unit, Kind::Dm1)
+    }
+
+    /// The worst that a unit told by DM1 at any time.
+    pub(crate) fn worst_ever(&self, unit: &DrawnUnit) -> Severity {
+        self.ever.worst(unit)
     }
 
     /// How many frames were missed on all buses.

@@ -29,7 +29,7 @@ def appearance(messages, shows):
     at = [place for place, message in enumerate(messages) if shows(message)]
     if not at:
         return None
-    return len([place for place in at if place - 1 not in at]), messages[at[0]].time, messages[at[-1]].time
+    return len(set(at) - {place + 1 for place in at}), messages[at[0]].time, messages[at[-1]].time
 
 
 def lamps_ever(messages):

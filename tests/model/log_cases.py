@@ -178,6 +178,9 @@ a row of a NAME that was assumed
 a row without an address
 a row without a DM1
 a row without entries
+a unit had a lamp on at some time
+a unit had a code at some time, and no lamp on
+a DM1 that fell silent
 a time that jumped back
 a time that is as before
 an event before any time

@@ -5,6 +5,8 @@ late; frames that were dropped, an overflow, and a bad line are missed frames. W
 Equal entries that come one after the other under a NAME are a run.
 """
 
+from .ever_reported import HEADER as EVER_HEADER
+from .ever_reported import EverInLog
 from .frames import BAM, GLOBAL, KINDS, PACKET, RTS, claim, control_of
 from .heard import Station
 from .listener import Listener, Unclaimed
@@ -181,8 +183,9 @@ class Packets:
 class Watch:
     """What was read, and what is written of it, in text and in JSON."""
 
-    def __init__(self, options, name=None, told=None):
-        """The name is that of one bus of several; `told` is where its text and its objects go then."""
+    def __init__(self, options, name=None, told=None, ever=None):
+        """The name is that of one bus of several; `told` is where its text and its objects go then, `ever` what units of all buses told at any time."""
+        self.ever = ever or EverInLog()
         self.options, self.bus, self.name, self.heard = options, name or options.bus, name, options.heard()
         self.packets = Packets(options.silence)
         self.counts = dict.fromkeys([*COUNTS, "not_attributed"], 0)
@@ -413,6 +416,8 @@ class Watch:
         if not self.is_told((who, source)):
             return
         runs, contested = self.runs.setdefault((who, kind), []), self.is_contested(source)
+        begins = not (runs and is_same(runs[-1].shown, shown) and runs[-1].contested == contested and (runs[-1].to == to or not self.options.listens))
+        self.ever.hear((self.name, who), kind, shown, self.now, begins)
         if not runs or not is_same(runs[-1].shown, shown):
             reach("an entry is another one than the one before it" if runs else "an entry begins a list")
         elif self.options.listens and runs[-1].to != to:
@@ -499,12 +504,13 @@ class Watch:
         return f"{name_text(who)} {held:>7} {entries} {last}" + (" assumed" if self.is_assumed(who) else "") + f"; {field_words(who)}"
 
     def rows_text(self):
-        rows = [f"{self.place()}{self.text_row(who)}\n" for who in self.rows()]
-        return "".join(rows) + f"{self.place()}missed {self.missed()} unread {self.unread()}\n"
+        """Units whose red stop lamp was on at any time stand before the others."""
+        rows = [[self.text_row(who), *self.ever.text((self.name, who))] for who in sorted(self.rows(), key=lambda who: not self.ever.was_red((self.name, who)))]
+        return "".join(f"{self.place()}{line}\n" for lines in rows for line in lines) + f"{self.place()}missed {self.missed()} unread {self.unread()}\n"
 
     @staticmethod
     def report_text(watches, counts):
-        return "".join(watch.rows_text() for watch in watches) + (
+        return "".join(watch.rows_text() for watch in watches) + "".join(watch.ever.left_out_text() for watch in watches[:1]) + (
             f"lines {counts['all']} frames {counts['frame']} bad {counts['bad']}; "
             f"not J1939: 11-bit {counts['short']}, remote {counts['remote']}, CAN FD {counts['fd']}, error {counts['error']}; "
             f"other bus {counts['other_bus']}; not attributed {counts['not_attributed']}"
@@ -515,7 +521,7 @@ class Watch:
         for word, kind in KINDS.items():
             row[word] = [{"times": run.times, "first": self.time(run.first), "last": self.time(run.last), **run.object(listens)}
                          for run in self.runs_of(who, kind)]
-        return row | self.bus_object() | ({} if isinstance(who, Unclaimed) else unit_keys(who))
+        return row | self.bus_object() | ({} if isinstance(who, Unclaimed) else unit_keys(who)) | self.ever.object((self.name, who))
 
     @staticmethod
     def report_object(watches, counts, options, head={"event": "report"}):
@@ -524,17 +530,17 @@ class Watch:
                        "missed": sum(bus["missed"] for bus in buses), "unread": sum(bus["unread"] for bus in buses),
                        "lines": {key: counts[key] for key in COUNTS}, "not_attributed": counts["not_attributed"],
                        "not_sent": sum(watch.heard.not_sent for watch in watches)}
-                      | ({"buses": buses} if options.each else {}))) + "\n"
+                      | ({"buses": buses} if options.each else {}) | ({"ever_left_out": watches[0].ever.left_out} if watches and watches[0].ever.left_out else {}))) + "\n"
 
     @staticmethod
     def header(options):
-        return HEADER + (",to" if options.listens else "") + (",bus" if options.each else "") + ",function,instance,manufacturer,identity,unit_text,code_text,name_hex\n"
+        return HEADER + (",to" if options.listens else "") + (",bus" if options.each else "") + ",function,instance,manufacturer,identity,unit_text,code_text,name_hex" + EVER_HEADER + "\n"
 
     @staticmethod
     def report_rows(watches, options):
         """A row for each code of each run; without a code one for the run, and without entries one for the NAME."""
-        return "".join(",".join([*row, *([watch.csv_bus()] if options.each else []), *unit_values(who)]) + "\n"
-                                for watch in watches for who in watch.rows() for row in watch.rows_of(who))
+        return "".join(",".join([*row, *([watch.csv_bus()] if options.each else []), *unit_values(who), *ever]) + "\n"
+                                for watch in watches for who in watch.rows() for row, ever in watch.rows_of(who))
 
     def csv_bus(self):
         return csv_text(self.name)
@@ -548,10 +554,11 @@ class Watch:
                 times = ["" if time is None else time_text(time) for time in (run.first, run.last)]
                 to = ["" if run.to == GLOBAL else str(run.to)] if self.options.listens else []
                 for code in run.shown[1] or [None]:
-                    yield [*before, word, *times, str(run.times), run.shown[0].hex().upper(), *self.code_values(code), "true" if run.contested else "false", *to]
+                    yield [*before, word, *times, str(run.times), run.shown[0].hex().upper(), *self.code_values(code), "true" if run.contested else "false", *to], self.ever.values(
+                        (self.name, who), kind, code)
         if not found:
             reach("a row without entries")
-            yield before + [""] * (10 if self.options.listens else 9)
+            yield before + [""] * (10 if self.options.listens else 9), [""] * 9
 
     @staticmethod
     def code_values(code):
@@ -570,7 +577,8 @@ class Buses:
 
     def __init__(self, options):
         self.options, self.told, self.rows = options, ([], []), []
-        self.one = None if options.each else Watch(options, told=self.told)
+        self.ever = EverInLog()
+        self.one = None if options.each else Watch(options, told=self.told, ever=self.ever)
         self.of = {}
         self.counts = dict.fromkeys(COUNTS, 0)
 
@@ -578,6 +586,7 @@ class Buses:
         return list(self.of.values()) if self.one is None else [self.one]
 
     def hear(self, number, line):
+        self.ever.pass_line(line)
         if self.one is not None:
             self.one.hear(number, line)
             return
@@ -599,7 +608,7 @@ class Buses:
     def hear_of(self, number, line):
         if line.bus not in self.of and len(self.of) < self.MOST:
             reach("one more of several buses")
-            self.of[line.bus] = Watch(self.options, line.bus, self.told)
+            self.of[line.bus] = Watch(self.options, line.bus, self.told, self.ever)
         if line.bus not in self.of:
             self.counts["other_bus"] += 1
             return

@@ -83,7 +83,15 @@ impl Over {
             line: number,
             is_first: !self.is_anew,
         };
-        write_report(writer, &heard.buses, options, part)
+        let kept = &heard.kept;
+        write_report(
+            writer,
+            &heard.buses,
+            kept.ever(),
+            kept.start(),
+            options,
+            part,
+        )
     }
 }
 

@@ -124,7 +124,14 @@ fn written_out<W: Write>(
         WatchForm::Html => write_page(writer, alloc, heard, options)?,
         _ => {
             let part = ReportPart::Last { is_all };
-            write_report(writer, &heard.buses, &options.reports, part)?;
+            write_report(
+                writer,
+                &heard.buses,
+                heard.kept.ever(),
+                heard.kept.start(),
+                &options.reports,
+                part,
+            )?;
         }
     }
     match writer.flush() {

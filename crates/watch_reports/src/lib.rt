@@ -3,12 +3,16 @@
 #![tactic(auto)]
 
 mod assumed;
+mod ever_object;
+mod ever_rows;
+mod ever_text;
 mod form;
 mod object_parts;
 mod objects;
 mod options;
 mod report_object;
 mod report_writer;
+mod reported_bus;
 mod rows;
 mod text;
 mod text_report;

@@ -114,7 +114,12 @@ fn write_number<W: Write>(report: &mut ReportWriter<'_, W>, number: u8) {
 }
 
 /// The shop's text for a code, where there is one.
-fn write_code_text<W: Write>(report: &mut ReportWriter<'_, W>, texts: &Texts, spn: u32, fmi: u8) {
+pub(crate) fn write_code_text<W: Write>(
+    report: &mut ReportWriter<'_, W>,
+    texts: &Texts,
+    spn: u32,
+    fmi: u8,
+) {
     match texts.parts_of(spn, fmi) {
         Some((text, None)) => write_text(report, ",\"text\":\"", text),
         Some((text, Some(more))) => {

@@ -1,14 +1,17 @@
 //! The report as a JSON object, written as it goes: nothing of it is held, and no memory is asked for.
 
 use crate::assumed::is_assumed_unit;
+use crate::ever_object::write_ever;
 use crate::object_parts::{
     write_bus, write_fields, write_shown, write_text, write_time, write_who,
 };
 use crate::options::{ReportOptions, ReportPart};
 use crate::report_writer::ReportWriter;
+use crate::reported_bus::ReportedBus;
 use crate::units::{KINDS, kind_word, row_at, row_places};
 use bus_watch::{BusWatch, Buses, EntryRun, WatchCounts, Who};
 use dm_messages::Kind;
+use picture::EverInLog;
 use std::io::Write;
 
 /// Writes the report and a line end: a row for each unit with its runs of entries, the counts of what was heard, and those of the
@@ -16,17 +19,26 @@ use std::io::Write;
 pub(crate) fn write_report<W: Write>(
     report: &mut ReportWriter<'_, W>,
     buses: &Buses,
+    ever: &EverInLog,
     options: &ReportOptions<'_>,
     part: ReportPart,
 ) {
     write_begin(report, part);
-    write_all_rows(report, buses.watches(), options);
+    write_all_rows(report, buses.watches(), ever, options);
     write_heard(report, buses.watches());
     write_counts(report, buses.counts());
     if buses.are_each() {
         write_buses(report, buses.watches());
     }
+    write_left_out(report, ever.left_out());
     report.text("}\n");
+}
+
+/// Of how many messages it is not kept what they told, since their units are too many.
+fn write_left_out<W: Write>(report: &mut ReportWriter<'_, W>, left_out: u64) {
+    if left_out > 0 {
+        write!(report, ",\"ever_left_out\":{left_out}");
+    }
 }
 
 /// What the report is of.
@@ -43,35 +55,45 @@ fn write_begin<W: Write>(report: &mut ReportWriter<'_, W>, part: ReportPart) {
 fn write_all_rows<W: Write>(
     report: &mut ReportWriter<'_, W>,
     watches: &[BusWatch],
+    ever: &EverInLog,
     options: &ReportOptions<'_>,
 ) {
     let mut before = "{";
-    for one in watches {
-        before = write_rows(report, one, options, before);
+    for (place, one) in watches.iter().enumerate() {
+        let bus = ReportedBus {
+            one,
+            place,
+            ever,
+            start: None,
+        };
+        before = write_rows(report, &bus, options, before);
     }
 }
 
 /// A row for each unit of a bus, the first behind this. Tells what comes before the next row.
 fn write_rows<W: Write>(
     report: &mut ReportWriter<'_, W>,
-    one: &BusWatch,
+    bus: &ReportedBus<'_>,
     options: &ReportOptions<'_>,
     before: &'static str,
 ) -> &'static str {
     let mut before = before;
-    for place in 0..row_places(&one.watch) {
+    for place in 0..row_places(&bus.one.watch) {
         if report.has_failed() {
             break;
         }
-        if let Some(who) = &row_at(&one.watch, place) {
+        if let Some(who) = &row_at(&bus.one.watch, place) {
             report.text(before);
-            write_row(report, one, options, who);
+            write_row(report, bus.one, options, who);
+            write_ever(report, bus, options.texts, who);
+            report.text("}");
             before = ",{";
         }
     }
     before
 }
 
+/// A row but for what the unit told at any time, and the end.
 fn write_row<W: Write>(
     report: &mut ReportWriter<'_, W>,
     one: &BusWatch,
@@ -89,7 +111,6 @@ fn write_row<W: Write>(
     if let Who::Named(name) = *who {
         write_fields(report, options.units, name);
     }
-    report.text("}");
 }
 
 /// The runs of a kind.

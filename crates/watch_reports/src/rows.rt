@@ -1,7 +1,9 @@
 //! The report as comma-separated values, written as it goes: nothing of it is held, and no memory is asked for.
 
+use crate::ever_rows::{EVER_HEADER, write_ever, write_no_ever};
 use crate::options::{ReportOptions, ReportPart};
 use crate::report_writer::ReportWriter;
+use crate::reported_bus::ReportedBus;
 use crate::units::{KINDS, WhoValue, address_of, has_entries, kind_word, row_at, row_places};
 use bus_watch::{BusWatch, Buses, EntryRun, Watch, Who};
 use can_frame::GLOBAL_ADDRESS;
@@ -10,6 +12,7 @@ use code_texts::Texts;
 use dm_messages::Kind;
 use dm_words::{LampBytes, NO_COUNT};
 use name_field::Name;
+use picture::EverInLog;
 use std::io::Write;
 use text_buffer::{Seen, SeenCharacter};
 use trouble_code::Dtc;
@@ -21,19 +24,26 @@ const HEADER: &str =
 
 /// Writes the report: a row for each code of each run of equal entries, one without a code for a run without codes, and one
 /// without a kind for a unit without entries. Where each bus is watched, the bus follows; then come what the NAME says of the unit,
-/// the shop's texts for the unit and for the code, and the NAME again.
+/// the shop's texts for the unit and for the code, the NAME again, and what the unit told at any time.
 /// The names of the values stand before the first part.
 pub(crate) fn write_rows<W: Write>(
     report: &mut ReportWriter<'_, W>,
     buses: &Buses,
+    ever: &EverInLog,
     options: &ReportOptions<'_>,
     part: ReportPart,
 ) {
     if is_first(part) {
         write_header(report, buses.are_each());
     }
-    for one in buses.watches() {
-        write_bus_rows(report, one, options);
+    for (place, one) in buses.watches().iter().enumerate() {
+        let bus = ReportedBus {
+            one,
+            place,
+            ever,
+            start: None,
+        };
+        write_bus_rows(report, &bus, options);
     }
 }
 
@@ -51,21 +61,23 @@ fn write_header<W: Write>(report: &mut ReportWriter<'_, W>, names_bus: bool) {
     if names_bus {
         report.text(",bus");
     }
-    report.text(",function,instance,manufacturer,identity,unit_text,code_text,name_hex\n");
+    report.text(",function,instance,manufacturer,identity,unit_text,code_text,name_hex");
+    report.text(EVER_HEADER);
+    report.text("\n");
 }
 
 /// The rows of a bus.
 fn write_bus_rows<W: Write>(
     report: &mut ReportWriter<'_, W>,
-    one: &BusWatch,
+    bus: &ReportedBus<'_>,
     options: &ReportOptions<'_>,
 ) {
-    for place in 0..row_places(&one.watch) {
+    for place in 0..row_places(&bus.one.watch) {
         if report.has_failed() {
             return;
         }
-        if let Some(who) = &row_at(&one.watch, place) {
-            write_unit(report, one, options, who);
+        if let Some(who) = &row_at(&bus.one.watch, place) {
+            write_unit(report, bus, options, who);
         }
     }
 }
@@ -73,31 +85,43 @@ fn write_bus_rows<W: Write>(
 /// The rows of a unit.
 fn write_unit<W: Write>(
     report: &mut ReportWriter<'_, W>,
+    bus: &ReportedBus<'_>,
+    options: &ReportOptions<'_>,
+    who: &Who,
+) {
+    if !has_entries(&bus.one.watch, who) {
+        write_without_kind(report, bus.one, options, who);
+        return;
+    }
+    for kind in KINDS {
+        write_runs(report, bus, options, who, kind);
+    }
+}
+
+/// The row of a unit without entries.
+fn write_without_kind<W: Write>(
+    report: &mut ReportWriter<'_, W>,
     one: &BusWatch,
     options: &ReportOptions<'_>,
     who: &Who,
 ) {
-    if !has_entries(&one.watch, who) {
-        write_front(report, &one.watch, who);
-        report.text(",,,,,,,,,,");
-        end_row(report, one, options, who, None);
-        return;
-    }
-    for kind in KINDS {
-        write_runs(report, one, options, who, kind);
-    }
+    write_front(report, &one.watch, who);
+    report.text(",,,,,,,,,,");
+    write_words(report, one, options, who, None);
+    write_no_ever(report);
+    report.text("\n");
 }
 
 /// The rows of a kind of messages.
 fn write_runs<W: Write>(
     report: &mut ReportWriter<'_, W>,
-    one: &BusWatch,
+    bus: &ReportedBus<'_>,
     options: &ReportOptions<'_>,
     who: &Who,
     kind: Kind,
 ) {
-    for run in one.watch.runs(*who, kind) {
-        write_run(report, one, options, who, kind, run);
+    for run in bus.one.watch.runs(*who, kind) {
+        write_run(report, bus, options, who, kind, run);
     }
 }
 
@@ -118,7 +142,7 @@ fn write_front<W: Write>(report: &mut ReportWriter<'_, W>, watch: &Watch, who: &
 /// The rows of a run of equal entries: one for each code, or one without a code where there are none.
 fn write_run<W: Write>(
     report: &mut ReportWriter<'_, W>,
-    one: &BusWatch,
+    bus: &ReportedBus<'_>,
     options: &ReportOptions<'_>,
     who: &Who,
     kind: Kind,
@@ -126,28 +150,30 @@ fn write_run<W: Write>(
 ) {
     let codes = run.shown.codes.as_slice();
     if codes.is_empty() {
-        write_row(report, one, options, who, kind, run, None);
+        write_row(report, bus, options, who, kind, run, None);
         return;
     }
     for code in codes {
-        write_row(report, one, options, who, kind, run, Some(code));
+        write_row(report, bus, options, who, kind, run, Some(code));
     }
 }
 
 fn write_row<W: Write>(
     report: &mut ReportWriter<'_, W>,
-    one: &BusWatch,
+    bus: &ReportedBus<'_>,
     options: &ReportOptions<'_>,
     who: &Who,
     kind: Kind,
     run: &EntryRun,
     code: Option<&Dtc>,
 ) {
-    write_front(report, &one.watch, who);
+    write_front(report, &bus.one.watch, who);
     write_values(report, kind, run);
     write_code(report, code);
     write_doubt(report, run.contested, run.to);
-    end_row(report, one, options, who, code);
+    write_words(report, bus.one, options, who, code);
+    write_ever(report, bus, who, kind, code);
+    report.text("\n");
 }
 
 /// The values between the address and the code.
@@ -198,8 +224,8 @@ fn write_count<W: Write>(report: &mut ReportWriter<'_, W>, count: u8) {
     report.text(",");
 }
 
-/// The bus behind a row, where each is watched; the unit and the code in words, and the end of the row.
-fn end_row<W: Write>(
+/// The bus behind a row, where each is watched; the unit and the code in words, and the NAME again.
+fn write_words<W: Write>(
     report: &mut ReportWriter<'_, W>,
     one: &BusWatch,
     options: &ReportOptions<'_>,
@@ -216,7 +242,6 @@ fn end_row<W: Write>(
         write_code_text(report, options.texts, code.spn(), code.fmi());
     }
     write_name_hex(report, who);
-    report.text("\n");
 }
 
 /// The NAME behind a comma as no spreadsheet takes it for a number, of which that would keep 15 digits.

@@ -119,7 +119,7 @@ fn write_ack<W: Write>(
 }
 
 /// When it was, by the clock that is asked for.
-fn write_time<W: Write>(
+pub(crate) fn write_time<W: Write>(
     report: &mut ReportWriter<'_, W>,
     clock: Option<ClockForm>,
     start: &Option<Time>,

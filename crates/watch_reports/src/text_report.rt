@@ -1,62 +1,101 @@
 //! The report for people, written as it goes: nothing of it is held, and no memory is asked for.
 
 use crate::assumed::is_assumed_unit;
+use crate::ever_text::write_ever;
 use crate::options::{ReportOptions, ReportPart};
 use crate::report_writer::ReportWriter;
+use crate::reported_bus::ReportedBus;
 use crate::units::{KINDS, PlainWho, address_of, address_words, row_at, row_places};
 use bus_watch::{BusWatch, Buses, EntryRun, Watch, WatchCounts, Who};
+use candump_line::Time;
 use dm_messages::Kind;
 use dm_words::{LampBytes, LampWords};
+use picture::EverInLog;
 use std::io::Write;
 use text_buffer::Seen;
 
-/// Writes for each bus a line for each unit, and the counts of what was heard; then those of the lines.
+/// Writes for each bus what is told of its units, and the counts of what was heard; then those of the lines.
 pub(crate) fn write_report<W: Write>(
     report: &mut ReportWriter<'_, W>,
     buses: &Buses,
+    ever: &EverInLog,
+    start: &Option<Time>,
     options: &ReportOptions<'_>,
     part: ReportPart,
 ) {
     if let ReportPart::Before { line, .. } = part {
         writeln!(report, "over at line {line}, so far:");
     }
-    for one in buses.watches() {
-        write_bus(report, one, options);
+    for (place, one) in buses.watches().iter().enumerate() {
+        let bus = ReportedBus {
+            one,
+            place,
+            ever,
+            start: *start,
+        };
+        write_bus(report, &bus, options);
     }
+    write_left_out(report, ever.left_out());
     write_counts(report, buses.counts());
 }
 
-/// A line for each unit of a bus, and the counts of what was heard there.
+/// What is told of each unit of a bus, first of those whose red stop lamp was on; and the counts of what was heard there.
 fn write_bus<W: Write>(
     report: &mut ReportWriter<'_, W>,
-    one: &BusWatch,
+    bus: &ReportedBus<'_>,
     options: &ReportOptions<'_>,
 ) {
-    write_rows(report, one, options);
-    write_bus_name(report, one);
-    let missed = one.watch.missed_in_all();
-    let unread = one.watch.unread_in_all();
+    write_rows(report, bus, options, true);
+    write_rows(report, bus, options, false);
+    write_bus_name(report, bus.one);
+    let missed = bus.one.watch.missed_in_all();
+    let unread = bus.one.watch.unread_in_all();
     writeln!(report, "missed {missed} unread {unread}");
 }
 
-/// A line for each unit of a bus.
+/// What is told of each unit whose red stop lamp was on, or was not.
 fn write_rows<W: Write>(
     report: &mut ReportWriter<'_, W>,
-    one: &BusWatch,
+    bus: &ReportedBus<'_>,
     options: &ReportOptions<'_>,
+    red: bool,
 ) {
-    for place in 0..row_places(&one.watch) {
+    for place in 0..row_places(&bus.one.watch) {
         if report.has_failed() {
             return;
         }
-        if let Some(who) = &row_at(&one.watch, place) {
-            write_row(report, one, options, who);
+        if let Some(who) = &row_at(&bus.one.watch, place) {
+            write_told(report, bus, options, who, red);
         }
+    }
+}
+
+/// What is told of a unit, where its red stop lamp was on, or was not.
+fn write_told<W: Write>(
+    report: &mut ReportWriter<'_, W>,
+    bus: &ReportedBus<'_>,
+    options: &ReportOptions<'_>,
+    who: &Who,
+    red: bool,
+) {
+    if bus.was_red(who) == red {
+        write_row(report, bus.one, options, who);
+        write_ever(report, bus, options, who);
+    }
+}
+
+/// Of how many messages it is not kept what they told, since their units are too many.
+fn write_left_out<W: Write>(report: &mut ReportWriter<'_, W>, left_out: u64) {
+    if left_out > 0 {
+        writeln!(
+            report,
+            "ever: {left_out} messages of further units are not kept"
+        );
     }
 }
 
 /// The name of a bus before what is told of it, where each is watched.
-fn write_bus_name<W: Write>(report: &mut ReportWriter<'_, W>, one: &BusWatch) {
+pub(crate) fn write_bus_name<W: Write>(report: &mut ReportWriter<'_, W>, one: &BusWatch) {
     if let Some(bus) = &one.bus {
         let bus = Seen::line(bus.as_str());
         write!(report, "{bus} ");

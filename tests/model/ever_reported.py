@@ -102,7 +102,7 @@ class EverInLog:
         return {"ever": {word: self.kind_object(unit, KINDS[word]) for word in EVER_KINDS}}
 
     def kind_object(self, unit, kind):
-        ever, silence = self.of(unit, kind), self.silence(unit, kind)
+        told, silence = self.of(unit, kind), self.silence(unit, kind)
         lamp, *seen = told.lamp()
         codes, more = told.codes()
         return {"lamp": lamp, **seen_object(seen), "codes": [{"spn": spn, "fmi": fmi, **seen_object(of_it)} for (spn, fmi), *of_it in codes], "more": more,

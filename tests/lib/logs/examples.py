@@ -136,6 +136,8 @@ def recipes():
     five, six = "address 5, no claim seen", "address 6, no claim seen"
     return same(list(told.values()), [
         (0, f"1000000001419907: 100/3\n{five}: 101/3\n{six}: 102/3\n{five} since gap 1: 103/3\n", ""),
+        (0, f"1000000001419907: amber 1 times, 1.100000 to 1.100000\n{five}: amber 1 times, 1.200000 to 1.200000\n{six}: amber 1 times, 1.300000 to 1.300000\n"
+            f"{five} since gap 1: amber 1 times, 1.400000 to 1.400000\n", ""),
         (0, f"1000000001419907\t100/3\t1.100000\n{five}\t101/3\t1.200000\n{five} since gap 1\t103/3\t1.400000\n{six}\t102/3\t1.300000\n", ""),
         (0, "1.700000 1000000001419908\n", ""),
     ], "recipes")

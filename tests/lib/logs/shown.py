@@ -76,7 +76,8 @@ def of_one_time():
         status, out, err = run(["watch", *words], "".join(lines).encode())
         found += same([line[0] for line in out.splitlines() if is_change(line)], list(wanted), f"{words}: changes")
         entries = len(wanted.replace("1", ""))
-        found += same(out.splitlines()[-3].split()[2:4], [str(entries), "0"], f"{words}: {out}") + same((status, err), (0, ""), f"{words}")
+        row = next(line for line in out.splitlines() if line.startswith("00000000000000A0 "))
+        found += same(row.split()[2:4], [str(entries), "0"], f"{words}: {out}") + same((status, err), (0, ""), f"{words}")
     return found
 
 

@@ -52,8 +52,9 @@ class EverInLog:
     def __init__(self):
         self.units, self.end, self.left_out = {}, None, 0
 
-    def pass_line(self, line):
-        if line.kind == "frame" and line.time is not None:
+    def pass_line(self, line, last):
+        """What comes behind the last time of which it is told ends nothing."""
+        if line.kind == "frame" and line.time is not None and (last is None or line.time <= last):
             self.end = line.time
 
     def hear(self, unit, kind, shown, time, begins):

@@ -586,7 +586,7 @@ class Buses:
         return list(self.of.values()) if self.one is None else [self.one]
 
     def hear(self, number, line):
-        self.ever.pass_line(line)
+        self.ever.pass_line(line, self.options.last)
         if self.one is not None:
             self.one.hear(number, line)
             return

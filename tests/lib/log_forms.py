@@ -240,7 +240,10 @@ def words_of_watch(chance):
         words += ["--unit", chance.choice(["0", "3", "249", "253", "33", "1000000001419907", "00000000000000A0", "0", "3", "249"])]
     for word in ("--from", "--to"):
         if chance.random() < 0.12:
-            words += [word, chance.choice(["0", "1.500000", "2.000", "1792915201", "1792915202.250", "1792915203.123456789", "10", "9999999999"])]
+            words += [word, chance.choice(["0", "1.500000", "2.000", "1792915201", "1792915202.250", "1792915203.123456789", "10", "9999999999", "2026-10-25", "2026-10-25 08:00:02",
+                                           "2026-10-25T13:30:02.250", "1970-01-01 05:30:01.500000"])]
+    if chance.random() < 0.2:
+        words.append("--clock=" + chance.choice(["log", "utc", "relative", "+02:00", "UTC-05:30", "-05:30", "+05:30", "UTC+23:59"]))
     if chance.random() < 0.25:
         for _ in range(chance.randint(1, 3)):
             words += ["--assume", f"{chance.choice([0, 3, 249, 253])}={chance.choice([0xA0, 0x1000000001419907]):016X}"]

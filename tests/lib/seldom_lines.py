@@ -130,8 +130,12 @@ def reads_that_fail(run, same):
 def frames_of_no_group_without_times(run, same):
     """That no line has a time is told where a frame of SAE J1939 has none, and not where only frames of others have none."""
     found, untimed = [], "no line has a time: no packet is late, no entry contested; candump -L has times\n"
-    for data, told in ((b"  can0  123   [2]  04 FF\n", ""), (b"123#04FF\n18FECA00#R\n", ""), (b"18FECA00#\n", untimed), (b"  can0  123   [2]  04 FF\n18FECA00#\n", untimed)):
-        found += same(run(["watch"], data)[::2], (0, told), f"{data!r}") + same(by_model([], data)[::2], (0, told), f"{data!r} by the model")
+    unnamed = "frames that name no bus were read; none of "
+    for data, told in ((b"  can0  123   [2]  04 FF\n", "1 frame with an 11-bit identifier was read, none with 29 bits\n"),
+                       (b"123#04FF\n18FECA00#R\n", "1 frame with an 11-bit identifier and 1 remote frame were read, no data frame with 29 bits\n"),
+                       (b"18FECA00#\n", f"{untimed}{unnamed}a bus that is watched\n"),
+                       (b"  can0  123   [2]  04 FF\n18FECA00#\n", f"{untimed}{unnamed}can0, which is named first (--bus)\n")):
+        found += same(run(["watch"], data)[::2], (3, told), f"{data!r}") + same(by_model([], data)[::2], (3, told), f"{data!r} by the model")
     return found
 
 

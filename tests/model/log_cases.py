@@ -207,6 +207,8 @@ an input without frames that looks like compressed (bzip2)
 an input without frames that looks like UTF-16
 an input without frames that looks like binary
 no line was read
+frames of other times alone
+frames of other buses alone
 frames of no group alone
 dropped frames alone
 """

@@ -12,7 +12,8 @@ from .heard import Station
 from .listener import Listener, Unclaimed
 from .log_cases import reach
 from .log_line import ERROR, FD, REMOTE, SHORT
-from .notices import BadLines, Clock, without_frames
+from .notices import Absence, BadLines, Clock, without_frames
+from .clocks import Clocks
 from .words import ANSWERS, NOT_AVAILABLE, address_words, dumped, group_words, lamp_words, name_fields, name_text, seen, seen_json, shown_object, shown_words, time_text
 
 # What the program has. To be switched on with it: all tests of lines of a log then try the program as one that listens.
@@ -37,27 +38,30 @@ class Options:
         self.listens = listens
         self.lists_unclaimed = listens
         self.bus, self.address, self.name, self.assumed = None, None if listens else 248, 1, []
-        self.each, self.unit, self.first, self.last = False, None, None, None
+        self.each, self.unit, self.first, self.last, self.clock = False, None, None, None, Clocks.of("log")
         self.skips_bad, self.silence, self.strict = False, T1, False
         self.most, self.keep = 65_536, 1_000_000  # of how many NAMEs is known at once, and how many runs are kept
 
     @staticmethod
     def of(words, listens=False):
         """What the words behind `watch` mean."""
-        given, words = Options(listens), iter(words)
+        given, words, asked = Options(listens), iter(words), [None, None]
         for word in words:
             if word == "--strict":
                 given.strict = True
                 continue
-            value = next(words)
+            word, _, value = word.partition("=")
+            value = value or next(words)
             if word == "--bus":
                 given.each, given.bus = value == "all", None if value == "all" else value
             elif word == "--unit":
                 given.unit = ("name", int(value, 16)) if len(value) == 16 else ("address", int(value))
             elif word == "--from":
-                given.first = time_asked(value)
+                asked[0] = value
             elif word == "--to":
-                given.last = time_asked(value)
+                asked[1] = value
+            elif word == "--clock":
+                given.clock = Clocks.of(value)
             elif word == "--address":
                 given.address = int(value)
             elif word == "--name":
@@ -77,6 +81,7 @@ class Options:
                 given.lists_unclaimed = listens and value == "show"
             else:
                 assert word == "--format", word
+        given.first, given.last = (None if word is None else time_asked(word, given.clock) for word in asked)
         return given
 
     def heard(self):
@@ -121,8 +126,10 @@ def field_words(name):
     return f"function {keys['function']} instance {keys['instance']}, manufacturer {keys['manufacturer']}, identity {keys['identity']}"
 
 
-def time_asked(word):
-    """In microseconds, with a fraction of three, six or nine digits, or in whole seconds."""
+def time_asked(word, clock):
+    """In microseconds: of seconds, whole or with a fraction of three, six or nine digits; of a date by the clock."""
+    if "-" in word:
+        return clock.asked(word)
     seconds, _, fraction = word.partition(".")
     return int(seconds) * 1_000_000 + int((fraction or "0").ljust(6, "0")[:6])
 
@@ -183,9 +190,10 @@ class Packets:
 class Watch:
     """What was read, and what is written of it, in text and in JSON."""
 
-    def __init__(self, options, name=None, told=None, ever=None):
-        """The name is that of one bus of several; `told` is where its text and its objects go then, `ever` what units of all buses told at any time."""
-        self.ever = ever or EverInLog()
+    def __init__(self, options, name=None, told=None, ever=None, starts=()):
+        """The name is that of one bus of several; `told` is where its text and its objects go then, `ever` what units of all buses told at any time;
+        `starts` has the time of the first line that has one."""
+        self.ever, self.starts = ever or EverInLog(), starts
         self.options, self.bus, self.name, self.heard = options, name or options.bus, name, options.heard()
         self.packets = Packets(options.silence)
         self.counts = dict.fromkeys([*COUNTS, "not_attributed"], 0)
@@ -248,9 +256,11 @@ class Watch:
 
     def hear(self, number, line):
         self.counts["all"] += 1
+        self.fate = "bus"
         if line.kind == "frame" and self.is_watched(line.bus):
             self.counts["frame"] += 1
             self.pass_time(line.time)
+            self.fate = "told" if self.options.is_in_time(self.now) else self.now
             self.hear_frame(number, line.what, line.time)
         elif line.kind == "overflow" and self.is_watched(line.bus):
             self.counts["error"] += 1
@@ -305,7 +315,8 @@ class Watch:
         if self.now is None:
             reach("an event before any time")
         time = None if self.now is None else time_text(self.now)
-        self.text.append(f"{time or '-'} {self.place()}{words}\n")
+        shown = "-" if self.now is None else self.options.clock.text(self.now, self.starts[0] if self.starts else self.now)
+        self.text.append(f"{shown} {self.place()}{words}\n")
         self.objects.append(seen_json(dumped({"line": number, "time": time, "event": event, **told, **self.bus_object(),
                                               **({} if unit is None else unit_keys(unit))})) + "\n")
 
@@ -577,16 +588,23 @@ class Buses:
 
     def __init__(self, options):
         self.options, self.told, self.rows = options, ([], []), []
-        self.ever = EverInLog()
-        self.one = None if options.each else Watch(options, told=self.told, ever=self.ever)
+        self.ever, self.starts = EverInLog(), []
+        self.one = None if options.each else Watch(options, told=self.told, ever=self.ever, starts=self.starts)
         self.of = {}
         self.counts = dict.fromkeys(COUNTS, 0)
 
     def watches(self):
         return list(self.of.values()) if self.one is None else [self.one]
 
+    def fate_of(self, line):
+        """What a frame that was just heard is to whom the lines are read for."""
+        watch = self.of.get(line.bus) if self.one is None else self.one
+        return watch.fate if watch else "bus"
+
     def hear(self, number, line):
-        self.ever.pass_line(line, self.options.last)
+        if line.kind == "frame" and line.time is not None and not self.starts:
+            self.starts.append(line.time)
+        self.ever.pass_line(line)
         if self.one is not None:
             self.one.hear(number, line)
             return
@@ -608,7 +626,7 @@ class Buses:
     def hear_of(self, number, line):
         if line.bus not in self.of and len(self.of) < self.MOST:
             reach("one more of several buses")
-            self.of[line.bus] = Watch(self.options, line.bus, self.told, self.ever)
+            self.of[line.bus] = Watch(self.options, line.bus, self.told, self.ever, self.starts)
         if line.bus not in self.of:
             self.counts["other_bus"] += 1
             return
@@ -638,17 +656,18 @@ class Buses:
 
 def watched(lines, options):
     """What is written of lines in text, JSON and CSV, what is told of bad ones, and the status."""
-    buses, errors, bad, clock, unread = Buses(options), [], BadLines(), Clock(), ""
+    buses, errors, bad, clock, absence, unread = Buses(options), [], BadLines(), Clock(), Absence(), ""
     for number, line in enumerate(lines, 1):
         heard, told = clock.heard(number, line)
         errors += [bad.told(number, line), buses.make_room(number), told]
         buses.hear(number, heard)
+        absence.take(heard, buses.fate_of(heard))
         if line.kind == "bad" and options.strict:
             reach("a bad line ends a strict run")
             break
     else:
         errors.append(clock.rest())
-        unread = without_frames(lines)
+        unread = without_frames(lines) or absence.rest(None if options.each else options.bus or "", options.first, options.last)
     errors += [bad.rest(), unread]
     watches, counts = buses.watches(), buses.all_counts()
     text = "".join(buses.told[0]) + Watch.report_text(watches, counts)

@@ -1,17 +1,8 @@
-use crate::utc::utc_of;
+use crate::civil::civil_of;
+use crate::clock::ClockForm;
 use candump_line::Time;
+use jiff::tz::TimeZone;
 use std::fmt;
-
-/// How times are told to people.
-#[derive(Clone, Copy, PartialEq, Eq)]
-pub enum ClockForm {
-    /// As the log has them: seconds.
-    Log,
-    /// As a date and a time of day at UTC, for times that count from the start of the year 1970.
-    Utc,
-    /// As hours, minutes and seconds since the first of them, behind a sign.
-    Relative,
-}
 
 /// How much of a second is told.
 #[derive(Clone, Copy, PartialEq, Eq)]
@@ -26,24 +17,29 @@ pub enum Fraction {
 
 /// A time of a log in words.
 ///
-/// By the log's own clock `1761379205.123456`; by UTC `2026-10-25 08:00:05.123456`, as `candump -tA` writes it, or without the date
+/// By the log's own clock `1761379205.123456`; by UTC, or in a zone, `2026-10-25 08:00:05.123456`, as `candump -tA` writes it, or without the date
 /// `08:00:05.123456`; since the first `+0:00:05.123456`, or, of a time before it, `-0:00:05.123456`.
 #[derive(Clone, Copy)]
-pub struct TimeWords {
-    pub clock: ClockForm,
+pub struct TimeWords<'a> {
+    pub clock: ClockForm<'a>,
     /// The time of the first line that has one.
     pub start: Time,
     pub time: Time,
     pub fraction: Fraction,
-    /// Whether a time at UTC stands with its date.
+    /// Whether a time of day stands with its date.
     pub with_date: bool,
 }
 
-impl fmt::Display for TimeWords {
+impl fmt::Display for TimeWords<'_> {
     fn fmt<W: fmt::Write>(&self, f: &mut fmt::Formatter<W>) -> fmt::Result {
         match self.clock {
             ClockForm::Log => write_log(f, self.time, self.fraction),
-            ClockForm::Utc => write_utc(f, self.time, self.fraction, self.with_date),
+            ClockForm::Utc => {
+                write_civil(f, TimeZone::UTC, self.time, self.fraction, self.with_date)
+            }
+            ClockForm::Zone(zone) => {
+                write_civil(f, zone, self.time, self.fraction, self.with_date)
+            }
             ClockForm::Relative => write_relative(f, self.start, self.time, self.fraction),
         }
     }
@@ -59,13 +55,15 @@ fn write_log<W: fmt::Write>(
     write_fraction(f, time.micros() % MICROS, fraction)
 }
 
-fn write_utc<W: fmt::Write>(
+/// Writes what the clock of a zone shows.
+fn write_civil<W: fmt::Write>(
     f: &mut fmt::Formatter<W>,
+    zone: TimeZone<'_>,
     time: Time,
     fraction: Fraction,
     with_date: bool,
 ) -> fmt::Result {
-    let shown = utc_of(time);
+    let shown = civil_of(time, zone);
     if with_date {
         let (year, month, day) = (shown.year(), shown.month(), shown.day());
         write!(f, "{year:04}-{month:02}-{day:02} ")?;

@@ -26,7 +26,10 @@ spn the FMI:
   spn,fmi,text
   110,,Engine coolant temperature
   ,0,above the normal range
-  110,0,Engine coolant temperature above the normal range"
+  110,0,Engine coolant temperature above the normal range
+
+Status: 0 done; 1 a read or write failed, or memory ran out; 2 the command line; 3 done, but lines were bad, or none was a frame of
+SAE J1939 (what was there is told)."
 }
 
 /// Its options.

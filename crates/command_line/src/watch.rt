@@ -40,7 +40,7 @@ Nothing of a bus lets memory grow without end: where as much is kept as --most a
 heard so far is reported, and it is begun anew with the units that hold addresses. A run of several codes counts as many.
 
 Status: 0 done; 1 a read or write failed, or memory ran out; 2 the command line; 3 done, but lines were bad,
-or none was a frame (what it looks like is told, and what converts it), or more was heard than is kept at once."
+or it is told of none (what was there is told, and what converts it), or more was heard than is kept at once."
 }
 
 /// Its options.
@@ -90,7 +90,7 @@ const OPTIONS: [CommandOption<'static>; 18] = [
     CommandOption {
         name: "most",
         value: "NAMES",
-        help: "Of how many NAMEs and unclaimed addresses is known at once, 256 to 1000000 [65536]",
+        help: "Of how many NAMEs and unclaimed addresses is known at once, 512 to 1000000 [65536]",
         given: Given::Once,
     },
     CommandOption {
@@ -108,7 +108,7 @@ const OPTIONS: [CommandOption<'static>; 18] = [
     CommandOption {
         name: "from",
         value: "TIME",
-        help: "Tells of what came at this time or later, as the log has it, or a date YYYY-MM-DD HH:MM:SS.mmm",
+        help: "Tells of what came at this time or later: seconds as in the log, or a date YYYY-MM-DD HH:MM:SS",
         given: Given::Once,
     },
     CommandOption {
@@ -137,8 +137,8 @@ const OPTIONS: [CommandOption<'static>; 18] = [
     },
     CommandOption {
         name: "clock",
-        value: "utc|log|relative",
-        help: "How times are told in text and on the page [log; on the page utc where times count from 1970]",
+        value: "CLOCK",
+        help: "Tells times by log, utc, local, +02:00, relative [log; on the page utc where they count from 1970]",
         given: Given::Once,
     },
     CommandOption {

@@ -3,7 +3,7 @@
 
 use command_words::{DecodeArguments, Job, WatchArguments, path_of};
 use either::Either;
-use line_commands::ShopFiles;
+use line_commands::{ShopFiles, WatchRequest, local_zone};
 use program_io::Failure;
 use program_start::{Errors, asked_for, done_elsewhere, ended, open, read_file, read_words};
 use reading_progress::TellingReader;
@@ -53,31 +53,35 @@ fn watch<R: Runtime + AllocGlobal>(
     assumed: &[&str],
     is_terminal: bool,
 ) -> Result<(), Failure> {
-    line_commands::look_at_watch_words(rt.alloc(), &words, assumed)?;
+    let local = local_zone(rt, words.clock)?;
+    let request = WatchRequest {
+        words,
+        assumed,
+        local: &local,
+    };
+    line_commands::look_at_watch_words(rt.alloc(), &request)?;
     let units = read_texts(rt, words.units)?;
     let texts = read_texts(rt, words.texts)?;
     let files = ShopFiles {
         units: named(words.units, &units),
         texts: named(words.texts, &texts),
     };
-    watch_with(rt, words, assumed, files, is_terminal)
+    watch_with(rt, request, files, is_terminal)
 }
 
 /// Watches with the shop's files.
 #[inline(never)]
 fn watch_with<R: Runtime + AllocGlobal>(
     rt: &R,
-    words: WatchArguments<'_>,
-    assumed: &[&str],
+    request: WatchRequest<'_>,
     files: ShopFiles<'_>,
     is_terminal: bool,
 ) -> Result<(), Failure> {
     let mut input = rt.reader();
-    match reader_of(rt, words.file, &mut input, is_terminal) {
+    match reader_of(rt, request.words.file, &mut input, is_terminal) {
         Ok(reader) => line_commands::watch(
             rt.alloc(),
-            words,
-            assumed,
+            request,
             files,
             reader,
             io::writer(rt),

@@ -3,12 +3,14 @@
 
 mod decoding;
 mod ending;
+mod local;
 mod shop;
 mod slips;
 mod watch_words;
 mod watching;
 
 pub use decoding::decode;
+pub use local::local_zone;
 pub use shop::ShopFiles;
 pub use slips::{look_at_decode_words, look_at_watch_words};
-pub use watching::watch;
+pub use watching::{WatchRequest, watch};

@@ -5,6 +5,8 @@ use crate::watch_words::{
     address_of, bus_of, clock_of, form_of, keep_of, most_of, name_of, shows_unclaimed, silence_of,
     skips_bad, time_of, unit_of,
 };
+use crate::watching::WatchRequest;
+use clock_words::LocalZone;
 use command_words::{DecodeArguments, Slip, WatchArguments};
 use program_io::{Failure, Fault};
 use std::alloc::Global;
@@ -17,24 +19,30 @@ const A_UNIT: &str = "16 hexadecimal digits, or a number from 0 to 253";
 
 /// How a time is written.
 const A_TIME: &str =
-    "a time as the log has it (SECONDS.MICROSECONDS) or a date (YYYY-MM-DD HH:MM:SS.mmm)";
+    "a time as the log has it (SECONDS or SECONDS.MICROSECONDS) or a date (YYYY-MM-DD, YYYY-MM-DD HH:MM:SS or YYYY-MM-DDTHH:MM:SS, a fraction behind it or none)";
+
+/// What a clock is.
+const A_CLOCK: &str =
+    "utc, local, log, relative, or how far it is ahead of UTC (+02:00, UTC-05:00)";
+
+/// Of how many NAMEs may be known.
+const A_MOST: &str =
+    "a number from 512 to 1000000 (254 addresses may be held where a report makes room, and half is to be free then)";
 
 /// What a NAME is written with.
 const A_NAME: &str = "16 hexadecimal digits";
 
-/// Looks at the words behind `watch`, and at each `ADDRESS=NAME` of `assumed`, before anything is read.
+/// Looks at what `watch` is asked, before any line is read.
 ///
 /// # Errors
 /// `CommandLine`: a word is none that its option takes; it is told which.
-pub fn look_at_watch_words(
-    alloc: Global,
-    words: &WatchArguments<'_>,
-    assumed: &[&str],
-) -> Result<(), Failure> {
+pub fn look_at_watch_words(alloc: Global, request: &WatchRequest<'_>) -> Result<(), Failure> {
+    let words = &request.words;
     refuse(alloc, slip_of_station(words))?;
     refuse(alloc, slip_of_lines(words))?;
+    refuse(alloc, slip_of_times(words, request.local))?;
     refuse(alloc, slip_of_filters(words))?;
-    refuse(alloc, slip_of_assumed(assumed))
+    refuse(alloc, slip_of_assumed(request.assumed))
 }
 
 /// Looks at the words behind `decode`, before anything is read.
@@ -117,34 +125,28 @@ fn slip_of_lines<'a>(words: &WatchArguments<'a>) -> Option<Slip<'a>> {
         ))
 }
 
-/// The slip in what is said of the unit and of the times of which it is told, of how much is kept, and of how times are told.
+/// The slip in the times of which it is told, and in how times are told, with this zone of the machine.
+fn slip_of_times<'a>(words: &WatchArguments<'a>, local: &LocalZone) -> Option<Slip<'a>> {
+    let Ok(clock) = clock_of(words.clock, local) else {
+        return slip("clock <CLOCK>", words.clock, false, A_CLOCK);
+    };
+    let is_from = time_of(words.from, clock).is_ok();
+    let is_to = time_of(words.to, clock).is_ok();
+    slip("from <TIME>", words.from, is_from, A_TIME).or(slip("to <TIME>", words.to, is_to, A_TIME))
+}
+
+/// The slip in what is said of the unit of which it is told, and of how much is kept.
 fn slip_of_filters<'a>(words: &WatchArguments<'a>) -> Option<Slip<'a>> {
     let is_unit = unit_of(words.unit).is_ok();
-    let is_from = time_of(words.from).is_ok();
-    let is_to = time_of(words.to).is_ok();
     let is_most = most_of(words.most).is_ok();
     let is_keep = keep_of(words.keep).is_ok();
-    let is_clock = clock_of(words.clock).is_ok();
     slip("unit <NAME|N>", words.unit, is_unit, A_UNIT)
-        .or(slip("from <TIME>", words.from, is_from, A_TIME))
-        .or(slip("to <TIME>", words.to, is_to, A_TIME))
-        .or(slip(
-            "most <NAMES>",
-            words.most,
-            is_most,
-            "a number from 256 to 1000000",
-        ))
+        .or(slip("most <NAMES>", words.most, is_most, A_MOST))
         .or(slip(
             "keep <RUNS>",
             words.keep,
             is_keep,
             "a number from 1 to 100000000",
-        ))
-        .or(slip(
-            "clock <utc|log|relative>",
-            words.clock,
-            is_clock,
-            "utc, log or relative",
         ))
 }
 

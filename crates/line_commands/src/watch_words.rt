@@ -1,13 +1,13 @@
 //! What the words behind `watch` mean.
 
-ghost use Rattle.std.specs.Prelude.{◌≡◌, ◌≤◌, ◌↔◌, ℕ, IfOk, IfSome, IsSomeAnd, Some, None, Ok, true, false, codes};
+ghost use Rattle.std.specs.Prelude.{◌≡◌, ◌+◌, ◌*◌, ◌≤◌, ◌↔◌, ℕ, IfOk, IfSome, IsSomeAnd, Some, None, Ok, true, false, codes};
 ghost use Rattle.can_frame.specs.declared.address.TheConstants.{GREATEST_ADDRESS};
 
 use crate::shop::ShopTexts;
 use bus_watch::{BusShown, Limits, Selection, UnitShown, WatchSettings};
 use can_frame::GREATEST_ADDRESS;
 use candump_line::Time;
-use clock_words::ClockForm;
+use clock_words::{ClockForm, LocalZone};
 use command_words::{WatchArguments, is_bus, path_of};
 use name_field::Name;
 use program_io::Fault;
@@ -30,11 +30,13 @@ const KEEP: u64 = 1_000_000;
 /// How the bus is watched, with these units that hold an address before the first line.
 pub(crate) fn options_of<'a>(
     words: &'a WatchArguments<'_>,
+    local: &'a LocalZone,
     assumed: &'a [Assumed],
     shop: &'a ShopTexts,
 ) -> Result<WatchOptions<'a>, Fault> {
+    let clock = clock_of(words.clock, local)?;
     Ok(WatchOptions {
-        settings: settings_of(words)?,
+        settings: settings_of(words, clock)?,
         bus: bus_of(words.bus)?,
         assumed,
         limits: limits_of(words)?,
@@ -42,7 +44,7 @@ pub(crate) fn options_of<'a>(
         title: title_of(words.file),
         units: &shop.units,
         texts: &shop.texts,
-        clock: clock_of(words.clock)?,
+        clock,
         strict: words.strict,
     })
 }
@@ -56,8 +58,12 @@ fn title_of(word: Option<&str>) -> &str {
     }
 }
 
-/// What of the bus is shown, and how its lines are read. The NAME that old command lines give is looked at, and says nothing.
-fn settings_of(words: &WatchArguments<'_>) -> Result<WatchSettings, Fault> {
+/// What of the bus is shown, by this clock, and how its lines are read. The NAME that old command lines give is looked at, and says
+/// nothing.
+fn settings_of(
+    words: &WatchArguments<'_>,
+    clock: Option<ClockForm<'_>>,
+) -> Result<WatchSettings, Fault> {
     if let Some(word) = words.name {
         name_of(word)?;
     }
@@ -66,8 +72,8 @@ fn settings_of(words: &WatchArguments<'_>) -> Result<WatchSettings, Fault> {
             address: shown_of(words.address)?,
             unclaimed: shows_unclaimed(words.unclaimed)?,
             unit: unit_of(words.unit)?,
-            from: time_of(words.from)?,
-            to: time_of(words.to)?,
+            from: time_of(words.from, clock)?,
+            to: time_of(words.to, clock)?,
         },
         skips_bad: skips_bad(words.bad)?,
         silence: silence_of(words.silence)?,
@@ -82,13 +88,14 @@ fn limits_of(words: &WatchArguments<'_>) -> Result<Limits, Fault> {
     })
 }
 
-/// Of how many NAMEs is known at once: more than can hold an address.
+/// Of how many NAMEs is known at once: more than twice as many as can hold an address, so that half is free where a watch has begun
+/// anew with those that do.
 pub(crate) fn most_of(word: Option<&str>) -> Result<u64, Fault>
     ensures default { word.entry ≡ None → result ≡ Ok 65536 }
-    ensures range { IfOk result (λ most. (256 ≤ most) × (most ≤ 1000000)) }
+    ensures range { IfOk result (λ most. (2 * (GREATEST_ADDRESS + 1) ≤ most) × (512 ≤ most) × (most ≤ 1000000)) }
 {
     match word {
-        Some(word) => number_of(word, 256, 1_000_000),
+        Some(word) => number_of(word, 512, 1_000_000),
         None => Ok(MOST),
     }
 }
@@ -186,17 +193,29 @@ pub(crate) fn unit_of(word: Option<&str>) -> Result<Option<UnitShown>, Fault>
     }
 }
 
-/// A time as a log has it, or whole seconds; none where it is not said.
-pub(crate) fn time_of(word: Option<&str>) -> Result<Option<Time>, Fault>
+/// A time as a log has it, whole seconds, or a date by this clock; none where it is not said.
+pub(crate) fn time_of(
+    word: Option<&str>,
+    clock: Option<ClockForm<'_>>,
+) -> Result<Option<Time>, Fault>
     ensures default { word.entry ≡ None → result ≡ Ok None }
 {
     let Some(word) = word else {
         return Ok(None);
     };
-    match Time::read(word).or(whole_seconds(word)) {
+    let clock = clock.unwrap_or(ClockForm::Utc);
+    match seconds_of(word).or(clock.read_date(word)) {
         Some(time) => Ok(Some(time)),
         None => Err(Fault::CommandLine),
     }
+}
+
+/// The time of seconds, with a fraction or whole; none for a date, which `Time::read` takes for one at UTC.
+fn seconds_of(word: &str) -> Option<Time> {
+    if word.contains('-') {
+        return None;
+    }
+    Time::read(word).or(whole_seconds(word))
 }
 
 /// The greatest number of seconds that a log tells.
@@ -264,13 +283,16 @@ pub(crate) fn form_of(word: Option<&str>) -> Result<WatchForm, Fault>
     }
 }
 
-/// How times are told; none where that is not said.
-pub(crate) fn clock_of(word: Option<&str>) -> Result<Option<ClockForm>, Fault> {
-    match word {
-        None => Ok(None),
-        Some("utc") => Ok(Some(ClockForm::Utc)),
-        Some("log") => Ok(Some(ClockForm::Log)),
-        Some("relative") => Ok(Some(ClockForm::Relative)),
-        Some(_) => Err(Fault::CommandLine),
+/// How times are told, with this zone of the machine; none where that is not said.
+pub(crate) fn clock_of<'a>(
+    word: Option<&str>,
+    local: &'a LocalZone,
+) -> Result<Option<ClockForm<'a>>, Fault> {
+    let Some(word) = word else {
+        return Ok(None);
+    };
+    match ClockForm::of_word(word, local) {
+        Some(clock) => Ok(Some(clock)),
+        None => Err(Fault::CommandLine),
     }
 }

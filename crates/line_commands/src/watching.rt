@@ -1,14 +1,24 @@
 use crate::ending::end_of_watch;
 use crate::shop::{ShopFiles, ShopTexts};
 use crate::watch_words::{assumed_of, options_of};
+use clock_words::LocalZone;
 use command_words::WatchArguments;
 use program_io::{Failure, Fault, Messages};
 use std::alloc::Global;
 use std::io::{LineWriter, Read, Write};
 use watch_lines::{Assumed, WatchOptions};
 
-/// `watch`: what the lines of a log or of a live bus tell. Each word of `assumed` is the `ADDRESS=NAME` of a unit that holds an
-/// address before the first line.
+/// What `watch` is asked.
+#[derive(Clone, Copy)]
+pub struct WatchRequest<'a> {
+    pub words: WatchArguments<'a>,
+    /// Each `ADDRESS=NAME` of a unit that holds an address before the first line.
+    pub assumed: &'a [&'a str],
+    /// The zone of this machine; UTC where its clock is not asked for.
+    pub local: &'a LocalZone,
+}
+
+/// `watch`: what the lines of a log or of a live bus tell.
 ///
 /// # Errors
 /// - `CommandLine`: the words are none of it; nothing is read.
@@ -18,15 +28,21 @@ use watch_lines::{Assumed, WatchOptions};
 ///   heard than is kept at once, and it was begun anew.
 pub fn watch<R: Read + Drop, W: Write + Drop, E: Write + Drop>(
     alloc: Global,
-    words: WatchArguments<'_>,
-    assumed: &[&str],
+    request: WatchRequest<'_>,
     files: ShopFiles<'_>,
     mut reader: R,
     mut writer: W,
     mut errors: E,
 ) -> Result<(), Failure> {
-    let known = Known::read(alloc, assumed, files);
-    watch_known(alloc, &words, known, &mut reader, &mut writer, &mut errors)
+    let known = Known::read(alloc, request.assumed, files);
+    watch_known(
+        alloc,
+        &request,
+        known,
+        &mut reader,
+        &mut writer,
+        &mut errors,
+    )
 }
 
 /// What is known before the first line.
@@ -48,14 +64,14 @@ impl Known {
 /// Watches with what is known, where that could be read.
 fn watch_known<R: Read, W: Write, E: Write>(
     alloc: Global,
-    words: &WatchArguments<'_>,
+    request: &WatchRequest<'_>,
     known: Result<Known, Failure>,
     reader: &mut R,
     writer: &mut W,
     errors: &mut E,
 ) -> Result<(), Failure> {
     match known {
-        Ok(known) => watch_with(alloc, words, &known, reader, writer, errors),
+        Ok(known) => watch_with(alloc, request, &known, reader, writer, errors),
         Err(failure) => Err(failure),
     }
 }
@@ -63,13 +79,14 @@ fn watch_known<R: Read, W: Write, E: Write>(
 /// Watches as the words ask for it.
 fn watch_with<R: Read, W: Write, E: Write>(
     alloc: Global,
-    words: &WatchArguments<'_>,
+    request: &WatchRequest<'_>,
     known: &Known,
     reader: &mut R,
     writer: &mut W,
     errors: &mut E,
 ) -> Result<(), Failure> {
-    match options_of(words, known.assumed.as_slice(), &known.shop) {
+    let assumed = known.assumed.as_slice();
+    match options_of(&request.words, request.local, assumed, &known.shop) {
         Ok(options) => watch_lines_of(alloc, reader, writer, errors, &options),
         Err(fault) => Err(Failure::from(fault)),
     }

@@ -2,6 +2,7 @@
 //! report by NAME.
 #![tactic(auto)]
 
+mod absent;
 mod ever;
 mod heard;
 mod hearing;

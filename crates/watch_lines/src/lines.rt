@@ -1,10 +1,11 @@
+use crate::absent::{note_line, wanted_of};
 use crate::heard::Heard;
 use crate::hearing::hear_line;
 use crate::options::RunOptions;
 use crate::over::Over;
 use crate::run::Watched;
 use candump_line::{Line, read_line};
-use log_lines::{LineClock, LogFault, Notices, next_line};
+use log_lines::{Absence, LineClock, LinesEnd, LogFault, Notices, next_line};
 use std::alloc::Global;
 use std::io::{BufReader, Read, Write};
 use watch_reports::ReportOptions;
@@ -15,6 +16,7 @@ struct Asides {
     notices: Notices,
     clock: LineClock,
     over: Over,
+    absence: Absence,
 }
 
 /// What comes behind a line.
@@ -43,6 +45,7 @@ pub(crate) fn read_lines<R: Read, W: Write, E: Write>(
         notices: Notices::new(),
         clock: LineClock::new(),
         over: Over::new(),
+        absence: Absence::new(alloc),
     };
     let end = hear_lines(
         alloc,
@@ -55,8 +58,23 @@ pub(crate) fn read_lines<R: Read, W: Write, E: Write>(
         &mut asides,
     );
     Watched {
-        ended: asides.notices.ended(errors, end),
+        ended: asides.ended(errors, options, end),
         is_anew: asides.over.is_anew(),
+    }
+}
+
+impl Asides {
+    /// How a run ended that came to the end of the input or not, or failed.
+    fn ended<E: Write>(
+        &self,
+        errors: &mut E,
+        options: &RunOptions<'_>,
+        end: Result<bool, LogFault>,
+    ) -> LinesEnd {
+        let ended = self.notices.ended(errors, end);
+        let is_whole = end.unwrap_or(false);
+        let wanted = wanted_of(options);
+        self.absence.ended(errors, &wanted, is_whole, ended)
     }
 }
 
@@ -127,6 +145,7 @@ fn take_line<W: Write, E: Write>(
         .over
         .make_room(alloc, writer, errors, heard, options, number)?;
     let is_timed = counts(&mut asides.clock, errors, number, text, &said)?;
+    let before = heard.buses.counts().frames;
     hear_timed(
         alloc,
         writer,
@@ -136,6 +155,7 @@ fn take_line<W: Write, E: Write>(
         &said,
         is_timed,
     )?;
+    note_line(&mut asides.absence, &heard.buses, before, &said)?;
     Ok(is_bad)
 }
 

@@ -1,4 +1,5 @@
 use bus_watch::{BusShown, Limits, WatchSettings};
+use candump_line::Time;
 use clock_words::ClockForm;
 use code_texts::Texts;
 use unit_words::UnitTexts;
@@ -24,7 +25,7 @@ pub struct WatchOptions<'a> {
     pub texts: &'a Texts,
     /// How times are told to people; where that is not said, in text as the log has them, and on a page by UTC where they count
     /// from the start of 1970, else since the first.
-    pub clock: Option<ClockForm>,
+    pub clock: Option<ClockForm<'a>>,
     /// Whether the first bad line ends the run.
     pub strict: bool,
 }
@@ -46,6 +47,9 @@ impl<'a> WatchOptions<'a> {
         RunOptions {
             reports: self.reports(),
             limits: self.limits,
+            bus: self.bus,
+            from: self.settings.selection.from,
+            to: self.settings.selection.to,
             title: self.title,
             strict: self.strict,
         }
@@ -57,6 +61,10 @@ impl<'a> WatchOptions<'a> {
 pub(crate) struct RunOptions<'a> {
     pub(crate) reports: ReportOptions<'a>,
     pub(crate) limits: Limits,
+    /// Which buses are watched, and of which times it is told.
+    pub(crate) bus: BusShown<'a>,
+    pub(crate) from: Option<Time>,
+    pub(crate) to: Option<Time>,
     pub(crate) title: &'a str,
     pub(crate) strict: bool,
 }

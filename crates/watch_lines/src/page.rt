@@ -50,7 +50,7 @@ fn write_finished<W: Write>(
 const LEAST_DATE: u64 = 1_000_000_000_000_000;
 
 /// The clock for a page whose times begin so, where none is asked for.
-fn clock_for(start: u64) -> ClockForm {
+fn clock_for(start: u64) -> ClockForm<'static> {
     if start >= LEAST_DATE {
         ClockForm::Utc
     } else {

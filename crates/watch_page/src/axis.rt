@@ -2,6 +2,7 @@ ghost use Rattle.std.specs.Prelude.{◌≤◌};
 
 use crate::moment::{write_moment, write_time};
 use crate::words::PageWords;
+use candump_line::Time;
 use clock_words::{ClockForm, Fraction};
 use page_text::Page;
 use picture::{Axis, Picture};
@@ -103,7 +104,7 @@ const MOST: u64 = 10;
 impl Marks {
     /// The marks of the axis of a picture: at round times of the clock, or at round lines.
     pub(crate) fn of(words: &PageWords<'_>, scale: Scale) -> Marks {
-        let with_date = scale.span > DAY && words.clock == ClockForm::Utc;
+        let with_date = scale.span > DAY && words.clock.has_dates();
         let most = if with_date { 4 } else { 8 };
         let step = match words.axis {
             Axis::Times => time_step(scale.span, most),
@@ -137,16 +138,22 @@ impl Marks {
 }
 
 /// The first mark from the start on.
-fn first_mark(start: u64, step: u64, clock: ClockForm) -> u64 {
+fn first_mark(start: u64, step: u64, clock: ClockForm<'_>) -> u64 {
     if clock == ClockForm::Relative || step == 0 {
         return start;
     }
-    let before = start / step * step;
-    if before < start {
+    let ahead = match Time::from_micros(start) {
+        Some(time) => clock.ahead(time),
+        None => 0,
+    };
+    let shown = start.saturating_add(ahead);
+    let before = shown / step * step;
+    let mark = if before < shown {
         before.saturating_add(step)
     } else {
         before
-    }
+    };
+    mark.saturating_sub(ahead)
 }
 
 fn time_step(span: u64, most: u64) -> u64

@@ -1,7 +1,7 @@
 use crate::pieces::write_count;
 use crate::words::PageWords;
 use candump_line::Time;
-use clock_words::{ClockForm, Fraction, TimeWords};
+use clock_words::{Fraction, TimeWords};
 use page_text::Page;
 use picture::Axis;
 use std::io::Write;
@@ -58,14 +58,5 @@ pub(crate) fn write_range<W: Write>(page: &mut Page<W>, words: &PageWords<'_>, f
     if to > from {
         page.markup(" to ");
         write_moment(page, words, to, Fraction::Seconds);
-    }
-}
-
-/// The words for the clock of the page.
-pub(crate) fn clock_word(clock: ClockForm) -> &'static str {
-    match clock {
-        ClockForm::Log => " by the clock of the log",
-        ClockForm::Utc => " UTC",
-        ClockForm::Relative => " since the first line",
     }
 }

@@ -1,7 +1,7 @@
 use crate::changes::{write_changes, write_handovers};
 use crate::chips::write_chips;
 use crate::lanes::write_lanes;
-use crate::moment::{clock_word, write_time};
+use crate::moment::write_time;
 use crate::pieces::write_count;
 use crate::standing::Standing;
 use crate::style::style;
@@ -107,7 +107,8 @@ fn write_times<W: Write>(page: &mut Page<W>, words: &PageWords<'_>, end: u64) {
     write_time(page, words, words.start, Fraction::Seconds, true);
     page.markup(" to ");
     write_time(page, words, end, Fraction::Seconds, true);
-    page.markup(clock_word(words.clock));
+    page.markup(" ");
+    page.made_text(words.clock.to_string(words.alloc));
     page.markup(" (");
     page.made_text(DurationWords(end.saturating_sub(words.start)).to_string(words.alloc));
     page.markup("), ");

@@ -21,7 +21,7 @@ pub struct View<'a> {
     pub units: &'a UnitTexts,
     pub texts: &'a Texts,
     /// How times are told.
-    pub clock: ClockForm,
+    pub clock: ClockForm<'a>,
     /// The line before which the watches were last begun anew, since as much was kept as may be: they know of what came from there
     /// on.
     pub anew_at: Option<u64>,

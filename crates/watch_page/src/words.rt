@@ -12,7 +12,7 @@ pub(crate) struct PageWords<'a> {
     pub(crate) axis: Axis,
     pub(crate) start: u64,
     /// How times are told.
-    pub(crate) clock: ClockForm,
+    pub(crate) clock: ClockForm<'a>,
     pub(crate) texts: &'a Texts,
 }
 

@@ -14,7 +14,7 @@ pub struct ReportOptions<'a> {
     pub units: &'a UnitTexts,
     pub texts: &'a Texts,
     /// How times are told to people; where that is not said, as the log has them.
-    pub clock: Option<ClockForm>,
+    pub clock: Option<ClockForm<'a>>,
 }
 
 /// What a report is of.

@@ -121,7 +121,7 @@ fn write_ack<W: Write>(
 /// When it was, by the clock that is asked for.
 pub(crate) fn write_time<W: Write>(
     report: &mut ReportWriter<'_, W>,
-    clock: Option<ClockForm>,
+    clock: Option<ClockForm<'_>>,
     start: &Option<Time>,
     time: Option<Time>,
 ) {
@@ -138,7 +138,7 @@ pub(crate) fn write_time<W: Write>(
 /// When it was, by this clock.
 fn write_clock<W: Write>(
     report: &mut ReportWriter<'_, W>,
-    clock: ClockForm,
+    clock: ClockForm<'_>,
     start: Time,
     time: Time,
 ) {

@@ -26,11 +26,15 @@ REFUSED = [
     ("watch --format xml /nowhere", "error: invalid value 'xml'"),
     ("watch --unit 254", "error: invalid value '254' for '--unit <NAME|N>': not 16 hexadecimal digits, or a number from 0 to 253"),
     ("watch --unit A0", "error: invalid value 'A0' for '--unit <NAME|N>'"),
-    ("watch --from 1.5", "error: invalid value '1.5' for '--from <TIME>': not a time as the log has it (SECONDS.MICROSECONDS) or a date (YYYY-MM-DD HH:MM:SS.mmm)"),
+    ("watch --from 1.5", "error: invalid value '1.5' for '--from <TIME>': not a time as the log has it (SECONDS or SECONDS.MICROSECONDS) or a date (YYYY-MM-DD, YYYY-MM-DD HH:MM:SS or YYYY-MM-DDTHH:MM:SS, a fraction behind it or none)"),
     ("watch --to 12345678901", "error: invalid value '12345678901' for '--to <TIME>'"),
     ("watch --to x --format xml", "error: invalid value 'xml' for '--format <text|json|csv|html>'"),
     ("watch --bad x --address y --bus a#b", "error: invalid value 'a#b' for '--bus <BUS>'"),
     ("watch --assume x --to y --from z", "error: invalid value 'z' for '--from <TIME>'"),
+    ("watch --most 511", "error: invalid value '511' for '--most <NAMES>': not a number from 512 to 1000000 (254 addresses may be held where a report makes room, and half is to be free then)"),
+    ("watch --most 1000001", "error: invalid value '1000001' for '--most <NAMES>'"),
+    ("watch --clock cet", "error: invalid value 'cet' for '--clock <CLOCK>': not utc, local, log, relative, or how far it is ahead of UTC (+02:00, UTC-05:00)"),
+    ("watch --clock cet --from x", "error: invalid value 'cet' for '--clock <CLOCK>'"),
     ("watch --to yesterday", "error: invalid value 'yesterday' for '--to <TIME>'"),
     ("watch --unclaimed no", "error: invalid value 'no' for '--unclaimed <show|hide>': not show or hide"),
     ("log --period 0", "error: invalid value '0' for '--period <US>': not a number from 1 to 1000000"),
@@ -51,11 +55,13 @@ REFUSED = [
 # Words that are at the end of what is taken, and so taken.
 TAKEN = ["watch --address 0", "watch --address 253", "watch --silence 3600000", "watch --silence 0", "watch --name ffffffffffffffff", "watch --assume 253=0000000000000000",
          "watch --bus can0123456789ab", "log --period 1", "log --period 1000000", "log --bus x", "watch --bad missed --unclaimed show --format text -",
-         "watch --from 9999999999 --to 9999999999", "watch --unit 253", "watch --unit 0 --from 0", "watch --assume 0=00000000000000A0 --assume 1=00000000000000A1 --assume 2=00000000000000A2"]
+         "watch --most 512", "watch --most 1000000", "watch --clock utc", "watch --clock +23:59", "watch --clock=-00:00", "watch --from 9999999999 --to 9999999999", "watch --unit 253", "watch --unit 0 --from 0", "watch --assume 0=00000000000000A0 --assume 1=00000000000000A1 --assume 2=00000000000000A2"]
 
 
 def words_that_are_taken():
-    return [text for words in TAKEN for text in same(run(words.split(), b"")[::2], (0, ""), words)]
+    """Whatever they ask for, a line is read, and nothing is wrong with the words."""
+    ran = [(words, *run(words.split(), CLAIM if words.startswith("watch") else b"")[::2]) for words in TAKEN]
+    return [text for words, status, err in ran for text in same((status in (0, 3), "fault" in err), (True, False), words)]
 
 
 def words_that_are_refused():

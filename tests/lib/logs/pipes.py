@@ -94,7 +94,8 @@ def closed_output():
 
 def empty_input():
     found = []
-    for words, wanted in ((["watch"], (0, 2, "")), (["decode"], (3, 0, "no line was read\n")), (["log"], (0, 0, "")), (["check"], (0, 0, ""))):
+    nothing = "no line was read\n"
+    for words, wanted in ((["watch"], (3, 2, nothing)), (["decode"], (3, 0, nothing)), (["log"], (0, 0, "")), (["check"], (0, 0, ""))):
         status, out, err = run(words)
         found += same((status, len(out.splitlines()), err), wanted, words[0])
     return found

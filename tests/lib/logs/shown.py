@@ -77,7 +77,9 @@ def of_one_time():
         found += same([line[0] for line in out.splitlines() if is_change(line)], list(wanted), f"{words}: changes")
         entries = len(wanted.replace("1", ""))
         row = next(line for line in out.splitlines() if line.startswith("00000000000000A0 "))
-        found += same(row.split()[2:4], [str(entries), "0"], f"{words}: {out}") + same((status, err), (0, ""), f"{words}")
+        found += same(row.split()[2:4], [str(entries), "0"], f"{words}: {out}")
+        told = "" if wanted else f"frames from 1.000000 to 5.000000 were read; none {'from 6.000000 on' if '--from' in words else 'until 0.000000'}\n"
+        found += same((status, err), (3 if told else 0, told), f"{words}")
     return found
 
 

@@ -51,7 +51,7 @@ def differences_at(y, station, text, wire):
     if status != 0 or not read.startswith("read ") or not answers[0].startswith("missed 0 "):
         return None
     status, out, err = run(["watch", "--silence", "0", "--format", "json"], wire.encode())
-    found = same(status, 0, "status of watch") + same(err, "", "standard error of watch")
+    found = same((status, err), (0, "") if wire else (3, "no line was read\n"), "status and standard error of watch")
     *changes, report = [json.loads(line) for line in out.splitlines()]
     had = {int(station[1]), *(change["address"] for change in changes if change["event"] == "unit" and change["name"] == station[0].upper())}
     for row in report["rows"]:

@@ -604,7 +604,7 @@ class Buses:
     def hear(self, number, line):
         if line.kind == "frame" and line.time is not None and not self.starts:
             self.starts.append(line.time)
-        self.ever.pass_line(line)
+        self.ever.pass_line(line, self.options.last)
         if self.one is not None:
             self.one.hear(number, line)
             return

@@ -6,7 +6,7 @@ use program_start::{Errors, open, read_file};
 use std::alloc::Global;
 use std::fs::{File, OpenOptions};
 use std::io;
-use std::io::StdinLock;
+use std::io::{Read, StdinLock};
 use std::rt::{Files, Runtime};
 use std::sync::Wait;
 use std::thread::Threads;
@@ -39,11 +39,20 @@ pub(crate) fn live<
         rt.alloc(),
         &words,
         units,
-        rt.reader(),
+        boxed_reader(rt)?,
         orders,
         &mut io::writer(rt),
         &mut Errors::new(rt),
     )
+}
+
+/// Standard input, on the heap: its reader has 8 KB in itself, which each call that it is handed through would have on its stack.
+#[inline(never)]
+fn boxed_reader<R: Runtime + AllocGlobal + Input<Reader = StdinLock<'static>>>(
+    rt: &R,
+) -> Result<Box<dyn Read + Send + Drop>, Failure> {
+    let reader: Box<dyn Read + Send + Drop> = Box::new(rt.alloc(), rt.reader())?;
+    Ok(reader)
 }
 
 /// The units of a vehicle file.

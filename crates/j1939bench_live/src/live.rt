@@ -6,7 +6,7 @@ use program_start::{Errors, open, read_file};
 use std::alloc::Global;
 use std::fs::{File, OpenOptions};
 use std::io;
-use std::io::{Read, StdinLock};
+use std::io::StdinLock;
 use std::rt::{Files, Runtime};
 use std::sync::Wait;
 use std::thread::Threads;
@@ -50,8 +50,8 @@ pub(crate) fn live<
 #[inline(never)]
 fn boxed_reader<R: Runtime + AllocGlobal + Input<Reader = StdinLock<'static>>>(
     rt: &R,
-) -> Result<Box<dyn Read + Send + Drop>, Failure> {
-    let reader: Box<dyn Read + Send + Drop> = Box::new(rt.alloc(), rt.reader())?;
+) -> Result<Box<StdinLock<'static>>, Failure> {
+    let reader = Box::new(rt.alloc(), rt.reader())?;
     Ok(reader)
 }
 

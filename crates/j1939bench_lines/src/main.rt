@@ -3,7 +3,7 @@
 
 use command_words::{DecodeArguments, Job, WatchArguments, path_of};
 use either::Either;
-use line_commands::{ShopFiles, WatchRequest, local_zone};
+use line_commands::{ShopFiles, WatchRequest};
 use program_io::Failure;
 use program_start::{Errors, asked_for, done_elsewhere, ended, open, read_file, read_words};
 use reading_progress::TellingReader;
@@ -53,13 +53,8 @@ fn watch<R: Runtime + AllocGlobal>(
     assumed: &[&str],
     is_terminal: bool,
 ) -> Result<(), Failure> {
-    let local = local_zone(rt, words.clock)?;
-    let request = WatchRequest {
-        words,
-        assumed,
-        local: &local,
-    };
-    line_commands::look_at_watch_words(rt.alloc(), &request)?;
+    let request = WatchRequest { words, assumed };
+    line_commands::look_at_watch_words(rt, &request)?;
     let units = read_texts(rt, words.units)?;
     let texts = read_texts(rt, words.texts)?;
     let files = ShopFiles {
@@ -80,7 +75,7 @@ fn watch_with<R: Runtime + AllocGlobal>(
     let mut input = rt.reader();
     match reader_of(rt, request.words.file, &mut input, is_terminal) {
         Ok(reader) => line_commands::watch(
-            rt.alloc(),
+            rt,
             request,
             files,
             reader,

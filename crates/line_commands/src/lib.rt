@@ -10,7 +10,6 @@ mod watch_words;
 mod watching;
 
 pub use decoding::decode;
-pub use local::local_zone;
 pub use shop::ShopFiles;
 pub use slips::{look_at_decode_words, look_at_watch_words};
 pub use watching::{WatchRequest, watch};

@@ -8,7 +8,7 @@ use std::rt::{Env, Files};
 /// # Errors
 /// - `CommandLine`: this machine has none, which is told.
 /// - `Memory`: memory was refused.
-pub fn local_zone<R: Env + Files + AllocGlobal>(
+pub(crate) fn local_zone<R: Env + Files + AllocGlobal>(
     rt: &R,
     clock: Option<&str>,
 ) -> Result<LocalZone, Failure> {

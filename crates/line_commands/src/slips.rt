@@ -1,6 +1,7 @@
 //! Which word of a command line is none that its option takes. What an option takes is read by the call that its words are read by.
 
 use crate::decoding::form_of as decode_form_of;
+use crate::local::local_zone;
 use crate::watch_words::{
     address_of, bus_of, clock_of, form_of, keep_of, most_of, name_of, shows_unclaimed, silence_of,
     skips_bad, time_of, unit_of,
@@ -10,6 +11,7 @@ use clock_words::LocalZone;
 use command_words::{DecodeArguments, Slip, WatchArguments};
 use program_io::{Failure, Fault};
 use std::alloc::Global;
+use std::rt::{Env, Files};
 
 /// What can be held.
 const AN_ADDRESS: &str = "a number from 0 to 253";
@@ -35,12 +37,25 @@ const A_NAME: &str = "16 hexadecimal digits";
 /// Looks at what `watch` is asked, before any line is read.
 ///
 /// # Errors
-/// `CommandLine`: a word is none that its option takes; it is told which.
-pub fn look_at_watch_words(alloc: Global, request: &WatchRequest<'_>) -> Result<(), Failure> {
+/// - `CommandLine`: a word is none that its option takes, or this machine has no zone; it is told which.
+/// - `Memory`: memory was refused.
+pub fn look_at_watch_words<H: Env + Files + AllocGlobal>(
+    rt: &H,
+    request: &WatchRequest<'_>,
+) -> Result<(), Failure> {
+    let local = local_zone(rt, request.words.clock)?;
+    look_at_all(rt.alloc(), request, &local)
+}
+
+fn look_at_all(
+    alloc: Global,
+    request: &WatchRequest<'_>,
+    local: &LocalZone,
+) -> Result<(), Failure> {
     let words = &request.words;
     refuse(alloc, slip_of_station(words))?;
     refuse(alloc, slip_of_lines(words))?;
-    refuse(alloc, slip_of_times(words, request.local))?;
+    refuse(alloc, slip_of_times(words, local))?;
     refuse(alloc, slip_of_filters(words))?;
     refuse(alloc, slip_of_assumed(request.assumed))
 }

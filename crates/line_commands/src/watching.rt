@@ -1,4 +1,5 @@
 use crate::ending::end_of_watch;
+use crate::local::local_zone;
 use crate::shop::{ShopFiles, ShopTexts};
 use crate::watch_words::{assumed_of, options_of};
 use clock_words::LocalZone;
@@ -6,6 +7,7 @@ use command_words::WatchArguments;
 use program_io::{Failure, Fault, Messages};
 use std::alloc::Global;
 use std::io::{LineWriter, Read, Write};
+use std::rt::{Env, Files};
 use watch_lines::{Assumed, WatchOptions};
 
 /// What `watch` is asked.
@@ -14,29 +16,27 @@ pub struct WatchRequest<'a> {
     pub words: WatchArguments<'a>,
     /// Each `ADDRESS=NAME` of a unit that holds an address before the first line.
     pub assumed: &'a [&'a str],
-    /// The zone of this machine; UTC where its clock is not asked for.
-    pub local: &'a LocalZone,
 }
 
 /// `watch`: what the lines of a log or of a live bus tell.
 ///
 /// # Errors
-/// - `CommandLine`: the words are none of it; nothing is read.
+/// - `CommandLine`: the words are none of it, or this machine has no zone where its clock is asked for; nothing is read.
 /// - `Texts`: a file of the shop holds no texts, and it is told at which line; nothing is read.
 /// - `Read`, `Write`, `Memory`: what happened; what was found until then is reported.
 /// - `BadLines`: all is reported, but some lines were bad, each of which is told on `errors`, where that takes it; or more was
 ///   heard than is kept at once, and it was begun anew.
-pub fn watch<R: Read + Drop, W: Write + Drop, E: Write + Drop>(
-    alloc: Global,
+pub fn watch<H: Env + Files + AllocGlobal, R: Read + Drop, W: Write + Drop, E: Write + Drop>(
+    rt: &H,
     request: WatchRequest<'_>,
     files: ShopFiles<'_>,
     mut reader: R,
     mut writer: W,
     mut errors: E,
 ) -> Result<(), Failure> {
-    let known = Known::read(alloc, request.assumed, files);
+    let known = Known::read(rt, &request, files);
     watch_known(
-        alloc,
+        rt.alloc(),
         &request,
         known,
         &mut reader,
@@ -48,16 +48,27 @@ pub fn watch<R: Read + Drop, W: Write + Drop, E: Write + Drop>(
 /// What is known before the first line.
 #[derive(Drop)]
 struct Known {
+    /// The zone of this machine; UTC where its clock is not asked for.
+    local: LocalZone,
     assumed: Vec<Assumed>,
     shop: ShopTexts,
 }
 
 impl Known {
-    /// The units that these words assume, and the texts of these files.
-    fn read(alloc: Global, assumed: &[&str], files: ShopFiles<'_>) -> Result<Known, Failure> {
-        let assumed = assumed_of(alloc, assumed)?;
-        let shop = ShopTexts::read(alloc, files)?;
-        Ok(Known { assumed, shop })
+    /// The zone, the units that these words assume, and the texts of these files.
+    fn read<H: Env + Files + AllocGlobal>(
+        rt: &H,
+        request: &WatchRequest<'_>,
+        files: ShopFiles<'_>,
+    ) -> Result<Known, Failure> {
+        let local = local_zone(rt, request.words.clock)?;
+        let assumed = assumed_of(rt.alloc(), request.assumed)?;
+        let shop = ShopTexts::read(rt.alloc(), files)?;
+        Ok(Known {
+            local,
+            assumed,
+            shop,
+        })
     }
 }
 
@@ -86,7 +97,7 @@ fn watch_with<R: Read, W: Write, E: Write>(
     errors: &mut E,
 ) -> Result<(), Failure> {
     let assumed = known.assumed.as_slice();
-    match options_of(&request.words, request.local, assumed, &known.shop) {
+    match options_of(&request.words, &known.local, assumed, &known.shop) {
         Ok(options) => watch_lines_of(alloc, reader, writer, errors, &options),
         Err(fault) => Err(Failure::from(fault)),
     }

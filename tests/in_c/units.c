@@ -130,7 +130,7 @@ static void counted(const char *what, uint64_t put, uint64_t written, uint64_t w
     is(what, out.counts.waiting, waiting);
 }
 
-/* a unit claims, settles, tells of its fault each second and once more, and says when it is to be asked again */
+/* a unit claims, settles, tells of its fault each second and of its end at once, and says when it is to be asked again */
 static void by_itself(void)
 {
     now = 5 * SECOND;
@@ -154,8 +154,10 @@ static void by_itself(void)
     gives("the next DM1", 0x18FECA80, "04FF6E000001FFFF");
     is("it has gone", hidzgula_unit_heal(&unit, 110, 0), HIDZGULA_DONE);
     is("the lamp is off", hidzgula_unit_lamps(&unit, 0x00, 0xFF), HIDZGULA_DONE);
+    gives("a DM1 of that at once", 0x18FECA80, "00FF00000000FFFF");
+    looks_again_at("in a second", now + SECOND);
     now += SECOND;
-    gives("once more", 0x18FECA80, "00FF00000000FFFF");
+    gives_none("and no more");
     looks_again_at("and no more", UINT64_MAX);
     is("a pending fault", hidzgula_unit_pend(&unit, 100, 1), HIDZGULA_DONE);
     is("a DM6 is begun", hidzgula_unit_begin(&unit, HIDZGULA_DM6), HIDZGULA_DONE);
@@ -306,7 +308,7 @@ static void against_a_station(void)
     is("another fault", hidzgula_unit_set(&unit, 110, 0), HIDZGULA_DONE);
     for (int i = 0; i < 4; i++, now += 250000) both();
     for (int i = 0; i < 4; i++, now += 50000) both();
-    listed(HIDZGULA_DM1, 2, 2, 110);
+    listed(HIDZGULA_DM1, 3, 2, 110);
     is("it heals", hidzgula_unit_heal(&unit, 110, 0), HIDZGULA_DONE);
     asked(HIDZGULA_PGN_DM2);
     both();

@@ -29,7 +29,7 @@
 #include <stdint.h>
 
 #define HIDZGULA_VERSION_MAJOR 2
-#define HIDZGULA_VERSION_MINOR 3
+#define HIDZGULA_VERSION_MINOR 4
 
 #ifdef __cplusplus
 extern "C" {

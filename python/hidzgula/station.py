@@ -397,7 +397,7 @@ def _packed(frames: Sequence[Tuple[int, Octets]], start: int) -> bytearray:
 
 def _packed_part(part: Sequence[Tuple[int, Octets]]) -> bytes:
     """Some frames, by columns, which takes half the time of one after the other. Raises struct.error where one does not fit its place."""
-    ids, contents = zip(*part)
+    ids, contents = zip(*((id, data) for id, data in part))
     words: List[Any] = [None] * (3 * len(ids))
     words[0::3], words[1::3], words[2::3] = ids, map(len, contents), contents
     return struct.pack("<" + "IB8s3x" * len(ids), *words)

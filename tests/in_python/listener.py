@@ -112,7 +112,7 @@ def passed_over():
     for words, wanted in (((5,), "station"), ((station, 5), "bus"), ((station, None, 5), "on_change")):
         error = raised(Listener, *words)
         same(f"a wrong {wanted}", (type(error), str(error).startswith(f"{wanted} is a ")), (TypeError, True))
-    same("in words", repr(listener), "<hidzgula.can.Listener of <hidzgula.Station 0000000000000001, closed>>")
+    same("in words", repr(listener), "<hidzgula.can.Listener of <hidzgula.Station 0000000000000001 listening, closed>>")
 
 
 def notified():

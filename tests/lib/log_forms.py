@@ -242,6 +242,8 @@ def words_of_watch(chance):
         if chance.random() < 0.12:
             words += [word, chance.choice(["0", "1.500000", "2.000", "1792915201", "1792915202.250", "1792915203.123456789", "10", "9999999999", "2026-10-25", "2026-10-25 08:00:02",
                                            "2026-10-25T13:30:02.250", "1970-01-01 05:30:01.500000"])]
+    if "--from" not in words and chance.random() < 0.08:
+        words += ["--from", "9999999999"]  # (behind nearly all)
     if chance.random() < 0.2:
         words.append("--clock=" + chance.choice(["log", "utc", "relative", "+02:00", "UTC-05:30", "-05:30", "+05:30", "UTC+23:59"]))
     if chance.random() < 0.25:

@@ -77,8 +77,8 @@ class EverInLog:
 
     # ---- in words, as JSON, as CSV
 
-    def text(self, unit):
-        """The lines below the row of a unit."""
+    def text(self, unit, clock):
+        """The lines below the row of a unit; the clock makes words of a time."""
         for word in EVER_KINDS:
             told = self.of(unit, KINDS[word])
             if told is None or told.is_fine():
@@ -86,11 +86,11 @@ class EverInLog:
             lamp, *seen = told.lamp()
             codes, more = told.codes()
             silence = self.silence(unit, KINDS[word])
-            words = f"{lamp} {seen_words(seen)}" if lamp else "no lamp"
+            words = f"{lamp} {seen_words(seen, clock)}" if lamp else "no lamp"
             reach("a unit had a lamp on at some time" if lamp else "a unit had a code at some time, and no lamp on")
-            yield f"  ever {word}: {words}; last heard {time_or_dash(told.last_heard())}" + (f", not heard for the last {duration(silence)}" if silence else "")
+            yield f"  ever {word}: {words}; last heard {time_or_dash(told.last_heard(), clock)}" + (f", not heard for the last {duration(silence)}" if silence else "")
             for (spn, fmi), *seen in codes:
-                yield f"  ever {word}: {spn}/{fmi} {seen_words(seen)}"
+                yield f"  ever {word}: {spn}/{fmi} {seen_words(seen, clock)}"
             if more:
                 yield f"  ever {word}: further codes, up to {more} at once"
 
@@ -128,13 +128,13 @@ def time_or(time, none):
     return none if time is None else time_text(time)
 
 
-def time_or_dash(time):
-    return time_or(time, "-")
+def time_or_dash(time, clock):
+    return "-" if time is None else clock(time)
 
 
-def seen_words(seen):
+def seen_words(seen, clock):
     times, first, last = seen
-    return f"{times} time{'' if times == 1 else 's'}, first {time_or_dash(first)}, last {time_or_dash(last)}"
+    return f"{times} time{'' if times == 1 else 's'}, first {time_or_dash(first, clock)}, last {time_or_dash(last, clock)}"
 
 
 def seen_object(seen):

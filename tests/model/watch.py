@@ -310,12 +310,16 @@ class Watch:
             {"displaced": self.displaced, "unit": self.tell_unit, "lost": self.tell_lost, "entry": self.tell_entry, "missed": self.tell_missed,
              "unowned": self.tell_unowned, "ack": self.tell_ack, "unread": self.tell_unread}[what](number, *of)
 
+    def time_told(self, micros):
+        """A time by the clock that is asked for."""
+        return self.options.clock.text(micros, self.starts[0] if self.starts else micros)
+
     def write(self, number, event, words, unit=None, **told):
         """A change, and behind all else what the NAME says of a unit that claims or loses an address."""
         if self.now is None:
             reach("an event before any time")
         time = None if self.now is None else time_text(self.now)
-        shown = "-" if self.now is None else self.options.clock.text(self.now, self.starts[0] if self.starts else self.now)
+        shown = "-" if self.now is None else self.time_told(self.now)
         self.text.append(f"{shown} {self.place()}{words}\n")
         self.objects.append(seen_json(dumped({"line": number, "time": time, "event": event, **told, **self.bus_object(),
                                               **({} if unit is None else unit_keys(unit))})) + "\n")
@@ -516,7 +520,7 @@ class Watch:
 
     def rows_text(self):
         """Units whose red stop lamp was on at any time stand before the others."""
-        rows = [[self.text_row(who), *self.ever.text((self.name, who))] for who in sorted(self.rows(), key=lambda who: not self.ever.was_red((self.name, who)))]
+        rows = [[self.text_row(who), *self.ever.text((self.name, who), self.time_told)] for who in sorted(self.rows(), key=lambda who: not self.ever.was_red((self.name, who)))]
         return "".join(f"{self.place()}{line}\n" for lines in rows for line in lines) + f"{self.place()}missed {self.missed()} unread {self.unread()}\n"
 
     @staticmethod

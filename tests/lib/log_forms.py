@@ -245,7 +245,7 @@ def words_of_watch(chance):
     if "--from" not in words and chance.random() < 0.08:
         words += ["--from", "9999999999"]  # (behind nearly all)
     if chance.random() < 0.2:
-        words.append("--clock=" + chance.choice(["log", "utc", "relative", "+02:00", "UTC-05:30", "-05:30", "+05:30", "UTC+23:59"]))
+        words.append("--clock=" + chance.choice(["log", "utc", "relative", "+02:00", "UTC-05:30", "-05:30", "+05:30", "UTC-23:59"]))
     if chance.random() < 0.25:
         for _ in range(chance.randint(1, 3)):
             words += ["--assume", f"{chance.choice([0, 3, 249, 253])}={chance.choice([0xA0, 0x1000000001419907]):016X}"]

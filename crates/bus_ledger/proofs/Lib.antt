@@ -10,3 +10,4 @@ pub mod Names
 pub mod Kept
 pub mod Opening
 pub mod Ledgers
+pub mod Empty

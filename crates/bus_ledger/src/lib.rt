@@ -8,6 +8,7 @@
 
 mod bus;
 mod error;
+mod history;
 mod offers;
 mod queued;
 mod receive_window;
@@ -17,4 +18,5 @@ mod wire_frame;
 
 pub use bus::{Bus, MOST_STATIONS, MOST_UNREAD};
 pub use error::BusError;
+pub use history::History;
 pub use traffic::{Carried, CarriedFrame, Counts, QueuedFrame, StationSeat, Tag, Which};

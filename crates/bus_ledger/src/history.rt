@@ -19,6 +19,7 @@ impl<A, B> Model for History<A, B> {
 
 // (there is nothing of it that another thread could reach)
 unsafe impl<A: Send, B: Send> Send for History<A, B> {}
+unsafe impl<A: Sync, B: Sync> Sync for History<A, B> {}
 
 impl<A, B> History<A, B> {
     /// Of nothing yet.

@@ -50,7 +50,7 @@ seat_count a v is = sym (length-map a.seats.items seat_of) ∙ ap (λ (b : BusVa
 
 -- the value after a carry
 pub carry_traffic : (a b : Inside) (v : BusValue) (k : ℕ) (q : QueuedFrame) (x y : SeatBook) → bus_value_of a ≡ v → k < length v.traffic.seats → x ≡ get_or a.seats.items k x
-    → y.seat ≡ sending x.seat → b.wire.items ≡ a.wire.items ++ carried_frame k q ∷ [] → b.seats.items ≡ set a.seats.items k y → Takes a.receive_windows.items b.receive_windows.items k q.frame
+    → y.seat ≡ sending x.seat → b.wire.carried ≡ a.wire.carried ++ carried_frame k q ∷ [] → b.seats.items ≡ set a.seats.items k y → Takes a.receive_windows.items b.receive_windows.items k q.frame
     → traffic_of b ≡ carried_from k q v.traffic
 carry_traffic a b v k q x y is h read e wire seats receive_window =
     let window = takes_sizes a.receive_windows.items b.receive_windows.items k q.frame receive_window in
@@ -61,16 +61,16 @@ carry_traffic a b v k q x y is h read e wire seats receive_window =
     t ∙ ap (λ (w : BusValue). carried_from k q w.traffic) is
 
 pub carry_kept : (a b : Inside) (v : BusValue) (k : ℕ) (q : QueuedFrame) (x y : SeatBook) → bus_value_of a ≡ v → IsKept a → IsCarriedNext v.traffic k q → x ≡ get_or a.seats.items k x
-    → y.seat ≡ sending x.seat → b.wire.items ≡ a.wire.items ++ carried_frame k q ∷ [] → b.seats.items ≡ set a.seats.items k y → b.live.items ≡ a.live.items → Takes a.receive_windows.items b.receive_windows.items k q.frame
+    → y.seat ≡ sending x.seat → b.wire.carried ≡ a.wire.carried ++ carried_frame k q ∷ [] → b.seats.items ≡ set a.seats.items k y → b.live.items ≡ a.live.items → Takes a.receive_windows.items b.receive_windows.items k q.frame
     → length v.traffic.wire + 1 < 2 ^ 32 → IsKept b
 carry_kept a b v k q x y is kept next read e wire seats live receive_window few =
     let h = next_within v.traffic k q next in
     let in' = within a v k is h in
     let t = carry_traffic a b v k q x y is h read e wire seats receive_window in
     let sound : IsSound v.traffic = subst (λ (w : BusValue). IsSound w.traffic) is kept.sound in
-    let longer = length_push a.wire.items (carried_frame k q) in
-    let same_wire : length a.wire.items ≡ length v.traffic.wire = ap (λ (w : BusValue). length w.traffic.wire) is in
-    let wire_now : length b.wire.items ≡ length (a.wire.items ++ carried_frame k q ∷ []) = ap length wire in
+    let longer = length_push a.wire.carried (carried_frame k q) in
+    let same_wire : length a.wire.carried ≡ length v.traffic.wire = ap (λ (w : BusValue). length w.traffic.wire) is in
+    let wire_now : length b.wire.carried ≡ length (a.wire.carried ++ carried_frame k q ∷ []) = ap length wire in
     record {
       sound = subst IsSound (sym t) (sound_carried v.traffic k q sound h next.offers);
       receive_windows = λ i g.
@@ -85,10 +85,10 @@ carry_kept a b v k q x y is kept next read e wire seats live receive_window few 
     }
 
 -- the value after a join
-join_traffic : (a b : Inside) (name : ℕ) (y : SeatBook) → y.seat ≡ newcomer name (length a.wire.items) → b.wire.items ≡ a.wire.items → b.seats.items ≡ a.seats.items ++ y ∷ [] → b.receive_windows.items ≡ a.receive_windows.items
+join_traffic : (a b : Inside) (name : ℕ) (y : SeatBook) → y.seat ≡ newcomer name (length a.wire.carried) → b.wire.carried ≡ a.wire.carried → b.seats.items ≡ a.seats.items ++ y ∷ [] → b.receive_windows.items ≡ a.receive_windows.items
     → traffic_of b ≡ with_newcomer name (traffic_of a)
 join_traffic a b name y e wire seats window =
-    let s : map seat_of b.seats.items ≡ map seat_of a.seats.items ++ newcomer name (length a.wire.items) ∷ [] =
+    let s : map seat_of b.seats.items ≡ map seat_of a.seats.items ++ newcomer name (length a.wire.carried) ∷ [] =
     ap (map seat_of) seats ∙ (map_push seat_of a.seats.items y ∙ ap (λ (z : SeatValue). map seat_of a.seats.items ++ z ∷ []) e) in
     let size : map size_of b.receive_windows.items ≡ map size_of a.receive_windows.items = ap (map size_of) window in
     cc
@@ -100,7 +100,7 @@ window_joined t name y s given =
     let same : (seat_at (with_newcomer name t) y).heard ≡ (seat_at t y).heard = rw get_or_append_left refl in
     window_same y t (with_newcomer name t) refl refl same
 
-pub join_kept : (a b : Inside) (name number : ℕ) (y : SeatBook) → IsKept a → y.seat ≡ newcomer name (length a.wire.items) → b.wire.items ≡ a.wire.items → b.seats.items ≡ a.seats.items ++ y ∷ []
+pub join_kept : (a b : Inside) (name number : ℕ) (y : SeatBook) → IsKept a → y.seat ≡ newcomer name (length a.wire.carried) → b.wire.carried ≡ a.wire.carried → b.seats.items ≡ a.seats.items ++ y ∷ []
     → b.live.items ≡ a.live.items ++ number ∷ [] → b.receive_windows.items ≡ a.receive_windows.items → number ≡ length a.seats.items → length a.seats.items + 1 < 2 ^ 32 → IsKept b
 join_kept a b name number y kept e wire seats live window n few =
     let t = join_traffic a b name y e wire seats window in
@@ -117,7 +117,7 @@ join_kept a b name number y kept e wire seats live window n few =
 
 -- the value after a leave
 pub leave_traffic : (a b : Inside) (v : BusValue) (k : ℕ) (x y : SeatBook) → bus_value_of a ≡ v → k < length v.traffic.seats → x ≡ get_or a.seats.items k x → y.seat ≡ leaving x.seat
-    → b.wire.items ≡ a.wire.items → b.seats.items ≡ set a.seats.items k y → b.receive_windows.items ≡ a.receive_windows.items → traffic_of b ≡ left k v.traffic
+    → b.wire.carried ≡ a.wire.carried → b.seats.items ≡ set a.seats.items k y → b.receive_windows.items ≡ a.receive_windows.items → traffic_of b ≡ left k v.traffic
 leave_traffic a b v k x y is h read e wire seats window =
     let y' : y.seat ≡ leaving (seat_at (traffic_of a) k) = e ∙ ap leaving (seat_is a (bus_value_of a) k x refl (within a v k is h) read) in
     let s : map seat_of b.seats.items ≡ set (map seat_of a.seats.items) k (leaving (seat_at (traffic_of a) k)) =
@@ -127,7 +127,7 @@ leave_traffic a b v k x y is h read e wire seats window =
     t ∙ ap (λ (w : BusValue). left k w.traffic) is
 
 pub leave_kept : (a b : Inside) (v : BusValue) (k : ℕ) (x y : SeatBook) → bus_value_of a ≡ v → IsKept a → length v.traffic.windows ≤ k → k < length v.traffic.seats → x ≡ get_or a.seats.items k x → y.seat ≡ leaving x.seat
-    → b.wire.items ≡ a.wire.items → b.seats.items ≡ set a.seats.items k y → b.live.items ≡ filter (λ n. not (n == k)) a.live.items → b.receive_windows.items ≡ a.receive_windows.items → IsKept b
+    → b.wire.carried ≡ a.wire.carried → b.seats.items ≡ set a.seats.items k y → b.live.items ≡ filter (λ n. not (n == k)) a.live.items → b.receive_windows.items ≡ a.receive_windows.items → IsKept b
 leave_kept a b v k x y is kept above h read e wire seats live window =
     let in' = within a v k is h in
     let t = leave_traffic a b v k x y is h read e wire seats window in
@@ -144,21 +144,21 @@ leave_kept a b v k x y is kept above h read e wire seats live window =
     }
 
 -- the value after a frame from outside
-pub inject_traffic : (a b : Inside) (v : BusValue) (f : FrameValue) → bus_value_of a ≡ v → b.wire.items ≡ a.wire.items ++ stray_frame f ∷ [] → b.seats.items ≡ a.seats.items → Pushes a.receive_windows.items b.receive_windows.items f
+pub inject_traffic : (a b : Inside) (v : BusValue) (f : FrameValue) → bus_value_of a ≡ v → b.wire.carried ≡ a.wire.carried ++ stray_frame f ∷ [] → b.seats.items ≡ a.seats.items → Pushes a.receive_windows.items b.receive_windows.items f
     → traffic_of b ≡ injected f v.traffic
 inject_traffic a b v f is wire seats receive_window =
     let size = pushes_sizes a.receive_windows.items b.receive_windows.items f receive_window in
     let t : traffic_of b ≡ injected f (traffic_of a) = cc in
     t ∙ ap (λ (w : BusValue). injected f w.traffic) is
 
-pub inject_kept : (a b : Inside) (v : BusValue) (f : FrameValue) → bus_value_of a ≡ v → IsKept a → b.wire.items ≡ a.wire.items ++ stray_frame f ∷ [] → b.seats.items ≡ a.seats.items
+pub inject_kept : (a b : Inside) (v : BusValue) (f : FrameValue) → bus_value_of a ≡ v → IsKept a → b.wire.carried ≡ a.wire.carried ++ stray_frame f ∷ [] → b.seats.items ≡ a.seats.items
     → b.live.items ≡ a.live.items → Pushes a.receive_windows.items b.receive_windows.items f → length v.traffic.wire + 1 < 2 ^ 32 → IsKept b
 inject_kept a b v f is kept wire seats live receive_window few =
     let t = inject_traffic a b v f is wire seats receive_window in
     let sound : IsSound v.traffic = subst (λ (w : BusValue). IsSound w.traffic) is kept.sound in
-    let longer = length_push a.wire.items (stray_frame f) in
-    let same_wire : length a.wire.items ≡ length v.traffic.wire = ap (λ (w : BusValue). length w.traffic.wire) is in
-    let wire_now : length b.wire.items ≡ length (a.wire.items ++ stray_frame f ∷ []) = ap length wire in
+    let longer = length_push a.wire.carried (stray_frame f) in
+    let same_wire : length a.wire.carried ≡ length v.traffic.wire = ap (λ (w : BusValue). length w.traffic.wire) is in
+    let wire_now : length b.wire.carried ≡ length (a.wire.carried ++ stray_frame f ∷ []) = ap length wire in
     record {
       sound = subst IsSound (sym t) (sound_injected v.traffic f sound);
       receive_windows = λ i g.

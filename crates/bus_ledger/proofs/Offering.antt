@@ -21,8 +21,8 @@ in_order a kept = subst (λ (l : List ℕ). IsInOrder a.seats.items l) (sym kept
 pub listed : (a : Inside) → IsKept a → (k : ℕ) → (book_at a.seats.items k).seat.live ≡ true → LiveAt a.live.items k
 listed a kept k live = subst (λ (l : List ℕ). LiveAt l k) (sym kept.live) (live_complete 0 a.seats.items k k (omega arith) live)
 
-offer_is : (a : Inside) (k : ℕ) → offer (traffic_of a) k ≡ offered (length a.wire.items) (book_at a.seats.items k).seat
-offer_is a k = ap (λ (s : SeatValue). offered (length a.wire.items) s) (seat_book a.seats.items k)
+offer_is : (a : Inside) (k : ℕ) → offer (traffic_of a) k ≡ offered (length a.wire.carried) (book_at a.seats.items k).seat
+offer_is a k = ap (λ (s : SeatValue). offered (length a.wire.carried) s) (seat_book a.seats.items k)
 
 offer_is_live_at : (b : Bool) (c : Bool) (o : Option QueuedFrame) (r : QueuedFrame) → cond (b && c) o None ≡ Some r → b ≡ true
 offer_is_live_at true c o r e = refl
@@ -31,13 +31,13 @@ offer_is_live_at false c o r e = absurd cc
 offer_is_live : (n : ℕ) (s : SeatValue) (r : QueuedFrame) → offered n s ≡ Some r → s.live ≡ true
 offer_is_live n s r e = offer_is_live_at s.live (s.heard == n) (slice_get s.queue 0) r e
 
-pub best_is_next : (a : Inside) (k : ℕ) (q : QueuedFrame) → IsKept a → IsBest (length a.wire.items) a.seats.items a.live.items (length a.live.items) k q → IsCarriedNext (traffic_of a) k q
+pub best_is_next : (a : Inside) (k : ℕ) (q : QueuedFrame) → IsKept a → IsBest (length a.wire.carried) a.seats.items a.live.items (length a.live.items) k q → IsCarriedNext (traffic_of a) k q
 best_is_next a k q kept best = record {
   offers = offer_is a k ∙ best.offers;
   wins = λ j r o.
-      let o' : offered (length a.wire.items) (book_at a.seats.items j).seat ≡ Some r = sym (offer_is a j) ∙ o in
-      let at = listed a kept j (offer_is_live (length a.wire.items) (book_at a.seats.items j).seat r o') in
-      let o'' : offer_at (length a.wire.items) a.seats.items a.live.items at.index ≡ Some r = ap (λ (n : ℕ). offered (length a.wire.items) (book_at a.seats.items n).seat) at.is ∙ o' in
+      let o' : offered (length a.wire.carried) (book_at a.seats.items j).seat ≡ Some r = sym (offer_is a j) ∙ o in
+      let at = listed a kept j (offer_is_live (length a.wire.carried) (book_at a.seats.items j).seat r o') in
+      let o'' : offer_at (length a.wire.carried) a.seats.items a.live.items at.index ≡ Some r = ap (λ (n : ℕ). offered (length a.wire.carried) (book_at a.seats.items n).seat) at.is ∙ o' in
       subst (λ (n : ℕ). Wins k q n r) at.is (best.wins at.index r at.within o'');
 }
 
@@ -46,13 +46,13 @@ never_some : (o : Option QueuedFrame) → ((r : QueuedFrame) → o ≡ Some r �
 never_some None h = refl
 never_some (Some r) h = absurd (h r refl)
 
-pub none_offers : (a : Inside) → IsKept a → IsBestSoFar (length a.wire.items) a.seats.items a.live.items (length a.live.items) None → (k : ℕ) → offer (traffic_of a) k ≡ None
+pub none_offers : (a : Inside) → IsKept a → IsBestSoFar (length a.wire.carried) a.seats.items a.live.items (length a.live.items) None → (k : ℕ) → offer (traffic_of a) k ≡ None
 none_offers a kept none k =
     never_some (offer (traffic_of a) k) (λ r o.
-    let o' : offered (length a.wire.items) (book_at a.seats.items k).seat ≡ Some r = sym (offer_is a k) ∙ o in
-    let at = listed a kept k (offer_is_live (length a.wire.items) (book_at a.seats.items k).seat r o') in
+    let o' : offered (length a.wire.carried) (book_at a.seats.items k).seat ≡ Some r = sym (offer_is a k) ∙ o in
+    let at = listed a kept k (offer_is_live (length a.wire.carried) (book_at a.seats.items k).seat r o') in
     let n = none at.index at.within in
-    let o'' : offer_at (length a.wire.items) a.seats.items a.live.items at.index ≡ Some r = ap (λ (n : ℕ). offered (length a.wire.items) (book_at a.seats.items n).seat) at.is ∙ o' in
+    let o'' : offer_at (length a.wire.carried) a.seats.items a.live.items at.index ≡ Some r = ap (λ (n : ℕ). offered (length a.wire.carried) (book_at a.seats.items n).seat) at.is ∙ o' in
     let clash : None ≡ Some r = sym n ∙ o'' in
     cc)
 
@@ -79,7 +79,7 @@ none_waits a kept none k =
     ap (λ (s : SeatValue). s.queue) (seat_book a.seats.items k) ∙ (ap (λ (n : ℕ). (book_at a.seats.items n).seat.queue) (sym at.is) ∙ none at.index at.within))
 
 -- the next sender, at what callers see
-pub sender_is : (a : Inside) (v : BusValue) (n : ℕ) (seats : List SeatBook) (live : List ℕ) (r : Option (ℕ × QueuedFrame)) → bus_value_of a ≡ v → IsKept a → seats ≡ a.seats.items → live ≡ a.live.items → n ≡ length a.wire.items
+pub sender_is : (a : Inside) (v : BusValue) (n : ℕ) (seats : List SeatBook) (live : List ℕ) (r : Option (ℕ × QueuedFrame)) → bus_value_of a ≡ v → IsKept a → seats ≡ a.seats.items → live ≡ a.live.items → n ≡ length a.wire.carried
     → IsBestSoFar n seats live (length live) r → MatchOption r ((k : ℕ) → offer v.traffic k ≡ None) (λ b. IsCarriedNext v.traffic b.0 b.1)
 sender_is a v n seats live None is kept es el en best = λ k.
     ap (λ (b : BusValue). offer b.traffic k) (sym is) ∙ none_offers a kept (subst (λ (m : ℕ). IsBestSoFar m a.seats.items a.live.items (length a.live.items) None) en
@@ -89,7 +89,7 @@ sender_is a v n seats live (Some b) is kept es el en best =
     (subst (λ (s : List SeatBook). IsBestSoFar n s a.live.items (length a.live.items) (Some b)) es (subst (λ (l : List ℕ). IsBestSoFar n seats l (length l) (Some b)) el best))))
 
 -- the next seat, at what callers see
-pub next_seat_is : (a : Inside) (v : BusValue) (n lowest : ℕ) (seats : List SeatBook) (live : List ℕ) (r : Option ℕ) → bus_value_of a ≡ v → IsKept a → seats ≡ a.seats.items → live ≡ a.live.items → n ≡ length a.wire.items
+pub next_seat_is : (a : Inside) (v : BusValue) (n lowest : ℕ) (seats : List SeatBook) (live : List ℕ) (r : Option ℕ) → bus_value_of a ≡ v → IsKept a → seats ≡ a.seats.items → live ≡ a.live.items → n ≡ length a.wire.carried
     → IsBestSeatSoFar n seats live (length live) lowest r → MatchOption r ((k : ℕ) → offer v.traffic k ≡ None) (λ k. (q : QueuedFrame) × IsCarriedNext v.traffic k q)
 next_seat_is a v n lowest seats live None is kept es el en best = sender_is a v n seats live None is kept es el en best.1
 next_seat_is a v n lowest seats live (Some k) is kept es el en best = (best.1.0, sender_is a v n seats live (Some (k, best.1.0)) is kept es el en best.1.2)

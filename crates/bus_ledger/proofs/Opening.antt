@@ -78,13 +78,13 @@ sound_opened stations some few windows =
 empty : (n : ℕ) → seen_through n [] ≡ window n [] 0
 empty n = let e : 0 - n ≡ 0 = omega arith in rw e refl
 
-pub opened_traffic : (b : Inside) (stations : List StationSeat) → b.wire.items ≡ [] → AreSeatsOf b.seats.items stations (length stations) → AreTapsOf b.receive_windows.items stations (length stations) → traffic_of b ≡ new_traffic stations
+pub opened_traffic : (b : Inside) (stations : List StationSeat) → b.wire.carried ≡ [] → AreSeatsOf b.seats.items stations (length stations) → AreTapsOf b.receive_windows.items stations (length stations) → traffic_of b ≡ new_traffic stations
 opened_traffic b stations wire seats receive_windows =
     let s = opened_seats b.seats.items stations seats in
     let w = opened_windows b.receive_windows.items stations receive_windows in
     cc
 
-pub opened_kept : (b : Inside) (stations : List StationSeat) → 0 < length stations → length stations ≤ 8 → All (λ s. HasWindow s.window) stations → b.wire.items ≡ [] → AreSeatsOf b.seats.items stations (length stations)
+pub opened_kept : (b : Inside) (stations : List StationSeat) → 0 < length stations → length stations ≤ 8 → All (λ s. HasWindow s.window) stations → b.wire.carried ≡ [] → AreSeatsOf b.seats.items stations (length stations)
     → AreNumbers b.live.items (length stations) → AreTapsOf b.receive_windows.items stations (length stations) → IsKept b
 opened_kept b stations some few windows wire seats numbers receive_windows =
     let t = opened_traffic b stations wire seats receive_windows in
@@ -100,7 +100,7 @@ opened_kept b stations some few windows wire seats numbers receive_windows =
           ∙ (sym (ap (λ (us : List CarriedFrame). seen_through (window_at (new_traffic stations) y) (map frame_of us)) unread ∙ empty (window_at (new_traffic stations) y)) ∙ ap (λ (u : Traffic). window_of u y) (sym t)));
       live = opened_live 0 b.seats.items b.live.items (omega arith) (λ y h. ap (λ (s : SeatValue). s.live) (seats.1 y (omega arith)).0) (λ y h. let g = numbers.1 y (omega arith) in omega arith);
       few_seats = omega arith;
-      few_frames = let n : length b.wire.items ≡ 0 = ap length wire in omega arith;
+      few_frames = let n : length b.wire.carried ≡ 0 = ap length wire in omega arith;
     }
 
 pub opened_room : (b : Inside) (stations : List StationSeat) (y : ℕ) → AreSeatsOf b.seats.items stations (length stations) → y < length stations → 1 ≤ spare_at (bus_value_of b) y

@@ -78,7 +78,7 @@ spare_is a v k x is in' read =
 
 pub placed_traffic : (a : Inside) (v : BusValue) (k : ℕ) (y : SeatBook) (s : SeatValue) → bus_value_of a ≡ v → y.seat ≡ s → traffic_of (placed a k y) ≡ with_seat v.traffic k s
 placed_traffic a v k y s is e =
-    ap (λ (l : List SeatValue). let t : Traffic = record { wire = a.wire.items; seats = l; windows = map size_of a.receive_windows.items } in t) (map-set seat_of a.seats.items k y)
+    ap (λ (l : List SeatValue). let t : Traffic = record { wire = a.wire.carried; seats = l; windows = map size_of a.receive_windows.items } in t) (map-set seat_of a.seats.items k y)
     ∙ (ap (λ (z : SeatValue). with_seat (traffic_of a) k z) e ∙ ap (λ (b : BusValue). with_seat b.traffic k s) is)
 
 -- a seat replaced by itself
@@ -108,14 +108,14 @@ placed_spares a v k x y is in' read grows j =
     ]
 
 placed_sound : (a : Inside) (k : ℕ) (x y : SeatBook) → IsKept a → k < length a.seats.items → x ≡ get_or a.seats.items k x
-    → y.seat.live ≡ x.seat.live → (IsBalanced a.wire.items k x.seat → IsBalanced a.wire.items k y.seat) → IsSound (traffic_of (placed a k y))
+    → y.seat.live ≡ x.seat.live → (IsBalanced a.wire.carried k x.seat → IsBalanced a.wire.carried k y.seat) → IsSound (traffic_of (placed a k y))
 placed_sound a k x y kept in' read live balanced =
     let s = seat_is a (bus_value_of a) k x refl in' read in
     let in'' : k < length (map seat_of a.seats.items) = rw length-map in' in
-    subst (λ (l : List SeatValue). IsSound (record { wire = a.wire.items; seats = l; windows = map size_of a.receive_windows.items })) (sym (map-set seat_of a.seats.items k y))
+    subst (λ (l : List SeatValue). IsSound (record { wire = a.wire.carried; seats = l; windows = map size_of a.receive_windows.items })) (sym (map-set seat_of a.seats.items k y))
     (sound_set (traffic_of a) k y.seat kept.sound in''
     (λ station. live ∙ (ap (λ (b : SeatValue). b.live) s ∙ kept.sound.stations k station))
-    (λ b. balanced (subst (λ (v : SeatValue). IsBalanced a.wire.items k v) (sym s) b)))
+    (λ b. balanced (subst (λ (v : SeatValue). IsBalanced a.wire.carried k v) (sym s) b)))
 
 placed_live : (a : Inside) (k : ℕ) (x y : SeatBook) → IsKept a → k < length a.seats.items → x ≡ get_or a.seats.items k x
     → y.seat.live ≡ x.seat.live → a.live.items ≡ live_numbers 0 (set a.seats.items k y)
@@ -124,7 +124,7 @@ placed_live a k x y kept in' read live =
 
 -- a bus stays in order where one seat is replaced by one as live, which is balanced; a station's has heard as much
 pub placed_kept : (a : Inside) (k : ℕ) (x y : SeatBook) → IsKept a → k < length a.seats.items → x ≡ get_or a.seats.items k x
-    → y.seat.live ≡ x.seat.live → (IsStation (traffic_of a) k → y.seat.heard ≡ x.seat.heard) → (IsBalanced a.wire.items k x.seat → IsBalanced a.wire.items k y.seat) → IsKept (placed a k y)
+    → y.seat.live ≡ x.seat.live → (IsStation (traffic_of a) k → y.seat.heard ≡ x.seat.heard) → (IsBalanced a.wire.carried k x.seat → IsBalanced a.wire.carried k y.seat) → IsKept (placed a k y)
 placed_kept a k x y kept in' read live heard balanced =
     let s = seat_is a (bus_value_of a) k x refl in' read in
     let in'' : k < length (map seat_of a.seats.items) = rw length-map in' in
@@ -158,7 +158,7 @@ pub changed_spares : (a : Inside) (v : BusValue) (k : ℕ) (x y : SeatBook) → 
 changed_spares a v k x y is h read grows = placed_spares a v k x y is (within a v k is h) read grows
 
 pub changed_kept : (a : Inside) (v : BusValue) (k : ℕ) (x y : SeatBook) → bus_value_of a ≡ v → IsKept a → k < length v.traffic.seats → x ≡ get_or a.seats.items k x
-    → y.seat.live ≡ x.seat.live → (IsStation v.traffic k → y.seat.heard ≡ x.seat.heard) → (IsBalanced a.wire.items k x.seat → IsBalanced a.wire.items k y.seat) → IsKept (placed a k y)
+    → y.seat.live ≡ x.seat.live → (IsStation v.traffic k → y.seat.heard ≡ x.seat.heard) → (IsBalanced a.wire.carried k x.seat → IsBalanced a.wire.carried k y.seat) → IsKept (placed a k y)
 changed_kept a v k x y is kept h read live heard balanced =
     placed_kept a k x y kept (within a v k is h) read live (λ st. heard (subst (λ (b : BusValue). IsStation b.traffic k) is st)) balanced
 
@@ -166,10 +166,10 @@ pub hear_kept : (a : Inside) (v : BusValue) (k n : ℕ) (x y : SeatBook) → bus
     → y.seat ≡ hearing n x.seat → length v.traffic.windows ≤ k → (seat_at v.traffic k).heard + n ≤ length v.traffic.wire → IsKept (placed a k y)
 hear_kept a v k n x y is kept h read e unit bound =
     let s = seat_is a v k x is (within a v k is h) read in
-    let wire : a.wire.items ≡ v.traffic.wire = ap (λ (b : BusValue). b.traffic.wire) is in
-    let bound' : x.seat.heard + n ≤ length a.wire.items = rw (wire, s) bound in
+    let wire : a.wire.carried ≡ v.traffic.wire = ap (λ (b : BusValue). b.traffic.wire) is in
+    let bound' : x.seat.heard + n ≤ length a.wire.carried = rw (wire, s) bound in
     changed_kept a v k x y is kept h read (ap (λ (z : SeatValue). z.live) e) (λ z. absurd (omega arith))
-    (λ b. subst (λ (z : SeatValue). IsBalanced a.wire.items k z) (sym e) (balanced_hearing a.wire.items k n x.seat bound' b))
+    (λ b. subst (λ (z : SeatValue). IsBalanced a.wire.carried k z) (sym e) (balanced_hearing a.wire.carried k n x.seat bound' b))
 
 -- a live seat stays balanced where it queues frames
 balanced_queueing : (wire : List CarriedFrame) (k : ℕ) (qs : List QueuedFrame) (s : SeatValue) → s.live ≡ true → IsBalanced wire k s → IsBalanced wire k (queueing_all qs s)
@@ -207,7 +207,7 @@ balanced_leaving wire k s b = record {
 
 pub same_kept : (a : Inside) (v : BusValue) (k : ℕ) (x y : SeatBook) → bus_value_of a ≡ v → IsKept a → k < length v.traffic.seats → x ≡ get_or a.seats.items k x → y.seat ≡ x.seat → IsKept (placed a k y)
 same_kept a v k x y is kept h read e =
-    changed_kept a v k x y is kept h read (ap (λ (z : SeatValue). z.live) e) (λ z. ap (λ (w : SeatValue). w.heard) e) (λ b. subst (λ (z : SeatValue). IsBalanced a.wire.items k z) (sym e) b)
+    changed_kept a v k x y is kept h read (ap (λ (z : SeatValue). z.live) e) (λ z. ap (λ (w : SeatValue). w.heard) e) (λ b. subst (λ (z : SeatValue). IsBalanced a.wire.carried k z) (sym e) b)
 
 pub same_traffic : (a : Inside) (v : BusValue) (k : ℕ) (x y : SeatBook) → bus_value_of a ≡ v → k < length v.traffic.seats → x ≡ get_or a.seats.items k x → y.seat ≡ x.seat → traffic_of (placed a k y) ≡ v.traffic
 same_traffic a v k x y is h read e = placed_same a v k x y is (within a v k is h) read e
@@ -216,14 +216,14 @@ pub withdraw_kept : (a : Inside) (v : BusValue) (k : ℕ) (which : Which) (x y :
     → y.seat ≡ withdrawing which x.seat → IsKept (placed a k y)
 withdraw_kept a v k which x y is kept h read e =
     changed_kept a v k x y is kept h read (ap (λ (z : SeatValue). z.live) e) (λ z. ap (λ (w : SeatValue). w.heard) e)
-    (λ b. subst (λ (z : SeatValue). IsBalanced a.wire.items k z) (sym e) (balanced_withdrawing a.wire.items k which x.seat b))
+    (λ b. subst (λ (z : SeatValue). IsBalanced a.wire.carried k z) (sym e) (balanced_withdrawing a.wire.carried k which x.seat b))
 
 pub queue_kept : (a : Inside) (v : BusValue) (k : ℕ) (qs : List QueuedFrame) (x y : SeatBook) → bus_value_of a ≡ v → IsKept a → k < length v.traffic.seats → (seat_at v.traffic k).live ≡ true → x ≡ get_or a.seats.items k x
     → y.seat ≡ queueing_all qs x.seat → IsKept (placed a k y)
 queue_kept a v k qs x y is kept h live read e =
     let s = seat_is a v k x is (within a v k is h) read in
     changed_kept a v k x y is kept h read (ap (λ (z : SeatValue). z.live) e) (λ z. ap (λ (w : SeatValue). w.heard) e)
-    (λ b. subst (λ (z : SeatValue). IsBalanced a.wire.items k z) (sym e) (balanced_queueing a.wire.items k qs x.seat (ap (λ (z : SeatValue). z.live) s ∙ live) b))
+    (λ b. subst (λ (z : SeatValue). IsBalanced a.wire.carried k z) (sym e) (balanced_queueing a.wire.carried k qs x.seat (ap (λ (z : SeatValue). z.live) s ∙ live) b))
 
 pub queue_spare : (a : Inside) (v : BusValue) (k : ℕ) (x y : SeatBook) → bus_value_of a ≡ v → k < length v.traffic.seats → x ≡ get_or a.seats.items k x
     → x.spare ≤ y.spare + 1 → spare_at v k ≤ spare_at (bus_value_of (placed a k y)) k + 1
@@ -289,7 +289,7 @@ pub tapped_traffic : (a : Inside) (v : BusValue) (s n : ℕ) (x y : SeatBook) (u
 tapped_traffic a v s n x y u w is kept st read first rest e =
     let sound : IsSound v.traffic = subst (λ (b : BusValue). IsSound b.traffic) is kept.sound in
     let sizes = tapped_sizes a s u w (station_within a v s is st) first rest in
-    ap (λ (m : List ℕ). let t : Traffic = record { wire = a.wire.items; seats = map seat_of (set a.seats.items s y); windows = m } in t) sizes
+    ap (λ (m : List ℕ). let t : Traffic = record { wire = a.wire.carried; seats = map seat_of (set a.seats.items s y); windows = m } in t) sizes
     ∙ changed_traffic (hearing n) a v s x y is (station_given v.traffic s sound st) read e
 
 pub read_kept : (a : Inside) (v : BusValue) (s n : ℕ) (x y : SeatBook) (u w : WindowValue) → bus_value_of a ≡ v → IsKept a → IsStation v.traffic s → x ≡ get_or a.seats.items s x → n ≡ passes (next_reading v.traffic s)
@@ -299,18 +299,18 @@ read_kept a v s n x y u w is kept st read passed first rest e =
     let given = station_given v.traffic s sound st in
     let within_wire = passes_within v.traffic s sound st in
     let q = seat_is a v s x is (within a v s is given) read in
-    let wire : a.wire.items ≡ v.traffic.wire = ap (λ (b : BusValue). b.traffic.wire) is in
-    let bound : x.seat.heard + n ≤ length a.wire.items = rw (wire, q) (omega arith) in
+    let wire : a.wire.carried ≡ v.traffic.wire = ap (λ (b : BusValue). b.traffic.wire) is in
+    let bound : x.seat.heard + n ≤ length a.wire.carried = rw (wire, q) (omega arith) in
     let here = station_within a v s is st in
     let sizes = tapped_sizes a s u w here first rest in
     let in' = within a v s is given in
     let live : y.seat.live ≡ x.seat.live = ap (λ (z : SeatValue). z.live) e in
-    let placed_is = placed_sound a s x y kept in' read live (λ b. subst (λ (z : SeatValue). IsBalanced a.wire.items s z) (sym e) (balanced_hearing a.wire.items s n x.seat bound b)) in
+    let placed_is = placed_sound a s x y kept in' read live (λ b. subst (λ (z : SeatValue). IsBalanced a.wire.carried s z) (sym e) (balanced_hearing a.wire.carried s n x.seat bound b)) in
     let now = tapped_traffic a v s n x y u w is kept st read first rest e in
     let own : w ≡ window_of (heard_more s n v.traffic) s =
     rest ∙ (ap rest_of (read_tap a s u here first ∙ tap_is a v s is kept st) ∙ (window_rest v.traffic s given ∙ ap (λ (m : ℕ). window_of (heard_more s m v.traffic) s) (sym passed))) in
     record {
-      sound = subst (λ (m : List ℕ). IsSound (record { wire = a.wire.items; seats = map seat_of (set a.seats.items s y); windows = m })) (sym sizes) placed_is;
+      sound = subst (λ (m : List ℕ). IsSound (record { wire = a.wire.carried; seats = map seat_of (set a.seats.items s y); windows = m })) (sym sizes) placed_is;
       receive_windows = λ i h.
           let h' : i < length a.receive_windows.items = (let l = length-set a.receive_windows.items s w in omega arith) in
           elim (same_or_not i s) [
@@ -337,7 +337,7 @@ pass_few a v s n x is kept st read count =
     let sound : IsSound v.traffic = subst (λ (b : BusValue). IsSound b.traffic) is kept.sound in
     let q = ap (λ (z : SeatValue). z.heard) (seat_is a v s x is (pass_seat a v s is kept st) read) in
     let within_wire = passes_within v.traffic s sound st in
-    let wire : length a.wire.items ≡ length v.traffic.wire = ap (λ (b : BusValue). length b.traffic.wire) is in
+    let wire : length a.wire.carried ≡ length v.traffic.wire = ap (λ (b : BusValue). length b.traffic.wire) is in
     let few = kept.few_frames in
     omega arith
 

@@ -51,6 +51,11 @@ IsLive t k = (k < length t.seats) × ((seat_at t k).live ≡ true)
 abbrev pub IsUnit : Traffic → ℕ → Type 0
 IsUnit t k = (length t.windows ≤ k) × (k < length t.seats) × ((seat_at t k).live ≡ true)
 
+-- what was carried, and for how many frames more the wire has room
+pub record WireBook : Type 0 where
+  pub carried : List CarriedFrame
+  pub spare : ℕ
+
 -- a seat, and how many frames it can queue with no allocation
 pub record SeatBook : Type 0 where
   pub seat : SeatValue

@@ -14,7 +14,7 @@ abbrev pub spare_of : SeatBook → ℕ
 spare_of b = b.spare
 
 abbrev pub traffic_of : Inside → Traffic
-traffic_of b = record { wire = b.wire.items; seats = map seat_of b.seats.items; windows = map size_of b.receive_windows.items }
+traffic_of b = record { wire = b.wire.carried; seats = map seat_of b.seats.items; windows = map size_of b.receive_windows.items }
 
 abbrev pub tap_at : Inside → ℕ → WindowValue
 tap_at b y = window_in b.receive_windows.items y
@@ -32,7 +32,7 @@ pub record IsKept (b : Inside) : Type 0 where
   pub receive_windows : (y : ℕ) → y < length b.receive_windows.items → tap_at b y ≡ window_of (traffic_of b) y
   pub live : b.live.items ≡ live_numbers 0 b.seats.items
   pub few_seats : length b.seats.items < 2 ^ 32
-  pub few_frames : length b.wire.items < 2 ^ 32
+  pub few_frames : length b.wire.carried < 2 ^ 32
 
 -- what stands at a number of no station
 abbrev pub no_station_seat : StationSeat

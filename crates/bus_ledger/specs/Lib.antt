@@ -8,5 +8,4 @@ pub mod Window
 pub mod Ledger
 pub mod Refusals
 pub mod Offers
-pub mod Origins
 pub mod Inside

@@ -6,7 +6,7 @@ use crate::offers::is_name_among;
 use crate::receive_window::ReceiveWindow;
 use crate::seat::Seat;
 use crate::traffic::Counts;
-use crate::wire_frame::WireFrame;
+use crate::wire::Wire;
 use can_frame::Frame;
 use name_field::Name;
 use std::marker::Model;
@@ -28,7 +28,7 @@ const MOST_UNITS: usize = 64;
 /// The wire with all that was carried, the seats with their queues, and each station's window of unread frames.
 #[derive(Drop)]
 pub struct Bus {
-    wire: Vec<WireFrame>,
+    wire: Wire,
     seats: Vec<Seat>,
     // the numbers of the live seats, in order
     live: Vec<u32>,
@@ -158,8 +158,7 @@ impl Bus {
     pub fn wire_frame(&self, i: u32) -> Option<Frame>
         ensures { result ≡ option_map (λ c. c.frame) (slice_get self.now.traffic.wire i) }
     {
-        let carried = self.wire.get(i as usize)?;
-        Some(carried.frame())
+        self.wire.get(i as usize)
     }
 }
 

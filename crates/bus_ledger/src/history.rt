@@ -19,10 +19,12 @@ impl<A, B> Model for History<A, B> {
 
 // (there is nothing of it that another thread could reach)
 unsafe impl<A: Send, B: Send> Send for History<A, B> {}
+
 unsafe impl<A: Sync, B: Sync> Sync for History<A, B> {}
 
 impl<A, B> History<A, B> {
     /// Of nothing yet.
+    #[inline]
     pub fn new() -> History<A, B>
         ensures { result.items ≡ [] }
     {
@@ -30,6 +32,7 @@ impl<A, B> History<A, B> {
     }
 
     /// The same, and this pair after it.
+    #[inline]
     pub fn and(&self, first: &A, second: &B) -> History<A, B>
         ensures { result.items ≡ self.now.items ++ (first.now, second.now) ∷ [] }
     {

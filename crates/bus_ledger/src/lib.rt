@@ -14,7 +14,7 @@ mod queued;
 mod receive_window;
 mod seat;
 mod traffic;
-mod wire_frame;
+mod wire;
 
 pub use bus::{Bus, MOST_STATIONS, MOST_UNREAD};
 pub use error::BusError;

@@ -45,7 +45,7 @@ impl QueuedFrame {
 
 /// A frame on the wire, and the seat that it came from: none where it was put there from outside.
 ///
-/// The bus keeps it in less memory.
+/// The bus keeps the frame alone: its seat and its tag are known to proofs alone.
 #[derive(Clone, Copy, PartialEq, Eq)]
 pub struct CarriedFrame {
     pub seat: Option<u32>,

@@ -7,8 +7,7 @@ use crate::bus::Bus;
 use crate::error::BusError;
 use crate::offers::{best_offer, best_seat, is_any_waiting};
 use crate::receive_window;
-use crate::traffic::{Carried, QueuedFrame};
-use crate::wire_frame::WireFrame;
+use crate::traffic::{Carried, CarriedFrame, QueuedFrame};
 use can_frame::Frame;
 
 impl Bus {
@@ -26,11 +25,16 @@ impl Bus {
         let Some(seat) = self.next_seat() else {
             return Ok(self.without_sender());
         };
-        self.wire.reserve(1)?;
+        self.wire.reserve()?;
         let place = &mut self.seats[seat as usize];
         let sent = place.send();
         receive_window::receive(self.receive_windows.as_mut_slice(), seat, sent.frame);
-        self.wire.push_reserved(WireFrame::sent(seat, &sent));
+        let carried = CarriedFrame {
+            seat: Some(seat),
+            frame: sent.frame,
+            tag: sent.tag,
+        };
+        self.wire.push_reserved(&carried);
         Ok(Carried::Frame {
             seat,
             frame: sent.frame,
@@ -47,8 +51,13 @@ impl Bus {
         ensures err { IfErr result (λ e. (e ≡ BusError.OutOfMemory) × (self.new.traffic ≡ self.old.traffic)) }
         ensures spares { self.new.spares ≡ self.old.spares }
     {
-        self.wire.reserve(1)?;
-        self.wire.push_reserved(WireFrame::stray(frame));
+        self.wire.reserve()?;
+        let stray = CarriedFrame {
+            seat: None,
+            frame,
+            tag: None,
+        };
+        self.wire.push_reserved(&stray);
         receive_window::push(self.receive_windows.as_mut_slice(), frame);
         Ok(())
     }

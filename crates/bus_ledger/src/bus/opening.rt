@@ -9,6 +9,7 @@ use crate::error::BusError;
 use crate::receive_window::ReceiveWindow;
 use crate::seat::Seat;
 use crate::traffic::StationSeat;
+use crate::wire::Wire;
 use name_field::Name;
 use std::alloc::Global;
 
@@ -44,7 +45,7 @@ impl Bus {
         ensures room { IfOk result (λ b. (y : ℕ) → y < length stations.now → 1 ≤ spare_at b y) }
     {
         Ok(Bus {
-            wire: Vec::new(alloc),
+            wire: Wire::new(alloc),
             seats: seats_of(alloc, stations)?,
             live: numbers_below(alloc, stations.len() as u32)?,
             receive_windows: receive_windows_of(alloc, stations)?,

@@ -18,8 +18,7 @@ impl Bus {
         ensures sound { IsSound self.now.traffic }
     {
         let heard = self.seats[seat as usize].heard();
-        let next = self.wire.get(heard as usize)?;
-        Some(next.frame())
+        self.wire.get(heard as usize)
     }
 
     /// How many frames of the wire the seat has not heard. Where it is one, `next_for` gives the wire's last frame.

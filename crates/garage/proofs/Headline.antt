@@ -29,18 +29,18 @@ use Rattle.garage.specs.declared.garage.Post.{Post}
 use Rattle.garage.proofs.Standing.{lawful_now, post_is, post_table, settings_are, station_below}
 
 -- a station's tables stand for its readings in the journal
-pub tables : (a : Inside) (y : ℕ) → Stands a → y < a.stations → StandsFor (station_of_at (settings_of a) y) (setting_at (settings_of a) y).grant (table_at (state_of (garage_value_of a)) y) (readings_at y (reverse a.journal.items))
-tables a y stands h = station (settings_of a) (reverse a.journal.items) stands.fits y (within a y stands h)
+pub tables : (a : Inside) (y : ℕ) → Stands a → y < a.stations → StandsFor (station_of_at (settings_of a) y) (setting_at (settings_of a) y).grant (table_at (state_of (garage_value_of a)) y) (readings_at y a.journal)
+tables a y stands h = station (settings_of a) a.journal stands.fits y (within a y stands h)
   where
     within : (a : Inside) (y : ℕ) → Stands a → y < a.stations → y < length (settings_of a).stations
     within a y stands h = (let n = settings_are a stands in omega arith)
 
 -- a post's station stands for its readings, and its lists have what was heard
 pub reading_heard : (a : Inside) (y : ℕ) (x : Post) → Stands a → y < a.stations → x ≡ get_or a.posts.items y x
-    → StandsFor (station_of_at (settings_of a) y) (setting_at (settings_of a) y).grant x.station (readings_at y (reverse a.journal.items))
-    × ((n : ℕ) (k : Kind) → entries_under x.lists n k ≡ lists_heard (station_of_at (settings_of a) y) (readings_at y (reverse a.journal.items)) n k)
+    → StandsFor (station_of_at (settings_of a) y) (setting_at (settings_of a) y).grant x.station (readings_at y a.journal)
+    × ((n : ℕ) (k : Kind) → entries_under x.lists n k ≡ lists_heard (station_of_at (settings_of a) y) (readings_at y a.journal) n k)
 reading_heard a y x stands below read = (
-  subst (λ (s : StationValue). StandsFor (station_of_at (settings_of a) y) (setting_at (settings_of a) y).grant s (readings_at y (reverse a.journal.items))) (sym (post_table a y x stands below read)) (tables a y stands below),
+  subst (λ (s : StationValue). StandsFor (station_of_at (settings_of a) y) (setting_at (settings_of a) y).grant s (readings_at y a.journal)) (sym (post_table a y x stands below read)) (tables a y stands below),
   λ n k. ap (λ (p : Post). entries_under p.lists n k) (post_is a y x stands below read) ∙ stands.lists y n k below,
 )
 
@@ -50,9 +50,9 @@ pub shown_expected : (a : Inside) (v : GarageValue) (y n : ℕ) (k : Kind) (x : 
 shown_expected a v y n k x l is stands h read e none =
     let below = station_below a v y is stands h in
     let h' : y < length (settings_of a).stations = subst (λ (g : GarageValue). y < length g.settings.stations) (sym is) h in
-    let none' : injected_of (reverse a.journal.items) ≡ 0 = ap (λ (g : GarageValue). injected_of g.journal) is ∙ none in
+    let none' : injected_of a.journal ≡ 0 = ap (λ (g : GarageValue). injected_of g.journal) is ∙ none in
     e ∙ (ap (λ (p : Post). entries_under p.lists n k) (post_is a y x stands below read)
-    ∙ (stands.lists y n k below ∙ (exact (settings_of a) (reverse a.journal.items) stands.fits none' y h' n k ∙ ap (λ (g : GarageValue). shown_at g y n k) is)))
+    ∙ (stands.lists y n k below ∙ (exact (settings_of a) a.journal stands.fits none' y h' n k ∙ ap (λ (g : GarageValue). shown_at g y n k) is)))
 
 pub shown_heard : (a : Inside) (v : GarageValue) (y n : ℕ) (k : Kind) (x : Post) (l : List Shown) → garage_value_of a ≡ v → Stands a → y < length v.settings.stations → x ≡ get_or a.posts.items y x → l ≡ entries_under x.lists n k
     → l ≡ reverse (entries_heard (station_of_at v.settings y) n k (readings_at y v.journal))
@@ -81,8 +81,8 @@ missed_kept a v y n x is stands h read e =
 pub none_unread : (a : Inside) (v : GarageValue) (y n : ℕ) (x : Post) → garage_value_of a ≡ v → Stands a → y < length v.settings.stations → x ≡ get_or a.posts.items y x → n ≡ x.station.unread → injected_of v.journal ≡ 0 → n ≡ 0
 none_unread a v y n x is stands h read e none =
     let h' : y < length (settings_of a).stations = subst (λ (g : GarageValue). y < length g.settings.stations) (sym is) h in
-    let none' : injected_of (reverse a.journal.items) ≡ 0 = ap (λ (g : GarageValue). injected_of g.journal) is ∙ none in
-    e ∙ (ap (λ (s : StationValue). s.unread) (post_table a y x stands (station_below a v y is stands h) read) ∙ readable (settings_of a) (reverse a.journal.items) stands.fits none' y h')
+    let none' : injected_of a.journal ≡ 0 = ap (λ (g : GarageValue). injected_of g.journal) is ∙ none in
+    e ∙ (ap (λ (s : StationValue). s.unread) (post_table a y x stands (station_below a v y is stands h) read) ∙ readable (settings_of a) a.journal stands.fits none' y h')
 
 pub unread_heard : (a : Inside) (v : GarageValue) (y n : ℕ) (x : Post) → garage_value_of a ≡ v → Stands a → y < length v.settings.stations → x ≡ get_or a.posts.items y x → n ≡ x.station.unread → n ≡ unread_count (station_of_at v.settings y) (readings_at y v.journal)
 unread_heard a v y n x is stands h read e =
@@ -97,7 +97,7 @@ pub row_known_heard : (a : Inside) (v : GarageValue) (y n : ℕ) (x : Post) (o :
     → o ≡ row_of x.station.owners n (kept_under x.station.rows n) → option_map row_heard_as o ≡ row_heard (station_of_at v.settings y) n (readings_at y v.journal)
 row_known_heard a v y n x o is stands h read e =
     let below = station_below a v y is stands h in
-    row_as_heard (station_of_at (settings_of a) y) (setting_at (settings_of a) y).grant (table_at (state_of (garage_value_of a)) y) (readings_at y (reverse a.journal.items)) n o
+    row_as_heard (station_of_at (settings_of a) y) (setting_at (settings_of a) y).grant (table_at (state_of (garage_value_of a)) y) (readings_at y a.journal) n o
     (e ∙ ap (λ (s : StationValue). row_of s.owners n (kept_under s.rows n)) (post_table a y x stands below read)) (tables a y stands below)
     ∙ ap (λ (g : GarageValue). row_heard (station_of_at g.settings y) n (readings_at y g.journal)) is
 
@@ -113,10 +113,10 @@ pub kept_tables : (a : Inside) (v : GarageValue) (y : ℕ) (x : Post) → garage
 kept_tables a v y x is stands h read =
     let below = station_below a v y is stands h in
     subst (λ (g : GarageValue). StandsFor (station_of_at g.settings y) (setting_at g.settings y).grant x.station (readings_at y g.journal)) is
-    (subst (λ (s : StationValue). StandsFor (station_of_at (settings_of a) y) (setting_at (settings_of a) y).grant s (readings_at y (reverse a.journal.items))) (sym (post_table a y x stands below read)) (tables a y stands below))
+    (subst (λ (s : StationValue). StandsFor (station_of_at (settings_of a) y) (setting_at (settings_of a) y).grant s (readings_at y a.journal)) (sym (post_table a y x stands below read)) (tables a y stands below))
 
-pub wire_lawful : (a : Inside) → Stands a → injected_of (reverse a.journal.items) ≡ 0 → IsLawfulTraffic (state_of (garage_value_of a)).begun (wire_of (state_of (garage_value_of a)))
+pub wire_lawful : (a : Inside) → Stands a → injected_of a.journal ≡ 0 → IsLawfulTraffic (state_of (garage_value_of a)).begun (wire_of (state_of (garage_value_of a)))
 wire_lawful a stands none = lawful_wire (garage_value_of a) stands.fits none
 
-pub frame_from_owner : (a : Inside) (i : ℕ) → Stands a → injected_of (reverse a.journal.items) ≡ 0 → IsFromOwner (state_of (garage_value_of a)) i
+pub frame_from_owner : (a : Inside) (i : ℕ) → Stands a → injected_of a.journal ≡ 0 → IsFromOwner (state_of (garage_value_of a)) i
 frame_from_owner a i stands none = from_owner (garage_value_of a) stands.fits none i

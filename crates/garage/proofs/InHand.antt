@@ -1,5 +1,5 @@
 -- What the journal's laws say of the fields of a garage.
-use Rattle.std.proofs.Common.{ℕ, ◌≡◌, ◌<◌, true, length, reverse, ap, ◌∙◌, arith}
+use Rattle.std.proofs.Common.{ℕ, ◌≡◌, ◌<◌, true, length, ap, ◌∙◌, arith}
 use Rattle.bus_ledger.specs.BusValue.{Traffic, IsLive, IsStation, seat_at}
 use Rattle.journal.proofs.Living as living
 use Rattle.journal.specs.Journal.{GarageValue}
@@ -15,7 +15,7 @@ bus_windows a stands = ap (λ (t : Traffic). length t.windows) stands.traffic �
 -- a station's seat is live in every garage
 pub station_lives : (a : Inside) → Stands a → (y : ℕ) → y < a.stations → (seat_at a.bus.traffic y).live ≡ true
 station_lives a stands y h =
-    ap (λ (t : Traffic). (seat_at t y).live) stands.traffic ∙ living.stations_live (settings_of a) (reverse a.journal.items) y stands.fits (let n = settings_are a stands in omega arith)
+    ap (λ (t : Traffic). (seat_at t y).live) stands.traffic ∙ living.stations_live (settings_of a) a.journal y stands.fits (let n = settings_are a stands in omega arith)
 
 pub stations_live : (a : Inside) → Stands a → (y : ℕ) → y < length a.bus.traffic.windows → (seat_at a.bus.traffic y).live ≡ true
 stations_live a stands y h = station_lives a stands y (let w = bus_windows a stands in omega arith)

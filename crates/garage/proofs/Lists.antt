@@ -1,6 +1,5 @@
 -- Each call keeps what was listed.
-use Rattle.std.proofs.Common.{ℕ, ◌≡◌, ◌<◌, ◌^◌, Bool, List, [], ◌∷◌, ◌++◌, length, reverse, arith, ap, ◌∙◌, subst}
-use Rattle.std.proofs.lemmas.List.{length-reverse}
+use Rattle.std.proofs.Common.{ℕ, ◌≡◌, ◌<◌, ◌^◌, Bool, List, ◌∷◌, length, arith, ap, ◌∙◌, subst}
 use Rattle.fault_memory.specs.Memory.{MemoryValue}
 use Rattle.unit_trait.specs.declared.question.Question.{Question}
 use Rattle.journal.specs.Fits.{Fits}
@@ -13,7 +12,6 @@ use Rattle.journal.proofs.Lifted.{keeps_adds, keeps_same}
 use Rattle.garage_steps.specs.Answers.{Hears, Begins}
 use Rattle.garage.specs.Inside.{settings_of, garage_value_of, Stands}
 use Rattle.garage.specs.declared.garage.Garage.TheInside.{Inside}
-use Rattle.garage_steps.proofs.Events.{newest}
 use Rattle.garage_steps.specs.declared.answers.HeardOne.{HeardOne}
 use Rattle.garage_steps.specs.declared.answers.HeardOne.TheVariants as heard
 use Rattle.garage_steps.specs.declared.answers.Begin.{Begin as Began}
@@ -22,8 +20,7 @@ use Rattle.garage_steps.specs.declared.answers.Begin.TheVariants as began
 -- a journal has room for 2^24 events at most
 pub few_events : (a : Inside) (g : GarageValue) → garage_value_of a ≡ g → Stands a → length g.journal < 2 ^ 32
 few_events a g is stands =
-    let long : length (reverse a.journal.items) ≡ length g.journal = ap (λ (v : GarageValue). length v.journal) is in
-    let same = length-reverse a.journal.items in
+    let long : length a.journal ≡ length g.journal = ap (λ (v : GarageValue). length v.journal) is in
     let within = stands.within in
     let limit = stands.few in
     omega arith
@@ -36,11 +33,10 @@ lists_same old new e = keeps_same old new e
 pub lists_added : (a : Inside) (old new : GarageValue) (e : Event) → garage_value_of a ≡ old → Stands a → Adds old e new → KeepsLists old new
 lists_added a old new e is stands adds = keeps_adds old new e adds
 
-pub lists_pushed : (a : Inside) (old : GarageValue) (r : Settings) (events : List Event) (e : Event) → garage_value_of a ≡ old → Stands a → r ≡ settings_of a → events ≡ a.journal.items ++ e ∷ []
-    → Fits (state_of (garage_value_of a)) e → KeepsLists old (record { settings = r; journal = reverse events })
+pub lists_pushed : (a : Inside) (old : GarageValue) (r : Settings) (events : List Event) (e : Event) → garage_value_of a ≡ old → Stands a → r ≡ settings_of a → events ≡ e ∷ a.journal
+    → Fits (state_of (garage_value_of a)) e → KeepsLists old (record { settings = r; journal = events })
 lists_pushed a old r events e is stands settings journal fits =
-    let v : GarageValue = record { settings = r; journal = reverse events } in
-    let history : reverse events ≡ e ∷ reverse a.journal.items = ap reverse journal ∙ newest a.journal.items e in
+    let v : GarageValue = record { settings = r; journal = events } in
     let next : v ≡ with_event e (garage_value_of a) = cc in
     lists_added a old v e is stands (record { adds = next ∙ ap (with_event e) is; fits = subst (λ (g : GarageValue). Fits (state_of g) e) is fits })
 

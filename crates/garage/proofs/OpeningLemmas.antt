@@ -130,19 +130,19 @@ unfolding readings_at
 nothing_listed r y n k = refl
 
 pub opened_stands : (g : Inside) (settings : List Setting) → AreSettings settings g.limit → HaveOwnNames settings → HaveNames settings (length settings) → ArePostsOf g.posts.items settings (length settings) → g.stations ≡ length settings
-    → g.journal.items ≡ [] → g.places.items ≡ [] → g.begun ≡ 0 → g.live ≡ 0 → g.injected ≡ 0
+    → g.journal ≡ [] → g.places.items ≡ [] → g.begun ≡ 0 → g.live ≡ 0 → g.injected ≡ 0
     → g.bus.traffic ≡ with_claims 0 (map setting_value settings) (new_traffic (map station_seat_of settings)) → Stands g
 opened_stands g settings are apart names posts count empty none begun live injected traffic =
     let r : Settings = with_stations settings g.limit in
     let same : settings_of g ≡ r = opened_settings g settings posts in
-    let history : reverse g.journal.items ≡ [] = ap reverse empty in
+    let history = empty in
     let is : state_of (garage_value_of g) ≡ new_state r =
     ap (λ (es : List Event). state_after (settings_of g) es) history ∙ (ap (λ (x : Settings). state_after x []) same ∙ opened_is r) in
     let opened : g.bus.traffic ≡ (new_state r).traffic = traffic ∙ ap (λ (l : List StationSeat). with_claims 0 (map setting_value settings) (new_traffic l)) (seats_map settings) in
     let stations = length-map settings setting_value in
     let many : length g.bus.traffic.seats ≡ length r.stations = ap (λ (t : Traffic). length t.seats) opened ∙ started_seats r in
     let places : length g.places.items ≡ 0 = ap length none in
-    let events : length g.journal.items ≡ 0 = ap length empty in
+    let events : length g.journal ≡ 0 = ap length empty in
     let wires : length g.bus.traffic.wire ≡ 0 = ap (λ (t : Traffic). length t.wire) opened ∙ ap length (claims_wire 0 r.stations (new_traffic (map station_seat r.stations))) in
     let lives : live_units g.bus.traffic ≡ 0 = ap live_units opened ∙ none_live r in
     let long = posts.0 in
@@ -161,7 +161,7 @@ opened_stands g settings are apart names posts count empty none begun live injec
           ∙ sym (ap (λ (es : List Event). reverse (entries_heard (station_of_at (settings_of g) y) n k (readings_at y es))) history ∙ nothing_listed (station_of_at (settings_of g) y) y n k);
       units = ap (map unit_of) none ∙ sym (ap (λ (s : State). s.units) is);
       begun = begun ∙ sym (ap (λ (s : State). length s.begun) is);
-      fits = subst (λ (x : Settings). AllFit x (reverse g.journal.items)) (sym same) (subst (λ (es : List Event). AllFit r es) (sym history) (none_fit r (are_fit settings g.limit are.each apart names)));
+      fits = subst (λ (x : Settings). AllFit x g.journal) (sym same) (subst (λ (es : List Event). AllFit r es) (sym history) (none_fit r (are_fit settings g.limit are.each apart names)));
       injected = injected ∙ sym (ap injected_of history ∙ none_injected);
       joined = ap joins history ∙ (no_joins ∙ sym places);
       tallies = λ k h. absurd (omega arith);
@@ -169,7 +169,6 @@ opened_stands g settings are apart names posts count empty none begun live injec
       seats = omega arith;
       live = live ∙ sym lives;
       within = (let l = first.some_limit in omega arith);
-      room = omega arith;
       wire = omega arith;
       queued = λ k. (let q = first_queued r k in let e = ap (λ (t : Traffic). (seat_at t k).queued) opened in omega arith);
       messages = omega arith;

@@ -1,5 +1,5 @@
 -- A unit that passes over its next frame.
-use Rattle.std.proofs.Common.{ℕ, ◌≡◌, ◌-◌, ◌+◌, ◌<◌, ◌≤◌, Bool, true, false, nat_eq, eq-eqb, if◌then◌else◌, List, [], ◌∷◌, ◌++◌, length, map, reverse, get_or, set, slice_get, slice_set, Option, None, Some, arith, refl, sym, ap, ◌∙◌, subst}
+use Rattle.std.proofs.Common.{ℕ, ◌≡◌, ◌-◌, ◌+◌, ◌<◌, ◌≤◌, Bool, List, ◌∷◌, length, map, get_or, set, slice_get, slice_set, Option, None, Some, arith, refl, sym, ap, ◌∙◌, subst}
 use Rattle.std.proofs.lemmas.List.{length-set, map-set}
 use Rattle.std.specs.Option.{option_map}
 use Rattle.can_frame.specs.FrameValue.{FrameValue}
@@ -9,20 +9,17 @@ use Rattle.bus_ledger.specs.Changes.{heard_more}
 use Rattle.bus_ledger.specs.Newcomers.{live_units}
 use Rattle.bus_ledger.specs.declared.traffic.CarriedFrame.{CarriedFrame}
 use Rattle.unit_trait.specs.declared.question.Question.{Question}
-use Rattle.unit_trait.specs.declared.question.Question.TheVariants.{Clear, Hold}
 use Rattle.node_core.specs.NodeValue.{NodeValue}
 use Rattle.node_core.specs.Deed.{Deed, Nothing, heard_of}
 use Rattle.node_core.specs.Asking.{IsAnswerTo, IsAsked, memory_answered}
 use Rattle.node_core.specs.Passing.{IsHeardQuietly}
 use Rattle.node_core.specs.Reaction.{node_after, question}
-use Rattle.node_core.specs.declared.heard.Answer.{Answer as UnitAnswer}
 use Rattle.node_core.specs.declared.heard.Answer.TheVariants.{NotAsked}
 use Rattle.journal.specs.Fits.{Fits}
 use Rattle.journal.specs.State.{Settings, State, UnitState, unit_at, table_at}
 use Rattle.journal.specs.Steps.{after, after_hearing, next_for}
-use Rattle.journal.specs.Journal.{GarageValue, Adds, AllFit, memory_recorded, one_more, state_of, tally_of}
-use Rattle.journal.specs.declared.event.Event.{Event}
-use Rattle.journal.specs.declared.event.Event.TheVariants.{Join, Hear, Begin, Turned, Carry, Read, Ordered, Leave, Inject}
+use Rattle.journal.specs.Journal.{GarageValue, Adds, one_more, state_of, tally_of}
+use Rattle.journal.specs.declared.event.Event.TheVariants.{Hear}
 use Rattle.entry_lists.specs.Entries.{entries_under}
 use Rattle.garage_steps.specs.Answers.{Hears, Passes}
 use Rattle.garage.specs.Inside.{settings_of, garage_value_of, place_at, post_at, unit_of, Stands}
@@ -69,10 +66,10 @@ pub record SamePosts (a b : Inside) : Type 0 where
 
 -- a garage stands for its journal after it
 pub quiet_stands : (a b : Inside) (seat : ℕ) (memory : MemoryValue) (f : FrameValue) (x : Place) (node' : NodeValue) → Stands a → IsUnit (state a).traffic seat → IsLawfulMemory memory → next_for (state a) seat ≡ Some f
-    → x ≡ get_or a.places.items (seat - a.stations) x → IsHeardQuietly x.node f node' → settings_of b ≡ settings_of a → b.journal.items ≡ a.journal.items ++ Hear seat memory NotAsked ∷ [] → b.bus.traffic ≡ heard_more seat 1 a.bus.traffic
+    → x ≡ get_or a.places.items (seat - a.stations) x → IsHeardQuietly x.node f node' → settings_of b ≡ settings_of a → b.journal ≡ Hear seat memory NotAsked ∷ a.journal → b.bus.traffic ≡ heard_more seat 1 a.bus.traffic
     → SamePosts a b → b.places.items ≡ set a.places.items (seat - a.stations) (record x { node = node'; tally = one_more x.tally }) → b.begun ≡ a.begun → b.live ≡ a.live → b.injected ≡ a.injected
-    → length a.journal.items + 1 + a.live ≤ a.limit → a.live ≤ b.journal.room → Stands b
-quiet_stands a b seat memory f x node' stands u lawful next read quiet settings journal now same_posts places begun live injected within room =
+    → length a.journal + 1 + a.live ≤ a.limit → Stands b
+quiet_stands a b seat memory f x node' stands u lawful next read quiet settings journal now same_posts places begun live injected within =
     let s = state a in
     let k = seat - a.stations in
     let h = place_within a seat stands u in
@@ -103,13 +100,12 @@ quiet_stands a b seat memory f x node' stands u lawful next read quiet settings 
       begun = begun ∙ (stands.begun ∙ sym (ap (λ (v : State). length v.begun) is));
       injected = (let i = injected in omega arith);
       joined = joins_hear seat memory NotAsked _ ∙ (stands.joined ∙ sym long);
-      tallies = subst (λ (xs : List Place). (j : ℕ) → j < length xs → (place_at xs j).tally ≡ tally_of (a.stations + j) (Hear seat memory NotAsked ∷ reverse a.journal.items)) (sym places)
+      tallies = subst (λ (xs : List Place). (j : ℕ) → j < length xs → (place_at xs j).tally ≡ tally_of (a.stations + j) (Hear seat memory NotAsked ∷ a.journal)) (sym places)
           (tallies_one a.stations a.places.items _ (Hear seat memory NotAsked) k seat p one_more stands.tallies (λ j t'. refl) (omega arith) h (ap one_more (place_tally a k x h read)));
       fresh = λ j l. fresh_one _ (Hear seat memory NotAsked) seat (a.stations + length a.places.items) one_more stands.fresh (λ i t'. refl) (omega arith) j (omega arith);
       seats = (let y = stands.seats in omega arith);
       live = live ∙ (stands.live ∙ sym lives);
       within = omega arith;
-      room = omega arith;
       wire = (let w = stands.wire in omega arith);
       queued = λ j. (let w = stands.queued j in let q = keeps.queued j in let e = ap (λ (v : Traffic). (seat_at v j).queued) now in omega arith);
       messages = (let w = stands.messages in omega arith);
@@ -118,7 +114,7 @@ quiet_stands a b seat memory f x node' stands u lawful next read quiet settings 
 
 -- what it comes to, at what callers see
 pub quiet_passes : (a b : Inside) (v : GarageValue) (seat : ℕ) (memory given : MemoryValue) (f : FrameValue) (x : Place) (node' : NodeValue) → garage_value_of a ≡ v → Stands a → settings_of b ≡ settings_of a
-    → b.journal.items ≡ a.journal.items ++ Hear seat memory NotAsked ∷ [] → memory ≡ given → IsUnit (state a).traffic seat → IsLawfulMemory memory → next_for (state a) seat ≡ Some f → x ≡ get_or a.places.items (seat - a.stations) x
+    → b.journal ≡ Hear seat memory NotAsked ∷ a.journal → memory ≡ given → IsUnit (state a).traffic seat → IsLawfulMemory memory → next_for (state a) seat ≡ Some f → x ≡ get_or a.places.items (seat - a.stations) x
     → IsHeardQuietly x.node f node' → Passes v seat given f (garage_value_of b)
 quiet_passes a b v seat memory given f x node' is stands settings journal mem u lawful next read quiet =
     let same = place_unit a seat x stands u read in
@@ -148,42 +144,3 @@ hears_quietly v w k f memory answers unit next passes = (
     subst (λ (q : Option Question). IsAsked answers q NotAsked unit unit) (sym passes.unasked) refl,
   ),
 )
-
--- what the latest event of a seat tells is a lawful memory
-at_latest : (b : Bool) (memory m : MemoryValue) (o : Option MemoryValue) → IsLawfulMemory memory → (o ≡ Some m → IsLawfulMemory m) → (if b then Some memory else o) ≡ Some m → IsLawfulMemory m
-at_latest true memory m o lawful old h = (let e : memory ≡ m = cc in subst IsLawfulMemory e lawful)
-at_latest false memory m o lawful old h = old h
-
-pub told_is_lawful : (r : Settings) (es : List Event) (k : ℕ) (m : MemoryValue) → AllFit r es → memory_recorded k es ≡ Some m → IsLawfulMemory m
-unfolding memory_recorded AllFit
-told_is_lawful r [] k m fits h = absurd cc
-told_is_lawful r (Hear j memory answered ∷ older) k m fits h = at_latest (nat_eq j k) memory m (memory_recorded k older) fits.0.2 (told_is_lawful r older k m fits.1) h
-told_is_lawful r (Begin j memory ∷ older) k m fits h = at_latest (nat_eq j k) memory m (memory_recorded k older) fits.0.2 (told_is_lawful r older k m fits.1) h
-told_is_lawful r (Join seat name address ∷ older) k m fits h = told_is_lawful r older k m fits.1 h
-told_is_lawful r (Turned j ∷ older) k m fits h = told_is_lawful r older k m fits.1 h
-told_is_lawful r (Carry j ∷ older) k m fits h = told_is_lawful r older k m fits.1 h
-told_is_lawful r (Read y reading ∷ older) k m fits h = told_is_lawful r older k m fits.1 h
-told_is_lawful r (Ordered y order ∷ older) k m fits h = told_is_lawful r older k m fits.1 h
-told_is_lawful r (Leave j ∷ older) k m fits h = told_is_lawful r older k m fits.1 h
-told_is_lawful r (Inject frame ∷ older) k m fits h = told_is_lawful r older k m fits.1 h
-
--- what is told at the fields of a garage
-pub told_inside : (a : Inside) (v : GarageValue) (k : ℕ) (m : MemoryValue) → garage_value_of a ≡ v → Stands a → memory_recorded k v.journal ≡ Some m
-    → (memory_recorded k (reverse a.journal.items) ≡ Some m) × IsLawfulMemory m
-told_inside a v k m is stands told =
-    let here : memory_recorded k (reverse a.journal.items) ≡ Some m = ap (λ (w : GarageValue). memory_recorded k w.journal) is ∙ told in
-    (here, told_is_lawful (settings_of a) (reverse a.journal.items) k m stands.fits here)
-
--- what a seat has just heard tells its memory
-pub told_hearing : (v w : GarageValue) (k : ℕ) (m : MemoryValue) (answered : UnitAnswer) → Adds v (Hear k m answered) w → memory_recorded k w.journal ≡ Some m
-unfolding memory_recorded
-told_hearing v w k m answered h =
-    let t : nat_eq k k ≡ true = eq-eqb k k refl in
-    let now : memory_recorded k (Hear k m answered ∷ v.journal) ≡ Some m = rw t refl in
-    ap (λ (g : GarageValue). memory_recorded k g.journal) h.adds ∙ now
-
--- a unit that was not asked has the memory that it had
-pub memory_unasked : (q : Option Question) (answered : UnitAnswer) (m : MemoryValue) → answered ≡ NotAsked → memory_answered q answered m ≡ m
-memory_unasked None answered m e = refl
-memory_unasked (Some (Clear which)) answered m e = rw e refl
-memory_unasked (Some (Hold address)) answered m e = refl

@@ -1,10 +1,10 @@
 -- A garage that stands for its journal stands for it with one event more.
 use Rattle.std.proofs.Common.{ℕ, suc, zero, ◌≡◌, ◌+◌, ◌-◌, ◌*◌, ◌<◌, ◌≤◌, List, [], ◌∷◌, ◌++◌, map, reverse, length, get_or, set, Bool, ◌≢◌, true, false, ◌==◌, nat_eq, eq-eqb, Some, refl, sym, ap, ◌∙◌, subst, arith, inl, inr, if◌then◌else◌}
 use Rattle.std.proofs.lemmas.Bool.{ne_eqb}
-use Rattle.std.proofs.lemmas.List.{length-map, length-reverse, length-set, length_push, map-set, get_or_read, get_or-set_same, get_or-set_other, set-get_or}
+use Rattle.std.proofs.lemmas.List.{length-map, length-set, length_push, map-set, get_or_read, get_or-set_same, get_or-set_other, set-get_or}
 use Rattle.bus_ledger.specs.BusValue.{Traffic, seat_at, IsStation, IsUnit}
 use Rattle.bus_ledger.specs.Newcomers.{live_units}
-use Rattle.bus_ledger.specs.Changes.{left, queued, with_newcomer, injected}
+use Rattle.bus_ledger.specs.Changes.{queued, with_newcomer, injected}
 use Rattle.std.proofs.lemmas.List.{get_or_push, get_or_append_left}
 use Rattle.fault_memory.specs.Memory.{MemoryValue}
 use Rattle.can_frame.specs.declared.reading.Reading.{Reading}
@@ -40,17 +40,17 @@ use Rattle.garage.specs.declared.garage.Place.{Place}
 use Rattle.garage.specs.declared.garage.Post.{Post}
 use Rattle.garage.specs.declared.garage.Garage.TheInside.{Inside}
 use Rattle.garage_steps.proofs.Traffics.{IsLive-queued, joined_live, joined_name}
-use Rattle.garage_steps.proofs.Events.{state_more, fit_more, tally_more, newest, IsFewTally, tally_few, from_outside, injected_more, readings_with, readings_more, join_is}
+use Rattle.garage_steps.proofs.Events.{state_more, fit_more, tally_more, IsFewTally, tally_few, from_outside, injected_more, readings_with, readings_more, join_is}
 
 -- the state that the fields of a garage stand for
 abbrev pub state : Inside → State
 state g = state_of (garage_value_of g)
 
 -- the counts of a place that was read
-pub place_few : (a : Inside) (k : ℕ) (x : Place) → Stands a → k < length a.places.items → x ≡ get_or a.places.items k x → IsFewTally (length a.journal.items) x.tally
+pub place_few : (a : Inside) (k : ℕ) (x : Place) → Stands a → k < length a.places.items → x ≡ get_or a.places.items k x → IsFewTally (length a.journal) x.tally
 place_few a k x stands h read =
-    let t : x.tally ≡ tally_of (a.stations + k) (reverse a.journal.items) = ap (λ (p : Place). p.tally) (get_or_read a.places.items k x h read no_place) ∙ stands.tallies k h in
-    subst (λ (n : ℕ). IsFewTally n x.tally) (length-reverse a.journal.items) (subst (λ (u : Tally). IsFewTally (length (reverse a.journal.items)) u) (sym t) (tally_few (a.stations + k) (reverse a.journal.items)))
+    let t : x.tally ≡ tally_of (a.stations + k) a.journal = ap (λ (p : Place). p.tally) (get_or_read a.places.items k x h read no_place) ∙ stands.tallies k h in
+    subst (λ (u : Tally). IsFewTally (length a.journal) u) (sym t) (tally_few (a.stations + k) a.journal)
 
 -- as many settings as stations
 pub settings_are : (a : Inside) → Stands a → length (settings_of a).stations ≡ a.stations
@@ -58,10 +58,10 @@ settings_are a stands = length-map a.posts.items post_setting ∙ sym stands.sta
 
 -- it has its stations, each with a window
 pub stations_are : (a : Inside) → Stands a → length (state a).stations ≡ a.stations
-stations_are a stands = (stationed (settings_of a) (reverse a.journal.items) stands.fits).count ∙ settings_are a stands
+stations_are a stands = (stationed (settings_of a) a.journal stands.fits).count ∙ settings_are a stands
 
 pub windows_are : (a : Inside) → Stands a → length (state a).traffic.windows ≡ a.stations
-windows_are a stands = (stationed (settings_of a) (reverse a.journal.items) stands.fits).windows ∙ settings_are a stands
+windows_are a stands = (stationed (settings_of a) a.journal stands.fits).windows ∙ settings_are a stands
 
 -- the places of units are behind those of the stations
 pub place_within : (a : Inside) (k : ℕ) → Stands a → IsUnit (state a).traffic k → k - a.stations < length a.places.items
@@ -96,27 +96,26 @@ tallies_one base xs es e k seat p f old rule at h is j l =
 -- what a call has to show of the fields after one event more
 pub record More (a b : Inside) (e : Event) : Type 0 where
   pub settings : settings_of b ≡ settings_of a
-  pub journal : b.journal.items ≡ a.journal.items ++ e ∷ []
+  pub journal : b.journal ≡ e ∷ a.journal
   pub fits : Fits (state a) e
   pub traffic : b.bus.traffic ≡ (after e (state a)).traffic
   pub stations : b.stations ≡ a.stations
   pub posts : (y : ℕ) → y < a.stations → (post_at b.posts.items y).station ≡ table_at (after e (state a)) y
   pub lists : (y n : ℕ) (k : Kind) → y < a.stations
-      → entries_under (post_at b.posts.items y).lists n k ≡ reverse (entries_heard (station_of_at (settings_of a) y) n k (readings_with e y (readings_at y (reverse a.journal.items))))
+      → entries_under (post_at b.posts.items y).lists n k ≡ reverse (entries_heard (station_of_at (settings_of a) y) n k (readings_with e y (readings_at y a.journal)))
   pub units : map unit_of b.places.items ≡ (after e (state a)).units
   pub begun : b.begun ≡ length (after e (state a)).begun
   pub injected : b.injected ≡ a.injected + from_outside e
-  pub joined : joins (e ∷ reverse a.journal.items) ≡ length b.places.items
-  pub tallies : (k : ℕ) → k < length b.places.items → (place_at b.places.items k).tally ≡ tally_of (a.stations + k) (e ∷ reverse a.journal.items)
-  pub fresh : (k : ℕ) → a.stations + length b.places.items ≤ k → tally_of k (e ∷ reverse a.journal.items) ≡ no_tally
+  pub joined : joins (e ∷ a.journal) ≡ length b.places.items
+  pub tallies : (k : ℕ) → k < length b.places.items → (place_at b.places.items k).tally ≡ tally_of (a.stations + k) (e ∷ a.journal)
+  pub fresh : (k : ℕ) → a.stations + length b.places.items ≤ k → tally_of k (e ∷ a.journal) ≡ no_tally
   pub seats : length b.bus.traffic.seats ≡ length b.places.items + a.stations
   pub live : b.live ≡ live_units b.bus.traffic
-  pub within : length a.journal.items + 1 + b.live ≤ b.limit
-  pub room : b.live ≤ b.journal.room
-  pub wire : length b.bus.traffic.wire ≤ length a.journal.items + 1
-  pub queued : (k : ℕ) → (seat_at b.bus.traffic k).queued ≤ 256 * (length a.journal.items + 1) + 1
-  pub messages : b.begun ≤ length a.journal.items + 1
-  pub places : length b.places.items ≤ length a.journal.items + 1
+  pub within : length a.journal + 1 + b.live ≤ b.limit
+  pub wire : length b.bus.traffic.wire ≤ length a.journal + 1
+  pub queued : (k : ℕ) → (seat_at b.bus.traffic k).queued ≤ 256 * (length a.journal + 1) + 1
+  pub messages : b.begun ≤ length a.journal + 1
+  pub places : length b.places.items ≤ length a.journal + 1
 
 -- as many posts as settings
 pub same_many : (a b : Inside) → settings_of b ≡ settings_of a → length b.posts.items ≡ length a.posts.items
@@ -124,11 +123,11 @@ same_many a b e = sym (length-map b.posts.items post_setting) ∙ (ap (λ (r : S
 
 pub stands_more : (a b : Inside) (e : Event) → Stands a → More a b e → Stands b
 stands_more a b e stands m =
-    let n : length b.journal.items ≡ length a.journal.items + 1 = ap length m.journal ∙ length_push a.journal.items e in
-    let history : reverse b.journal.items ≡ e ∷ reverse a.journal.items = ap reverse m.journal ∙ newest a.journal.items e in
+    let n : length b.journal ≡ length a.journal + 1 = (let l = ap length m.journal in omega arith) in
+    let history = m.journal in
     let is : state b ≡ after e (state a) =
     ap (λ (es : List Event). state_after (settings_of b) es) history
-    ∙ (ap (λ (r : Settings). state_after r (e ∷ reverse a.journal.items)) m.settings ∙ state_more (settings_of a) e (reverse a.journal.items)) in
+    ∙ (ap (λ (r : Settings). state_after r (e ∷ a.journal)) m.settings ∙ state_more (settings_of a) e a.journal) in
     let limit : b.limit ≡ a.limit = ap (λ (r : Settings). r.limit) m.settings in
     let many = same_many a b m.settings in
     record {
@@ -140,19 +139,18 @@ stands_more a b e stands m =
       posts = λ y h. m.posts y (let one = m.stations in omega arith) ∙ ap (λ (s : State). table_at s y) (sym is);
       lists = λ y n k h.
           m.lists y n k (let one = m.stations in omega arith)
-          ∙ (ap (λ (rs : List Reading). reverse (entries_heard (station_of_at (settings_of a) y) n k rs)) (sym (ap (readings_at y) history ∙ readings_more e y (reverse a.journal.items)))
-          ∙ ap (λ (r : Settings). reverse (entries_heard (station_of_at r y) n k (readings_at y (reverse b.journal.items)))) (sym m.settings));
+          ∙ (ap (λ (rs : List Reading). reverse (entries_heard (station_of_at (settings_of a) y) n k rs)) (sym (ap (readings_at y) history ∙ readings_more e y a.journal))
+          ∙ ap (λ (r : Settings). reverse (entries_heard (station_of_at r y) n k (readings_at y b.journal))) (sym m.settings));
       units = m.units ∙ ap (λ (s : State). s.units) (sym is);
       begun = m.begun ∙ ap (λ (s : State). length s.begun) (sym is);
-      fits = subst (λ (r : Settings). AllFit r (reverse b.journal.items)) (sym m.settings) (subst (λ (es : List Event). AllFit (settings_of a) es) (sym history) (fit_more (settings_of a) e (reverse a.journal.items) m.fits stands.fits));
-      injected = (let more = injected_more e (reverse a.journal.items) in let same = ap injected_of history in let old = stands.injected in let now = m.injected in omega arith);
+      fits = subst (λ (r : Settings). AllFit r b.journal) (sym m.settings) (subst (λ (es : List Event). AllFit (settings_of a) es) (sym history) (fit_more (settings_of a) e a.journal m.fits stands.fits));
+      injected = (let more = injected_more e a.journal in let same = ap injected_of history in let old = stands.injected in let now = m.injected in omega arith);
       joined = ap joins history ∙ m.joined;
-      tallies = λ k h. m.tallies k h ∙ (ap (λ (es : List Event). tally_of (a.stations + k) es) (sym history) ∙ ap (λ (n : ℕ). tally_of (n + k) (reverse b.journal.items)) (sym m.stations));
+      tallies = λ k h. m.tallies k h ∙ (ap (λ (es : List Event). tally_of (a.stations + k) es) (sym history) ∙ ap (λ (n : ℕ). tally_of (n + k) b.journal) (sym m.stations));
       fresh = λ k h. ap (λ (es : List Event). tally_of k es) history ∙ m.fresh k (let one = m.stations in omega arith);
       seats = m.seats ∙ ap (λ (n : ℕ). length b.places.items + n) (sym m.stations);
       live = m.live;
       within = (let w = m.within in omega arith);
-      room = m.room;
       wire = (let w = m.wire in omega arith);
       queued = λ k. let q = m.queued k in rw n q;
       messages = (let w = m.messages in omega arith);
@@ -198,10 +196,10 @@ pub post_table : (a : Inside) (y : ℕ) (x : Post) → Stands a → y < a.statio
 post_table a y x stands h read = ap (λ (p : Post). p.station) (post_is a y x stands h read) ∙ stands.posts y h
 
 -- a call that added this event
-pub added : (a b : Inside) (v : GarageValue) (e : Event) → garage_value_of a ≡ v → settings_of b ≡ settings_of a → b.journal.items ≡ a.journal.items ++ e ∷ [] → Fits (state a) e → Adds v e (garage_value_of b)
+pub added : (a b : Inside) (v : GarageValue) (e : Event) → garage_value_of a ≡ v → settings_of b ≡ settings_of a → b.journal ≡ e ∷ a.journal → Fits (state a) e → Adds v e (garage_value_of b)
 added a b v e is settings journal fits = record {
   adds =
-      let history : reverse b.journal.items ≡ e ∷ reverse a.journal.items = ap reverse journal ∙ newest a.journal.items e in
+      let history : b.journal ≡ e ∷ a.journal = journal in
       let pair : garage_value_of b ≡ with_event e (garage_value_of a) = cc in
       pair ∙ ap (with_event e) is;
   fits = subst (λ (g : GarageValue). Fits (state_of g) e) is fits;
@@ -209,11 +207,11 @@ added a b v e is settings journal fits = record {
 
 -- a garage stays as it stood where nothing that counts has changed
 pub still : (a b : Inside) → Stands a → settings_of b ≡ settings_of a → b.bus.traffic ≡ a.bus.traffic → b.posts.items ≡ a.posts.items → b.stations ≡ a.stations → b.places.items ≡ a.places.items → b.begun ≡ a.begun → b.live ≡ a.live
-    → b.injected ≡ a.injected → b.journal.items ≡ a.journal.items → b.live ≤ b.journal.room → Stands b
-still a b stands settings traffic posts stations places begun live injected journal room =
+    → b.injected ≡ a.injected → b.journal ≡ a.journal → Stands b
+still a b stands settings traffic posts stations places begun live injected journal =
     let same : state b ≡ state a = (let v : garage_value_of b ≡ garage_value_of a = cc in ap state_of v) in
     let limit : b.limit ≡ a.limit = ap (λ (r : Settings). r.limit) settings in
-    let n : length b.journal.items ≡ length a.journal.items = ap length journal in
+    let n : length b.journal ≡ length a.journal = ap length journal in
     let m : length b.places.items ≡ length a.places.items = ap length places in
     record {
       few = (let f = stands.few in omega arith);
@@ -225,19 +223,18 @@ still a b stands settings traffic posts stations places begun live injected jour
       lists = λ y n k h.
           ap (λ (ps : List Post). entries_under (post_at ps y).lists n k) posts
           ∙ (stands.lists y n k (omega arith)
-          ∙ (ap (λ (r : Settings). reverse (entries_heard (station_of_at r y) n k (readings_at y (reverse a.journal.items)))) (sym settings)
-          ∙ ap (λ (es : List Event). reverse (entries_heard (station_of_at (settings_of b) y) n k (readings_at y (reverse es)))) (sym journal)));
+          ∙ (ap (λ (r : Settings). reverse (entries_heard (station_of_at r y) n k (readings_at y a.journal))) (sym settings)
+          ∙ ap (λ (es : List Event). reverse (entries_heard (station_of_at (settings_of b) y) n k (readings_at y es))) (sym journal)));
       units = ap (map unit_of) places ∙ (stands.units ∙ ap (λ (s : State). s.units) (sym same));
       begun = begun ∙ (stands.begun ∙ ap (λ (s : State). length s.begun) (sym same));
-      fits = subst (λ (r : Settings). AllFit r (reverse b.journal.items)) (sym settings) (subst (λ (es : List Event). AllFit (settings_of a) (reverse es)) (sym journal) stands.fits);
-      injected = injected ∙ (stands.injected ∙ ap (λ (es : List Event). injected_of (reverse es)) (sym journal));
-      joined = ap (λ (es : List Event). joins (reverse es)) journal ∙ (stands.joined ∙ sym m);
-      tallies = λ k h. ap (λ (xs : List Place). (place_at xs k).tally) places ∙ (stands.tallies k (omega arith) ∙ (ap (λ (es : List Event). tally_of (a.stations + k) (reverse es)) (sym journal) ∙ ap (λ (n : ℕ). tally_of (n + k) (reverse b.journal.items)) (sym stations)));
-      fresh = λ k h. ap (λ (es : List Event). tally_of k (reverse es)) journal ∙ stands.fresh k (omega arith);
+      fits = subst (λ (r : Settings). AllFit r b.journal) (sym settings) (subst (λ (es : List Event). AllFit (settings_of a) es) (sym journal) stands.fits);
+      injected = injected ∙ (stands.injected ∙ ap (λ (es : List Event). injected_of es) (sym journal));
+      joined = ap (λ (es : List Event). joins es) journal ∙ (stands.joined ∙ sym m);
+      tallies = λ k h. ap (λ (xs : List Place). (place_at xs k).tally) places ∙ (stands.tallies k (omega arith) ∙ (ap (λ (es : List Event). tally_of (a.stations + k) es) (sym journal) ∙ ap (λ (n : ℕ). tally_of (n + k) b.journal) (sym stations)));
+      fresh = λ k h. ap (λ (es : List Event). tally_of k es) journal ∙ stands.fresh k (omega arith);
       seats = (let s = stands.seats in let t = ap (λ (t : Traffic). length t.seats) traffic in omega arith);
       live = live ∙ (stands.live ∙ ap live_units (sym traffic));
       within = (let w = stands.within in omega arith);
-      room = room;
       wire = (let w = stands.wire in let t = ap (λ (t : Traffic). length t.wire) traffic in omega arith);
       queued = λ k. (let w = stands.queued k in let t = ap (λ (t : Traffic). (seat_at t k).queued) traffic in omega arith);
       messages = (let w = stands.messages in omega arith);
@@ -275,7 +272,7 @@ place_told a v seat x is stands u read =
     let low = seat_low a v seat is stands u in
     let own : a.stations + (seat - a.stations) ≡ seat = omega arith in
     ap (λ (t : Tally). t.events) (place_tally a (seat - a.stations) x h read ∙ stands.tallies (seat - a.stations) h)
-    ∙ (ap (λ (j : ℕ). (tally_of j (reverse a.journal.items)).events) own ∙ ap (λ (g : GarageValue). (tally_of seat g.journal).events) is)
+    ∙ (ap (λ (j : ℕ). (tally_of j a.journal).events) own ∙ ap (λ (g : GarageValue). (tally_of seat g.journal).events) is)
 
 pub place_node : (a : Inside) (v : GarageValue) (seat : ℕ) (x : Place) → garage_value_of a ≡ v → Stands a → IsUnit (state_of v).traffic seat → x ≡ get_or a.places.items (seat - a.stations) x → (unit_at (state_of v) seat).node ≡ x.node
 place_node a v seat x is stands u read =
@@ -322,25 +319,25 @@ tallies_push base xs es p seat name address old n is none j l =
 
 -- what a frame heard comes to, at what callers see
 pub hears_of : {X : Type 0} (a b : Inside) (v : GarageValue) (seat : ℕ) (node : NodeValue) (f : FrameValue) (answered : UnitAnswer) (memory : MemoryValue) (given : MemoryValue) (after' : MemoryValue) (answers : Question → Bool → X → Type 0) (unit' unit'' : X) → garage_value_of a ≡ v → settings_of b ≡ settings_of a
-    → b.journal.items ≡ a.journal.items ++ Hear seat memory answered ∷ [] → memory ≡ given → next_for (state a) seat ≡ Some f → Fits (state a) (Hear seat given answered) → (unit_at (state a) seat).node ≡ node
+    → b.journal ≡ Hear seat memory answered ∷ a.journal → memory ≡ given → next_for (state a) seat ≡ Some f → Fits (state a) (Hear seat given answered) → (unit_at (state a) seat).node ≡ node
     → after' ≡ memory_after node given answered f → IsAsked answers (question node f) answered unit' unit'' → Hears v seat given answers unit' (heard.Frame f) (garage_value_of b) after' unit''
 hears_of a b v seat node f answered memory given after' answers unit' unit'' is settings journal mem next fits unit reacts asks =
     let seen : next_for (state_of v) seat ≡ Some f = ap (λ (w : GarageValue). next_for (state_of w) seat) (sym is) ∙ next in
-    let adds : Adds v (Hear seat given answered) (garage_value_of b) = added a b v (Hear seat given answered) is settings (journal ∙ ap (λ (m : MemoryValue). a.journal.items ++ Hear seat m answered ∷ []) mem) fits in
+    let adds : Adds v (Hear seat given answered) (garage_value_of b) = added a b v (Hear seat given answered) is settings (journal ∙ ap (λ (m : MemoryValue). Hear seat m answered ∷ a.journal) mem) fits in
     let kept : after' ≡ memory_after (unit_at (state_of v) seat).node given answered f =
     reacts ∙ (ap (λ (n : NodeValue). memory_after n given answered f) (sym unit) ∙ ap (λ (w : GarageValue). memory_after (unit_at (state_of w) seat).node given answered f) is) in
     let asked : IsAsked answers (question (unit_at (state_of v) seat).node f) answered unit' unit'' =
     subst (λ (n : NodeValue). IsAsked answers (question n f) answered unit' unit'') (sym unit ∙ ap (λ (w : GarageValue). (unit_at (state_of w) seat).node) is) asks in
     (seen, (answered, adds, kept, asked))
 
-pub state_next : (a b : Inside) (e : Event) → settings_of b ≡ settings_of a → b.journal.items ≡ a.journal.items ++ e ∷ [] → state b ≡ after e (state a)
+pub state_next : (a b : Inside) (e : Event) → settings_of b ≡ settings_of a → b.journal ≡ e ∷ a.journal → state b ≡ after e (state a)
 state_next a b e settings journal =
-    let history : reverse b.journal.items ≡ e ∷ reverse a.journal.items = ap reverse journal ∙ newest a.journal.items e in
+    let history : b.journal ≡ e ∷ a.journal = journal in
     ap (λ (es : List Event). state_after (settings_of b) es) history
-    ∙ (ap (λ (r : Settings). state_after r (e ∷ reverse a.journal.items)) settings ∙ state_more (settings_of a) e (reverse a.journal.items))
+    ∙ (ap (λ (r : Settings). state_after r (e ∷ a.journal)) settings ∙ state_more (settings_of a) e a.journal)
 
 -- a unit that has just joined is seated with one event of its own
-pub seated_join : (a b : Inside) (name want k : ℕ) → Stands a → settings_of b ≡ settings_of a → b.journal.items ≡ a.journal.items ++ Join k name want ∷ [] → k ≡ length (state a).traffic.seats → IsSeated (garage_value_of b) k name 1
+pub seated_join : (a b : Inside) (name want k : ℕ) → Stands a → settings_of b ≡ settings_of a → b.journal ≡ Join k name want ∷ a.journal → k ≡ length (state a).traffic.seats → IsSeated (garage_value_of b) k name 1
 seated_join a b name want k stands settings journal at =
     let t = (state a).traffic in
     let q = untagged (claim_frame_value name (Some want)) in
@@ -351,18 +348,18 @@ seated_join a b name want k stands settings journal at =
     let seats = stands.seats in
     let one = windows_are a stands in
     let u : IsUnit (queued n q (with_newcomer name t)) n = (omega arith, l.0, l.1) in
-    let history : reverse b.journal.items ≡ Join k name want ∷ reverse a.journal.items = ap reverse journal ∙ newest a.journal.items (Join k name want) in
+    let history : b.journal ≡ Join k name want ∷ a.journal = journal in
     let last : nat_eq k k ≡ true = eq-eqb k k refl in
     let none = stands.fresh k (omega arith) in
-    let tally : tally_of k (reverse b.journal.items) ≡ record { joined = 1; turned = 0; left = 0; events = 1 } =
-    ap (λ (es : List Event). tally_of k es) history ∙ (tally_more k (Join k name want) (reverse a.journal.items) ∙ rw (last, none) refl) in
+    let tally : tally_of k b.journal ≡ record { joined = 1; turned = 0; left = 0; events = 1 } =
+    ap (λ (es : List Event). tally_of k es) history ∙ (tally_more k (Join k name want) a.journal ∙ rw (last, none) refl) in
     record {
       unit = subst (λ (i : ℕ). IsUnit (state b).traffic i) (sym at) (subst (λ (v : Traffic). IsUnit v n) (sym now) u);
       named = ap (λ (i : ℕ). (seat_at (state b).traffic i).name) at ∙ (ap (λ (v : Traffic). (seat_at v n).name) now ∙ joined_name t name q);
       counted = ap (λ (v : Tally). v.events) tally;
     }
 
-pub begins_of : (a b : Inside) (v : GarageValue) (seat : ℕ) (memory given : MemoryValue) → garage_value_of a ≡ v → settings_of b ≡ settings_of a → b.journal.items ≡ a.journal.items ++ Begin seat memory ∷ []
+pub begins_of : (a b : Inside) (v : GarageValue) (seat : ℕ) (memory given : MemoryValue) → garage_value_of a ≡ v → settings_of b ≡ settings_of a → b.journal ≡ Begin seat memory ∷ a.journal
     → memory ≡ given → Fits (state a) (Begin seat memory) → Adds v (Begin seat given) (garage_value_of b)
 begins_of a b v seat memory given is settings journal mem fits =
     subst (λ (m : MemoryValue). Adds v (Begin seat m) (garage_value_of b)) mem (added a b v (Begin seat memory) is settings journal fits)

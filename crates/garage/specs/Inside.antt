@@ -1,5 +1,5 @@
 -- How the fields of a garage stand for its journal.
-use Rattle.std.specs.Prelude.{ℕ, ◌≡◌, ◌+◌, ◌*◌, ◌<◌, ◌≤◌, ◌^◌, List, [], map, reverse, length, slice_index_or}
+use Rattle.std.specs.Prelude.{ℕ, ◌≡◌, ◌+◌, ◌*◌, ◌<◌, ◌≤◌, ◌^◌, List, [], map, length, slice_index_or}
 use Rattle.bus_ledger.specs.BusValue.{seat_at}
 use Rattle.bus_ledger.specs.Newcomers.{live_units}
 use Rattle.journal.specs.State.{Settings, StationSetting, UnitState, table_at}
@@ -37,7 +37,7 @@ abbrev pub settings_of : Inside → Settings
 settings_of g = record { stations = map post_setting g.posts.items; limit = g.limit }
 
 abbrev pub garage_value_of : Inside → GarageValue
-garage_value_of g = record { settings = settings_of g; journal = reverse g.journal.items }
+garage_value_of g = record { settings = settings_of g; journal = g.journal }
 
 abbrev pub unit_of : Place → UnitState
 unit_of p = record { node = p.node; session_message = p.session_message }
@@ -62,16 +62,15 @@ pub record Stands (g : Inside) : Type 0 where
   pub lists : (y n : ℕ) (k : Kind) → y < g.stations → entries_under (post_at g.posts.items y).lists n k ≡ listed_at (garage_value_of g) y n k
   pub units : map unit_of g.places.items ≡ (state_of (garage_value_of g)).units
   pub begun : g.begun ≡ length (state_of (garage_value_of g)).begun
-  pub fits : AllFit (settings_of g) (reverse g.journal.items)
-  pub injected : g.injected ≡ injected_of (reverse g.journal.items)
-  pub joined : joins (reverse g.journal.items) ≡ length g.places.items
-  pub tallies : (k : ℕ) → k < length g.places.items → (place_at g.places.items k).tally ≡ tally_of (g.stations + k) (reverse g.journal.items)
-  pub fresh : (k : ℕ) → g.stations + length g.places.items ≤ k → tally_of k (reverse g.journal.items) ≡ no_tally
+  pub fits : AllFit (settings_of g) g.journal
+  pub injected : g.injected ≡ injected_of g.journal
+  pub joined : joins g.journal ≡ length g.places.items
+  pub tallies : (k : ℕ) → k < length g.places.items → (place_at g.places.items k).tally ≡ tally_of (g.stations + k) g.journal
+  pub fresh : (k : ℕ) → g.stations + length g.places.items ≤ k → tally_of k g.journal ≡ no_tally
   pub seats : length g.bus.traffic.seats ≡ length g.places.items + g.stations
   pub live : g.live ≡ live_units g.bus.traffic
-  pub within : length g.journal.items + g.live ≤ g.limit
-  pub room : g.live ≤ g.journal.room
-  pub wire : length g.bus.traffic.wire ≤ length g.journal.items
-  pub queued : (k : ℕ) → (seat_at g.bus.traffic k).queued ≤ 256 * length g.journal.items + 1
-  pub messages : g.begun ≤ length g.journal.items
-  pub places : length g.places.items ≤ length g.journal.items
+  pub within : length g.journal + g.live ≤ g.limit
+  pub wire : length g.bus.traffic.wire ≤ length g.journal
+  pub queued : (k : ℕ) → (seat_at g.bus.traffic k).queued ≤ 256 * length g.journal + 1
+  pub messages : g.begun ≤ length g.journal
+  pub places : length g.places.items ≤ length g.journal

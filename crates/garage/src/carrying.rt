@@ -7,7 +7,7 @@ ghost use Rattle.garage_steps.specs.Room.{IsFull};
 
 use crate::garage::Garage;
 use bus_ledger::Carried;
-use garage_steps::{GarageError, make_room};
+use garage_steps::{GarageError, check_room};
 
 impl Garage {
     /// Carries one frame.
@@ -24,7 +24,7 @@ impl Garage {
         ensures err { IfErr result (λ e. (self.new ≡ self.old) × ((e ≡ GarageError.BookFull) ⊎ (e ≡ GarageError.OutOfMemory))) }
         ensures lists { KeepsLists self.old self.new }
     {
-        match make_room(&mut self.journal, self.live + 1, self.limit) {
+        match check_room(&self.journal, self.live + 1, self.limit) {
             Ok(()) => {}
             Err(refusal) => return self.uncarried(refusal),
         }

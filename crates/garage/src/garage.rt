@@ -106,7 +106,7 @@ impl Garage {
         ensures count { result ≡ length self.now.journal }
         ensures lawful { IsLawful self.now }
     {
-        self.journal.len() as u32
+        self.journal.len()
     }
 
     /// How many units are live.

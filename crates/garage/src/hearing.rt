@@ -1,17 +1,16 @@
-ghost use Rattle.std.specs.Prelude.{◌≡◌, ◌≢◌, ◌+◌, ◌-◌, ◌<◌, ◌≤◌, ◌^◌, ◌↔◌, ◌⊎◌, ℕ, length, reverse, slice_get, IfOk, IfErr, IfSome, IsErrOf, IsFalse, IsTrue, MatchOption, OnErr, OnOk, Some};
+ghost use Rattle.std.specs.Prelude.{◌≡◌, ◌+◌, ◌-◌, ◌<◌, ◌≤◌, ◌^◌, ◌↔◌, ◌⊎◌, ◌∷◌, ℕ, length, IfOk, IfErr, IfSome, IsErrOf, IsFalse, IsTrue, MatchOption, OnErr, OnOk, Some};
 ghost use Rattle.can_frame.specs.FrameValue.{FrameValue};
-ghost use Rattle.fault_memory.specs.Memory.{MemoryValue};
+ghost use Rattle.fault_memory.specs.Memory.{IsLawfulMemory};
 ghost use Rattle.bus_ledger.specs.BusValue.{IsUnit, seat_at};
 ghost use Rattle.bus_ledger.specs.Changes.{heard_more};
 ghost use Rattle.node_core.specs.Passing.{IsAcceptance};
-ghost use Rattle.journal.specs.Journal.{memory_recorded, one_more, state_of, IsSeated};
-ghost use Rattle.journal.specs.Notes.{Gains};
+ghost use Rattle.journal.specs.Journal.{one_more, state_of, IsSeated};
 ghost use Rattle.journal.specs.Promises.{KeepsLists};
 ghost use Rattle.journal.specs.Steps.{begins_session, next_for};
 ghost use Rattle.journal.specs.declared.event.Event.TheVariants.{Hear};
 ghost use Rattle.garage_steps.specs.Answers.{Hears, PassesNext};
 ghost use Rattle.garage_steps.specs.Calls.{HearsFull, HearsNothing, IsWant};
-ghost use Rattle.garage_steps.specs.Crew.{Comes, IsCrew};
+ghost use Rattle.garage_steps.specs.Crew.{AreSeated, Comes};
 ghost use Rattle.garage.specs.ParkedUnits.{asked_of, sitting_of};
 ghost use Rattle.garage_steps.specs.Hearing.{HasHeardAll, HearsFrame, HearsMany, HearsOut, IsHearingCut, IsLast};
 ghost use Rattle.garage_steps.specs.Room.{IsFull};
@@ -20,13 +19,14 @@ ghost use Rattle.garage_steps.specs.Rounds.{HearOnward};
 use crate::garage::{Garage, Place};
 use crate::plug::Parked;
 use bus_ledger::Bus;
-use can_frame::{Frame, GLOBAL_ADDRESS};
+use can_frame::Frame;
+use fault_memory::FaultMemory;
 use garage_steps::{
-    GarageError, HeardOne, Numbering, Recorded, begins_session, begun_count, do_heard, has_room,
-    keep, last_session, make_ready,
+    GarageError, HeardOne, Numbering, begins_session, begun_count, do_heard, has_room,
+    last_session, make_ready,
 };
-use journal::Journal;
-use node_core::{Acceptance, Answer, Begun};
+use journal::{Journal, MemoryThen};
+use node_core::{Acceptance, Answer};
 use std::alloc::Global;
 use unit_trait::Unit;
 
@@ -96,20 +96,12 @@ impl Garage {
             return Ok(HeardOne::Nothing);
         };
         let acceptance = Acceptance::of(&frame);
-        self.hear_frame(
-            alloc,
-            seat,
-            frame,
-            Some(&acceptance),
-            unit,
-            Recorded::Unknown,
-        )?;
+        self.hear_frame(alloc, seat, frame, Some(&acceptance), unit)?;
         Ok(HeardOne::Frame(frame))
     }
 
     /// The unit on the seat hears this frame, its next one, whose acceptance this is; none, where it is known not to pass it over.
-    /// It is asked exactly what the frame puts to it, and is else as it was. The answer says what is known of its memory
-    /// afterwards.
+    /// It is asked exactly what the frame puts to it, and is else as it was.
     ///
     /// Refused where the journal has no room, then where there is no memory; then nothing changed, and the unit was not asked.
     #[inline(always)]
@@ -120,66 +112,36 @@ impl Garage {
         frame: Frame,
         acceptance: Option<&Acceptance>,
         unit: &mut dyn Unit,
-        recorded: Recorded,
-    ) -> Result<Recorded, GarageError>
+    ) -> Result<(), GarageError>
         requires unit { IsUnit (state_of self.old).traffic seat }
         requires next { next_for (state_of self.old) seat ≡ Some frame }
         requires acceptance { IfSome acceptance (λ s. IsAcceptance s.now frame) }
-        requires recorded { recorded ≡ Recorded.Current → memory_recorded seat self.old.journal ≡ Some (memory_of unit.old) }
         ensures name { name_of unit.new ≡ name_of unit.old }
         ensures ok { OnOk result ((u : _) × (unit.new ≡ (unit.old.0, u))
             × Hears self.old seat (memory_of unit.old) (Answers unit.old) unit.old.1 (HeardOne.Frame frame) self.new
             (memory_of unit.new) u) }
-        ensures recorded { IfOk result
-            (λ r. r ≡ Recorded.Current → memory_recorded seat self.new.journal ≡ Some (memory_of unit.new)) }
         ensures full { IsErrOf result GarageError.BookFull ↔ IsFull self.old }
         ensures only { IfErr result IsWant }
         ensures err { OnErr result (self.new ≡ self.old) }
         ensures unasked { OnErr result (unit.new ≡ unit.old) }
     {
-        let recorded = self.recorded(seat, &*unit, recorded);
-        if let Some(acceptance) = acceptance {
-            if recorded.is_current() && self.passes_over(seat, acceptance) {
-                return Ok(Recorded::Current);
-            }
+        let Some(acceptance) = acceptance else {
+            return self.react(alloc, seat, frame, unit);
+        };
+        if self.passes_over(seat, acceptance, &*unit) {
+            return Ok(());
         }
-        self.react(alloc, seat, frame, unit, recorded)
+        self.react(alloc, seat, frame, unit)
     }
 
-    /// What is known of the memory that the journal has of a unit, once the two are compared.
-    #[inline(always)]
-    fn recorded(&self, seat: u32, unit: &dyn Unit, recorded: Recorded) -> Recorded
-        requires { recorded ≡ Recorded.Current → memory_recorded seat self.now.journal ≡ Some (memory_of unit.now) }
-        ensures { result ≡ Recorded.Current → memory_recorded seat self.now.journal ≡ Some (memory_of unit.now) }
-    {
-        match recorded {
-            Recorded::Current => Recorded::Current,
-            Recorded::Unknown => self.compared(seat, unit),
-        }
-    }
-
-    /// Compares a unit's memory with the one that the journal has of it.
-    #[inline(never)]
-    fn compared(&self, seat: u32, unit: &dyn Unit) -> Recorded
-        ensures { result ≡ Recorded.Current → memory_recorded seat self.now.journal ≡ Some (memory_of unit.now) }
-    {
-        if self.journal.is_recorded(seat, unit.memory()) {
-            Recorded::Current
-        } else {
-            Recorded::Unknown
-        }
-    }
-
-    /// The unit on the seat, whose memory is recorded, passes over its next frame, whose acceptance this is; returns whether it
-    /// did. Else, and where the journal has no room ready, nothing changes.
+    /// The unit on the seat passes over its next frame, whose acceptance this is; returns whether it did. Else, and where the
+    /// journal has no room, nothing changes.
     #[inline(always)]
     #[tactic(auto, using(crate::proofs::Standing::seat_low, crate::proofs::Standing::seat_placed))]
-    fn passes_over(&mut self, seat: u32, acceptance: &Acceptance) -> bool
+    fn passes_over(&mut self, seat: u32, acceptance: &Acceptance, unit: &dyn Unit) -> bool
         requires unit { IsUnit (state_of self.old).traffic seat }
         requires next { (f : FrameValue) × (next_for (state_of self.old) seat ≡ Some f) × IsAcceptance acceptance.now f }
-        requires recorded { (m : MemoryValue) × (memory_recorded seat self.old.journal ≡ Some m) }
-        ensures passed { (m : MemoryValue) → memory_recorded seat self.old.journal ≡ Some m → IsTrue result
-            → PassesNext self.old seat m self.new }
+        ensures passed { IsTrue result → PassesNext self.old seat (memory_of unit.now) self.new }
         ensures ready { IsTrue result → ¬ IsFull self.old }
         ensures left { IsFalse result → self.new ≡ self.old }
     {
@@ -190,12 +152,12 @@ impl Garage {
         if !place.node.absorb(acceptance) {
             return false;
         }
-        pass_over(place, &mut self.bus, &mut self.journal, seat);
+        pass_over(place, &mut self.bus, &mut self.journal, seat, unit.memory());
         true
     }
 
     /// The unit on the seat hears this frame, its next one, and does what it owes to it. It is asked exactly what the frame puts to
-    /// it, and is else as it was. The answer says what is known of its memory afterwards.
+    /// it, and is else as it was.
     ///
     /// Refused where the journal has no room, then where there is no memory; then nothing changed, and the unit was not asked.
     #[inline(never)]
@@ -206,31 +168,26 @@ impl Garage {
         seat: u32,
         frame: Frame,
         unit: &mut dyn Unit,
-        recorded: Recorded,
-    ) -> Result<Recorded, GarageError>
+    ) -> Result<(), GarageError>
         requires unit { IsUnit (state_of self.old).traffic seat }
         requires next { next_for (state_of self.old) seat ≡ Some frame }
-        requires recorded { recorded ≡ Recorded.Current → memory_recorded seat self.old.journal ≡ Some (memory_of unit.old) }
         ensures name { name_of unit.new ≡ name_of unit.old }
         ensures ok { OnOk result ((u : _) × (unit.new ≡ (unit.old.0, u))
             × Hears self.old seat (memory_of unit.old) (Answers unit.old) unit.old.1 (HeardOne.Frame frame) self.new
             (memory_of unit.new) u) }
-        ensures recorded { IfOk result
-            (λ r. r ≡ Recorded.Current → memory_recorded seat self.new.journal ≡ Some (memory_of unit.new)) }
         ensures full { IsErrOf result GarageError.BookFull ↔ IsFull self.old }
         ensures only { IfErr result IsWant }
         ensures err { OnErr result (self.new ≡ self.old) }
         ensures unasked { OnErr result (unit.new ≡ unit.old) }
     {
-        let memory = make_ready(
-            &mut self.journal,
+        make_ready(
+            &self.journal,
             &mut self.bus,
             self.live + 1,
             self.limit,
             seat,
-            &*unit,
-            recorded,
         )?;
+        let memory = MemoryThen::of(unit.memory());
         let place = &mut self.places[(seat - self.stations) as usize];
         let heard = place.node.hear(alloc, &frame, &mut *unit)?;
         place.session_message = last_session(place.session_message, self.begun, heard.begun);
@@ -244,8 +201,8 @@ impl Garage {
         let answer = heard.answer;
         do_heard(&mut self.bus, seat, heard, numbering);
         self.begun = begun;
-        self.journal.note_hear(seat, memory, answer);
-        Ok(Recorded::after(answer))
+        self.journal.note_hear(seat, &memory, answer);
+        Ok(())
     }
 
     /// Lets a parked unit take its seat, hear so many frames at most, and be parked again; answers how many it heard: so many as
@@ -287,45 +244,39 @@ impl Garage {
         if !self.knows(parked) {
             return Err(GarageError::Stranger);
         }
-        let (heard, _) = self.hear_some(alloc, parked, Recorded::Unknown, most)?;
+        let heard = self.hear_some(alloc, parked, most)?;
         Ok(heard)
     }
 
-    /// A unit in its seat hears so many frames at most; answers how many, and what is known of its memory afterwards.
+    /// A unit in its seat hears so many frames at most; answers how many.
     ///
     /// Refused as `let_hear` is.
     pub(crate) fn hear_some(
         &mut self,
         alloc: Global,
         parked: &mut Parked,
-        recorded: Recorded,
         most: u32,
-    ) -> Result<(u32, Recorded), GarageError>
+    ) -> Result<u32, GarageError>
         requires seated { IsSeated self.old parked.old.seat (name_of parked.old.unit) parked.old.events }
-        requires recorded { recorded ≡ Recorded.Current
-            → memory_recorded parked.old.seat self.old.journal ≡ Some (memory_of parked.old.unit) }
-        ensures heard { IfOk result (λ h. HearsMany (sitting_of (λ b. name_of b) (λ b. memory_of b)) (asked_of (λ b. Answers b)) h.0
+        ensures heard { IfOk result (λ n. HearsMany (sitting_of (λ b. name_of b) (λ b. memory_of b)) (asked_of (λ b. Answers b)) n
             self.old parked.old self.new parked.new) }
-        ensures most { IfOk result (λ h. h.0 ≤ most) }
-        ensures all { IfOk result (λ h. h.0 < most → HasHeardAll parked.old.seat self.new) }
-        ensures recorded { IfOk result
-            (λ h. h.1 ≡ Recorded.Current → memory_recorded parked.new.seat self.new.journal ≡ Some (memory_of parked.new.unit)) }
+        ensures most { IfOk result (λ n. n ≤ most) }
+        ensures all { IfOk result (λ n. n < most → HasHeardAll parked.old.seat self.new) }
         ensures cut { IfErr result (λ e. (n : ℕ) × (n < most)
             × IsHearingCut (sitting_of (λ b. name_of b) (λ b. memory_of b)) (asked_of (λ b. Answers b)) n e self.old parked.old
             self.new parked.new) }
     {
-        let mut recorded = recorded;
         for heard in 0..most {
             let Some(frame) = self.next_for(parked.seat) else {
-                return Ok((heard, recorded));
+                return Ok(heard);
             };
             let acceptance = Acceptance::of(&frame);
-            recorded = self.hear_seated(alloc, &mut *parked, frame, Some(&acceptance), recorded)?;
+            self.hear_seated(alloc, &mut *parked, frame, Some(&acceptance))?;
         }
-        Ok((most, recorded))
+        Ok(most)
     }
 
-    /// A unit in its seat hears this frame, its next one, as `hear_frame` does; answers what is known of its memory afterwards.
+    /// A unit in its seat hears this frame, its next one, as `hear_frame` does.
     ///
     /// Refused where the journal has no room, then where there is no memory; then nothing changed.
     #[inline(always)]
@@ -335,35 +286,23 @@ impl Garage {
         parked: &mut Parked,
         frame: Frame,
         acceptance: Option<&Acceptance>,
-        recorded: Recorded,
-    ) -> Result<Recorded, GarageError>
+    ) -> Result<(), GarageError>
         requires seated { IsSeated self.old parked.old.seat (name_of parked.old.unit) parked.old.events }
         requires next { next_for (state_of self.old) parked.old.seat ≡ Some frame }
         requires acceptance { IfSome acceptance (λ s. IsAcceptance s.now frame) }
-        requires recorded { recorded ≡ Recorded.Current
-            → memory_recorded parked.old.seat self.old.journal ≡ Some (memory_of parked.old.unit) }
         ensures heard { OnOk result (HearsFrame (sitting_of (λ b. name_of b) (λ b. memory_of b)) (asked_of (λ b. Answers b)) frame
             self.old parked.old self.new parked.new) }
-        ensures recorded { IfOk result
-            (λ r. r ≡ Recorded.Current → memory_recorded parked.new.seat self.new.journal ≡ Some (memory_of parked.new.unit)) }
         ensures full { IsErrOf result GarageError.BookFull ↔ IsFull self.old }
         ensures only { IfErr result IsWant }
         ensures err { OnErr result ((self.new ≡ self.old) × (parked.new ≡ parked.old)) }
     {
-        let recorded = self.hear_frame(
-            alloc,
-            parked.seat,
-            frame,
-            acceptance,
-            &mut *parked.unit,
-            recorded,
-        )?;
+        self.hear_frame(alloc, parked.seat, frame, acceptance, &mut *parked.unit)?;
         parked.events = self.events_of(parked.seat);
-        Ok(recorded)
+        Ok(())
     }
 
-    /// A unit in its seat hears all that it has not heard; most have not heard the last frame of the wire alone. Answers what is
-    /// known of its memory afterwards.
+    /// A unit in its seat hears all that it has not heard; most have not heard the last frame of the wire alone, and did not pass it over
+    /// (`pass_in_turn`).
     ///
     /// Refused where the journal has no room, then where there is no memory; what was heard before stays.
     #[inline(always)]
@@ -372,54 +311,42 @@ impl Garage {
         alloc: Global,
         parked: &mut Parked,
         last: &LastFrame,
-        recorded: Recorded,
-    ) -> Result<Recorded, GarageError>
+    ) -> Result<(), GarageError>
         requires seated { IsSeated self.old parked.old.seat (name_of parked.old.unit) parked.old.events }
         requires last { IsLast last.now.frame last.now.acceptance self.old }
-        requires recorded { recorded ≡ Recorded.Current
-            → memory_recorded parked.old.seat self.old.journal ≡ Some (memory_of parked.old.unit) }
         ensures heard { OnOk result (HearsOut (sitting_of (λ b. name_of b) (λ b. memory_of b)) (asked_of (λ b. Answers b)) self.old
             parked.old self.new parked.new) }
-        ensures recorded { IfOk result
-            (λ r. r ≡ Recorded.Current → memory_recorded parked.new.seat self.new.journal ≡ Some (memory_of parked.new.unit)) }
         ensures cut { IfErr result (λ e. (n : ℕ)
             × IsHearingCut (sitting_of (λ b. name_of b) (λ b. memory_of b)) (asked_of (λ b. Answers b)) n e self.old parked.old
             self.new parked.new) }
     {
         let unheard = self.unheard(parked.seat);
         if unheard == 0 {
-            return Ok(recorded);
+            return Ok(());
         }
         if unheard == 1 {
-            // one whose memory is recorded did not pass it over (`pass_in_turn`)
-            let acceptance = if recorded.is_current() {
-                None
-            } else {
-                Some(&last.acceptance)
-            };
-            return self.hear_seated(alloc, parked, last.frame, acceptance, recorded);
+            return self.hear_seated(alloc, parked, last.frame, None);
         }
-        let (_, recorded) = self.hear_some(alloc, parked, recorded, unheard)?;
-        Ok(recorded)
+        let _ = self.hear_some(alloc, parked, unheard)?;
+        Ok(())
     }
 
     /// From the `first` unit on each in turn passes over the last frame of the wire, where it is its next one, or has heard all, as
     /// far as that goes. Answers the number of the first that is to hear otherwise: it and all after it are as they were.
     ///
     /// That is what `catch_up` does with most units, by the same commit. Room is looked at once for all of them, which for 64 units
-    /// saves a fifth of the instructions of a round. Those behind the end of `recorded` are left to `catch_up`.
+    /// saves a fifth of the instructions of a round.
     #[inline(never)]
     pub(crate) fn pass_in_turn(
         &mut self,
         units: &mut [Parked],
-        recorded: &mut [Recorded],
         first: usize,
         last: &LastFrame,
     ) -> usize
-        requires crew { IsCrew (sitting_of (λ b. name_of b) (λ b. memory_of b)) self.old units.old recorded.old }
+        requires seated { AreSeated (sitting_of (λ b. name_of b) (λ b. memory_of b)) self.old units.old }
         requires last { IsLast last.now.frame last.now.acceptance self.old }
         requires first { first ≤ length units.old }
-        ensures crew { IsCrew (sitting_of (λ b. name_of b) (λ b. memory_of b)) self.new units.new recorded.new }
+        ensures seated { AreSeated (sitting_of (λ b. name_of b) (λ b. memory_of b)) self.new units.new }
         ensures last { IsLast last.now.frame last.now.acceptance self.new }
         ensures heard { HearOnward (sitting_of (λ b. name_of b) (λ b. memory_of b)) (asked_of (λ b. Answers b)) first result
             self.old units.old self.new units.new }
@@ -430,48 +357,55 @@ impl Garage {
         if !has_room(&self.journal, with_live(units.len(), self.live), self.limit) {
             return first;
         }
-        let count = units.len().min(recorded.len());
-        if first > count {
-            return first;
-        }
         let stations = self.stations;
-        for i in first..count {
+        for i in first..units.len() {
             let seat = units[i].seat;
             let behind = self.bus.unheard(seat);
             if behind == 0 {
                 continue;
             }
-            if behind != 1 || !is_recorded(&self.journal, &units[i], &mut *recorded, i) {
+            if behind != 1 {
                 return i;
             }
             let place = &mut self.places[(seat - stations) as usize];
             if !place.node.absorb(&last.acceptance) {
                 return i;
             }
-            pass_over(place, &mut self.bus, &mut self.journal, seat);
+            pass_over(
+                place,
+                &mut self.bus,
+                &mut self.journal,
+                seat,
+                units[i].memory(),
+            );
             units[i].events = place.tally.events;
         }
-        count
+        units.len()
     }
 }
 
 /// The one commit for a frame that a unit passes over, once its node has absorbed it: the unit has one event more, its seat has
-/// heard one frame more, and the journal tells that it heard and was not asked. Its memory is recorded, and there is room.
+/// heard one frame more, and the journal tells that it heard with this memory and was not asked. There is room.
 #[inline(always)]
-fn pass_over(place: &mut Place, bus: &mut Bus, journal: &mut Journal, seat: u32)
+fn pass_over(
+    place: &mut Place,
+    bus: &mut Bus,
+    journal: &mut Journal,
+    seat: u32,
+    memory: &FaultMemory,
+)
     requires unit { IsUnit bus.old.traffic seat }
     requires next { (seat_at bus.old.traffic seat).heard < length bus.old.traffic.wire }
-    requires recorded { (m : MemoryValue) × (memory_recorded seat (reverse journal.old.items) ≡ Some m) }
-    requires room { 0 < journal.old.room }
+    requires room { length journal.old + 1 < 2 ^ 32 }
     requires few { place.old.tally.events + 1 < 2 ^ 32 }
     ensures place { place.new ≡ record place.old { tally = one_more place.old.tally } }
     ensures traffic { bus.new.traffic ≡ heard_more seat 1 bus.old.traffic }
-    ensures noted { (m : MemoryValue) → memory_recorded seat (reverse journal.old.items) ≡ Some m
-        → Gains journal.old (Hear seat m Answer.NotAsked) journal.new }
+    ensures noted { journal.new ≡ Hear seat memory.now Answer.NotAsked ∷ journal.old }
+    ensures lawful { IsLawfulMemory memory.now }
 {
     place.tally.events += 1;
     bus.mark_heard(seat);
-    journal.note_passed(seat);
+    journal.note_hear(seat, &MemoryThen::of(memory), Answer::NotAsked);
 }
 
 /// How many events so many units may hear and all live ones leave by; the most that can be said, where it is more.
@@ -482,35 +416,4 @@ fn with_live(count: usize, live: u32) -> u32
         Ok(count) => count.saturating_add(live),
         Err(_) => u32::MAX,
     }
-}
-
-/// Whether the memory of the i-th unit is recorded: as is known, or as a look tells, which is kept.
-#[inline(always)]
-fn is_recorded(journal: &Journal, unit: &Parked, recorded: &mut [Recorded], i: usize) -> bool
-    requires kept { i < length recorded.old }
-    requires known { slice_get recorded.old i ≡ Some Recorded.Current
-        → memory_recorded unit.now.seat (reverse journal.now.items) ≡ Some (memory_of unit.now.unit) }
-    ensures told { IsTrue result → memory_recorded unit.now.seat (reverse journal.now.items) ≡ Some (memory_of unit.now.unit) }
-    ensures others { (j : ℕ) → j ≢ i → slice_get recorded.new j ≡ slice_get recorded.old j }
-    ensures this { slice_get recorded.new i ≡ Some Recorded.Current
-        → memory_recorded unit.now.seat (reverse journal.now.items) ≡ Some (memory_of unit.now.unit) }
-{
-    recorded[i].is_current() || is_found_recorded(journal, unit, recorded, i)
-}
-
-/// As `is_recorded`, where that is not known: the memory is compared.
-#[inline(never)]
-fn is_found_recorded(journal: &Journal, unit: &Parked, recorded: &mut [Recorded], i: usize) -> bool
-    requires { slice_get recorded.old i ≡ Some Recorded.Current
-        → memory_recorded unit.now.seat (reverse journal.now.items) ≡ Some (memory_of unit.now.unit) }
-    ensures told { IsTrue result → memory_recorded unit.now.seat (reverse journal.now.items) ≡ Some (memory_of unit.now.unit) }
-    ensures others { (j : ℕ) → j ≢ i → slice_get recorded.new j ≡ slice_get recorded.old j }
-    ensures this { slice_get recorded.new i ≡ Some Recorded.Current
-        → memory_recorded unit.now.seat (reverse journal.now.items) ≡ Some (memory_of unit.now.unit) }
-{
-    if !journal.is_recorded(unit.seat, unit.memory()) {
-        return false;
-    }
-    keep(recorded, i, Recorded::Current);
-    true
 }

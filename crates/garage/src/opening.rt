@@ -128,7 +128,7 @@ impl Garage {
             begun: 0,
             live: 0,
             injected: 0,
-            journal: Journal::new(alloc),
+            journal: Journal::new(),
         })
     }
 }

@@ -5,7 +5,7 @@ ghost use Rattle.journal.specs.declared.order.Order.TheVariants as order;
 ghost use Rattle.garage_steps.specs.Refusals.{of_station};
 
 use crate::garage::Garage;
-use garage_steps::{GarageError, make_room, react};
+use garage_steps::{GarageError, check_room, react};
 use journal::Order;
 use name_field::Name;
 use station_table::{Ask, Reaction, StationError};
@@ -178,15 +178,15 @@ impl Garage {
         let reaction = match answer {
             Ok(reaction) => reaction,
             Err(StationError::OutOfMemory) => {
-                make_room(&mut self.journal, self.live + 1, self.limit)?;
+                check_room(&self.journal, self.live + 1, self.limit)?;
                 return Err(GarageError::OutOfMemory);
             }
             Err(refusal) => return Err(GarageError::from(refusal)),
         };
-        make_room(&mut self.journal, self.live + 1, self.limit)?;
+        check_room(&self.journal, self.live + 1, self.limit)?;
         self.bus.reserve(station, MOST_ORDERED)?;
         react(&mut self.bus, station, &reaction);
-        self.journal.note_order(station as u8, order);
+        self.journal.note_order(station, order);
         Ok(())
     }
 }

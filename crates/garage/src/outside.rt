@@ -7,7 +7,7 @@ ghost use Rattle.garage_steps.specs.Room.{IsFull};
 
 use crate::garage::Garage;
 use can_frame::Frame;
-use garage_steps::{GarageError, make_room};
+use garage_steps::{GarageError, check_room};
 
 impl Garage {
     /// Puts a frame that no seat sent at the end of the wire at once.
@@ -24,7 +24,7 @@ impl Garage {
         ensures err { OnErr result (self.new ≡ self.old) }
         ensures lists { KeepsLists self.old self.new }
     {
-        make_room(&mut self.journal, self.live + 1, self.limit)?;
+        check_room(&self.journal, self.live + 1, self.limit)?;
         self.bus.inject(frame)?;
         self.injected += 1;
         self.journal.note_inject(frame);

@@ -8,7 +8,7 @@ ghost use Rattle.garage_steps.specs.Room.{IsFull};
 
 use crate::garage::Garage;
 use can_frame::Reading;
-use garage_steps::{GarageError, make_room, react};
+use garage_steps::{GarageError, check_room, react};
 use station_table::Outcome;
 use std::alloc::Global;
 
@@ -79,13 +79,13 @@ impl Garage {
         ensures err { OnErr result (self.new ≡ self.old) }
         ensures lists { KeepsLists self.old self.new }
     {
-        make_room(&mut self.journal, self.live + 1, self.limit)?;
+        check_room(&self.journal, self.live + 1, self.limit)?;
         self.bus.reserve(station, MOST_ANSWERS)?;
         let post = &mut self.posts[station as usize];
         let Outcome { reaction, .. } = post.station.take(alloc, *reading, &mut post.lists)?;
         self.bus.tap_pass_at(station);
         react(&mut self.bus, station, &reaction);
-        self.journal.note_read(station as u8, *reading);
+        self.journal.note_read(station, *reading);
         Ok(())
     }
 }

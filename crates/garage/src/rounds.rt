@@ -4,7 +4,7 @@ ghost use Rattle.bus_ledger.specs.Reception.{next_reading};
 ghost use Rattle.journal.specs.Journal.{state_of};
 ghost use Rattle.journal.specs.Promises.{KeepsLists};
 ghost use Rattle.garage_steps.specs.Calls.{IsWant};
-ghost use Rattle.garage_steps.specs.Crew.{AreSeated, AreUntouched, Comes, IsCrew};
+ghost use Rattle.garage_steps.specs.Crew.{AreSeated, AreUntouched, Comes};
 ghost use Rattle.garage.specs.ParkedUnits.{asked_of, sitting_of};
 ghost use Rattle.garage_steps.specs.Hearing.{HasHeardAll, IsLast, IsWantAt};
 ghost use Rattle.garage_steps.specs.Rounds.{EndsSo, HasReadAll, HaveReadAll, HaveRounds, IsListeningCut, IsReadingCut, IsRoundCut, IsUnread, Listens, EachReads, TakesReadings};
@@ -14,20 +14,16 @@ use crate::hearing::LastFrame;
 use crate::plug::Parked;
 use bus_ledger::Carried;
 use can_frame::Reading;
-use garage_steps::{GarageError, Recorded, Rounds, keep, recorded_of};
+use garage_steps::{GarageError, Rounds};
 use std::alloc::Global;
 use unit_trait::Unit;
-
-/// For so many units it is kept in rounds whether their memory is recorded. That of any further one would be compared at each hear.
-const MOST_RECORDED: usize = 64;
 
 impl Garage {
     /// Runs rounds with these units, so many at most. In a round each unit in turn takes its seat and hears all that it has not
     /// heard, the stations read all, and one frame is carried. It ends early where none can be. At the end all have heard and read
     /// all.
     ///
-    /// That is what plugs, `read` and `carry` do, and costs less: seats are looked up once, and a memory that cannot have changed
-    /// since its unit's latest event is not compared.
+    /// That is what plugs, `read` and `carry` do, and costs less: seats are looked up once.
     ///
     /// Refused with `Stranger` exactly where this garage has no live seat with the seat number, NAME and count of events of one of
     /// them, or where they do not stand in the order of their seats; then nothing changed. `BookFull`, then `OutOfMemory`, where
@@ -63,8 +59,7 @@ impl Garage {
         if !self.are_seated(&*units) {
             return Err(GarageError::Stranger);
         }
-        let mut recorded = [Recorded::Unknown; MOST_RECORDED];
-        self.rounds(alloc, units, &mut recorded, most)
+        self.rounds(alloc, units, most)
     }
 
     /// Whether each has a live seat here, and they stand in the order of their seats.
@@ -88,10 +83,9 @@ impl Garage {
         &mut self,
         alloc: Global,
         units: &mut [Parked],
-        recorded: &mut [Recorded],
         most: u32,
     ) -> Result<Rounds, GarageError>
-        requires { IsCrew (sitting_of (λ b. name_of b) (λ b. memory_of b)) self.old units.old recorded.old }
+        requires { AreSeated (sitting_of (λ b. name_of b) (λ b. memory_of b)) self.old units.old }
         ensures seated { AreSeated (sitting_of (λ b. name_of b) (λ b. memory_of b)) self.new units.new }
         ensures done { IfOk result (λ r. HaveRounds (sitting_of (λ b. name_of b) (λ b. memory_of b)) (asked_of (λ b. Answers b))
             r.carried self.old units.old self.new units.new) }
@@ -101,14 +95,14 @@ impl Garage {
         ensures comes { Comes self.old self.new }
     {
         for carried in 0..most {
-            self.listen(alloc, &mut *units, &mut *recorded)?;
+            self.listen(alloc, &mut *units)?;
             match self.carry()? {
                 Carried::Frame { seat: _, frame: _ } => {}
                 Carried::Idle => return Ok(ended(carried, Carried::Idle)),
                 Carried::Waiting => return Ok(ended(carried, Carried::Waiting)),
             }
         }
-        self.listen(alloc, units, recorded)?;
+        self.listen(alloc, units)?;
         Ok(Rounds {
             carried: most,
             end: None,
@@ -116,14 +110,8 @@ impl Garage {
     }
 
     /// Each unit in turn hears all that it has not heard, and the stations read all.
-    fn listen(
-        &mut self,
-        alloc: Global,
-        units: &mut [Parked],
-        recorded: &mut [Recorded],
-    ) -> Result<(), GarageError>
-        requires { IsCrew (sitting_of (λ b. name_of b) (λ b. memory_of b)) self.old units.old recorded.old }
-        ensures crew { OnOk result (IsCrew (sitting_of (λ b. name_of b) (λ b. memory_of b)) self.new units.new recorded.new) }
+    fn listen(&mut self, alloc: Global, units: &mut [Parked]) -> Result<(), GarageError>
+        requires { AreSeated (sitting_of (λ b. name_of b) (λ b. memory_of b)) self.old units.old }
         ensures seated { AreSeated (sitting_of (λ b. name_of b) (λ b. memory_of b)) self.new units.new }
         ensures heard { OnOk result (Listens (sitting_of (λ b. name_of b) (λ b. memory_of b)) (asked_of (λ b. Answers b)) self.old
             units.old self.new units.new) }
@@ -136,11 +124,9 @@ impl Garage {
         };
         let mut next = 0;
         while next < units.len() {
-            next = self.pass_in_turn(&mut *units, &mut *recorded, next, &last);
+            next = self.pass_in_turn(&mut *units, next, &last);
             if next < units.len() {
-                let known = recorded_of(&*recorded, next);
-                let known = self.catch_up(alloc, &mut units[next], &last, known)?;
-                keep(&mut *recorded, next, known);
+                self.catch_up(alloc, &mut units[next], &last)?;
                 next += 1;
             }
         }

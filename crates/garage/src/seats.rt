@@ -8,7 +8,7 @@ ghost use Rattle.garage_steps.specs.Refusals.{IsJoinRefusal};
 
 use crate::garage::{Garage, Place};
 use can_frame::GREATEST_ADDRESS;
-use garage_steps::{GarageError, make_room, queue_frames};
+use garage_steps::{GarageError, check_room, queue_frames};
 use journal::Tally;
 use name_field::Name;
 use node_core::Node;
@@ -35,7 +35,7 @@ impl Garage {
         ensures lists { KeepsLists self.old self.new }
     {
         self.bus.may_join(name)?;
-        make_room(&mut self.journal, self.live + 2, self.limit)?;
+        check_room(&self.journal, self.live + 2, self.limit)?;
         self.places.reserve(1)?;
         let node = Node::new(name, want);
         let claim = node.start();

@@ -1,6 +1,7 @@
 use crate::garage::Garage;
 use dm_messages::Kind;
-use garage_steps::{Begin, GarageError, Numbering, Recorded, make_ready, make_room, queue_outs};
+use garage_steps::{Begin, GarageError, Numbering, check_room, make_ready, queue_outs};
+use journal::MemoryThen;
 use node_core::{NodeError, Outs, Started};
 use std::alloc::Global;
 use unit_trait::Unit;
@@ -40,7 +41,7 @@ impl Garage {
         let started = match place.node.begin(alloc, Kind::Dm1, unit) {
             Ok(started) => started,
             Err(NodeError::OutOfMemory) => {
-                make_room(&mut self.journal, self.live + 1, self.limit)?;
+                check_room(&self.journal, self.live + 1, self.limit)?;
                 return Err(GarageError::OutOfMemory);
             }
             Err(refusal) => return Err(GarageError::from(refusal)),
@@ -65,14 +66,12 @@ impl Garage {
         ensures only { IfErr result IsWant }
         ensures err { OnErr result (self.new ≡ self.old) }
     {
-        let memory = make_ready(
-            &mut self.journal,
+        make_ready(
+            &self.journal,
             &mut self.bus,
             self.live + 1,
             self.limit,
             seat,
-            unit,
-            Recorded::Unknown,
         )?;
         let place = &mut self.places[(seat - self.stations) as usize];
         place.tally.events += 1;
@@ -83,7 +82,8 @@ impl Garage {
         };
         queue_outs(&mut self.bus, seat, put, numbering);
         self.begun += 1;
-        self.journal.note_begin(seat, memory);
+        self.journal
+            .note_begin(seat, &MemoryThen::of(unit.memory()));
         Ok(())
     }
 
@@ -98,7 +98,7 @@ impl Garage {
         ensures only { IfErr result IsWant }
         ensures err { OnErr result (self.new ≡ self.old) }
     {
-        make_room(&mut self.journal, self.live + 1, self.limit)?;
+        check_room(&self.journal, self.live + 1, self.limit)?;
         let place = &mut self.places[(seat - self.stations) as usize];
         place.tally.turned += 1;
         place.tally.events += 1;

@@ -1,5 +1,5 @@
 -- Many units in their seats: each step of a round leaves the others there.
-use Rattle.std.proofs.Common.{ℕ, zero, suc, ◌≡◌, ◌≢◌, ◌+◌, ◌-◌, ◌<◌, ◌⊎◌, nat_eq, ne_eqb, false, List, [], ◌∷◌, ◌++◌, append_assoc, Some, get_or, replicate, set, slice_get, length, refl, sym, ap, ◌∙◌, subst, arith, inl, inr}
+use Rattle.std.proofs.Common.{ℕ, zero, suc, ◌≡◌, ◌≢◌, ◌+◌, ◌-◌, ◌<◌, ◌⊎◌, nat_eq, ne_eqb, false, List, [], ◌∷◌, ◌++◌, append_assoc, Some, get_or, set, slice_get, length, refl, sym, ap, ◌∙◌, subst, arith, inl, inr}
 use Rattle.std.proofs.lemmas.Option.{slice_get_within, slice_get-get_or}
 use Rattle.bus_ledger.proofs.Numbers.{same_or_not}
 use Rattle.bus_ledger.specs.declared.traffic.Carried.{Carried}
@@ -9,7 +9,7 @@ use Rattle.can_frame.specs.declared.reading.Reading.{Reading}
 use Rattle.can_frame.specs.declared.reading.Reading.TheVariants as reading
 use Rattle.fault_memory.specs.Memory.{MemoryValue}
 use Rattle.dm_messages.specs.declared.shown.Shown.{Shown}
-use Rattle.journal.specs.Journal.{GarageValue, Adds, listed_at, memory_recorded, state_of, tally_of}
+use Rattle.journal.specs.Journal.{GarageValue, Adds, listed_at, state_of, tally_of}
 use Rattle.journal.specs.Promises.{KeepsLists}
 use Rattle.journal.specs.State.{Settings}
 use Rattle.journal.specs.declared.event.Event.{Event}
@@ -18,9 +18,7 @@ use Rattle.journal.specs.declared.tally.Tally.{Tally}
 use Rattle.journal.proofs.Lifted.{keeps_adds, keeps_same}
 use Rattle.garage_steps.specs.Answers.{Reads}
 use Rattle.garage_steps.specs.Carrying.{AddsCarry}
-use Rattle.garage_steps.specs.Crew.{AreOthersUntouched, AreSeated, AreUntouched, Comes, IsCrew, IsOfRound, IsRecorded, IsUntouched, KeepsUnit, LeadTo, Sits, Sitting}
-use Rattle.garage_steps.specs.declared.recorded.Recorded.{Recorded}
-use Rattle.garage_steps.specs.declared.recorded.Recorded.TheVariants.{Current, Unknown}
+use Rattle.garage_steps.specs.Crew.{AreOthersUntouched, AreSeated, AreUntouched, Comes, IsOfRound, IsUntouched, KeepsUnit, LeadTo, Sits, Sitting}
 use Rattle.node_core.specs.declared.heard.Answer.{Answer as UnitAnswer}
 use Rattle.garage_steps.proofs.SeatKept.{event_hears, keeps_both, keeps_itself, still_seated, still_there, unit_carried, unit_read}
 use Rattle.garage_steps.proofs.Events.{tally_more}
@@ -30,37 +28,23 @@ pub untouched_same : (k : ℕ) (g g' : GarageValue) → g' ≡ g → IsUntouched
 untouched_same k g g' e = record {
   keeps = subst (λ (v : GarageValue). KeepsUnit k g v) (sym e) (keeps_itself k (state_of g).traffic);
   counted = ap (λ (v : GarageValue). (tally_of k v.journal).events) e;
-  told = ap (λ (v : GarageValue). memory_recorded k v.journal) e;
 }
 
 -- one event more, of another seat or of none
-untouched_by : (k : ℕ) (g g' : GarageValue) (e : Event) → Adds g e g' → KeepsUnit k g g' → tally_of k (e ∷ g.journal) ≡ tally_of k g.journal → memory_recorded k (e ∷ g.journal) ≡ memory_recorded k g.journal → IsUntouched k g g'
-untouched_by k g g' e adds keeps tally told = record {
+untouched_by : (k : ℕ) (g g' : GarageValue) (e : Event) → Adds g e g' → KeepsUnit k g g' → tally_of k (e ∷ g.journal) ≡ tally_of k g.journal → IsUntouched k g g'
+untouched_by k g g' e adds keeps tally = record {
   keeps = keeps;
   counted = ap (λ (v : GarageValue). (tally_of k v.journal).events) adds.adds ∙ ap (λ (t : Tally). t.events) tally;
-  told = ap (λ (v : GarageValue). memory_recorded k v.journal) adds.adds ∙ told;
 }
-
-memory_of_other : (k j : ℕ) (memory : MemoryValue) (answered : UnitAnswer) (es : List Event) → k ≢ j → memory_recorded k (Hear j memory answered ∷ es) ≡ memory_recorded k es
-unfolding memory_recorded
-memory_of_other k j memory answered es n = (let t : nat_eq j k ≡ false = ne_eqb j k (λ e. n (sym e)) in rw t refl)
-
-memory_read : (y k : ℕ) (r : Reading) (es : List Event) → memory_recorded k (Read y r ∷ es) ≡ memory_recorded k es
-unfolding memory_recorded
-memory_read y k r es = refl
-
-memory_carried : (k j : ℕ) (es : List Event) → memory_recorded k (Carry j ∷ es) ≡ memory_recorded k es
-unfolding memory_recorded
-memory_carried k j es = refl
 
 pub heard_untouched : (k : ℕ) (g : GarageValue) (j : ℕ) (memory : MemoryValue) (answered : UnitAnswer) (g' : GarageValue) → Adds g (Hear j memory answered) g' → k ≢ j → k < length (state_of g).traffic.seats → IsUntouched k g g'
 heard_untouched k g j memory answered g' h n there =
     let t : nat_eq j k ≡ false = ne_eqb j k (λ e. n (sym e)) in
     untouched_by k g g' (Hear j memory answered) h (event_hears k g j memory answered g' h there)
-    (tally_more k (Hear j memory answered) g.journal ∙ rw t refl) (memory_of_other k j memory answered g.journal n)
+    (tally_more k (Hear j memory answered) g.journal ∙ rw t refl)
 
 pub took_untouched : (y k : ℕ) (g g' : GarageValue) (r : Reading) → Adds g (Read y r) g' → k < length (state_of g).traffic.seats → IsUntouched k g g'
-took_untouched y k g g' r h there = untouched_by k g g' (Read y r) h (unit_read y k g g' r h there) (tally_more k (Read y r) g.journal) (memory_read y k r g.journal)
+took_untouched y k g g' r h there = untouched_by k g g' (Read y r) h (unit_read y k g g' r h there) (tally_more k (Read y r) g.journal)
 
 pub read_untouched : (y k : ℕ) (g g' : GarageValue) (r : Reading) → Reads y g r g' → k < length (state_of g).traffic.seats → IsUntouched k g g'
 read_untouched y k g g' reading.Empty h there = untouched_same k g g' h.1
@@ -68,7 +52,7 @@ read_untouched y k g g' (reading.Frame f) h there = took_untouched y k g g' (rea
 read_untouched y k g g' (reading.Gap n) h there = took_untouched y k g g' (reading.Gap n) h there
 
 pub carried_untouched : (k : ℕ) (g g' : GarageValue) (c : Carried) → AddsCarry g c g' → k < length (state_of g).traffic.seats → IsUntouched k g g'
-carried_untouched k g g' (carried.Frame j f) h there = untouched_by k g g' (Carry j) h.1 (unit_carried k j g g' h.1 there) (tally_more k (Carry j) g.journal) (memory_carried k j g.journal)
+carried_untouched k g g' (carried.Frame j f) h there = untouched_by k g g' (Carry j) h.1 (unit_carried k j g g' h.1 there) (tally_more k (Carry j) g.journal)
 carried_untouched k g g' carried.Idle h there = untouched_same k g g' h.1
 carried_untouched k g g' carried.Waiting h there = untouched_same k g g' h.1
 
@@ -82,7 +66,6 @@ untouched_both a b c h h' = λ k l.
     record {
       keeps = keeps_both k (state_of a).traffic (state_of b).traffic (state_of c).traffic one.keeps two.keeps;
       counted = two.counted ∙ one.counted;
-      told = two.told ∙ one.told;
     })
 
 -- ---- all but one
@@ -97,7 +80,6 @@ others_both j a b c h h' = λ k n l.
     record {
       keeps = keeps_both k (state_of a).traffic (state_of b).traffic (state_of c).traffic one.keeps two.keeps;
       counted = two.counted ∙ one.counted;
-      told = two.told ∙ one.told;
     })
 
 -- ---- all of them
@@ -105,23 +87,11 @@ others_both j a b c h h' = λ k n l.
 sits_still : (g g' : GarageValue) (s : Sitting) → IsUntouched s.seat g g' → Sits g s → Sits g' s
 sits_still g g' s u h = still_seated g g' s.seat s.name s.events s.events u.keeps h (sym (u.counted ∙ h.counted))
 
--- at first nothing is known of their memories
-pub crew_begins : {P : Type 0} (sitting : P → Sitting) (g : GarageValue) (us : List P) (recorded : List Recorded) → AreSeated sitting g us → ((i : ℕ) → slice_get recorded i ≢ Some Current) → IsCrew sitting g us recorded
-crew_begins sitting g us recorded seated none = record { seated = seated; told = λ i p e m. absurd (none i m) }
-
-pub none_known : (n i : ℕ) → slice_get (replicate n Unknown) i ≢ Some Current
-none_known zero i e = absurd cc
-none_known (suc n) zero e = absurd cc
-none_known (suc n) (suc i) e = none_known n i e
-
 -- a step that is no unit's leaves all in their seats
-pub crew_still : {P : Type 0} (sitting : P → Sitting) (g g' : GarageValue) (us : List P) (recorded : List Recorded) → AreUntouched g g' → IsCrew sitting g us recorded → IsCrew sitting g' us recorded
-crew_still sitting g g' us recorded all crew = record {
-  seated = record {
-    each = λ i p e. (let s = crew.seated.each i p e in sits_still g g' (sitting p) (all (sitting p).seat s.unit.1) s);
-    ordered = crew.seated.ordered;
-  };
-  told = λ i p e m. (let s = crew.seated.each i p e in (all (sitting p).seat s.unit.1).told ∙ crew.told i p e m);
+pub crew_still : {P : Type 0} (sitting : P → Sitting) (g g' : GarageValue) (us : List P) → AreUntouched g g' → AreSeated sitting g us → AreSeated sitting g' us
+crew_still sitting g g' us all seated = record {
+  each = λ i p e. (let s = seated.each i p e in sits_still g g' (sitting p) (all (sitting p).seat s.unit.1) s);
+  ordered = seated.ordered;
 }
 
 before_or_after : (i j : ℕ) → j ≢ i → (i < j) ⊎ (j < i)
@@ -159,48 +129,37 @@ other_seat sitting g us i j p q seated n at_i at_j same =
     ]
 
 -- a unit that heard: the others are as they were
-pub crew_heard : {P : Type 0} (sitting : P → Sitting) (g g' : GarageValue) (us : List P) (recorded recorded' : List Recorded) (i : ℕ) (p p' : P) (known : Recorded) → IsCrew sitting g us recorded → slice_get us i ≡ Some p
-    → (sitting p').seat ≡ (sitting p).seat → Sits g' (sitting p') → (known ≡ Current → IsRecorded g' (sitting p'))
-    → ((k : ℕ) → k ≢ (sitting p).seat → k < length (state_of g).traffic.seats → IsUntouched k g g')
-    → ((j : ℕ) → j ≢ i → slice_get recorded' j ≡ Some Current → slice_get recorded j ≡ Some Current) → (slice_get recorded' i ≡ Some Current → known ≡ Current)
-    → IsCrew sitting g' (set us i p') recorded'
-crew_heard {P} sitting g g' us recorded recorded' i p p' known crew at_i seat sits tells all rest here = record {
-  seated = record {
-    each = λ j q e.
-        elim (slice_get_set us i j p' q e) [
-          | inl same ↦ subst (λ (x : P). Sits g' (sitting x)) (sym same.1) sits
-          | inr other ↦
-              let s = crew.seated.each j q other.1 in
-              sits_still g g' (sitting q) (all (sitting q).seat (other_seat sitting g us i j p q crew.seated other.0 at_i other.1) s.unit.1) s
-        ];
-    ordered = λ j q r at_j at_k.
-        elim (slice_get_set us i j p' q at_j) [
-          | inl same_j ↦
-              elim (slice_get_set us i (suc j) p' r at_k) [
-                | inl same_k ↦ (let a = same_j.0 in let b = same_k.0 in absurd (omega arith))
-                | inr other_k ↦
-                    let after : slice_get us (suc i) ≡ Some r = ap (λ (x : ℕ). slice_get us (suc x)) (sym same_j.0) ∙ other_k.1 in
-                    let o = crew.seated.ordered i p r at_i after in
-                    let a : (sitting q).seat ≡ (sitting p).seat = ap (λ (x : P). (sitting x).seat) same_j.1 ∙ seat in
-                    omega arith
-              ]
-          | inr other_j ↦
-              elim (slice_get_set us i (suc j) p' r at_k) [
-                | inl same_k ↦
-                    let at : slice_get us (suc j) ≡ Some p = ap (λ (x : ℕ). slice_get us x) same_k.0 ∙ at_i in
-                    let o = crew.seated.ordered j q p other_j.1 at in
-                    let b : (sitting r).seat ≡ (sitting p).seat = ap (λ (x : P). (sitting x).seat) same_k.1 ∙ seat in
-                    omega arith
-                | inr other_k ↦ crew.seated.ordered j q r other_j.1 other_k.1
-              ]
-        ];
-  };
-  told = λ j q e m.
+pub crew_heard : {P : Type 0} (sitting : P → Sitting) (g g' : GarageValue) (us : List P) (i : ℕ) (p p' : P) → AreSeated sitting g us → slice_get us i ≡ Some p
+    → (sitting p').seat ≡ (sitting p).seat → Sits g' (sitting p') → ((k : ℕ) → k ≢ (sitting p).seat → k < length (state_of g).traffic.seats → IsUntouched k g g')
+    → AreSeated sitting g' (set us i p')
+crew_heard {P} sitting g g' us i p p' seated at_i seat sits all = record {
+  each = λ j q e.
       elim (slice_get_set us i j p' q e) [
-        | inl same ↦ subst (λ (x : P). IsRecorded g' (sitting x)) (sym same.1) (tells (here (ap (λ (x : ℕ). slice_get recorded' x) (sym same.0) ∙ m)))
+        | inl same ↦ subst (λ (x : P). Sits g' (sitting x)) (sym same.1) sits
         | inr other ↦
-            let s = crew.seated.each j q other.1 in
-            (all (sitting q).seat (other_seat sitting g us i j p q crew.seated other.0 at_i other.1) s.unit.1).told ∙ crew.told j q other.1 (rest j other.0 m)
+            let s = seated.each j q other.1 in
+            sits_still g g' (sitting q) (all (sitting q).seat (other_seat sitting g us i j p q seated other.0 at_i other.1) s.unit.1) s
+      ];
+  ordered = λ j q r at_j at_k.
+      elim (slice_get_set us i j p' q at_j) [
+        | inl same_j ↦
+            elim (slice_get_set us i (suc j) p' r at_k) [
+              | inl same_k ↦ (let a = same_j.0 in let b = same_k.0 in absurd (omega arith))
+              | inr other_k ↦
+                  let after : slice_get us (suc i) ≡ Some r = ap (λ (x : ℕ). slice_get us (suc x)) (sym same_j.0) ∙ other_k.1 in
+                  let o = seated.ordered i p r at_i after in
+                  let a : (sitting q).seat ≡ (sitting p).seat = ap (λ (x : P). (sitting x).seat) same_j.1 ∙ seat in
+                  omega arith
+            ]
+        | inr other_j ↦
+            elim (slice_get_set us i (suc j) p' r at_k) [
+              | inl same_k ↦
+                  let at : slice_get us (suc j) ≡ Some p = ap (λ (x : ℕ). slice_get us x) same_k.0 ∙ at_i in
+                  let o = seated.ordered j q p other_j.1 at in
+                  let b : (sitting r).seat ≡ (sitting p).seat = ap (λ (x : P). (sitting x).seat) same_k.1 ∙ seat in
+                  omega arith
+              | inr other_k ↦ seated.ordered j q r other_j.1 other_k.1
+            ]
       ];
 }
 

@@ -17,15 +17,13 @@ use Rattle.journal.specs.Journal.{Adds, GarageValue, state_after, state_of}
 use Rattle.journal.specs.Steps.{after}
 use Rattle.journal.specs.declared.event.Event.TheVariants.{Carry}
 use Rattle.garage_steps.specs.Carrying.{AddsCarry}
-use Rattle.garage_steps.specs.Crew.{AreSeated, Comes, IsCrew, IsRecorded, Sits, Sitting}
-use Rattle.garage_steps.specs.Hearing.{HasHeardAll, HearsMany, HearsOut, IsHearingCut, IsLast, IsWantAt}
+use Rattle.garage_steps.specs.Crew.{AreSeated, Comes, Sits, Sitting}
+use Rattle.garage_steps.specs.Hearing.{HasHeardAll, HearsMany, IsHearingCut, IsLast, IsWantAt}
 use Rattle.garage_steps.specs.Rounds.{AreRounds, HaveReadAll, HaveRounds, HearInTurn, HearsAt, IsCarryCut, IsListeningCut, IsReadingCut, IsRoundCut, Listens, EachReads}
 use Rattle.garage_steps.specs.Calls.{IsWant}
 use Rattle.garage_steps.specs.Room.{IsFull}
 use Rattle.garage_steps.specs.declared.error.GarageError.{GarageError}
 use Rattle.garage_steps.specs.declared.error.GarageError.TheVariants.{BookFull, Stranger}
-use Rattle.garage_steps.specs.declared.recorded.Recorded.{Recorded}
-use Rattle.garage_steps.specs.declared.recorded.Recorded.TheVariants.{Current, Unknown}
 use Rattle.garage_steps.proofs.Crew.{carried_untouched, comes_both, comes_carried, comes_same, comes_settings, crew_heard, crew_still, other_seat}
 use Rattle.garage_steps.proofs.HearLemmas.{Hearing, hearing_many, last_stays, many_none, next_stays, want_at}
 use Rattle.garage_steps.proofs.ReadLemmas.{cut_comes, turn_comes, turn_read, turn_stays, turn_untouched}
@@ -50,15 +48,11 @@ pub record Moved {P : Type 0} (sitting : P → Sitting) (g : GarageValue) (us : 
   pub wire : (state_of g').traffic.wire ≡ (state_of g).traffic.wire
   pub comes : Comes g g'
 
-unknown_crew : {P : Type 0} (sitting : P → Sitting) (g : GarageValue) (us : List P) → AreSeated sitting g us → IsCrew sitting g us []
-unknown_crew sitting g us seated = record { seated = seated; told = λ i p e m. absurd cc }
-
 pub moved_by : {P : Type 0} (sitting : P → Sitting) (n i : ℕ) (g g' : GarageValue) (us us' : List P) (p p' : P) → AreSeated sitting g us → slice_get us i ≡ Some p → us' ≡ set us i p' → Hearing sitting n g p g' p' → Moved sitting g us g' us'
 moved_by {P} sitting n i g g' us us' p p' seated at put so =
-    let crew = crew_heard sitting g g' us [] [] i p p' Unknown (unknown_crew sitting g us seated) at so.seat so.sits (λ t. absurd cc) so.others (λ j n m. m) (λ m. absurd cc) in
     record {
       count = ap length put ∙ length-set us i p';
-      seated = subst (λ (xs : List P). AreSeated sitting g' xs) (sym put) crew.seated;
+      seated = subst (λ (xs : List P). AreSeated sitting g' xs) (sym put) (crew_heard sitting g g' us i p p' seated at so.seat so.sits so.others);
       wire = so.more.wire;
       comes = so.comes;
     }
@@ -148,7 +142,7 @@ listened sitting asked a b us vs seated h =
           let same = turn_stays (sitting p).seat n h.heard b h.reads sits.unit.0 in
           next_stays (sitting p).seat h.heard b (record { wire = same.wire; heard = same.heard }) ∙ t.heard i p (omega arith) e);
       read = subst (λ (k : ℕ). HaveReadAll k b) (sym (ap (λ (s : _). length s.stations) settings)) (turn_read n h.heard b h.reads);
-      seated = (crew_still sitting h.heard b vs [] (turn_untouched n h.heard b h.reads) (unknown_crew sitting h.heard vs t.moved.seated)).seated;
+      seated = crew_still sitting h.heard b vs (turn_untouched n h.heard b h.reads) t.moved.seated;
       wire = (let t' = turn_stays (length (state_of h.heard).traffic.windows) n h.heard b h.reads (omega arith) in t'.wire ∙ t.moved.wire);
       comes = comes;
     }
@@ -173,13 +167,6 @@ unit_left sitting asked e n i a b c us vs ws p q turn at put cut =
 pub moved_some : {P : Type 0} (sitting : P → Sitting) (asked : P → P → Option Question → UnitAnswer → Type 0) (n i : ℕ) (b c : GarageValue) (vs : List P) (p q : P)
     → AreSeated sitting b vs → slice_get vs i ≡ Some p → HearsMany sitting asked n b p c q → Moved sitting b vs c (set vs i q)
 moved_some sitting asked n i b c vs p q seated at h = moved_by sitting n i b c vs (set vs i q) p q seated at refl (hearing_many sitting asked n b p c q h (seated.each i p at))
-
-pub crew_after : {P : Type 0} (sitting : P → Sitting) (asked : P → P → Option Question → UnitAnswer → Type 0) (i : ℕ) (b c : GarageValue) (vs : List P) (recorded recorded' : List Recorded) (p q : P) (known : Recorded)
-    → IsCrew sitting b vs recorded → slice_get vs i ≡ Some p → HearsOut sitting asked b p c q → (known ≡ Current → IsRecorded c (sitting q))
-    → ((j : ℕ) → j ≢ i → slice_get recorded' j ≡ slice_get recorded j) → (slice_get recorded' i ≡ Some Current → known ≡ Current) → IsCrew sitting c (set vs i q) recorded'
-crew_after sitting asked i b c vs recorded recorded' p q known crew at out tells others this =
-    let so = hearing_many sitting asked out.count b p c q out.heard (crew.seated.each i p at) in
-    crew_heard sitting b c vs recorded recorded' i p q known crew at so.seat so.sits tells so.others (λ j n m. sym (others j n) ∙ m) this
 
 -- what comes of the stations' reading, whether it was cut short or not
 pub rest_comes : {T : Type 0} (r : Result T GarageError) (n : ℕ) (a b : GarageValue) → OnOk r (EachReads n a b) → IfErr r (λ e. IsReadingCut e a b) → Comes a b
@@ -250,7 +237,7 @@ rounded sitting asked (suc n) a b us vs seated h =
     let one = listened sitting asked h.0 h.1 h.2 vs before.seated h.6 in
     let carry : AddsCarry h.1 (carried.Frame h.3 h.4) b = h.7 in
     record {
-      seated = (crew_still sitting h.1 b vs [] (λ k l. carried_untouched k h.1 b (carried.Frame h.3 h.4) carry l) (unknown_crew sitting h.1 vs one.seated)).seated;
+      seated = crew_still sitting h.1 b vs (λ k l. carried_untouched k h.1 b (carried.Frame h.3 h.4) carry l) one.seated;
       wire = (let w = before.wire in let o = ap length one.wire in let l = carry_longer h.1 b h.3 carry.1 in omega arith);
       comes = comes_both a h.1 b (comes_both a h.0 h.1 before.comes one.comes) (comes_carried h.1 b (carried.Frame h.3 h.4) carry);
     }

@@ -1,10 +1,8 @@
 -- Many units in their seats, in turn.
 use Rattle.std.specs.Prelude.{◌≡◌, ◌≢◌, ℕ, suc, ◌<◌, List, [], ◌∷◌, Some, length, slice_get}
 use Rattle.bus_ledger.specs.BusValue.{Traffic, seat_at}
-use Rattle.garage_steps.specs.declared.recorded.Recorded.{Recorded}
-use Rattle.garage_steps.specs.declared.recorded.Recorded.TheVariants.{Current}
 use Rattle.fault_memory.specs.Memory.{MemoryValue}
-use Rattle.journal.specs.Journal.{GarageValue, Adds, IsSeated, memory_recorded, state_of, tally_of}
+use Rattle.journal.specs.Journal.{GarageValue, Adds, IsSeated, state_of, tally_of}
 use Rattle.journal.specs.declared.event.Event.{Event}
 use Rattle.journal.specs.declared.event.Event.TheVariants.{Join, Hear, Begin, Turned, Carry, Read, Ordered, Leave, Inject}
 
@@ -18,19 +16,10 @@ pub record Sitting : Type 0 where
 abbrev pub Sits : GarageValue → Sitting → Type 0
 Sits g s = IsSeated g s.seat s.name s.events
 
--- its memory is the one that the latest event of its seat tells
-abbrev pub IsRecorded : GarageValue → Sitting → Type 0
-IsRecorded g s = memory_recorded s.seat g.journal ≡ Some s.memory
-
 -- each has its seat here, and they stand in the order of their seats
 pub record AreSeated {P : Type 0} (sitting : P → Sitting) (g : GarageValue) (units : List P) : Type 0 where
   pub each : (i : ℕ) (p : P) → slice_get units i ≡ Some p → Sits g (sitting p)
   pub ordered : (i : ℕ) (p q : P) → slice_get units i ≡ Some p → slice_get units (suc i) ≡ Some q → (sitting p).seat < (sitting q).seat
-
--- so are they, and those whose memory is known to be recorded have the one that is told of them
-pub record IsCrew {P : Type 0} (sitting : P → Sitting) (g : GarageValue) (units : List P) (recorded : List Recorded) : Type 0 where
-  pub seated : AreSeated sitting g units
-  pub told : (i : ℕ) (p : P) → slice_get units i ≡ Some p → slice_get recorded i ≡ Some Current → IsRecorded g (sitting p)
 
 -- a seat is as live as it was, under the same NAME, among as many seats and the same stations
 pub record KeepsSeat (k : ℕ) (t t' : Traffic) : Type 0 where
@@ -46,7 +35,6 @@ KeepsUnit k g g' = KeepsSeat k (state_of g).traffic (state_of g').traffic
 pub record IsUntouched (k : ℕ) (g g' : GarageValue) : Type 0 where
   pub keeps : KeepsUnit k g g'
   pub counted : (tally_of k g'.journal).events ≡ (tally_of k g.journal).events
-  pub told : memory_recorded k g'.journal ≡ memory_recorded k g.journal
 
 -- so are all seats
 abbrev pub AreUntouched : GarageValue → GarageValue → Type 0

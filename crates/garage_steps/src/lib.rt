@@ -7,7 +7,6 @@
 mod answers;
 mod error;
 mod queueing;
-mod recorded;
 mod room;
 
 pub use answers::{Begin, HeardOne, Rounds};
@@ -15,5 +14,4 @@ pub use error::GarageError;
 pub use queueing::{
     Numbering, begins_session, begun_count, do_heard, last_session, queue_frames, queue_outs, react,
 };
-pub use recorded::{Recorded, keep, recorded_of};
-pub use room::{has_room, make_ready, make_room};
+pub use room::{check_room, has_room, make_ready};

@@ -7,7 +7,6 @@ pub mod Carrying
 pub mod Queues
 pub mod Parts
 pub mod Deeds
-pub mod Again
 mod Answers
 pub mod Doing
 pub mod Places
@@ -26,11 +25,5 @@ pub mod Reaching
 pub mod Headline
 pub mod Lifted
 pub mod Living
-pub mod Runs
-pub mod Kept
-pub mod Recorded
-pub mod Keeping
-pub mod Over
-pub mod Storing
 pub mod Fitting
 pub mod Examples

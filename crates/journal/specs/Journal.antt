@@ -1,6 +1,5 @@
 -- The journal, newest event first, and what it says.
-use Rattle.std.specs.Prelude.{◌≡◌, ℕ, ◌+◌, ◌==◌, List, [], ◌∷◌, Option, None, Some, reverse, if◌then◌else◌}
-use Rattle.fault_memory.specs.Memory.{MemoryValue}
+use Rattle.std.specs.Prelude.{◌≡◌, ℕ, ◌+◌, ◌==◌, List, [], ◌∷◌, Option, reverse, if◌then◌else◌}
 use Rattle.bus_ledger.specs.BusValue.{IsUnit, seat_at}
 use Rattle.dm_messages.specs.declared.kind.Kind.{Kind}
 use Rattle.dm_messages.specs.declared.shown.Shown.{Shown}
@@ -68,13 +67,6 @@ tallied k (Inject frame) t = t
 unfoldable pub tally_of : ℕ → List Event → Tally
 tally_of k [] = record { joined = 0; turned = 0; left = 0; events = 0 }
 tally_of k (e ∷ older) = tallied k e (tally_of k older)
-
--- the fault memory that the latest hear or begin of a seat tells
-unfoldable pub memory_recorded : ℕ → List Event → Option MemoryValue
-memory_recorded k [] = None
-memory_recorded k (Hear j memory answered ∷ older) = if j == k then Some memory else memory_recorded k older
-memory_recorded k (Begin j memory ∷ older) = if j == k then Some memory else memory_recorded k older
-memory_recorded k (_ ∷ older) = memory_recorded k older
 
 -- a live seat of a unit with this number, NAME and count of its own events
 pub record IsSeated (g : GarageValue) (k name events : ℕ) : Type 0 where

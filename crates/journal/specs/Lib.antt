@@ -5,5 +5,4 @@ pub mod Journal
 pub mod Worlds
 pub mod Promises
 pub mod Notes
-pub mod Inside
 pub mod Example

@@ -1,18 +1,17 @@
 //! The journal of a garage: what may happen on a bus, and what it changes.
 //!
 //! `specs/State.antt` says what there is, `specs/Fits.antt` when an event may happen, `specs/Steps.antt` what it changes and
-//! `specs/Journal.antt` to which state a list of events leads. The code that does it is the garage's. `Journal` keeps the events as
-//! notes of 16 bytes (`specs/Notes.antt`).
+//! `specs/Journal.antt` to which state a list of events leads. The code that does it is the garage's. Of the events in a `Journal`
+//! only the number is kept when it runs; which they are is known to proofs alone.
 #![tactic(auto)]
 
 mod event;
-mod hear_run;
 mod laws;
+mod memory_then;
 mod note;
 mod notes;
 mod order;
 mod promises;
-mod sharing;
 mod tally;
 
 pub use event::Event;
@@ -20,6 +19,7 @@ pub use laws::{
     commanded_addresses_can_be_held, journal_is_a_run, journal_is_not_empty, nothing_stays_unread,
     path_is_marked, shown_is_expected, station_stands_for_its_readings,
 };
+pub use memory_then::MemoryThen;
 pub use notes::{Journal, MOST_EVENTS};
 pub use order::Order;
 pub use promises::{

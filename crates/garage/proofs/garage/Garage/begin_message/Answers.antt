@@ -1,4 +1,4 @@
-use Rattle.std.proofs.Common.{ℕ, suc, false, ◌≡◌, arith, refl, ap, ◌∙◌, sym, subst, List, ◌++◌, ◌∷◌, [], ◌+◌, ◌-◌, length, map}
+use Rattle.std.proofs.Common.{ℕ, suc, false, ◌≡◌, arith, refl, ap, ◌∙◌, sym, subst, ◌+◌, ◌-◌, length, map}
 use Rattle.std.proofs.lemmas.List.{length-set, length-map}
 use Rattle.std.specs.Vec.{with_item}
 use Rattle.fault_memory.specs.Memory.{IsLawfulMemory}
@@ -7,8 +7,6 @@ use Rattle.bus_ledger.specs.Newcomers.{live_units}
 use Rattle.journal.specs.State.{State, UnitState, unit_at, table_at}
 use Rattle.journal.specs.Steps.{put_all, tagged}
 use Rattle.journal.specs.Journal.{one_more}
-use Rattle.journal.specs.Notes.{memory_at}
-use Rattle.journal.specs.declared.event.Event.{Event}
 use Rattle.journal.specs.declared.event.Event.TheVariants.{Begin}
 use Rattle.garage.specs.declared.garage.Place.{Place}
 use Rattle.garage.proofs.BeginLemmas.{begins_inside}
@@ -35,8 +33,7 @@ queue_outs-requires-clause-few g c =
     let q = stands.queued c.args.seat in
     let same = ap (λ (t : Traffic). (seat_at t c.args.seat).queued) c.make_ready.ensures.traffic in
     let few = c.requires.few in
-    let ok = c.in_ok-memory.ensures.room in
-    let fits = ok.0 in
+    let fits = c.in_ok-make_ready.ensures.room in
     let limit = stands.few in
     let live = stands.live in
     omega arith
@@ -54,10 +51,10 @@ invariant_of-self-2 g c =
     let one_is = windows_are a stands in
     let low = u.0 in
     let h = place_within a seat stands u in
-    let memory = memory_at c.make_ready.new.journal.memories c.in_ok-memory.memory in
+    let memory = c.of.result in
     let same = unit_is a seat x stands h c.index_mut-place.ensures.value in
-    let mem_is = c.in_ok-memory.ensures.memory.value in
-    let lawful : IsLawfulMemory memory = subst IsLawfulMemory (sym mem_is) c.in_ok-memory.ensures.lawful in
+    let mem_is = c.of.ensures.value ∙ c.memory.ensures in
+    let lawful : IsLawfulMemory memory = subst IsLawfulMemory (sym c.of.ensures.value) c.of.ensures.lawful in
     let put = c.args.put in
     let begins = begins_inside a c.args.self.now seat memory _ put c.self.view_is mem_is c.requires.begins in
     let node = (unit_at s seat).node in
@@ -74,13 +71,10 @@ invariant_of-self-2 g c =
     let lives = ap live_units now ∙ more.units in
     let wires = ap (λ (v : Traffic). length v.wire) now ∙ ap length more.wire in
     let many = ap (λ (v : Traffic). length v.seats) now ∙ more.seats in
-    let ok = c.in_ok-memory.ensures.room in
-    let fits = ok.0 in
-    let room = ok.1 in
-    let n = c.note_begin.ensures.room in
+    let fits = c.in_ok-make_ready.ensures.room in
     stands_more a _ (Begin seat memory) stands (record {
       settings = refl;
-      journal = c.note_begin.ensures.items ∙ ap (λ (l : List Event). l ++ Begin seat memory ∷ []) c.make_ready.ensures.items;
+      journal = c.note_begin.ensures;
       fits = fit;
       traffic = now ∙ (ap (λ (i : ℕ). put_all seat (map (tagged i false x.session_message) put) t) number
           ∙ (ap (λ (l : ℕ). put_all seat (map (tagged (length s.begun) false l) put) t) last
@@ -97,7 +91,6 @@ invariant_of-self-2 g c =
       seats = (let y = stands.seats in omega (arith, length-set a.places.items k p));
       live = stands.live ∙ sym lives;
       within = (let w = stands.within in omega arith);
-      room = omega arith;
       wire = (let w = stands.wire in omega arith);
       queued = λ j. (let w = stands.queued j in let q = more.queued j in let e = ap (λ (v : Traffic). (seat_at v j).queued) now in omega arith);
       messages = (let w = stands.messages in omega arith);
@@ -113,9 +106,9 @@ returns-clause-ok g c =
     let x = c.index_mut-place.result.now in
     let u = unit_now a c.args.self.now seat c.self.view_is c.requires.unit in
     let h = place_within a seat stands u in
-    let memory = memory_at c.make_ready.new.journal.memories c.in_ok-memory.memory in
-    let mem_is = c.in_ok-memory.ensures.memory.value in
-    let lawful : IsLawfulMemory memory = subst IsLawfulMemory (sym mem_is) c.in_ok-memory.ensures.lawful in
+    let memory = c.of.result in
+    let mem_is = c.of.ensures.value ∙ c.memory.ensures in
+    let lawful : IsLawfulMemory memory = subst IsLawfulMemory (sym c.of.ensures.value) c.of.ensures.lawful in
     let put = c.args.put in
     let begins = begins_inside a c.args.self.now seat memory _ put c.self.view_is mem_is c.requires.begins in
     let node = (unit_at s seat).node in
@@ -132,5 +125,5 @@ returns-clause-ok g c =
       journal = c.note_begin.new.self;
     })
     c.args.self.now seat memory _ c.self.view_is refl
-    (c.note_begin.ensures.items ∙ ap (λ (l : List Event). l ++ Begin seat memory ∷ []) c.make_ready.ensures.items)
+    (c.note_begin.ensures)
     mem_is fit

@@ -1,4 +1,4 @@
-use Rattle.std.proofs.Common.{◌+◌, arith, refl, ap, ◌∙◌, sym, subst, List, ◌++◌, ◌∷◌, [], length}
+use Rattle.std.proofs.Common.{◌+◌, arith, refl, ap, ◌∙◌, sym, subst, length}
 use Rattle.std.proofs.lemmas.List.{length-set, length_push}
 use Rattle.bus_ledger.specs.BusValue.{Traffic, seat_at}
 use Rattle.bus_ledger.specs.Changes.{carried_from, carried_frame}
@@ -8,11 +8,9 @@ use Rattle.bus_ledger.specs.declared.traffic.Carried.{Carried}
 use Rattle.bus_ledger.specs.declared.traffic.Carried.TheVariants.{Frame}
 use Rattle.bus_ledger.proofs.Sounds.{offer_says}
 use Rattle.journal.specs.State.{State}
-use Rattle.journal.specs.declared.event.Event.{Event}
 use Rattle.journal.specs.declared.event.Event.TheVariants.{Carry}
 use Rattle.garage_steps.proofs.Events.{carry_table, joins_carry, carry_is, sent_queued, sent_units}
 use Rattle.garage.proofs.Standing.{state, stands_more, tallies_still, fresh_still}
-use Rattle.garage.proofs.CarryLemmas.{uncarried_could, uncarried_full}
 use Rattle.garage.proofs.Lists.{lists_pushed}
 use Rattle.garage.proofs.garage.Garage.carry.Goals as goal
 
@@ -28,16 +26,13 @@ invariant_of-self-2 c =
     let next : IsCarriedNext (state a).traffic k q = subst (λ (t : Traffic). IsCarriedNext t k q) stands.traffic did.1 in
     let now = did.3 in
     let is = carry_is k q (state a) (offer_says (length (state a).traffic.wire) (seat_at (state a).traffic k) q next.offers).first in
-    let ok = c.in-Ok.ensures.ok in
-    let fits = ok.0 in
-    let room = ok.1 in
+    let fits = c.in-Ok.ensures.ok in
     let wires = ap (λ (t : Traffic). length t.wire) now ∙ length_push before.wire (carried_frame k q) in
     let many = ap (λ (t : Traffic). length t.seats) now in
     let lives = ap live_units now ∙ sent_units before k q in
-    let n = c.note_carry.ensures.room in
     stands_more a _ (Carry k) stands (record {
       settings = refl;
-      journal = c.note_carry.ensures.items ∙ ap (λ (l : List Event). l ++ Carry k ∷ []) c.make_room.ensures.items;
+      journal = c.note_carry.ensures;
       fits = (q, next);
       traffic = now ∙ (ap (carried_from k q) stands.traffic ∙ sym (ap (λ (s : State). s.traffic) is));
       stations = refl;
@@ -52,7 +47,6 @@ invariant_of-self-2 c =
       seats = (let s = stands.seats in omega (arith, length-set before.seats k));
       live = stands.live ∙ sym lives;
       within = (let w = stands.within in omega arith);
-      room = omega arith;
       wire = (let w = stands.wire in omega arith);
       queued = λ j. (let w = stands.queued j in let e = ap (λ (t : Traffic). (seat_at t j).queued) now ∙ sent_queued before k q j in omega arith);
       messages = (let w = stands.messages in omega arith);
@@ -66,12 +60,4 @@ returns-clause-lists c =
     let did : Carries a.bus.traffic (Frame k c.in-Frame.frame) c.carry.new.self.traffic =
     subst (λ (r : Carried). Carries a.bus.traffic r c.carry.new.self.traffic) c.in-Frame.is c.in_ok-carried.ensures.ok in
     let next : IsCarriedNext (state a).traffic k did.0 = subst (λ (t : Traffic). IsCarriedNext t k did.0) c.self.invariant.traffic did.1 in
-    lists_pushed a c.args.self.now _ _ (Carry k) c.self.view_is c.self.invariant refl (c.note_carry.ensures.items ∙ ap (λ (l : List Event). l ++ Carry k ∷ []) c.make_room.ensures.items) (did.0, next)
-
-pub returns-in-Err-clause-full : goal.returns-in-Err-clause-full
-returns-in-Err-clause-full c =
-    uncarried_full c.self.inside c.args.self.now _ _ c.make_room.result c.uncarried.result c.in-Err.refusal c.self.view_is c.self.invariant refl c.make_room.ensures.items c.in-Err.is c.make_room.ensures.full
-    c.uncarried.ensures.err c.uncarried.ensures.only
-
-pub returns-in-Err-clause-could : goal.returns-in-Err-clause-could
-returns-in-Err-clause-could c = uncarried_could c.self.inside c.args.self.now _ _ c.uncarried.result c.in-Err.refusal c.self.view_is refl c.make_room.ensures.items c.uncarried.ensures.err c.uncarried.ensures.only
+    lists_pushed a c.args.self.now _ _ (Carry k) c.self.view_is c.self.invariant refl (c.note_carry.ensures) (did.0, next)

@@ -20,5 +20,5 @@ returns-then-unheard-eq1-clause-cut g c =
 
 pub returns-clause-heard : goal.returns-clause-heard
 returns-clause-heard g c =
-    out_some _ _ c.in_ok-recorded.field-0-0 c.unheard-unheard.result c.args.self.now c.args.parked.now c.hear_some.new.self c.hear_some.new.parked c.in_ok-recorded.ensures.heard c.requires.seated
-    c.in_ok-recorded.ensures.most c.in_ok-recorded.ensures.all (let count = c.unheard-unheard.ensures in omega arith)
+    out_some _ _ c.in_ok-hear_some.field-0 c.unheard-unheard.result c.args.self.now c.args.parked.now c.hear_some.new.self c.hear_some.new.parked c.in_ok-hear_some.ensures.heard c.requires.seated
+    c.in_ok-hear_some.ensures.most c.in_ok-hear_some.ensures.all (let count = c.unheard-unheard.ensures in omega arith)

@@ -1,10 +1,9 @@
-use Rattle.std.proofs.Common.{◌+◌, arith, refl, ap, ◌∙◌, sym, List, ◌++◌, ◌∷◌, [], length, reverse}
-use Rattle.std.proofs.lemmas.List.{length-reverse, length_push}
+use Rattle.std.proofs.Common.{◌+◌, arith, refl, ap, ◌∙◌, sym, length}
+use Rattle.std.proofs.lemmas.List.{length_push}
 use Rattle.bus_ledger.specs.BusValue.{Traffic, seat_at}
 use Rattle.bus_ledger.specs.Changes.{injected, stray_frame}
 use Rattle.bus_ledger.specs.Newcomers.{live_units}
 use Rattle.journal.specs.State.{State, table_at}
-use Rattle.journal.specs.declared.event.Event.{Event}
 use Rattle.journal.specs.declared.event.Event.TheVariants.{Inject}
 use Rattle.garage_steps.proofs.Events.{inject_is, injected_few, joins_inject}
 use Rattle.garage.proofs.Standing.{state, fresh_still, stands_more, tallies_still}
@@ -14,7 +13,7 @@ use Rattle.garage.proofs.garage.Garage.inject.Goals as goal
 pub overflow_add-self : goal.overflow_add-self
 overflow_add-self c =
     let stands = c.self.invariant in
-    let i = stands.injected in let f = injected_few (reverse c.self.inside.journal.items) in let w = stands.within in let l = stands.few in omega (arith, length-reverse c.self.inside.journal.items)
+    let i = stands.injected in let f = injected_few c.self.inside.journal in let w = stands.within in let l = stands.few in omega arith
 
 pub invariant_of-self-2 : goal.invariant_of-self-2
 invariant_of-self-2 c =
@@ -23,15 +22,12 @@ invariant_of-self-2 c =
     let f = c.args.frame in
     let is = inject_is f (state a) in
     let now = c.in_ok-inject.ensures.ok in
-    let ok = c.in_ok-make_room.ensures.ok in
-    let fits = ok.0 in
-    let room = ok.1 in
+    let fits = c.in_ok-check_room.ensures.ok in
     let wires = ap (λ (t : Traffic). length t.wire) now ∙ length_push a.bus.traffic.wire (stray_frame f) in
     let many = ap (λ (t : Traffic). length t.seats) now in
-    let n = c.note_inject.ensures.room in
     stands_more a _ (Inject f) stands (record {
       settings = refl;
-      journal = c.note_inject.ensures.items ∙ ap (λ (l : List Event). l ++ Inject f ∷ []) c.make_room.ensures.items;
+      journal = c.note_inject.ensures;
       fits = tt;
       traffic = now ∙ (ap (injected f) stands.traffic ∙ sym (ap (λ (s : State). s.traffic) is));
       stations = refl;
@@ -46,7 +42,6 @@ invariant_of-self-2 c =
       seats = (let s = stands.seats in omega arith);
       live = stands.live ∙ sym (ap live_units now);
       within = (let w = stands.within in omega arith);
-      room = omega arith;
       wire = (let w = stands.wire in omega arith);
       queued = λ j. (let w = stands.queued j in let e = ap (λ (t : Traffic). (seat_at t j).queued) now in omega arith);
       messages = (let w = stands.messages in omega arith);
@@ -55,4 +50,4 @@ invariant_of-self-2 c =
 
 pub returns-clause-lists : goal.returns-clause-lists
 returns-clause-lists c =
-    lists_pushed c.self.inside c.args.self.now _ _ (Inject c.args.frame) c.self.view_is c.self.invariant refl (c.note_inject.ensures.items ∙ ap (λ (l : List Event). l ++ Inject c.args.frame ∷ []) c.make_room.ensures.items) tt
+    lists_pushed c.self.inside c.args.self.now _ _ (Inject c.args.frame) c.self.view_is c.self.invariant refl (c.note_inject.ensures) tt

@@ -1,10 +1,9 @@
-use Rattle.std.proofs.Common.{ℕ, ◌≡◌, arith, refl, ap, ◌∙◌, sym, subst, List, ◌++◌, ◌∷◌, [], ◌+◌, ◌<◌, ◌^◌, length, map, reverse, Some}
+use Rattle.std.proofs.Common.{ℕ, ◌≡◌, arith, refl, ap, ◌∙◌, sym, subst, List, ◌++◌, ◌∷◌, [], ◌+◌, ◌<◌, ◌^◌, length, map, Some}
 use Rattle.std.proofs.lemmas.List.{length_push, map_push}
 use Rattle.bus_ledger.specs.BusValue.{Traffic, seat_at}
 use Rattle.bus_ledger.specs.Newcomers.{live_units}
 use Rattle.journal.specs.State.{State, UnitState, new_unit, table_at}
 use Rattle.journal.specs.Journal.{GarageValue, state_of, tally_of}
-use Rattle.journal.specs.declared.event.Event.{Event}
 use Rattle.garage.specs.Inside.{unit_of, place_at}
 use Rattle.garage.specs.declared.garage.Place.{Place}
 use Rattle.garage.specs.declared.garage.Garage.TheInside.{Inside}
@@ -47,13 +46,10 @@ invariant_of-self-2 c =
     let p : Place = (record { node = c.new-node.result; session_message = 0; tally = record { joined = 1; turned = 0; left = 0; events = 1 } }) in
     let items = c.push_reserved.ensures.items ∙ ap (λ (l : List Place). l ++ p ∷ []) c.reserve.ensures.items in
     let places = ap length items ∙ length_push a.places.items p in
-    let ok = c.in_ok-make_room.ensures.ok in
-    let fits = ok.0 in
-    let room = ok.1 in
-    let n = c.note_join.ensures.room in
+    let fits = c.in_ok-check_room.ensures.ok in
     stands_more a _ (Join seat name want) stands (record {
       settings = refl;
-      journal = c.note_join.ensures.items ∙ ap (λ (l : List Event). l ++ Join seat name want ∷ []) c.make_room.ensures.items;
+      journal = c.note_join.ensures;
       fits = (did.0 ∙ ap (λ (u : Traffic). length u.seats) stands.traffic, ap (λ (u : Traffic). join_refusal name u) (sym stands.traffic) ∙ did.1, small, c.requires);
       traffic = now ∙ (ap (λ (f : FrameValue). queued k (untagged f) (with_newcomer name t)) claims
           ∙ (ap (λ (u : Traffic). queued (length u.seats) (untagged (claim_frame_value name (Some want))) (with_newcomer name u)) stands.traffic ∙ sym (ap (λ (v : State). v.traffic) is)));
@@ -64,14 +60,13 @@ invariant_of-self-2 c =
           ∙ (ap (λ (us : List UnitState). us ++ new_unit name want ∷ []) stands.units ∙ sym (ap (λ (v : State). v.units) is))));
       begun = stands.begun ∙ sym (ap (λ (v : State). length v.begun) is);
       injected = omega arith;
-      joined = joins_join seat name want (reverse a.journal.items) ∙ (let j = stands.joined in omega arith);
-      tallies = subst (λ (xs : List Place). (j : ℕ) → j < length xs → (place_at xs j).tally ≡ tally_of (a.stations + j) (Join seat name want ∷ reverse a.journal.items)) (sym items)
-          (tallies_push a.stations a.places.items (reverse a.journal.items) p seat name want stands.tallies (let d = did.0 in let x = stands.seats in omega arith) refl (stands.fresh (a.stations + length a.places.items) (omega arith)));
-      fresh = λ j l. fresh_join (reverse a.journal.items) seat name want (a.stations + length a.places.items) stands.fresh (let d = did.0 in let x = stands.seats in omega arith) j (omega arith);
+      joined = joins_join seat name want a.journal ∙ (let j = stands.joined in omega arith);
+      tallies = subst (λ (xs : List Place). (j : ℕ) → j < length xs → (place_at xs j).tally ≡ tally_of (a.stations + j) (Join seat name want ∷ a.journal)) (sym items)
+          (tallies_push a.stations a.places.items a.journal p seat name want stands.tallies (let d = did.0 in let x = stands.seats in omega arith) refl (stands.fresh (a.stations + length a.places.items) (omega arith)));
+      fresh = λ j l. fresh_join a.journal seat name want (a.stations + length a.places.items) stands.fresh (let d = did.0 in let x = stands.seats in omega arith) j (omega arith);
       seats = (let x = stands.seats in omega arith);
       live = (let x = stands.live in omega arith);
       within = (let w = stands.within in omega arith);
-      room = omega arith;
       wire = (let w = stands.wire in omega arith);
       queued = λ j. (let w = stands.queued j in let q = put.queued j in let o = joined_queued t name j in let e = ap (λ (u : Traffic). (seat_at u j).queued) now in omega arith);
       messages = (let w = stands.messages in omega arith);
@@ -86,7 +81,7 @@ returns-clause-ok c =
     let did = c.in_ok-seat.ensures.ok in
     let small : c.args.name < 2 ^ 64 = subst (λ (n : ℕ). n < 2 ^ 64) (ap (λ (n : NodeValue). n.claimer.name) c.new-node.ensures) c.start-claim.ensures.name_fits in
     let at : c.in_ok-seat.seat ≡ length (state a).traffic.seats = did.0 ∙ ap (λ (u : Traffic). length u.seats) stands.traffic in
-    let journal = c.note_join.ensures.items ∙ ap (λ (l : List Event). l ++ Join c.in_ok-seat.seat c.args.name c.args.want ∷ []) c.make_room.ensures.items in (
+    let journal = c.note_join.ensures in (
       at ∙ ap (λ (v : GarageValue). length (state_of v).traffic.seats) c.self.view_is,
       added a b c.args.self.now (Join c.in_ok-seat.seat c.args.name c.args.want) c.self.view_is refl journal (at, ap (λ (u : Traffic). join_refusal c.args.name u) (sym stands.traffic) ∙ did.1, small, c.requires),
       seated_join a b c.args.name c.args.want c.in_ok-seat.seat stands refl journal at,

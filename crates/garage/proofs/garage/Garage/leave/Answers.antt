@@ -50,7 +50,7 @@ note_leave-requires c =
     let a = c.self.inside in
     let u = bus_unit a c.args.seat c.self.invariant (unit_now a c.args.self.now c.args.seat c.self.view_is c.requires) in
     let s = some_live a.bus.traffic c.args.seat (stations_live a c.self.invariant) u in
-    let l = c.self.invariant.live in let r = c.self.invariant.room in omega arith
+    let l = c.self.invariant.live in let w = c.self.invariant.within in let f = c.self.invariant.few in omega arith
 
 pub invariant_of-self : goal.invariant_of-self
 invariant_of-self c =
@@ -68,10 +68,9 @@ invariant_of-self c =
     let lives = ap live_units c.leave.ensures.traffic in
     let wires = ap (λ (t : Traffic). length t.wire) c.leave.ensures.traffic in
     let many = ap (λ (t : Traffic). length t.seats) c.leave.ensures.traffic in
-    let n = c.note_leave.ensures.room in
     stands_more a _ (Leave c.args.seat) stands (record {
       settings = refl;
-      journal = c.note_leave.ensures.items;
+      journal = c.note_leave.ensures;
       fits = u;
       traffic = c.leave.ensures.traffic ∙ (ap (left c.args.seat) stands.traffic ∙ sym (ap (λ (s : State). s.traffic) (leave_is c.args.seat _)));
       stations = refl;
@@ -87,7 +86,6 @@ invariant_of-self c =
       seats = (let s = stands.seats in omega (arith, length-set a.places.items k, length-set a.bus.traffic.seats c.args.seat));
       live = (let l = stands.live in omega arith);
       within = (let w = stands.within in let l = stands.live in omega arith);
-      room = (let r = stands.room in let l = stands.live in omega arith);
       wire = (let w = stands.wire in omega arith);
       queued = λ j. (let w = stands.queued j in let q = left_queued a.bus.traffic c.args.seat j in let e = ap (λ (t : Traffic). (seat_at t j).queued) c.leave.ensures.traffic in omega arith);
       messages = (let w = stands.messages in omega arith);
@@ -97,4 +95,4 @@ invariant_of-self c =
 pub returns-clause-lists : goal.returns-clause-lists
 returns-clause-lists c =
     let a = c.self.inside in
-    lists_pushed a c.args.self.now _ _ (Leave c.args.seat) c.self.view_is c.self.invariant refl c.note_leave.ensures.items (unit_now a c.args.self.now c.args.seat c.self.view_is c.requires)
+    lists_pushed a c.args.self.now _ _ (Leave c.args.seat) c.self.view_is c.self.invariant refl c.note_leave.ensures (unit_now a c.args.self.now c.args.seat c.self.view_is c.requires)

@@ -2,21 +2,18 @@ use Rattle.std.proofs.Common.{refl, rules, ◌≡◌, Err, length, get_or, arith
 use Rattle.std.proofs.lemmas.Option.{slice_get-get_or}
 use Rattle.garage_steps.proofs.Crew.{comes_both, crew_still}
 use Rattle.garage.proofs.Lent.{if_err_is, if_err_of, on_ok_of}
-use Rattle.garage_steps.proofs.RoundLemmas.{crew_after, last_after, listens, moved_some, reading_left, rest_comes, turned, unit_left, units_idle, units_more, units_none}
+use Rattle.garage_steps.proofs.RoundLemmas.{last_after, listens, moved_some, reading_left, rest_comes, turned, unit_left, units_idle, units_more, units_none}
 use Rattle.garage.proofs.garage.Garage.listen.Goals as goal
 
 pub loop-next-init : goal.loop-next-init
 loop-next-init g c = (units_none _ _ c.args.self.now c.args.units.now, c.requires, c.in-Some.ensures.last, omega arith)
 
-pub returns-in_default-clause-crew : goal.returns-in_default-clause-crew
-returns-in_default-clause-crew g c = on_ok_of c.read_rest.result (λ r. crew_still _ c.args.self.now c.read_rest.new.self c.args.units.now c.args.recorded.now c.read_rest.ensures.untouched c.requires) c.read_rest.ensures.reads
-
 pub returns-in_default-clause-seated : goal.returns-in_default-clause-seated
-returns-in_default-clause-seated g c = (crew_still _ c.args.self.now c.read_rest.new.self c.args.units.now c.args.recorded.now c.read_rest.ensures.untouched c.requires).seated
+returns-in_default-clause-seated g c = crew_still _ c.args.self.now c.read_rest.new.self c.args.units.now c.read_rest.ensures.untouched c.requires
 
 pub returns-in_default-clause-heard : goal.returns-in_default-clause-heard
 returns-in_default-clause-heard g c =
-    on_ok_of c.read_rest.result (λ r. listens _ _ (length c.args.units.now) c.args.self.now c.args.self.now c.read_rest.new.self c.args.units.now c.args.units.now c.requires.seated refl
+    on_ok_of c.read_rest.result (λ r. listens _ _ (length c.args.units.now) c.args.self.now c.args.self.now c.read_rest.new.self c.args.units.now c.args.units.now c.requires refl
     (units_idle _ _ (length c.args.units.now) c.args.self.now c.args.units.now (c.in_default.ensures.heard refl) (omega arith)) r) c.read_rest.ensures.reads
 
 pub returns-in_default-clause-cut : goal.returns-in_default-clause-cut
@@ -28,59 +25,52 @@ pub returns-in_default-clause-comes : goal.returns-in_default-clause-comes
 returns-in_default-clause-comes g c = rest_comes c.read_rest.result (length c.args.self.now.settings.stations) c.args.self.now c.read_rest.new.self c.read_rest.ensures.reads c.read_rest.ensures.cut
 
 pub catch_up-requires-clause-seated : goal.catch_up-requires-clause-seated
-catch_up-requires-clause-seated g c = c.pass_in_turn-next.ensures.crew.seated.each c.pass_in_turn-next.result (get_or c.pass_in_turn-next.new.units c.pass_in_turn-next.result c.index-units-next.result) (slice_get-get_or c.pass_in_turn-next.new.units c.pass_in_turn-next.result c.index-units-next.result c.if-next-units.true)
+catch_up-requires-clause-seated g c = c.pass_in_turn-next.ensures.seated.each c.pass_in_turn-next.result (get_or c.pass_in_turn-next.new.units c.pass_in_turn-next.result c.index-units-next.result) (slice_get-get_or c.pass_in_turn-next.new.units c.pass_in_turn-next.result c.index-units-next.result c.if-next-units.true)
 
-pub catch_up-requires-clause-recorded : goal.catch_up-requires-clause-recorded
-catch_up-requires-clause-recorded g c = λ t. c.pass_in_turn-next.ensures.crew.told c.pass_in_turn-next.result (get_or c.pass_in_turn-next.new.units c.pass_in_turn-next.result c.index-units-next.result) (slice_get-get_or c.pass_in_turn-next.new.units c.pass_in_turn-next.result c.index-units-next.result c.if-next-units.true) (c.recorded_of-known.ensures t)
+pub returns-in_err-catch_up-clause-seated : goal.returns-in_err-catch_up-clause-seated
+returns-in_err-catch_up-clause-seated g c =
+    let cut = c.in_err-catch_up.ensures.cut in
+    (moved_some _ _ cut.0 c.pass_in_turn-next.result c.pass_in_turn-next.new.self c.catch_up.new.self c.pass_in_turn-next.new.units (get_or c.pass_in_turn-next.new.units c.pass_in_turn-next.result c.index-units-next.result) c.catch_up.new.parked c.pass_in_turn-next.ensures.seated (slice_get-get_or c.pass_in_turn-next.new.units c.pass_in_turn-next.result c.index-units-next.result c.if-next-units.true) cut.1.heard).seated
 
-pub returns-in_err-known-clause-seated : goal.returns-in_err-known-clause-seated
-returns-in_err-known-clause-seated g c =
-    let cut = c.in_err-known.ensures.cut in
-    (moved_some _ _ cut.0 c.pass_in_turn-next.result c.pass_in_turn-next.new.self c.catch_up.new.self c.pass_in_turn-next.new.units (get_or c.pass_in_turn-next.new.units c.pass_in_turn-next.result c.index-units-next.result) c.catch_up.new.parked c.pass_in_turn-next.ensures.crew.seated (slice_get-get_or c.pass_in_turn-next.new.units c.pass_in_turn-next.result c.index-units-next.result c.if-next-units.true) cut.1.heard).seated
-
-pub returns-in_err-known-clause-cut : goal.returns-in_err-known-clause-cut
-returns-in_err-known-clause-cut g c =
-    let e = c.in_err-known.field-0.0 in
+pub returns-in_err-catch_up-clause-cut : goal.returns-in_err-catch_up-clause-cut
+returns-in_err-catch_up-clause-cut g c =
+    let e = c.in_err-catch_up.field-0.0 in
     let told : c.from_residual.result ≡ Err e = search rules in
-    let cut = c.in_err-known.ensures.cut in
+    let cut = c.in_err-catch_up.ensures.cut in
     if_err_is c.from_residual.result _ e told (unit_left _ _ e cut.0 c.pass_in_turn-next.result c.args.self.now c.pass_in_turn-next.new.self c.catch_up.new.self c.args.units.now c.pass_in_turn-next.new.units _ (get_or c.pass_in_turn-next.new.units c.pass_in_turn-next.result c.index-units-next.result) c.catch_up.new.parked (c.pass_in_turn-next.ensures.heard c.args.self.now c.args.units.now c.loop-next.invariant.0) (slice_get-get_or c.pass_in_turn-next.new.units c.pass_in_turn-next.result c.index-units-next.result c.if-next-units.true) refl cut.1)
 
-pub returns-in_err-known-clause-comes : goal.returns-in_err-known-clause-comes
-returns-in_err-known-clause-comes g c =
-    let cut = c.in_err-known.ensures.cut in
-    comes_both c.args.self.now c.pass_in_turn-next.new.self c.catch_up.new.self (turned _ _ c.pass_in_turn-next.result c.args.self.now c.pass_in_turn-next.new.self c.args.units.now c.pass_in_turn-next.new.units c.requires.seated (c.pass_in_turn-next.ensures.heard c.args.self.now c.args.units.now c.loop-next.invariant.0)).moved.comes
-    (moved_some _ _ cut.0 c.pass_in_turn-next.result c.pass_in_turn-next.new.self c.catch_up.new.self c.pass_in_turn-next.new.units (get_or c.pass_in_turn-next.new.units c.pass_in_turn-next.result c.index-units-next.result) c.catch_up.new.parked c.pass_in_turn-next.ensures.crew.seated (slice_get-get_or c.pass_in_turn-next.new.units c.pass_in_turn-next.result c.index-units-next.result c.if-next-units.true) cut.1.heard).comes
+pub returns-in_err-catch_up-clause-comes : goal.returns-in_err-catch_up-clause-comes
+returns-in_err-catch_up-clause-comes g c =
+    let cut = c.in_err-catch_up.ensures.cut in
+    comes_both c.args.self.now c.pass_in_turn-next.new.self c.catch_up.new.self (turned _ _ c.pass_in_turn-next.result c.args.self.now c.pass_in_turn-next.new.self c.args.units.now c.pass_in_turn-next.new.units c.requires (c.pass_in_turn-next.ensures.heard c.args.self.now c.args.units.now c.loop-next.invariant.0)).moved.comes
+    (moved_some _ _ cut.0 c.pass_in_turn-next.result c.pass_in_turn-next.new.self c.catch_up.new.self c.pass_in_turn-next.new.units (get_or c.pass_in_turn-next.new.units c.pass_in_turn-next.result c.index-units-next.result) c.catch_up.new.parked c.pass_in_turn-next.ensures.seated (slice_get-get_or c.pass_in_turn-next.new.units c.pass_in_turn-next.result c.index-units-next.result c.if-next-units.true) cut.1.heard).comes
 
 pub loop-next-preserved-then-next-units : goal.loop-next-preserved-then-next-units
 loop-next-preserved-then-next-units g c =
-    let out = c.in_ok-known.ensures.heard in
-    let moved = moved_some _ _ out.count c.pass_in_turn-next.result c.pass_in_turn-next.new.self c.catch_up.new.self c.pass_in_turn-next.new.units (get_or c.pass_in_turn-next.new.units c.pass_in_turn-next.result c.index-units-next.result) c.catch_up.new.parked c.pass_in_turn-next.ensures.crew.seated (slice_get-get_or c.pass_in_turn-next.new.units c.pass_in_turn-next.result c.index-units-next.result c.if-next-units.true) out.heard in (
+    let out = c.in_ok-catch_up.ensures.heard in
+    let moved = moved_some _ _ out.count c.pass_in_turn-next.result c.pass_in_turn-next.new.self c.catch_up.new.self c.pass_in_turn-next.new.units (get_or c.pass_in_turn-next.new.units c.pass_in_turn-next.result c.index-units-next.result) c.catch_up.new.parked c.pass_in_turn-next.ensures.seated (slice_get-get_or c.pass_in_turn-next.new.units c.pass_in_turn-next.result c.index-units-next.result c.if-next-units.true) out.heard in (
       units_more _ _ c.pass_in_turn-next.result _ c.args.self.now c.pass_in_turn-next.new.self c.catch_up.new.self c.args.units.now c.pass_in_turn-next.new.units _ refl (c.pass_in_turn-next.ensures.heard c.args.self.now c.args.units.now c.loop-next.invariant.0)
           (record { before = (get_or c.pass_in_turn-next.new.units c.pass_in_turn-next.result c.index-units-next.result); after = c.catch_up.new.parked; there = (slice_get-get_or c.pass_in_turn-next.new.units c.pass_in_turn-next.result c.index-units-next.result c.if-next-units.true); put = refl; heard = out }),
-      crew_after _ _ c.pass_in_turn-next.result c.pass_in_turn-next.new.self c.catch_up.new.self c.pass_in_turn-next.new.units c.pass_in_turn-next.new.recorded c.keep.new.recorded (get_or c.pass_in_turn-next.new.units c.pass_in_turn-next.result c.index-units-next.result) c.catch_up.new.parked c.in_ok-known.known c.pass_in_turn-next.ensures.crew (slice_get-get_or c.pass_in_turn-next.new.units c.pass_in_turn-next.result c.index-units-next.result c.if-next-units.true) out c.in_ok-known.ensures.recorded
-          c.keep.ensures.others c.keep.ensures.this,
+      moved.seated,
       last_after _ c.in-Some.last.frame c.in-Some.last.acceptance c.pass_in_turn-next.new.self c.catch_up.new.self c.pass_in_turn-next.new.units _ moved c.pass_in_turn-next.ensures.last,
       (let n = moved.count in let l = c.if-next-units.true in omega arith),
     )
 
 pub loop-next-preserved : goal.loop-next-preserved
-loop-next-preserved g c = ((c.pass_in_turn-next.ensures.heard c.args.self.now c.args.units.now c.loop-next.invariant.0), c.pass_in_turn-next.ensures.crew, c.pass_in_turn-next.ensures.last, c.pass_in_turn-next.ensures.within)
-
-pub returns-clause-crew : goal.returns-clause-crew
-returns-clause-crew g c = on_ok_of c.read_rest-2.result (λ r. crew_still _ c.loop-next.self c.read_rest-2.new.self c.loop-next.units c.loop-next.recorded c.read_rest-2.ensures.untouched c.loop-next.invariant.1) c.read_rest-2.ensures.reads
+loop-next-preserved g c = ((c.pass_in_turn-next.ensures.heard c.args.self.now c.args.units.now c.loop-next.invariant.0), c.pass_in_turn-next.ensures.seated, c.pass_in_turn-next.ensures.last, c.pass_in_turn-next.ensures.within)
 
 pub returns-clause-seated : goal.returns-clause-seated
-returns-clause-seated g c = (crew_still _ c.loop-next.self c.read_rest-2.new.self c.loop-next.units c.loop-next.recorded c.read_rest-2.ensures.untouched c.loop-next.invariant.1).seated
+returns-clause-seated g c = crew_still _ c.loop-next.self c.read_rest-2.new.self c.loop-next.units c.read_rest-2.ensures.untouched c.loop-next.invariant.1
 
 pub returns-clause-heard : goal.returns-clause-heard
 returns-clause-heard g c =
-    on_ok_of c.read_rest-2.result (λ r. listens _ _ c.loop-next.next c.args.self.now c.loop-next.self c.read_rest-2.new.self c.args.units.now c.loop-next.units c.requires.seated (let past = c.loop-next-test.false in let few = c.loop-next.invariant.3 in let same = (turned _ _ c.loop-next.next c.args.self.now c.loop-next.self c.args.units.now c.loop-next.units c.requires.seated c.loop-next.invariant.0).moved.count in omega arith) c.loop-next.invariant.0 r) c.read_rest-2.ensures.reads
+    on_ok_of c.read_rest-2.result (λ r. listens _ _ c.loop-next.next c.args.self.now c.loop-next.self c.read_rest-2.new.self c.args.units.now c.loop-next.units c.requires (let past = c.loop-next-test.false in let few = c.loop-next.invariant.3 in let same = (turned _ _ c.loop-next.next c.args.self.now c.loop-next.self c.args.units.now c.loop-next.units c.requires c.loop-next.invariant.0).moved.count in omega arith) c.loop-next.invariant.0 r) c.read_rest-2.ensures.reads
 
 pub returns-clause-cut : goal.returns-clause-cut
 returns-clause-cut g c =
-    if_err_of c.read_rest-2.result (λ e r. reading_left _ _ e c.loop-next.next c.args.self.now c.loop-next.self c.read_rest-2.new.self c.args.units.now c.loop-next.units (let past = c.loop-next-test.false in let few = c.loop-next.invariant.3 in let same = (turned _ _ c.loop-next.next c.args.self.now c.loop-next.self c.args.units.now c.loop-next.units c.requires.seated c.loop-next.invariant.0).moved.count in omega arith) c.loop-next.invariant.0 r) c.read_rest-2.ensures.cut
+    if_err_of c.read_rest-2.result (λ e r. reading_left _ _ e c.loop-next.next c.args.self.now c.loop-next.self c.read_rest-2.new.self c.args.units.now c.loop-next.units (let past = c.loop-next-test.false in let few = c.loop-next.invariant.3 in let same = (turned _ _ c.loop-next.next c.args.self.now c.loop-next.self c.args.units.now c.loop-next.units c.requires c.loop-next.invariant.0).moved.count in omega arith) c.loop-next.invariant.0 r) c.read_rest-2.ensures.cut
 
 pub returns-clause-comes : goal.returns-clause-comes
 returns-clause-comes g c =
-    comes_both c.args.self.now c.loop-next.self c.read_rest-2.new.self (turned _ _ c.loop-next.next c.args.self.now c.loop-next.self c.args.units.now c.loop-next.units c.requires.seated c.loop-next.invariant.0).moved.comes
+    comes_both c.args.self.now c.loop-next.self c.read_rest-2.new.self (turned _ _ c.loop-next.next c.args.self.now c.loop-next.self c.args.units.now c.loop-next.units c.requires c.loop-next.invariant.0).moved.comes
     (rest_comes c.read_rest-2.result (length c.loop-next.self.settings.stations) c.loop-next.self c.read_rest-2.new.self c.read_rest-2.ensures.reads c.read_rest-2.ensures.cut)

@@ -1,6 +1,6 @@
 use Rattle.std.proofs.Common.{◌≡◌, ◌-◌, ◌≤◌, length}
 use Rattle.node_core.specs.Asking.{IsAsked}
-use Rattle.garage_steps.specs.Crew.{IsCrew}
+use Rattle.garage_steps.specs.Crew.{AreSeated}
 use Rattle.garage_steps.specs.Hearing.{IsLast}
 use Rattle.garage_steps.specs.Rounds.{HearInTurn}
 use Rattle.garage.proofs.garage.Garage.listen.Given as goal
@@ -9,7 +9,7 @@ abbrev pub invariant-loop-next : goal.invariant-loop-next
 invariant-loop-next g l =
     HearInTurn (λ p. record { seat = p.seat; name = (goal.Unit-dyn g (p.unit.vtable, p.unit.value)).name_of p.unit.value; events = p.events; memory = (goal.Unit-dyn g (p.unit.vtable, p.unit.value)).memory_of p.unit.value })
     (λ p q o a. (u : _) × (q.unit ≡ record p.unit { value = u }) × IsAsked ((goal.Unit-dyn g (p.unit.vtable, p.unit.value)).Answers p.unit.value) o a p.unit.value u) l.next l.fn.self l.fn.units l.self l.units
-    × IsCrew (λ p. record { seat = p.seat; name = (goal.Unit-dyn g (p.unit.vtable, p.unit.value)).name_of p.unit.value; events = p.events; memory = (goal.Unit-dyn g (p.unit.vtable, p.unit.value)).memory_of p.unit.value }) l.self l.units l.recorded
+    × AreSeated (λ p. record { seat = p.seat; name = (goal.Unit-dyn g (p.unit.vtable, p.unit.value)).name_of p.unit.value; events = p.events; memory = (goal.Unit-dyn g (p.unit.vtable, p.unit.value)).memory_of p.unit.value }) l.self l.units
     × IsLast l.last.frame l.last.acceptance l.self
     × l.next ≤ length l.units
 

@@ -1,4 +1,4 @@
-use Rattle.std.proofs.Common.{◌+◌, ◌≡◌, arith, refl, ap, ◌∙◌, sym, subst, List, ◌++◌, ◌∷◌, [], length, Result, IfOk}
+use Rattle.std.proofs.Common.{◌+◌, ◌≡◌, arith, refl, ap, ◌∙◌, sym, subst, length, Result, IfOk}
 use Rattle.bus_ledger.specs.BusValue.{Traffic, IsLive, seat_at}
 use Rattle.bus_ledger.specs.Newcomers.{live_units}
 use Rattle.station_table.specs.declared.error.StationError.{StationError}
@@ -6,7 +6,6 @@ use Rattle.station_table.specs.declared.reaction.Reaction.{Reaction}
 use Rattle.journal.specs.State.{State, table_at}
 use Rattle.journal.specs.Steps.{reacted}
 use Rattle.journal.specs.Journal.{GarageValue, state_of}
-use Rattle.journal.specs.declared.event.Event.{Event}
 use Rattle.journal.specs.declared.event.Event.TheVariants.{Ordered}
 use Rattle.garage.specs.Obeying.{Obeys}
 use Rattle.garage.proofs.Standing.{added, station_below, station_there, state, stands_more, tallies_still, fresh_still}
@@ -35,16 +34,13 @@ invariant_of-self-2 c =
     let few = obeys.few in
     let kept = reacts c.args.station r a.bus.traffic in
     let done : c.react.new.bus.traffic ≡ reacted c.args.station r a.bus.traffic = c.react.ensures ∙ ap (reacted c.args.station r) c.reserve.ensures.traffic in
-    let ok = c.in_ok-make_room.ensures.ok in
-    let fits = ok.0 in
-    let room = ok.1 in
+    let fits = c.in_ok-check_room.ensures.ok in
     let many = ap (λ (t : Traffic). length t.seats) done ∙ kept.seats in
     let wires = ap (λ (t : Traffic). length t.wire) done ∙ kept.wire in
     let lives = ap live_units done ∙ kept.units in
-    let n = c.note_order.ensures.room in
     stands_more a _ (Ordered c.args.station c.args.order) stands (record {
       settings = refl;
-      journal = c.note_order.ensures.items ∙ ap (λ (l : List Event). l ++ Ordered c.args.station c.args.order ∷ []) c.make_room-2.ensures.items;
+      journal = c.note_order.ensures;
       fits = (station_there a c.args.station stands (station_below a c.args.self.now c.args.station c.self.view_is stands c.requires.station), (r, obeys.queues));
       traffic = done ∙ (ap (reacted c.args.station r) stands.traffic ∙ sym (ap (λ (s : State). s.traffic) is));
       stations = refl;
@@ -59,7 +55,6 @@ invariant_of-self-2 c =
       seats = (let s = stands.seats in omega arith);
       live = stands.live ∙ sym lives;
       within = (let w = stands.within in omega arith);
-      room = omega arith;
       wire = (let w = stands.wire in omega arith);
       queued = λ j. (let w = stands.queued j in let e = ap (λ (t : Traffic). (seat_at t j).queued) done in let k = kept.queued j in omega arith);
       messages = (let w = stands.messages in omega arith);
@@ -74,7 +69,7 @@ returns-clause-lists c =
     subst (λ (x : Result Reaction StationError). IfOk x (Obeys (table_at (state_of c.args.self.now) c.args.station) c.args.order)) c.in-Ok.is c.requires.obeys in
     let obeys : Obeys (table_at (state a) c.args.station) c.args.order r =
     subst (λ (g : GarageValue). Obeys (table_at (state_of g) c.args.station) c.args.order r) (sym c.self.view_is) now in
-    lists_pushed a c.args.self.now _ _ (Ordered c.args.station c.args.order) c.self.view_is c.self.invariant refl (c.note_order.ensures.items ∙ ap (λ (l : List Event). l ++ Ordered c.args.station c.args.order ∷ []) c.make_room-2.ensures.items) (station_there a c.args.station c.self.invariant (station_below a c.args.self.now c.args.station c.self.view_is c.self.invariant c.requires.station), (r, obeys.queues))
+    lists_pushed a c.args.self.now _ _ (Ordered c.args.station c.args.order) c.self.view_is c.self.invariant refl (c.note_order.ensures) (station_there a c.args.station c.self.invariant (station_below a c.args.self.now c.args.station c.self.view_is c.self.invariant c.requires.station), (r, obeys.queues))
 
 pub returns-clause-ok : goal.returns-clause-ok
 returns-clause-ok c =
@@ -86,5 +81,5 @@ returns-clause-ok c =
     let obeys : Obeys (table_at (state a) y) c.args.order r =
     subst (λ (g : GarageValue). Obeys (table_at (state_of g) y) c.args.order r) (sym c.self.view_is) now in
     added a (record { limit = a.limit; bus = c.react.new.bus; posts = a.posts; stations = a.stations; places = a.places; begun = a.begun; live = a.live; injected = a.injected; journal = c.note_order.new.self }) c.args.self.now (Ordered y c.args.order)
-    c.self.view_is refl (c.note_order.ensures.items ∙ ap (λ (l : List Event). l ++ Ordered y c.args.order ∷ []) c.make_room-2.ensures.items)
+    c.self.view_is refl (c.note_order.ensures)
     (station_there a y c.self.invariant (station_below a c.args.self.now y c.self.view_is c.self.invariant c.requires.station), (r, obeys.queues))

@@ -1,51 +1,48 @@
-use Rattle.std.proofs.Common.{ℕ, ◌≡◌, ◌+◌, ◌-◌, ◌<◌, ◌≤◌, inl, inr, length, get_or, set, arith, refl, sym, ap, ◌∙◌, subst}
+use Rattle.std.proofs.Common.{◌∷◌, ℕ, ◌≡◌, ◌+◌, ◌-◌, ◌<◌, inl, inr, length, get_or, set, arith, refl, sym, ap, ◌∙◌, subst}
 use Rattle.std.proofs.lemmas.List.{length-set}
 use Rattle.std.proofs.lemmas.Option.{slice_get-get_or}
 use Rattle.std.specs.Vec.{with_item}
 use Rattle.node_core.specs.Asking.{IsAsked}
 use Rattle.node_core.specs.NodeValue.{NodeValue}
+use Rattle.node_core.specs.declared.heard.Answer.TheVariants.{NotAsked}
+use Rattle.fault_memory.specs.Memory.{IsLawfulMemory, MemoryValue}
+use Rattle.journal.specs.declared.event.Event.TheVariants.{Hear}
 use Rattle.journal.specs.Journal.{GarageValue, one_more}
-use Rattle.garage_steps.specs.Crew.{IsCrew}
+use Rattle.garage_steps.specs.Crew.{AreSeated}
 use Rattle.garage_steps.specs.Hearing.{IsLast}
 use Rattle.garage.specs.Inside.{garage_value_of}
 use Rattle.garage_steps.specs.Rounds.{HearOnward}
 use Rattle.garage.specs.declared.garage.Garage.TheInside.{Inside}
 use Rattle.garage.specs.declared.garage.Place.{Place}
-use Rattle.garage.proofs.InTurn.{InTurn, crew_looked, stands_written, told_same, turn_passed, turn_still}
+use Rattle.garage.proofs.InTurn.{InTurn, stands_written, turn_passed, turn_still}
 use Rattle.garage.proofs.Standing.{seat_low, bus_unit, place_few, place_within}
 use Rattle.garage.proofs.garage.Garage.pass_in_turn.Goals as goal
 
 pub returns-then-not-has_room-clause-heard : goal.returns-then-not-has_room-clause-heard
 returns-then-not-has_room-clause-heard g c = λ v vs h. h
 
-pub returns-then-first-count-clause-heard : goal.returns-then-first-count-clause-heard
-returns-then-first-count-clause-heard g c = λ v vs h. h
-
 pub loop-i-init : goal.loop-i-init
 loop-i-init g c =
-    let ok = c.has_room.ensures c.if-not-has_room.false in
-    let fits = ok.0 in
-    let room = ok.1 in
+    let fits = c.has_room.ensures.0 c.if-not-has_room.false in
     let few = c.self.invariant.few in
     let counted : c.with_live.result ≡ length c.args.units.now + c.self.inside.live = elim c.with_live.ensures [ inl most ↦ absurd (omega arith) | inr is ↦ is ] in (
       record {
         stands = c.self.invariant;
-        crew = subst (λ (v : GarageValue). IsCrew (λ p. record { seat = p.seat; name = (goal.Unit-dyn g (p.unit.vtable, p.unit.value)).name_of p.unit.value; events = p.events; memory = (goal.Unit-dyn g (p.unit.vtable, p.unit.value)).memory_of p.unit.value }) v c.args.units.now c.args.recorded.now) (sym c.self.view_is) c.requires.crew;
+        seated = subst (λ (v : GarageValue). AreSeated (λ p. record { seat = p.seat; name = (goal.Unit-dyn g (p.unit.vtable, p.unit.value)).name_of p.unit.value; events = p.events; memory = (goal.Unit-dyn g (p.unit.vtable, p.unit.value)).memory_of p.unit.value }) v c.args.units.now) (sym c.self.view_is) c.requires.seated;
         last = subst (λ (v : GarageValue). IsLast c.args.last.now.frame c.args.last.now.acceptance v) (sym c.self.view_is) c.requires.last;
         heard = subst (λ (v : GarageValue). HearOnward (λ p. record { seat = p.seat; name = (goal.Unit-dyn g (p.unit.vtable, p.unit.value)).name_of p.unit.value; events = p.events; memory = (goal.Unit-dyn g (p.unit.vtable, p.unit.value)).memory_of p.unit.value }) (λ p q o a. (u : _) × (q.unit ≡ record p.unit { value = u }) × IsAsked ((goal.Unit-dyn g (p.unit.vtable, p.unit.value)).Answers p.unit.value) o a p.unit.value u) c.args.first c.args.first c.args.self.now c.args.units.now v c.args.units.now) (sym c.self.view_is) (λ v vs h. h);
         count = refl;
         within = omega arith;
-        room = omega arith;
       },
       refl,
     )
 
 pub unheard-behind-requires : goal.unheard-behind-requires
-unheard-behind-requires g c = bus_unit c.loop-i.self-inside _ c.loop-i.invariant.0.stands (c.loop-i.invariant.0.crew.seated.each c.loop-i.i (get_or c.loop-i.units c.loop-i.i c.index-units-i.result) (slice_get-get_or c.loop-i.units c.loop-i.i c.index-units-i.result (let e = c.loop-i.auto.units in let t = c.loop-i-test.true in omega arith))).unit
+unheard-behind-requires g c = bus_unit c.loop-i.self-inside _ c.loop-i.invariant.0.stands (c.loop-i.invariant.0.seated.each c.loop-i.i (get_or c.loop-i.units c.loop-i.i c.index-units-i.result) (slice_get-get_or c.loop-i.units c.loop-i.i c.index-units-i.result (let e = c.loop-i.auto.units in let t = c.loop-i-test.true in omega arith))).unit
 
 pub loop-i-preserved-then-behind-eq0 : goal.loop-i-preserved-then-behind-eq0
 loop-i-preserved-then-behind-eq0 g c = (
-  turn_still (λ p. record { seat = p.seat; name = (goal.Unit-dyn g (p.unit.vtable, p.unit.value)).name_of p.unit.value; events = p.events; memory = (goal.Unit-dyn g (p.unit.vtable, p.unit.value)).memory_of p.unit.value }) (λ p q o a. (u : _) × (q.unit ≡ record p.unit { value = u }) × IsAsked ((goal.Unit-dyn g (p.unit.vtable, p.unit.value)).Answers p.unit.value) o a p.unit.value u) c.args.first c.args.self.now c.args.units.now c.args.last.now.frame c.args.last.now.acceptance c.loop-i.self-inside c.loop-i.units c.loop-i.recorded c.loop-i.i _ (length c.loop-i.units - c.loop-i.i) _ (get_or c.loop-i.units c.loop-i.i c.index-units-i.result)
+  turn_still (λ p. record { seat = p.seat; name = (goal.Unit-dyn g (p.unit.vtable, p.unit.value)).name_of p.unit.value; events = p.events; memory = (goal.Unit-dyn g (p.unit.vtable, p.unit.value)).memory_of p.unit.value }) (λ p q o a. (u : _) × (q.unit ≡ record p.unit { value = u }) × IsAsked ((goal.Unit-dyn g (p.unit.vtable, p.unit.value)).Answers p.unit.value) o a p.unit.value u) c.args.first c.args.self.now c.args.units.now c.args.last.now.frame c.args.last.now.acceptance c.loop-i.self-inside c.loop-i.units c.loop-i.i _ (length c.loop-i.units - c.loop-i.i) _ (get_or c.loop-i.units c.loop-i.i c.index-units-i.result)
       c.loop-i.invariant.0 refl (omega arith) (slice_get-get_or c.loop-i.units c.loop-i.i c.index-units-i.result (let e = c.loop-i.auto.units in let t = c.loop-i-test.true in omega arith)) (let k = c.unheard-behind.ensures.count in let e = c.if-behind-eq0.true in omega arith),
   c.loop-i.invariant.1,
 )
@@ -53,29 +50,26 @@ loop-i-preserved-then-behind-eq0 g c = (
 pub overflow_sub-seat : goal.overflow_sub-seat
 overflow_sub-seat g c =
     let a = c.loop-i.self-inside in
-    let seated = c.loop-i.invariant.0.crew.seated.each c.loop-i.i (get_or c.loop-i.units c.loop-i.i c.index-units-i.result) (slice_get-get_or c.loop-i.units c.loop-i.i c.index-units-i.result (let e = c.loop-i.auto.units in let t = c.loop-i-test.true in omega arith)) in
+    let seated = c.loop-i.invariant.0.seated.each c.loop-i.i (get_or c.loop-i.units c.loop-i.i c.index-units-i.result) (slice_get-get_or c.loop-i.units c.loop-i.i c.index-units-i.result (let e = c.loop-i.auto.units in let t = c.loop-i-test.true in omega arith)) in
     let low = seat_low a _ (get_or c.loop-i.units c.loop-i.i c.index-units-i.result).seat refl c.loop-i.invariant.0.stands seated.unit in
     let e = c.loop-i.invariant.1 in omega arith
 
 pub index_mut-place-requires : goal.index_mut-place-requires
 index_mut-place-requires g c =
     let a = c.loop-i.self-inside in
-    let seated = c.loop-i.invariant.0.crew.seated.each c.loop-i.i (get_or c.loop-i.units c.loop-i.i c.index-units-i.result) (slice_get-get_or c.loop-i.units c.loop-i.i c.index-units-i.result (let e = c.loop-i.auto.units in let t = c.loop-i-test.true in omega arith)) in
+    let seated = c.loop-i.invariant.0.seated.each c.loop-i.i (get_or c.loop-i.units c.loop-i.i c.index-units-i.result) (slice_get-get_or c.loop-i.units c.loop-i.i c.index-units-i.result (let e = c.loop-i.auto.units in let t = c.loop-i-test.true in omega arith)) in
     let within = place_within a (get_or c.loop-i.units c.loop-i.i c.index-units-i.result).seat c.loop-i.invariant.0.stands seated.unit in
     let e = c.loop-i.invariant.1 in
     grind (arith)
 
 pub pass_over-requires-clause-unit : goal.pass_over-requires-clause-unit
-pass_over-requires-clause-unit g c = bus_unit c.loop-i.self-inside _ c.loop-i.invariant.0.stands (c.loop-i.invariant.0.crew.seated.each c.loop-i.i (get_or c.loop-i.units c.loop-i.i c.index-units-i.result) (slice_get-get_or c.loop-i.units c.loop-i.i c.index-units-i.result (let e = c.loop-i.auto.units in let t = c.loop-i-test.true in omega arith))).unit
-
-pub pass_over-requires-clause-recorded : goal.pass_over-requires-clause-recorded
-pass_over-requires-clause-recorded g c = (_, (told_same (λ p. record { seat = p.seat; name = (goal.Unit-dyn g (p.unit.vtable, p.unit.value)).name_of p.unit.value; events = p.events; memory = (goal.Unit-dyn g (p.unit.vtable, p.unit.value)).memory_of p.unit.value }) (garage_value_of c.loop-i.self-inside) c.loop-i.units c.loop-i.i (get_or c.loop-i.units c.loop-i.i c.index-units-i.result) (get_or c.loop-i.units c.loop-i.i c.index-units-i-else-behind-ne1.result) (slice_get-get_or c.loop-i.units c.loop-i.i c.index-units-i-else-behind-ne1.result (let e = c.loop-i.auto.units in let t = c.loop-i-test.true in omega arith)) (slice_get-get_or c.loop-i.units c.loop-i.i c.index-units-i.result (let e = c.loop-i.auto.units in let t = c.loop-i-test.true in omega arith)) (c.is_recorded.ensures.told c.if-not-is_recorded.false)))
+pass_over-requires-clause-unit g c = bus_unit c.loop-i.self-inside _ c.loop-i.invariant.0.stands (c.loop-i.invariant.0.seated.each c.loop-i.i (get_or c.loop-i.units c.loop-i.i c.index-units-i.result) (slice_get-get_or c.loop-i.units c.loop-i.i c.index-units-i.result (let e = c.loop-i.auto.units in let t = c.loop-i-test.true in omega arith))).unit
 
 pub pass_over-requires-clause-few : goal.pass_over-requires-clause-few
 pass_over-requires-clause-few g c =
     let a = c.loop-i.self-inside in
     let stands = c.loop-i.invariant.0.stands in
-    let seated = c.loop-i.invariant.0.crew.seated.each c.loop-i.i (get_or c.loop-i.units c.loop-i.i c.index-units-i.result) (slice_get-get_or c.loop-i.units c.loop-i.i c.index-units-i.result (let e = c.loop-i.auto.units in let t = c.loop-i-test.true in omega arith)) in
+    let seated = c.loop-i.invariant.0.seated.each c.loop-i.i (get_or c.loop-i.units c.loop-i.i c.index-units-i.result) (slice_get-get_or c.loop-i.units c.loop-i.i c.index-units-i.result (let e = c.loop-i.auto.units in let t = c.loop-i-test.true in omega arith)) in
     let h = place_within a (get_or c.loop-i.units c.loop-i.i c.index-units-i.result).seat stands seated.unit in
     let f = place_few a ((get_or c.loop-i.units c.loop-i.i c.index-units-i.result).seat - a.stations) c.index_mut-place.result.now stands h (subst (λ (n : ℕ). c.index_mut-place.result.now ≡ get_or a.places.items ((get_or c.loop-i.units c.loop-i.i c.index-units-i.result).seat - n) c.index_mut-place.result.now) c.loop-i.invariant.1 c.index_mut-place.ensures.value) in
     let w = stands.within in let l = stands.few in let t = f.events in omega arith
@@ -88,13 +82,15 @@ loop-i-preserved g c =
     let n : ℕ = length c.loop-i.units in
     let inside : i < n = (let e = c.loop-i.auto.units in let t = c.loop-i-test.true in omega arith) in
     let there = slice_get-get_or c.loop-i.units i c.index-units-i.result inside in
-    let known = (told_same (λ p. record { seat = p.seat; name = (goal.Unit-dyn g (p.unit.vtable, p.unit.value)).name_of p.unit.value; events = p.events; memory = (goal.Unit-dyn g (p.unit.vtable, p.unit.value)).memory_of p.unit.value }) (garage_value_of c.loop-i.self-inside) c.loop-i.units c.loop-i.i (get_or c.loop-i.units c.loop-i.i c.index-units-i.result) (get_or c.loop-i.units c.loop-i.i c.index-units-i-else-behind-ne1.result) (slice_get-get_or c.loop-i.units c.loop-i.i c.index-units-i-else-behind-ne1.result (let e = c.loop-i.auto.units in let t = c.loop-i-test.true in omega arith)) (slice_get-get_or c.loop-i.units c.loop-i.i c.index-units-i.result (let e = c.loop-i.auto.units in let t = c.loop-i-test.true in omega arith)) (c.is_recorded.ensures.told c.if-not-is_recorded.false)) in
     let so = c.loop-i.invariant.0 in
-    let gains = c.pass_over.ensures.noted _ known in
+    let told = slice_get-get_or c.loop-i.units i c.index-units-i-in-loop-i.result inside in
+    let teller : get_or c.loop-i.units i c.index-units-i-in-loop-i.result ≡ p = (let e = sym told ∙ there in cc) in
+    let memory_is = c.memory.ensures ∙ ap (λ q. (goal.Unit-dyn g (q.unit.vtable, q.unit.value)).memory_of q.unit.value) teller in
+    let lawful = subst IsLawfulMemory memory_is c.pass_over.ensures.lawful in
+    let noted = c.pass_over.ensures.noted ∙ ap (λ (m : MemoryValue). Hear p.seat m NotAsked ∷ a.journal) memory_is in
     let x = c.index_mut-place.result.now in
     let did = c.pass_over.ensures.place in
     let p' = record p { events = c.pass_over.new.place.tally.events } in
-    let ready : a.journal.room ≤ c.pass_over.new.journal.room + 1 = (let r = gains.room in omega arith) in
     let same = length-set c.loop-i.units i p' in
     let b : Inside = record {
       limit = a.limit;
@@ -107,26 +103,20 @@ loop-i-preserved g c =
       injected = a.injected;
       journal = c.pass_over.new.journal;
     } in
-    let there' = slice_get-get_or c.loop-i.units i c.index-units-i-in-loop-i.result inside in
-    let again : p ≡ get_or c.loop-i.units i c.index-units-i-in-loop-i.result = (let e = sym there ∙ there' in cc) in (
-      subst (λ y. InTurn (λ p. record { seat = p.seat; name = (goal.Unit-dyn g (p.unit.vtable, p.unit.value)).name_of p.unit.value; events = p.events; memory = (goal.Unit-dyn g (p.unit.vtable, p.unit.value)).memory_of p.unit.value }) (λ p q o a. (u : _) × (q.unit ≡ record p.unit { value = u }) × IsAsked ((goal.Unit-dyn g (p.unit.vtable, p.unit.value)).Answers p.unit.value) o a p.unit.value u) c.args.first c.args.self.now c.args.units.now c.args.last.now.frame c.args.last.now.acceptance b (set c.loop-i.units i (record y { events = c.pass_over.new.place.tally.events })) c.is_recorded.new.recorded (i + 1) (length (set c.loop-i.units i (record y { events = c.pass_over.new.place.tally.events })) - (i + 1))) again
-          (turn_passed (λ p. record { seat = p.seat; name = (goal.Unit-dyn g (p.unit.vtable, p.unit.value)).name_of p.unit.value; events = p.events; memory = (goal.Unit-dyn g (p.unit.vtable, p.unit.value)).memory_of p.unit.value }) (λ p q o a. (u : _) × (q.unit ≡ record p.unit { value = u }) × IsAsked ((goal.Unit-dyn g (p.unit.vtable, p.unit.value)).Answers p.unit.value) o a p.unit.value u) c.args.first c.args.self.now c.args.units.now c.args.last.now.frame c.args.last.now.acceptance a b c.loop-i.units c.loop-i.recorded c.is_recorded.new.recorded i (i + 1) (n - i) (length (set c.loop-i.units i p') - (i + 1)) c.pass_over.new.place.tally.events p p' x c.absorb.new.self so refl (omega arith) there known c.is_recorded.ensures.others
+    let there' = slice_get-get_or c.loop-i.units i c.index-units-i-in-loop-i-2.result inside in
+    let again : p ≡ get_or c.loop-i.units i c.index-units-i-in-loop-i-2.result = (let e = sym there ∙ there' in cc) in (
+      subst (λ y. InTurn (λ p. record { seat = p.seat; name = (goal.Unit-dyn g (p.unit.vtable, p.unit.value)).name_of p.unit.value; events = p.events; memory = (goal.Unit-dyn g (p.unit.vtable, p.unit.value)).memory_of p.unit.value }) (λ p q o a. (u : _) × (q.unit ≡ record p.unit { value = u }) × IsAsked ((goal.Unit-dyn g (p.unit.vtable, p.unit.value)).Answers p.unit.value) o a p.unit.value u) c.args.first c.args.self.now c.args.units.now c.args.last.now.frame c.args.last.now.acceptance b (set c.loop-i.units i (record y { events = c.pass_over.new.place.tally.events })) (i + 1) (length (set c.loop-i.units i (record y { events = c.pass_over.new.place.tally.events })) - (i + 1))) again
+          (turn_passed (λ p. record { seat = p.seat; name = (goal.Unit-dyn g (p.unit.vtable, p.unit.value)).name_of p.unit.value; events = p.events; memory = (goal.Unit-dyn g (p.unit.vtable, p.unit.value)).memory_of p.unit.value }) (λ p q o a. (u : _) × (q.unit ≡ record p.unit { value = u }) × IsAsked ((goal.Unit-dyn g (p.unit.vtable, p.unit.value)).Answers p.unit.value) o a p.unit.value u) c.args.first c.args.self.now c.args.units.now c.args.last.now.frame c.args.last.now.acceptance a b c.loop-i.units i (i + 1) (n - i) (length (set c.loop-i.units i p') - (i + 1)) c.pass_over.new.place.tally.events p p' x c.absorb.new.self so refl (omega arith) there lawful
           (let k = c.unheard-behind.ensures.count in let w = c.unheard-behind.ensures.within in let e = c.if-behind-ne1.false in omega arith)
-          (subst (λ (n : ℕ). x ≡ get_or a.places.items (p.seat - n) x) c.loop-i.invariant.1 c.index_mut-place.ensures.value) (c.absorb.ensures.absorbed c.if-not-absorb.false) refl (ap (λ (y : Place). y.tally.events) did) (p.unit.value, refl, refl) refl gains.items c.pass_over.ensures.traffic
+          (subst (λ (n : ℕ). x ≡ get_or a.places.items (p.seat - n) x) c.loop-i.invariant.1 c.index_mut-place.ensures.value) (c.absorb.ensures.absorbed c.if-not-absorb.false) refl (ap (λ (y : Place). y.tally.events) did) (p.unit.value, refl, refl) refl noted c.pass_over.ensures.traffic
           (record { posts = refl; stations = refl })
-          (ap (λ (y : Place). set a.places.items (p.seat - c.self.inside.stations) y) did ∙ ap (λ (n : ℕ). set a.places.items (p.seat - n) (record x { node = c.absorb.new.self; tally = one_more x.tally })) c.loop-i.invariant.1) refl refl refl ready),
+          (ap (λ (y : Place). set a.places.items (p.seat - c.self.inside.stations) y) did ∙ ap (λ (n : ℕ). set a.places.items (p.seat - n) (record x { node = c.absorb.new.self; tally = one_more x.tally })) c.loop-i.invariant.1) refl refl refl),
       c.loop-i.invariant.1,
     )
 
-pub is_recorded-requires-clause-known : goal.is_recorded-requires-clause-known
-is_recorded-requires-clause-known g c = λ t. c.loop-i.invariant.0.crew.told c.loop-i.i (get_or c.loop-i.units c.loop-i.i c.index-units-i-else-behind-ne1.result) (slice_get-get_or c.loop-i.units c.loop-i.i c.index-units-i-else-behind-ne1.result (let e = c.loop-i.auto.units in let t = c.loop-i-test.true in omega arith)) t
-
-pub returns-then-not-absorb-clause-crew : goal.returns-then-not-absorb-clause-crew
-returns-then-not-absorb-clause-crew g c = crew_looked (λ p. record { seat = p.seat; name = (goal.Unit-dyn g (p.unit.vtable, p.unit.value)).name_of p.unit.value; events = p.events; memory = (goal.Unit-dyn g (p.unit.vtable, p.unit.value)).memory_of p.unit.value }) (garage_value_of c.loop-i.self-inside) c.loop-i.units c.loop-i.recorded c.is_recorded.new.recorded c.loop-i.i (get_or c.loop-i.units c.loop-i.i c.index-units-i-else-behind-ne1.result) c.loop-i.invariant.0.crew (slice_get-get_or c.loop-i.units c.loop-i.i c.index-units-i-else-behind-ne1.result (let e = c.loop-i.auto.units in let t = c.loop-i-test.true in omega arith)) c.is_recorded.ensures.others c.is_recorded.ensures.this
-
 pub returns-clause-heard : goal.returns-clause-heard
 returns-clause-heard g c =
-    let end : c.loop-i.i ≡ c.min-count.result = (let past = c.loop-i-test.false in let few = c.loop-i.auto.i-end (let within = c.if-first-count.false in omega arith) in omega arith) in
+    let end : c.loop-i.i ≡ length c.loop-i.units = (let past = c.loop-i-test.false in let few = c.loop-i.auto.i-end in let same = c.loop-i.invariant.0.count in omega arith) in
     subst (λ (n : ℕ). HearOnward (λ p. record { seat = p.seat; name = (goal.Unit-dyn g (p.unit.vtable, p.unit.value)).name_of p.unit.value; events = p.events; memory = (goal.Unit-dyn g (p.unit.vtable, p.unit.value)).memory_of p.unit.value }) (λ p q o a. (u : _) × (q.unit ≡ record p.unit { value = u }) × IsAsked ((goal.Unit-dyn g (p.unit.vtable, p.unit.value)).Answers p.unit.value) o a p.unit.value u) c.args.first n c.args.self.now c.args.units.now (garage_value_of c.loop-i.self-inside) c.loop-i.units) end c.loop-i.invariant.0.heard
 
 pub invariant_of-self-then-not-absorb : goal.invariant_of-self-then-not-absorb

@@ -1,37 +1,27 @@
-use Rattle.std.proofs.Common.{◌+◌, ℕ, ◌≡◌, arith, refl, ap, ◌∙◌, sym, subst, List, ◌++◌, ◌∷◌, [], ◌-◌, ◌<◌, length, map, set, Bool, Some}
+use Rattle.std.proofs.Common.{◌+◌, ℕ, ◌≡◌, arith, refl, ap, ◌∙◌, sym, subst, List, ◌-◌, ◌<◌, length, map, set, Bool, Some}
 use Rattle.std.proofs.lemmas.List.{length-set, length-map, map-set}
 use Rattle.fault_memory.specs.Memory.{MemoryValue, IsLawfulMemory}
 use Rattle.bus_ledger.specs.BusValue.{Traffic, seat_at}
 use Rattle.bus_ledger.specs.Changes.{heard_more}
 use Rattle.bus_ledger.specs.Newcomers.{live_units}
 use Rattle.node_core.specs.NodeValue.{NodeValue}
-use Rattle.node_core.specs.Reaction.{reaction, node_after, question}
+use Rattle.node_core.specs.Reaction.{reaction, node_after}
 use Rattle.unit_trait.specs.declared.question.Question.{Question}
 use Rattle.node_core.specs.Deed.{heard_of}
 use Rattle.journal.specs.State.{State, UnitState, unit_at, table_at}
 use Rattle.journal.specs.Steps.{put_all, tagged, begins_session, session_message_after, withdrawn_by, next_for}
-use Rattle.journal.specs.Journal.{Adds, GarageValue, state_of, one_more}
-use Rattle.journal.specs.Notes.{memory_at}
-use Rattle.journal.specs.declared.event.Event.{Event}
+use Rattle.journal.specs.Journal.{GarageValue, state_of, one_more}
 use Rattle.journal.specs.declared.event.Event.TheVariants.{Hear}
 use Rattle.std.specs.Vec.{with_item}
-use Rattle.garage.specs.Inside.{garage_value_of, unit_of}
+use Rattle.garage.specs.Inside.{unit_of}
 use Rattle.garage_steps.specs.Answers.{count_with_begun}
-use Rattle.garage.specs.declared.garage.Garage.TheInside.{Inside}
 use Rattle.garage.specs.declared.garage.Place.{Place}
 use Rattle.garage_steps.proofs.Traffics.{some_live, puts, keeps_heard, keeps_withdrawn_by, keeps_then}
 use Rattle.garage.proofs.InHand.{stations_live}
 use Rattle.garage_steps.proofs.Events.{hear_did, begun_length, begun_few, next_within, is_answered, joins_hear}
-use Rattle.garage.proofs.Standing.{stations_are, windows_are, state, added, place_few, place_within, unit_now, bus_unit, unit_is, place_tally, stands_more, tallies_one, fresh_one, hears_of, still, same_place}
+use Rattle.garage.proofs.Standing.{stations_are, windows_are, state, place_few, place_within, unit_now, bus_unit, unit_is, place_tally, stands_more, tallies_one, fresh_one, hears_of, still, same_place}
 use Rattle.garage.proofs.Lent.{on_err}
-use Rattle.garage.proofs.Passing.{memory_unasked, told_hearing, told_inside}
 use Rattle.garage.proofs.garage.Garage.react.Goals as goal
-
-pub make_ready-requires-clause-recorded : goal.make_ready-requires-clause-recorded
-make_ready-requires-clause-recorded g c = λ t. (told_inside c.self.inside c.args.self.now c.args.seat _ c.self.view_is c.self.invariant (c.requires.recorded t)).0
-
-pub make_ready-requires-clause-lawful : goal.make_ready-requires-clause-lawful
-make_ready-requires-clause-lawful g c = λ t. (told_inside c.self.inside c.args.self.now c.args.seat _ c.self.view_is c.self.invariant (c.requires.recorded t)).1
 
 pub invariant_of-self-in_err-heard : goal.invariant_of-self-in_err-heard
 invariant_of-self-in_err-heard g c =
@@ -43,7 +33,7 @@ invariant_of-self-in_err-heard g c =
     let node = c.in_err-heard.ensures.kept in
     still a _ stands refl c.make_ready.ensures.traffic refl refl
     (same_place a.places.items (c.args.seat - a.stations) x _ h c.index_mut-place.ensures.value (ap (λ (n : NodeValue). record { node = n; session_message = x.session_message; tally = x.tally }) node))
-    refl refl refl c.make_ready.ensures.items (let r = stands.room in let m = c.make_ready.ensures.grows in omega arith)
+    refl refl refl refl
 
 pub overflow_add-place : goal.overflow_add-place
 overflow_add-place g c =
@@ -70,8 +60,7 @@ do_heard-requires-clause-few g c =
     let q = stands.queued c.args.seat in
     let same = ap (λ (t : Traffic). (seat_at t c.args.seat).queued) c.make_ready.ensures.traffic in
     let few = c.in_ok-heard.ensures.few in
-    let ok = c.in_ok-memory.ensures.room in
-    let fits = ok.0 in
+    let fits = c.in_ok-make_ready.ensures.room in
     let limit = stands.few in
     let live = stands.live in
     omega arith
@@ -92,15 +81,15 @@ invariant_of-self-2 g c =
     let h = place_within a seat stands u in
     let f = c.args.frame in
     let heard = c.in_ok-heard.heard in
-    let memory = memory_at c.make_ready.new.journal.memories c.in_ok-memory.memory in
+    let memory = c.of-memory.result in
     let node' = c.hear.new.self in
     let last = c.last_session-place.result in
     let p : Place = (record { node = node'; session_message = last; tally = one_more x.tally }) in
     let same = unit_is a seat x stands h c.index_mut-place.ensures.value in
     let next : next_for s seat ≡ Some f = ap (λ (w : GarageValue). next_for (state_of w) seat) c.self.view_is ∙ c.requires.next in
     let there = next_within s.traffic.wire (seat_at s.traffic seat).heard f next in
-    let mem_is = c.in_ok-memory.ensures.memory.value in
-    let lawful = subst IsLawfulMemory (sym mem_is) c.in_ok-memory.ensures.lawful in
+    let mem_is = c.of-memory.ensures.value ∙ c.memory.ensures in
+    let lawful = subst IsLawfulMemory (sym c.of-memory.ensures.value) c.of-memory.ensures.lawful in
     let reacts = c.in_ok-heard.ensures.heard in
     let is = hear_did seat memory f s x.node heard node' next (ap (λ (v : UnitState). v.node) same)
     (reacts.heard_is ∙ ap (λ (m : MemoryValue). heard_of heard.answer (reaction x.node m heard.answer f)) (sym mem_is))
@@ -118,15 +107,12 @@ invariant_of-self-2 g c =
     let wires = ap (λ (b : Traffic). length b.wire) now ∙ ap length put.wire in
     let many = ap (λ (b : Traffic). length b.seats) now in
     let many' = put.seats in
-    let ok = c.in_ok-memory.ensures.room in
-    let fits = ok.0 in
-    let room = ok.1 in
-    let n = c.note_hear.ensures.room in
+    let fits = c.in_ok-make_ready.ensures.room in
     let counted = c.begun_count-begun.ensures in
     let one = begun_few a.begun heard.begun in
     stands_more a _ (Hear seat memory heard.answer) stands (record {
       settings = refl;
-      journal = c.note_hear.ensures.items ∙ ap (λ (l : List Event). l ++ Hear seat memory heard.answer ∷ []) c.make_ready.ensures.items;
+      journal = c.note_hear.ensures;
       fits = (u, there, lawful, is_answered (unit_at s seat).node x.node (next_for s seat) f heard.answer (ap (λ (v : UnitState). v.node) same) next reacts.answer_is);
       traffic = now ∙ (ap (λ (n : ℕ). put_all seat (map (tagged n c.begins_session.result last) heard.put) (withdrawn_by seat heard.withdraw (heard_more seat 1 t))) number
           ∙ (ap (λ (b : Bool). put_all seat (map (tagged (length s.begun) b last) heard.put) (withdrawn_by seat heard.withdraw (heard_more seat 1 t))) said
@@ -147,7 +133,6 @@ invariant_of-self-2 g c =
       seats = (let y = stands.seats in omega (arith, length-set a.places.items k p));
       live = stands.live ∙ sym lives;
       within = (let w = stands.within in omega arith);
-      room = omega arith;
       wire = (let w = stands.wire in omega arith);
       queued = λ j. (let w = stands.queued j in let q = put.queued j in let e = ap (λ (b : Traffic). (seat_at b j).queued) now in omega arith);
       messages = (let w = stands.messages in omega arith);
@@ -166,13 +151,13 @@ returns-clause-ok g c =
     let h = place_within a seat stands u in
     let f = c.args.frame in
     let heard = c.in_ok-heard.heard in
-    let memory = memory_at c.make_ready.new.journal.memories c.in_ok-memory.memory in
+    let memory = c.of-memory.result in
     let same = unit_is a seat x stands h c.index_mut-place.ensures.value in
     let s = state a in
     let next : next_for s seat ≡ Some f = ap (λ (w : GarageValue). next_for (state_of w) seat) c.self.view_is ∙ c.requires.next in
     let there = next_within s.traffic.wire (seat_at s.traffic seat).heard f next in
-    let mem_is = c.in_ok-memory.ensures.memory.value in
-    let lawful = c.in_ok-memory.ensures.lawful in
+    let mem_is = c.of-memory.ensures.value ∙ c.memory.ensures in
+    let lawful = subst IsLawfulMemory c.memory.ensures c.of-memory.ensures.lawful in
     let reacts = c.in_ok-heard.ensures.heard in
     let answers : Question → Bool → _ → Type 0 = (goal.Unit-dyn g c.args.unit.now).Answers c.args.unit.now.1 in (
       asked.0,
@@ -189,47 +174,10 @@ returns-clause-ok g c =
         journal = c.note_hear.new.self;
       })
           c.args.self.now seat x.node f heard.answer memory _ _ answers c.args.unit.now.1 asked.0 c.self.view_is refl
-          (c.note_hear.ensures.items ∙ ap (λ (l : List Event). l ++ Hear seat memory heard.answer ∷ []) c.make_ready.ensures.items)
+          (c.note_hear.ensures)
           mem_is next (u, there, lawful, is_answered (unit_at (state a) seat).node x.node (next_for (state a) seat) f heard.answer (ap (λ (v : UnitState). v.node) same) next reacts.answer_is)
           (ap (λ (v : UnitState). v.node) same) reacts.memory_is asked.2,
     )
-
-pub returns-clause-recorded : goal.returns-clause-recorded
-returns-clause-recorded g c = λ unasked.
-    (let asked = c.in_ok-heard.ensures.asked in
-    let a = c.self.inside in
-    let stands = c.self.invariant in
-    let seat = c.args.seat in
-    let t = a.bus.traffic in
-    let x = c.index_mut-place.result.now in
-    let u = unit_now a c.args.self.now seat c.self.view_is c.requires.unit in
-    let h = place_within a seat stands u in
-    let f = c.args.frame in
-    let heard = c.in_ok-heard.heard in
-    let memory = memory_at c.make_ready.new.journal.memories c.in_ok-memory.memory in
-    let same = unit_is a seat x stands h c.index_mut-place.ensures.value in
-    let s = state a in
-    let next : next_for s seat ≡ Some f = ap (λ (w : GarageValue). next_for (state_of w) seat) c.self.view_is ∙ c.requires.next in
-    let there = next_within s.traffic.wire (seat_at s.traffic seat).heard f next in
-    let mem_is = c.in_ok-memory.ensures.memory.value in
-    let lawful = c.in_ok-memory.ensures.lawful in
-    let reacts = c.in_ok-heard.ensures.heard in
-    let b : Inside = record {
-      limit = a.limit;
-      bus = c.do_heard.new.bus;
-      posts = a.posts;
-      stations = a.stations;
-      places = with_item a.places (seat - a.stations) (record { node = c.hear.new.self; session_message = c.last_session-place.result; tally = one_more x.tally });
-      begun = c.begun_count-begun.result;
-      live = a.live;
-      injected = a.injected;
-      journal = c.note_hear.new.self;
-    } in
-    let adds = added a b c.args.self.now (Hear seat memory heard.answer) c.self.view_is refl
-    (c.note_hear.ensures.items ∙ ap (λ (l : List Event). l ++ Hear seat memory heard.answer ∷ []) c.make_ready.ensures.items)
-    (u, there, subst IsLawfulMemory (sym mem_is) lawful, is_answered (unit_at s seat).node x.node (next_for s seat) f heard.answer (ap (λ (v : UnitState). v.node) same) next reacts.answer_is) in
-    told_hearing c.args.self.now (garage_value_of b) seat _ heard.answer (subst (λ (m : MemoryValue). Adds c.args.self.now (Hear seat m heard.answer) (garage_value_of b)) mem_is adds)
-    ∙ ap Some (sym (reacts.memory_is ∙ memory_unasked (question x.node f) heard.answer _ (c.after.ensures unasked))))
 
 pub returns-in_err-heard-clause-unasked : goal.returns-in_err-heard-clause-unasked
 returns-in_err-heard-clause-unasked g c = on_err c.from_residual-in_err-heard.result c.in_err-heard.ensures.unasked

@@ -1,11 +1,8 @@
 use Rattle.std.proofs.Common.{inr}
-use Rattle.garage_steps.proofs.Crew.{crew_begins, lists_come, none_known}
+use Rattle.garage_steps.proofs.Crew.{lists_come}
 use Rattle.garage.proofs.Lent.{if_err_of, if_ok_of, on_ok_if}
 use Rattle.garage_steps.proofs.RoundLemmas.{done, no_stranger, round_want}
 use Rattle.garage.proofs.garage.Garage.round.Goals as goal
-
-pub rounds-requires : goal.rounds-requires
-rounds-requires g c = crew_begins _ c.args.self.now c.args.units.now _ c.if-not-are_seated.ensures (none_known 64)
 
 pub returns-clause-stranger : goal.returns-clause-stranger
 returns-clause-stranger g c =

@@ -13,7 +13,7 @@ returns-in_err-listen-clause-comes g c = comes_both c.args.self.now c.loop-carri
 
 pub returns-in_err-carry-clause-seated : goal.returns-in_err-carry-clause-seated
 returns-in_err-carry-clause-seated g c =
-    (crew_still _ c.listen.new.self c.carry.new.self c.listen.new.units c.listen.new.recorded (untouched_none c.listen.new.self c.carry.new.self c.in_err-carry.ensures.err.0) c.in_ok-listen.ensures.crew).seated
+    crew_still _ c.listen.new.self c.carry.new.self c.listen.new.units (untouched_none c.listen.new.self c.carry.new.self c.in_err-carry.ensures.err.0) c.listen.ensures.seated
 
 pub returns-in_err-carry-clause-cut : goal.returns-in_err-carry-clause-cut
 returns-in_err-carry-clause-cut g c =
@@ -30,7 +30,7 @@ returns-in_err-carry-clause-comes g c =
 
 pub returns-in-Idle-clause-seated : goal.returns-in-Idle-clause-seated
 returns-in-Idle-clause-seated g c =
-    (crew_still _ c.listen.new.self c.carry.new.self c.listen.new.units c.listen.new.recorded (λ k l. carried_untouched k c.listen.new.self c.carry.new.self c.in_ok-carry.field-0 c.in_ok-carry.ensures.ok l) c.in_ok-listen.ensures.crew).seated
+    crew_still _ c.listen.new.self c.carry.new.self c.listen.new.units (λ k l. carried_untouched k c.listen.new.self c.carry.new.self c.in_ok-carry.field-0 c.in_ok-carry.ensures.ok l) c.listen.ensures.seated
 
 pub returns-in-Idle-clause-done : goal.returns-in-Idle-clause-done
 returns-in-Idle-clause-done g c =
@@ -44,7 +44,7 @@ returns-in-Idle-clause-comes g c =
 
 pub returns-in-Waiting-clause-seated : goal.returns-in-Waiting-clause-seated
 returns-in-Waiting-clause-seated g c =
-    (crew_still _ c.listen.new.self c.carry.new.self c.listen.new.units c.listen.new.recorded (λ k l. carried_untouched k c.listen.new.self c.carry.new.self c.in_ok-carry.field-0 c.in_ok-carry.ensures.ok l) c.in_ok-listen.ensures.crew).seated
+    crew_still _ c.listen.new.self c.carry.new.self c.listen.new.units (λ k l. carried_untouched k c.listen.new.self c.carry.new.self c.in_ok-carry.field-0 c.in_ok-carry.ensures.ok l) c.listen.ensures.seated
 
 pub returns-in-Waiting-clause-done : goal.returns-in-Waiting-clause-done
 returns-in-Waiting-clause-done g c =
@@ -60,7 +60,7 @@ pub loop-carried-preserved : goal.loop-carried-preserved
 loop-carried-preserved g c =
     let did = subst (λ a. AddsCarry c.listen.new.self a c.carry.new.self) c.in-Frame.is c.in_ok-carry.ensures.ok in (
       rounds_more _ _ c.loop-carried.carried _ c.in-Frame.seat c.in-Frame.frame c.args.self.now c.loop-carried.self c.listen.new.self c.carry.new.self c.args.units.now c.loop-carried.units c.listen.new.units refl c.loop-carried.invariant.0 c.in_ok-listen.ensures.heard did,
-      crew_still _ c.listen.new.self c.carry.new.self c.listen.new.units c.listen.new.recorded (λ k l. carried_untouched k c.listen.new.self c.carry.new.self c.in_ok-carry.field-0 c.in_ok-carry.ensures.ok l) c.in_ok-listen.ensures.crew,
+      crew_still _ c.listen.new.self c.carry.new.self c.listen.new.units (λ k l. carried_untouched k c.listen.new.self c.carry.new.self c.in_ok-carry.field-0 c.in_ok-carry.ensures.ok l) c.listen.ensures.seated,
       comes_both c.args.self.now c.listen.new.self c.carry.new.self (comes_both c.args.self.now c.loop-carried.self c.listen.new.self c.loop-carried.invariant.2 c.listen.ensures.comes)
           (comes_carried c.listen.new.self c.carry.new.self c.in_ok-carry.field-0 c.in_ok-carry.ensures.ok),
     )

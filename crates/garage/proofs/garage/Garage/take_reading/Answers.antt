@@ -1,4 +1,4 @@
-use Rattle.std.proofs.Common.{ℕ, ◌≢◌, ◌<◌, set, inl, inr, ◌+◌, ◌≡◌, arith, refl, ap, ◌∙◌, sym, subst, List, ◌++◌, ◌∷◌, [], length, map, reverse}
+use Rattle.std.proofs.Common.{ℕ, ◌≢◌, ◌<◌, set, inl, inr, ◌+◌, ◌≡◌, arith, refl, ap, ◌∙◌, sym, subst, List, length, map, reverse}
 use Rattle.bus_ledger.specs.BusValue.{Traffic, IsLive, IsStation, seat_at}
 use Rattle.bus_ledger.specs.Newcomers.{live_units}
 use Rattle.bus_ledger.specs.Reception.{next_reading, reading_taken}
@@ -12,7 +12,6 @@ use Rattle.station_table.specs.Reactions.{station_reaction}
 use Rattle.station_table.specs.declared.reaction.Reaction.{Reaction}
 use Rattle.journal.specs.State.{Settings, State, StationSetting, table_at}
 use Rattle.journal.specs.Steps.{after, reacted}
-use Rattle.journal.specs.declared.event.Event.{Event}
 use Rattle.journal.specs.declared.event.Event.TheVariants.{Read}
 use Rattle.garage_steps.proofs.Traffics.{live_read, keeps_read, puts_reacted}
 use Rattle.garage.proofs.InHand.{seat_of_station}
@@ -81,16 +80,13 @@ invariant_of-self-2 c =
     let many = ap (λ (u : Traffic). length u.seats) now in
     let wires = ap (λ (u : Traffic). length u.wire) now ∙ ap length puts.wire in
     let lives = ap live_units now ∙ puts.units in
-    let ok = c.in_ok-make_room.ensures.ok in
-    let fits = ok.0 in
-    let room = ok.1 in
-    let n = c.note_read.ensures.room in
+    let fits = c.in_ok-check_room.ensures.ok in
     let p : Post = (record { setting = x.setting; station = c.take.new.self; lists = c.take.new.lists }) in
     let heard = reading_heard a y x stands below read in
-    let lists = listed_now (station_of_at (settings_of a) y) r (readings_at y (reverse a.journal.items)) x.lists c.take.new.lists (c.in_ok-reaction.ensures.listed _ _ _ heard.0) heard.1 in
+    let lists = listed_now (station_of_at (settings_of a) y) r (readings_at y a.journal) x.lists c.take.new.lists (c.in_ok-reaction.ensures.listed _ _ _ heard.0) heard.1 in
     stands_more a _ (Read y r) stands (record {
       settings = ap (λ (l : List StationSetting). let z : Settings = record { stations = l; limit = a.limit } in z) (set_settings a.posts.items y x p in' read refl);
-      journal = c.note_read.ensures.items ∙ ap (λ (l : List Event). l ++ Read y r ∷ []) c.make_room.ensures.items;
+      journal = c.note_read.ensures;
       fits = (station_there a y stands below, fit, c.requires.some);
       traffic = now ∙ (ap (λ (z : Reaction). reacted y z (reading_taken y r t)) c.in_ok-reaction.ensures.reaction ∙ (ap (λ (z : StationValue). reacted y (station_reaction z r) (reading_taken y r t)) table
           ∙ (ap (λ (u : Traffic). reacted y (station_reaction (table_at s y) r) (reading_taken y r u)) stands.traffic ∙ sym (ap (λ (v : State). v.traffic) is))));
@@ -104,11 +100,11 @@ invariant_of-self-2 c =
       lists = λ j n k h. elim (same_or_not j y) [
         | inl e ↦
             ap (λ (i : ℕ). entries_under (post_at (set a.posts.items y p) i).lists n k) e ∙ (ap (λ (q : Post). entries_under q.lists n k) (own_post a.posts.items y p in')
-            ∙ (lists n k ∙ sym (ap (λ (i : ℕ). reverse (entries_heard (station_of_at (settings_of a) i) n k (readings_with (Read y r) i (readings_at i (reverse a.journal.items))))) e
-            ∙ ap (λ (rs : List Reading). reverse (entries_heard (station_of_at (settings_of a) y) n k rs)) (own_reading y r (readings_at y (reverse a.journal.items))))))
+            ∙ (lists n k ∙ sym (ap (λ (i : ℕ). reverse (entries_heard (station_of_at (settings_of a) i) n k (readings_with (Read y r) i (readings_at i a.journal)))) e
+            ∙ ap (λ (rs : List Reading). reverse (entries_heard (station_of_at (settings_of a) y) n k rs)) (own_reading y r (readings_at y a.journal)))))
         | inr z ↦
             ap (λ (q : Post). entries_under q.lists n k) (other_post a.posts.items y j p z)
-            ∙ (stands.lists j n k h ∙ sym (ap (λ (rs : List Reading). reverse (entries_heard (station_of_at (settings_of a) j) n k rs)) (other_reading y j r (readings_at j (reverse a.journal.items)) z)))
+            ∙ (stands.lists j n k h ∙ sym (ap (λ (rs : List Reading). reverse (entries_heard (station_of_at (settings_of a) j) n k rs)) (other_reading y j r (readings_at j a.journal) z)))
       ];
       units = stands.units ∙ sym (ap (λ (v : State). v.units) is);
       begun = stands.begun ∙ sym (ap (λ (v : State). length v.begun) is);
@@ -119,7 +115,6 @@ invariant_of-self-2 c =
       seats = (let e = stands.seats in let z = puts.seats in omega arith);
       live = stands.live ∙ sym lives;
       within = (let w = stands.within in omega arith);
-      room = omega arith;
       wire = (let w = stands.wire in omega arith);
       queued = λ j. (let w = stands.queued j in let q = puts.queued j in let e = ap (λ (u : Traffic). (seat_at u j).queued) now in omega arith);
       messages = (let w = stands.messages in omega arith);
@@ -135,7 +130,7 @@ returns-clause-lists c =
     let in' : y < length a.posts.items = (let e = c.self.invariant.stations in omega arith) in
     lists_pushed a c.args.self.now _ _ (Read y r) c.self.view_is c.self.invariant
     (ap (λ (l : List StationSetting). let z : Settings = record { stations = l; limit = a.limit } in z) (set_settings a.posts.items y c.index_mut-post.result.now _ in' c.index_mut-post.ensures.value refl))
-    (c.note_read.ensures.items ∙ ap (λ (l : List Event). l ++ Read y r ∷ []) c.make_room.ensures.items)
+    (c.note_read.ensures)
     (station_there a y c.self.invariant below, next_is a c.args.self.now y r c.self.view_is c.requires.next, c.requires.some)
 
 pub returns-clause-ok : goal.returns-clause-ok
@@ -149,7 +144,7 @@ returns-clause-ok c =
     let settings = ap (λ (l : List StationSetting). let z : Settings = record { stations = l; limit = a.limit } in z) (set_settings a.posts.items y x (record { setting = x.setting; station = c.take.new.self; lists = c.take.new.lists }) in' c.index_mut-post.ensures.value refl) in
     reads_some y c.args.self.now r _ c.requires.some
     (added a (record { limit = a.limit; bus = c.react.new.bus; posts = with_item a.posts y (record { setting = x.setting; station = c.take.new.self; lists = c.take.new.lists }); stations = a.stations; places = a.places; begun = a.begun; live = a.live; injected = a.injected; journal = c.note_read.new.self })
-    c.args.self.now (Read y r) c.self.view_is settings (c.note_read.ensures.items ∙ ap (λ (l : List Event). l ++ Read y r ∷ []) c.make_room.ensures.items)
+    c.args.self.now (Read y r) c.self.view_is settings (c.note_read.ensures)
     (station_there a y c.self.invariant below, next_is a c.args.self.now y r c.self.view_is c.requires.next, c.requires.some))
 
 -- the station and its lists are as they were (to find that by search takes a third of this function's proof)
@@ -157,8 +152,6 @@ pub invariant_of-self-in_err-reaction : goal.invariant_of-self-in_err-reaction
 invariant_of-self-in_err-reaction c =
     let a = c.self.inside in
     let stands = c.self.invariant in
-    let more = c.make_room.ensures.grows in
-    let room = stands.room in
     let x = c.index_mut-post.result.now in
     let p : Post = (record { setting = x.setting; station = c.take.new.self; lists = c.take.new.lists }) in
     let in' : c.args.station < length a.posts.items = (let e = stands.stations in let b = station_below a c.args.self.now c.args.station c.self.view_is stands c.requires.station in omega arith) in
@@ -166,4 +159,4 @@ invariant_of-self-in_err-reaction c =
     ap (λ (s : StationValue). let z : Post = record { setting = x.setting; station = s; lists = c.take.new.lists } in z) c.in_err-reaction.ensures.err
     ∙ ap (λ (l : List _). let z : Post = record { setting = x.setting; station = x.station; lists = l } in z) c.in_err-reaction.ensures.err_lists in
     let posts = same_post a.posts.items c.args.station x p in' c.index_mut-post.ensures.value as_it_was in
-    still a _ stands (ap (λ (l : List Post). let z : Settings = record { stations = map post_setting l; limit = a.limit } in z) posts) c.reserve.ensures.traffic posts refl refl refl refl refl c.make_room.ensures.items (omega arith)
+    still a _ stands (ap (λ (l : List Post). let z : Settings = record { stations = map post_setting l; limit = a.limit } in z) posts) c.reserve.ensures.traffic posts refl refl refl refl refl refl

@@ -1,7 +1,6 @@
-use Rattle.std.proofs.Common.{arith, refl, ap, ◌∙◌, sym, List, ◌++◌, ◌∷◌, [], ◌+◌, ◌-◌, length}
+use Rattle.std.proofs.Common.{arith, refl, ap, ◌∙◌, sym, ◌+◌, ◌-◌, length}
 use Rattle.std.proofs.lemmas.List.{length-set}
 use Rattle.journal.specs.Journal.{one_more}
-use Rattle.journal.specs.declared.event.Event.{Event}
 use Rattle.journal.specs.declared.event.Event.TheVariants.{Turned}
 use Rattle.journal.specs.declared.tally.Tally.{Tally}
 use Rattle.garage_steps.proofs.Events.{joins_turned}
@@ -24,8 +23,8 @@ overflow_add-place-2 c =
     let f = place_few a (c.args.seat - a.stations) c.index_mut-place.result.now c.self.invariant h c.index_mut-place.ensures.value in
     let w = c.self.invariant.within in let l = c.self.invariant.few in let t = f.events in omega arith
 
-pub invariant_of-self-2 : goal.invariant_of-self-2
-invariant_of-self-2 c =
+pub invariant_of-self : goal.invariant_of-self
+invariant_of-self c =
     let a = c.self.inside in
     let stands = c.self.invariant in
     let x = c.index_mut-place.result.now in
@@ -34,12 +33,10 @@ invariant_of-self-2 c =
     let low = u.0 in
     let h = place_within a c.args.seat stands u in
     let k = c.args.seat - a.stations in
-    let ok = c.in_ok-make_room.ensures.ok in
-    let room = ok.1 in
-    let fits = ok.0 in
+    let fits = c.in_ok-check_room.ensures.ok in
     stands_more a _ (Turned c.args.seat) stands (record {
       settings = refl;
-      journal = c.note_turned.ensures.items ∙ ap (λ (l : List Event). l ++ Turned c.args.seat ∷ []) c.make_room.ensures.items;
+      journal = c.note_turned.ensures;
       fits = u;
       traffic = stands.traffic;
       stations = refl;
@@ -55,7 +52,6 @@ invariant_of-self-2 c =
       seats = (let s = stands.seats in omega (arith, length-set a.places.items k));
       live = stands.live;
       within = (let w = stands.within in omega arith);
-      room = (let n = c.note_turned.ensures.room in omega arith);
       wire = (let w = stands.wire in omega arith);
       queued = λ j. (let w = stands.queued j in omega arith);
       messages = (let w = stands.messages in omega arith);

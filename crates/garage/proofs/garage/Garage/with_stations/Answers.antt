@@ -1,4 +1,4 @@
-use Rattle.std.proofs.Common.{List, map, length, arith, refl, reverse, sym, ap, subst, ◌∙◌}
+use Rattle.std.proofs.Common.{List, map, length, arith, refl, sym, ap, subst, ◌∙◌}
 use Rattle.std.specs.List.{All}
 use Rattle.bus_ledger.specs.Changes.{HasWindow, new_traffic}
 use Rattle.bus_ledger.specs.declared.traffic.StationSeat.{StationSeat}
@@ -26,5 +26,5 @@ invariant_of-result c =
 pub returns-clause-ok : goal.returns-clause-ok
 returns-clause-ok c =
     let settings = opened_settings (record { limit = c.args.limit; bus = c.post.new.bus; posts = c.in_ok-posts.posts; stations = length c.args.settings.now; places = c.new.result; begun = 0; live = 0; injected = 0; journal = c.new-2.result }) c.args.settings.now c.in_ok-posts.ensures.posts in
-    ap (λ (r : Settings). let g : GarageValue = record { settings = r; journal = reverse c.new-2.result.items } in g) settings
-    ∙ ap (λ (es : List Event). let g : GarageValue = record { settings = record { stations = map setting_value c.args.settings.now; limit = c.args.limit }; journal = reverse es } in g) c.new-2.ensures
+    ap (λ (r : Settings). let g : GarageValue = record { settings = r; journal = c.new-2.result } in g) settings
+    ∙ ap (λ (es : List Event). let g : GarageValue = record { settings = record { stations = map setting_value c.args.settings.now; limit = c.args.limit }; journal = es } in g) c.new-2.ensures

@@ -7,11 +7,12 @@ use can_frame::Frame;
 use std::alloc::{AllocError, Global};
 use std::marker::Model;
 
-/// The wire. Real are the frames that were carried, the oldest first; of which seat and of which message each was proofs alone know.
+/// What was carried, the oldest first. Kept are the frames alone: from which seat each came, and of which message it is part, is known
+/// to proofs alone.
 #[derive(Drop)]
 pub(crate) struct Wire {
     frames: Vec<Frame>,
-    // the same frames with their seats and tags
+    // the same frames, each with its seat and its tag
     history: History<CarriedFrame, ()>,
 }
 
@@ -75,7 +76,7 @@ impl Wire {
     }
 }
 
-// nothing of a frame's seat and tag is kept
+// no memory is taken for a frame's seat and tag
 const _: () = prove!(size_of::<Frame>() == 16);
 
 const _: () = prove!(size_of::<Wire>() == size_of::<Vec<Frame>>());

@@ -33,3 +33,7 @@ pub mod SentWhole
 pub mod Beside
 pub mod Follows
 pub mod TakingPart
+pub mod OverheardParts
+pub mod OverheardTracks
+pub mod OverheardEnds
+pub mod OverheardLaw

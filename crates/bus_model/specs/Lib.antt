@@ -18,3 +18,4 @@ pub mod OverheardBack
 pub mod OverheardChanged
 pub mod Beside
 pub mod OverheardFollows
+pub mod OverheardExpected

@@ -29,10 +29,12 @@ ghost use Rattle.bus_model.specs.OverheardBack.{IsSentWhole};
 ghost use Rattle.bus_model.specs.Changed.{AreListed, change_heard, is_listed, missed_changed, names_changed, row_changed, unread_changed};
 
 mod change;
+mod listener;
 mod overheard;
 mod who;
 
 pub use change::{Change, Displaced};
+pub use listener::{a_listener_is_exact, an_abort_stops_no_unit, what_a_listener_lists_was_sent};
 pub use overheard::Overheard;
 pub use who::Who;
 

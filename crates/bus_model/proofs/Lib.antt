@@ -37,3 +37,5 @@ pub mod OverheardParts
 pub mod OverheardTracks
 pub mod OverheardEnds
 pub mod OverheardLaw
+pub mod OverheardRuns
+pub mod OverheardClear

@@ -88,7 +88,7 @@ pub other : (x : ℕ) (v s : Seat) → slice_get (v ∷ []) x ≡ Some s → v.n
 other zero v s h e f = let g : v ≡ s = cc in let k : s.name ≡ 5 = subst (λ (u : Seat). u.name ≡ 5) g e in absurd (let z : 5 ≡ 4 = sym k ∙ f in omega (arith, z))
 other (suc x) v s h e f = cc
 
-pub each_way_run : (w : World) × Run (start one_station) each_way w × ShowsEachWay w
+unfoldable pub each_way_run : (w : World) × Run (start one_station) each_way w × ShowsEachWay w
 unfolding group_of way_of payload_sent frame_of_part last_part_of address_heard
 each_way_run = (
   _,

@@ -19,3 +19,5 @@ pub mod OverheardChanged
 pub mod Beside
 pub mod OverheardFollows
 pub mod OverheardExpected
+pub mod OverheardClearPath
+pub mod OverheardExample

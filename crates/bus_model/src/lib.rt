@@ -1,4 +1,4 @@
-//! The law of the stations' lists: what they must be, and that they are, over every list of events.
+//! The law of the stations' lists and of a listener's: what they must be, and that they are, over every list of events.
 #![tactic(auto)]
 
 ghost use Rattle.std.specs.Prelude.{◌≡◌, ℕ, ◌+◌, List, [], length, slice_get, ◌∷◌, ◌++◌, ◌↔◌, Some, IsSome, true};
@@ -34,7 +34,7 @@ mod overheard;
 mod who;
 
 pub use change::{Change, Displaced};
-pub use listener::{a_listener_is_exact, an_abort_stops_no_unit, what_a_listener_lists_was_sent};
+pub use listener::{a_listener_is_exact, clear_path_of_a_listener_looks_back, listeners_law_is_not_empty, what_a_listener_lists_was_sent};
 pub use overheard::Overheard;
 pub use who::Who;
 

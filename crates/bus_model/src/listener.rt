@@ -1,41 +1,50 @@
-ghost use Rattle.std.specs.Prelude.{◌≡◌, ◌≢◌, ℕ, List, None, Option};
+ghost use Rattle.std.specs.Prelude.{◌≡◌, ◌↔◌, ℕ, List, true};
 ghost use Rattle.dm_messages.specs.declared.kind.Kind.{Kind};
-ghost use Rattle.parameter_group.specs.Group.{ConnectionManagement};
-ghost use Rattle.transport.specs.declared.control.Control.TheVariants.{Abort};
+ghost use Rattle.bus_model.specs.Example.{one_station};
 ghost use Rattle.bus_model.specs.Expected.{Reception, readings};
 ghost use Rattle.bus_model.specs.Heard.{StationSettings};
-ghost use Rattle.bus_model.specs.Machine.{AreFit, Event, IsCalmAt, MaySend, Run, Seat, World, start};
-ghost use Rattle.bus_model.specs.Overheard.{HalfSent, between_after, entries_overheard};
-ghost use Rattle.bus_model.specs.OverheardExpected.{AreSent, IsPathOfListener, expected_overheard};
+ghost use Rattle.bus_model.specs.Machine.{AreFit, Event, Run, World, start};
+ghost use Rattle.bus_model.specs.Messages.{Message, IsAmong};
+ghost use Rattle.bus_model.specs.Overheard.{entries_overheard};
+ghost use Rattle.bus_model.specs.OverheardClearPath.{IsOnListenersClearPath};
+ghost use Rattle.bus_model.specs.OverheardExample.{IsNotOverheard, IsOverheardEachWay};
+ghost use Rattle.bus_model.specs.OverheardExpected.{AreSent, IsPathOfListener, expected_overheard, is_overheard};
 ghost use Rattle.bus_model.specs.declared.who.Who.{Who as AnyWho};
 ghost use Rattle.bus_model.specs.declared.who.Who.TheVariants.{Named};
 
-/// A listener's lists are exact: after every list of events, whoever reads along the wire from its beginning, misses what it misses
-/// and sends nothing, lists under each NAME and kind the messages that it is to list. These are the messages of that NAME's units,
-/// to all, to a station or to another unit, all of whose frames it read on a path clear to it, in the order begun; each entry shows
-/// the view of the fault memory with which its message began, and where it went.
+/// A listener's lists are exact: after every list of events, one who reads along the wire from its beginning, misses what it misses and
+/// sends nothing, lists under each NAME and kind the messages that it should. These are the messages of that NAME's units, to all,
+/// to a station or to another unit, all of whose frames it read on a path clear to it, in the order begun. Each entry is the view of
+/// the memory with which its message began, and where that went.
 ///
-/// On a path clear to it, it read each frame of the message and, before them, the last claim of its source, and missed nothing from
-/// that claim to the last frame; and the receiver did not abort the session.
+/// On a path clear to it, it read each frame of the message and, before them, the last claim of its source, and missed nothing from that
+/// claim to the last frame; and the receiver of a session did not abort it.
 #[tactic(auto, using(crate::proofs::OverheardLaw::listener_exact))]
 pub fn a_listener_is_exact()
     ensures { (settings : List StationSettings) → AreFit settings → (events : List Event) (w : World) → Run (start settings) events w → (path : List Reception) → IsPathOfListener w.wire path → (n : ℕ) (k : Kind)
         → entries_overheard (Named n) k (readings path) ≡ expected_overheard n k w.begun path }
 {}
 
-/// No code that nobody sent: each entry of a listener, under a NAME or under an address that nobody had claimed, is that of a message
-/// of its kind which a unit began. It shows the view of the memory with which that message began, and where it went.
+/// No code that nobody sent: each entry of a listener, be it under a NAME or under an address that nobody had claimed, is that of a
+/// message of its kind that a unit began: the view of the memory with which it began, and where it went.
 #[tactic(auto, using(crate::proofs::OverheardLaw::listener_sent))]
 pub fn what_a_listener_lists_was_sent()
     ensures { (settings : List StationSettings) → AreFit settings → (events : List Event) (w : World) → Run (start settings) events w → (path : List Reception) → IsPathOfListener w.wire path → (who : AnyWho) (k : Kind)
         → AreSent k w.begun (entries_overheard who k (readings path)) }
 {}
 
-/// Why a path clear to a listener asks for one thing more than a station's: that the receiver did not abort the session. A station may
-/// abort what it goes on to receive, and no unit of the machine has to stop at that; but a listener has then nothing half read.
-pub fn an_abort_stops_no_unit()
-    ensures sends { (n d a reason pgn : ℕ) → MaySend n (Some d) (ConnectionManagement d a (Abort reason pgn)) }
-    ensures calm { (s : Seat) (d a reason pgn : ℕ) → IsCalmAt s (ConnectionManagement d a (Abort reason pgn)) }
-    ensures dropped { (d a reason pgn : ℕ) (who : AnyWho) (before : Option HalfSent) → d ≢ 255
-        → between_after a d (ConnectionManagement d a (Abort reason pgn)) who before ≡ None }
+/// A path clear to a listener: for the messages begun, the walk back along what it read is that path said by looking back.
+#[tactic(auto, using(crate::proofs::OverheardClear::overheard_to_clear, crate::proofs::OverheardClear::clear_to_overheard))]
+pub fn clear_path_of_a_listener_looks_back()
+    ensures { (settings : List StationSettings) → AreFit settings → (events : List Event) (w : World) → Run (start settings) events w → (path : List Reception) → IsPathOfListener w.wire path → (m : Message) → IsAmong m w.begun
+        → (is_overheard m path ≡ true) ↔ IsOnListenersClearPath m path }
+{}
+
+/// The listener's law speaks of something. In one run a listener lists an entry by a single frame, one by a broadcast of two packets and
+/// one by a session: under the NAME where it read its claim, and where it began after that under the address that nobody had claimed.
+/// In another a station lists a session that it had aborted, since the unit went on, and a listener that missed nothing does not: so
+/// a path clear to a listener asks for more than a station's.
+pub fn listeners_law_is_not_empty()
+    ensures each_way { (events : List Event) × (w : World) × Run (start one_station) events w × IsOverheardEachWay w }
+    ensures aborted { (events : List Event) × (w : World) × Run (start one_station) events w × IsNotOverheard w }
 {}

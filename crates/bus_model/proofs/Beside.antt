@@ -1,24 +1,23 @@
 -- Beside a station that takes part, one who takes none hears of each message to all or to the station what the station hears.
-use Rattle.std.proofs.Common.{◌≡◌, ◌≢◌, ◌⊎◌, ℕ, ◌<◌, ◌≤◌, Bool, true, false, not, ◌&&◌, ◌||◌, ◌==◌, List, [], ◌∷◌, ◌++◌, length, drop, Option, Some, None, if◌then◌else◌, sym, refl, ap, ◌∙◌, subst, inl, inr, arith}
-use Rattle.address_claim.specs.Claiming.{is_held}
+use Rattle.std.proofs.Common.{◌≡◌, ◌≢◌, ◌⊎◌, ℕ, ◌≤◌, Bool, true, false, not, ◌&&◌, ◌||◌, ◌==◌, List, [], ◌∷◌, ◌++◌, length, drop, Option, Some, None, if◌then◌else◌, sym, refl, ap, ◌∙◌, subst, inl, inr, arith}
 use Rattle.can_frame.specs.FrameValue.{FrameValue}
 use Rattle.can_frame.specs.declared.reading.Reading.{Reading}
-use Rattle.can_frame.specs.declared.reading.Reading.TheVariants.{Empty, Frame, Gap}
+use Rattle.can_frame.specs.declared.reading.Reading.TheVariants.{Frame}
 use Rattle.dm_messages.specs.View.{decoding, same_kind}
 use Rattle.dm_messages.specs.declared.kind.Kind.{Kind}
 use Rattle.dm_messages.specs.declared.shown.Shown.{Shown}
 use Rattle.parameter_group.specs.Calm.{is_contest}
 use Rattle.parameter_group.specs.Group.{Acknowledgment, AddressClaimed, CannotClaim, ConnectionManagement, DataTransfer, Diagnostic, Group, Other, Request, group_of}
 use Rattle.transport.specs.Assembling.{is_next}
-use Rattle.transport.specs.Pieces.{joined, packet_count}
+use Rattle.transport.specs.Pieces.{joined}
 use Rattle.transport.specs.declared.control.Control.TheVariants.{Abort, Bam, Cts, EndAck, Rts}
 use Rattle.reassembly.specs.Partials.{after_packet, is_whole, unfinished, with_packet}
 use Rattle.bus_model.specs.Beside.{AbortsNone, IsOrderly, TakesPart, readings_beside}
 use Rattle.bus_model.specs.Expected.{Missed, Own, Received, Reception, readings}
-use Rattle.bus_model.specs.Heard.{Entry, Joining, StationSettings, address_heard, broadcast_after, broadcast_heard, ended_by, entries_heard, entry_under, finished, is_kind, kept_by_owner, kind_of, or_else, owner_heard, put, put_read, session_after, session_heard, started, without_kind}
+use Rattle.bus_model.specs.Heard.{Entry, Joining, StationSettings, address_heard, broadcast_after, broadcast_heard, ended_by, entries_heard, entry_under, finished, kept_by_owner, kind_of, or_else, owner_heard, put, put_read, session_after, session_heard, started, without_kind}
 use Rattle.bus_model.specs.Machine.{IsFit, MaySend}
-use Rattle.bus_model.specs.Overheard.{EntrySent, HalfSent, MessageSent, newly_sent, between_after, between_heard, entries_overheard, gaps_heard, is_named, is_pair, kept_by_name, put_sent, put_shown, same_who, sent_by, sent_whole, shown_to, who_at, who_heard}
-use Rattle.bus_model.specs.Traffic.{Item, owner_after, says}
+use Rattle.bus_model.specs.Overheard.{EntrySent, HalfSent, newly_sent, between_after, between_heard, entries_overheard, gaps_heard, is_named, is_pair, kept_by_name, put_sent, put_shown, sent_by, sent_whole, shown_to, who_at, who_heard}
+use Rattle.bus_model.specs.Traffic.{owner_after}
 use Rattle.bus_model.specs.declared.who.Who.{Who}
 use Rattle.bus_model.specs.declared.who.Who.TheVariants.{Named, Unclaimed}
 use Rattle.bus_model.proofs.Bridge.{address_first, address_gap, address_read}

@@ -1,5 +1,5 @@
 -- What a reading changes is all that it does to what a listener shows.
-use Rattle.std.proofs.Common.{◌≡◌, ℕ, ◌+◌, Bool, true, false, not, ◌&&◌, ◌||◌, ◌==◌, List, [], ◌∷◌, Option, Some, None, is_some, if◌then◌else◌, sym, refl, ap, ◌∙◌}
+use Rattle.std.proofs.Common.{◌≡◌, ℕ, ◌+◌, Bool, true, false, ◌&&◌, ◌==◌, List, [], ◌∷◌, Option, Some, None, is_some, if◌then◌else◌, sym, refl, ap, ◌∙◌}
 use Rattle.address_claim.specs.Claiming.{is_held}
 use Rattle.can_frame.specs.declared.address.TheConstants.{GLOBAL_ADDRESS}
 use Rattle.can_frame.specs.declared.reading.Reading.{Reading}
@@ -10,14 +10,14 @@ use Rattle.dm_messages.specs.declared.shown.Shown.{Shown}
 use Rattle.parameter_group.specs.Group.{Group, AddressClaimed, CannotClaim, Request, Acknowledgment, Diagnostic, ConnectionManagement, DataTransfer, Other, group_of}
 use Rattle.transport.specs.declared.control.Control.{Control}
 use Rattle.transport.specs.declared.control.Control.TheVariants.{Bam}
-use Rattle.bus_model.specs.Changed.{displaced_by, is_again, is_lost}
-use Rattle.bus_model.specs.Heard.{RowHeard, StationSettings, ack_in_row, address_heard, address_in_row, address_known, addressless, counted, is_answer, kind_of, missed_count, names_after, names_heard, owner_heard, row_after, row_heard, row_with_ack, with_name, without_address}
-use Rattle.bus_model.specs.Overheard.{EntrySent, MessageSent, address_overheard, entries_overheard, gaps_heard, is_lost_on, message_sent, put_sent, row_overheard, row_with_group, same_who, sent_by, unread_overheard}
-use Rattle.bus_model.specs.OverheardChanged.{ack_overheard, announcement_change, change_overheard, claim_overheard, gave_up, group_overheard, has_still, sent_change, why_unread}
+use Rattle.bus_model.specs.Changed.{displaced_by, is_lost}
+use Rattle.bus_model.specs.Heard.{RowHeard, StationSettings, ack_in_row, address_heard, address_in_row, addressless, counted, is_answer, kind_of, missed_count, names_after, names_heard, owner_heard, row_after, row_heard, row_with_ack, with_name, without_address}
+use Rattle.bus_model.specs.Overheard.{EntrySent, MessageSent, address_overheard, entries_overheard, gaps_heard, is_lost_on, put_sent, row_overheard, row_with_group, same_who, sent_by, unread_overheard}
+use Rattle.bus_model.specs.OverheardChanged.{ack_overheard, announcement_change, change_overheard, gave_up, group_overheard, has_still, sent_change, why_unread}
 use Rattle.bus_model.specs.OverheardFollows.{AreSentWith, HasSent, gaps_with, missed_with, names_with, row_with, unread_with}
 use Rattle.bus_model.specs.declared.change.Displaced.{Displaced}
 use Rattle.bus_model.specs.declared.overheard.Overheard.{Overheard}
-use Rattle.bus_model.specs.declared.overheard.Overheard.TheVariants.{Nothing, Claimed, GaveUp, Acknowledged, Listed, Unreadable, Unowned, Missed}
+use Rattle.bus_model.specs.declared.overheard.Overheard.TheVariants.{Nothing, Claimed, GaveUp, Listed, Unreadable}
 use Rattle.bus_model.specs.declared.who.Who.{Who}
 use Rattle.bus_model.proofs.Changes.{claims_again, keeps_address, loses_address, owner_known}
 use Rattle.bus_model.proofs.Clear.{false_test}

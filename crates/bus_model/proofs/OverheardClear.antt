@@ -1,5 +1,5 @@
 -- The walk back along what a listener read is the path clear to it, said by looking back.
-use Rattle.std.proofs.Common.{◌≡◌, ◌≢◌, ℕ, suc, zero, ◌≤◌, Bool, true, false, not, ◌&&◌, ◌==◌, List, [], ◌∷◌, ◌++◌, Option, Some, None, if◌then◌else◌, sym, refl, ap, ◌∙◌, subst, inl, inr, arith}
+use Rattle.std.proofs.Common.{◌≡◌, ◌≢◌, ℕ, suc, zero, ◌≤◌, Bool, true, false, not, ◌&&◌, ◌==◌, List, [], ◌∷◌, ◌++◌, Option, Some, None, if◌then◌else◌, refl, ap, ◌∙◌, subst, inl, inr, arith}
 use Rattle.bus_model.specs.ClearPath.{IsReceived, NoneMissed}
 use Rattle.bus_model.specs.Expected.{Missed, Own, Received, Reception, is_anchored, is_part, passed}
 use Rattle.bus_model.specs.Heard.{StationSettings}
@@ -191,10 +191,10 @@ found st begun m num among path own law booked h =
     let booked_stretch = subst (λ (v : List Reception). Every (IsBooked begun) (passed v)) h.stretch booked_last in
     let booked_first = (every_rest (IsBooked begun) (passed h.upper) (h.first ∷ passed rest) (subst (Every (IsBooked begun)) (passed_append h.upper (Received h.first ∷ rest)) booked_stretch)).0 in
     let back = read_back_from st begun m num among h.upper rest h.first (own_front h.upper (Received h.first ∷ rest) own_last) law_stretch booked_stretch h.upper_whole h.unaborted h.is_first
-        (part_is begun m 0 h.first.tag num among booked_first h.is_first) (anchored_from m.source h.lower h.before h.claim h.lower_whole h.latest h.is_claim') in
+    (part_is begun m 0 h.first.tag num among booked_first h.is_first) (anchored_from m.source h.lower h.before h.claim h.lower_whole h.latest h.is_claim') in
     ap (is_overheard m) h.split
     ∙ overheard_from st begun m num among h.after h.older h.last (own_front h.after from own_all) law_all booked_all h.is_last
-      (part_is begun m (last_part_of m) h.last.tag num among booked_last.0 h.is_last) (ap (is_read_back m) h.stretch ∙ back)
+    (part_is begun m (last_part_of m) h.last.tag num among booked_last.0 h.is_last) (ap (is_read_back m) h.stretch ∙ back)
 
 -- ---- in a run
 

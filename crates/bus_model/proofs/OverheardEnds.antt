@@ -1,7 +1,6 @@
 -- What ends at a frame for a listener: at a part of a message that message, where its parts so far were read, and at any other frame none.
-use Rattle.std.proofs.Common.{◌≡◌, ◌≢◌, ◌⊎◌, ℕ, suc, zero, ◌≤◌, Bool, true, false, not, ◌&&◌, ◌||◌, ◌==◌, List, [], ◌∷◌, ◌++◌, length, drop, take, Option, Some, None, if◌then◌else◌, sym, refl, ap, ◌∙◌, subst, inl, inr, arith}
+use Rattle.std.proofs.Common.{◌≡◌, ◌≢◌, ◌⊎◌, ℕ, suc, zero, ◌≤◌, Bool, true, false, not, ◌&&◌, ◌||◌, ◌==◌, List, [], ◌∷◌, length, drop, take, Option, Some, None, if◌then◌else◌, sym, refl, ap, ◌∙◌, subst, inl, inr, arith}
 use Rattle.can_frame.specs.declared.reading.Reading.{Reading}
-use Rattle.dm_messages.specs.View.{pgn_of_kind}
 use Rattle.dm_messages.specs.declared.kind.Kind.{Kind}
 use Rattle.parameter_group.specs.Group.{AddressClaimed, ConnectionManagement, DataTransfer, Diagnostic, Group}
 use Rattle.transport.specs.Assembling.{is_next}
@@ -19,9 +18,9 @@ use Rattle.bus_model.specs.declared.who.Who.TheVariants.{Named, Unclaimed}
 use Rattle.bus_model.proofs.Bridge.{all_pieces, count_of, many_last, one_last, session_destination}
 use Rattle.bus_model.proofs.Lawful.{IsNoStart, IsPlain, IsVoiced, Lawful, PartLaw, group_at, tag_of}
 use Rattle.bus_model.proofs.Lookback.{Every, and_parts, ne_test, same_test, true_test}
-use Rattle.bus_model.proofs.OverheardParts.{IsSoFar, IsUnder, next_at, parts_under, whole_at}
+use Rattle.bus_model.proofs.OverheardParts.{IsSoFar, IsUnder, next_at, whole_at}
 use Rattle.bus_model.proofs.OverheardTracks.{IsTrack, cast_track, owner_read, session_track, so_far_read}
-use Rattle.bus_model.proofs.Path.{bam_way, first_is_part, later_part, not_one, one_to_all, to_all}
+use Rattle.bus_model.proofs.Path.{bam_way, later_part, not_one, one_to_all, to_all}
 use Rattle.bus_model.proofs.SeatLaw.{IsBooked, Numbered}
 use Rattle.bus_model.proofs.Seats.{part_says}
 use Rattle.bus_model.proofs.Sessions.{no_one}
@@ -59,8 +58,12 @@ next_ends m d i b o to last le h =
         → ends o ≡ (if suc i == count_of m then Some (sent w d (joined (length (payload_sent m)) (take (suc i) (pieces (payload_sent m))))) else None) → IsEnded m (t && b) (ends o)
     by_last w u false k e = inl (refl, rw k at e)
     by_last w u true k e =
-        inr (w, u, rw k at e ∙ (ap (λ (n : ℕ). Some (sent w d (joined (length (payload_sent m)) (take n (pieces (payload_sent m)))))) (true_test (suc i) (count_of m) k)
-        ∙ (ap (λ (v : List ℕ). Some (sent w d v)) (all_pieces m) ∙ ap (λ (v : ℕ). Some (sent w v (payload_sent m))) (sym to))))
+        inr (
+          w,
+          u,
+          rw k at e ∙ (ap (λ (n : ℕ). Some (sent w d (joined (length (payload_sent m)) (take n (pieces (payload_sent m)))))) (true_test (suc i) (count_of m) k)
+              ∙ (ap (λ (v : List ℕ). Some (sent w d v)) (all_pieces m) ∙ ap (λ (v : ℕ). Some (sent w v (payload_sent m))) (sym to))),
+        )
 
 -- a part of a message in packets
 packet_ends : (st : List ℕ) (begun : List Message) (m : Message) (d : ℕ) (last : List Item → Option Tag) → IsTrack st m d last → m.destination ≡ d → way_of m ≢ One → Numbered begun → IsAmong m begun → (j : ℕ) (e : Item) (path : List Reception) → NoneOwn path → Lawful st (passed path) → Every (IsBooked begun) (passed path)

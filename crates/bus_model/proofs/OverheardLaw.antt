@@ -1,5 +1,5 @@
 -- The listener's law: at each reading of its path one entry comes to what it lists and to what it is to list, or none to both.
-use Rattle.std.proofs.Common.{◌≡◌, ◌≢◌, ℕ, ◌<◌, ◌≤◌, Bool, true, false, ◌&&◌, ◌==◌, List, [], ◌∷◌, ◌++◌, length, Option, Some, None, if◌then◌else◌, sym, refl, ap, ◌∙◌, subst, inl, inr, arith}
+use Rattle.std.proofs.Common.{◌≡◌, ◌≢◌, ℕ, ◌<◌, ◌≤◌, Bool, true, false, ◌&&◌, ◌==◌, List, [], ◌∷◌, length, Option, Some, None, if◌then◌else◌, sym, refl, ap, ◌∙◌, subst, inl, inr, arith}
 use Rattle.dm_messages.specs.View.{decoding, same_kind}
 use Rattle.dm_messages.specs.declared.kind.Kind.{Kind}
 use Rattle.bus_model.specs.Expected.{Missed, Own, Received, Reception, is_part, passed, readings}
@@ -20,7 +20,7 @@ use Rattle.bus_model.proofs.OverheardEnds.{IsEnded, other_ends_none, part_ends}
 use Rattle.bus_model.proofs.OverheardParts.{IsUnder}
 use Rattle.bus_model.proofs.Path.{same_message}
 use Rattle.bus_model.proofs.SeatLaw.{IsBooked, Numbered, number_below}
-use Rattle.bus_model.proofs.Tells.{AllProper, IsNotLast, is_listed, not_part}
+use Rattle.bus_model.proofs.Tells.{IsNotLast, is_listed, not_part}
 use Rattle.bus_model.proofs.Worlds.{law_run, law_start}
 
 -- ---- one message more among those that came

@@ -1,7 +1,7 @@
 -- What a listener has half sent of a message: its parts so far, under the message's NAME or as nobody's, or nothing.
-use Rattle.std.proofs.Common.{◌≡◌, ◌⊎◌, ℕ, suc, zero, ◌<◌, ◌≤◌, Bool, true, false, not, ◌&&◌, ◌||◌, ◌==◌, List, [], ◌∷◌, length, take, Option, Some, None, if◌then◌else◌, sym, refl, ap, ◌∙◌, subst, inl, inr, arith}
+use Rattle.std.proofs.Common.{◌≡◌, ◌⊎◌, ℕ, suc, ◌<◌, ◌≤◌, Bool, true, false, not, ◌&&◌, ◌||◌, ◌==◌, length, take, Option, Some, None, if◌then◌else◌, sym, refl, ap, ◌∙◌, subst, inl, inr, arith}
 use Rattle.dm_messages.specs.View.{pgn_of_kind}
-use Rattle.parameter_group.specs.Group.{AddressClaimed, ConnectionManagement, DataTransfer, Group}
+use Rattle.parameter_group.specs.Group.{AddressClaimed, ConnectionManagement, Group}
 use Rattle.transport.specs.Pieces.{packet, pieces}
 use Rattle.transport.specs.declared.control.Control.TheVariants.{Abort}
 use Rattle.reassembly.specs.Partials.{after_packet, is_whole, unfinished, with_packet}

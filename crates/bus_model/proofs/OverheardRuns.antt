@@ -1,5 +1,5 @@
 -- What a listener lists of the run that shows something in each way, and a run that shows a station what it does not show a listener.
-use Rattle.std.proofs.Common.{◌≡◌, List, [], ◌∷◌, ◌++◌, refl, sym, ap, ◌∙◌}
+use Rattle.std.proofs.Common.{◌≡◌, List, [], ◌∷◌, refl, sym, ap}
 use Rattle.can_frame.specs.FrameValue.{FrameValue}
 use Rattle.dm_messages.specs.declared.kind.Kind.TheVariants.{Dm2}
 use Rattle.parameter_group.specs.Group.{group_of}

@@ -1,14 +1,14 @@
 -- Back along a lawful wire, what a listener's readings say of a message in packets.
-use Rattle.std.proofs.Common.{◌≡◌, ◌≢◌, ◌⊎◌, ℕ, suc, zero, ◌<◌, ◌≤◌, Bool, true, false, not, ◌&&◌, ◌||◌, ◌==◌, List, [], ◌∷◌, length, Option, Some, None, if◌then◌else◌, sym, refl, ap, ◌∙◌, subst, inl, inr, arith}
+use Rattle.std.proofs.Common.{◌≡◌, ◌⊎◌, ℕ, suc, zero, ◌<◌, ◌≤◌, Bool, true, false, ◌&&◌, ◌||◌, ◌==◌, List, [], ◌∷◌, length, Option, Some, None, if◌then◌else◌, sym, refl, ap, ◌∙◌, subst, inl, inr, arith}
 use Rattle.dm_messages.specs.View.{pgn_of_kind}
 use Rattle.parameter_group.specs.Group.{AddressClaimed, ConnectionManagement, DataTransfer, Group}
 use Rattle.transport.specs.Pieces.{packet}
 use Rattle.transport.specs.declared.control.Control.TheVariants.{Abort, Bam, Rts}
-use Rattle.bus_model.specs.Expected.{Missed, Own, Received, Reception, is_anchored, is_part, passed, readings}
+use Rattle.bus_model.specs.Expected.{Missed, Own, Received, Reception, is_anchored, passed, readings}
 use Rattle.bus_model.specs.Heard.{kind_of, owner_heard}
 use Rattle.bus_model.specs.Messages.{Broadcast, IsAmong, IsProper, Message, Session, Way, is_session, payload_sent, way_of}
 use Rattle.bus_model.specs.Overheard.{HalfSent, between_after, between_heard, gaps_heard, is_pair, newly_sent, who_heard}
-use Rattle.bus_model.specs.OverheardExpected.{NoneOwn, is_aborted, is_read_back}
+use Rattle.bus_model.specs.OverheardExpected.{NoneOwn, is_read_back}
 use Rattle.bus_model.specs.Traffic.{Item, Tag, claimed_by, is_station, says}
 use Rattle.bus_model.specs.declared.who.Who.{Who}
 use Rattle.bus_model.proofs.Bridge.{count_of, session_destination, session_to}

@@ -1,5 +1,5 @@
 -- A message that ends between two addresses is what looking back finds.
-use Rattle.std.proofs.Common.{◌≡◌, ℕ, suc, ◌<◌, ◌≤◌, true, false, ◌==◌, List, [], ◌∷◌, ◌++◌, length, drop, Option, Some, None, if◌then◌else◌, sym, refl, ap, ◌∙◌, subst, inl, inr, arith, length-append}
+use Rattle.std.proofs.Common.{◌≡◌, ℕ, suc, ◌<◌, true, List, [], ◌∷◌, ◌++◌, length, drop, Option, Some, None, if◌then◌else◌, sym, refl, ap, ◌∙◌, subst, inl, inr, arith, length-append}
 use Rattle.can_frame.specs.FrameValue.{FrameValue}
 use Rattle.can_frame.specs.declared.reading.Reading.{Reading}
 use Rattle.can_frame.specs.declared.reading.Reading.TheVariants.{Empty, Frame, Gap}
@@ -9,7 +9,7 @@ use Rattle.transport.specs.Pieces.{joined, packet_count}
 use Rattle.reassembly.specs.Partials.{is_whole, with_packet}
 use Rattle.bus_model.specs.LookBack.{AreNumbered, packets_heard, pieces_of}
 use Rattle.bus_model.specs.Overheard.{HalfSent, MessageSent, between_heard, message_sent, sent_by, sent_whole, who_heard}
-use Rattle.bus_model.specs.OverheardBack.{EndNone, IsSentWhole, SentInOneFrame, SentInPackets}
+use Rattle.bus_model.specs.OverheardBack.{IsSentWhole, SentInOneFrame, SentInPackets}
 use Rattle.bus_model.specs.declared.who.Who.{Who}
 use Rattle.bus_model.proofs.Between.{TakenFrom, between_back, between_from, packet_added, sending, taken_from}
 use Rattle.bus_model.proofs.Half.{IsNext, length_pieces_of}

@@ -1,5 +1,5 @@
 -- In a run with one station, whose address nobody else claims, it takes part as the rules say, but that it may abort what it goes on with.
-use Rattle.std.proofs.Common.{◌≡◌, ◌≢◌, ℕ, suc, zero, ◌+◌, ◌<◌, ◌≤◌, ◌^◌, Bool, true, false, not, ◌&&◌, ◌||◌, ◌==◌, List, [], ◌∷◌, ◌++◌, length, set, slice_get, Option, Some, None, if◌then◌else◌, sym, refl, ap, ◌∙◌, subst, inl, inr, arith}
+use Rattle.std.proofs.Common.{◌≡◌, ◌≢◌, ℕ, suc, zero, ◌+◌, ◌<◌, ◌^◌, Bool, true, false, ◌==◌, List, [], ◌∷◌, ◌++◌, length, set, slice_get, Option, Some, None, if◌then◌else◌, sym, refl, ap, ◌∙◌, subst, inl, inr}
 use Rattle.address_claim.specs.Claiming.{CanHold}
 use Rattle.address_claim.specs.Frames.{claim_frame_value}
 use Rattle.can_frame.specs.FrameValue.{FrameValue}
@@ -9,8 +9,8 @@ use Rattle.parameter_group.specs.Group.{Acknowledgment, AddressClaimed, CannotCl
 use Rattle.transport.specs.declared.control.Control.TheVariants.{Abort, Bam, Cts, EndAck, Rts}
 use Rattle.bus_model.specs.Beside.{ClaimsOwn, GoesOnWithNone, IsClaimedAlone, IsOrderly, TakesPart}
 use Rattle.bus_model.specs.Expected.{Missed, Own, Received, Reception, passed, readings}
-use Rattle.bus_model.specs.Heard.{StationSettings, address_heard, kind_of}
-use Rattle.bus_model.specs.Machine.{AllMaySend, Answer, Ask, Begin, Begins, Carry, Carry_station, Claims, EndsSession, Event, Hear, IsFit, IsRtsFrom, Join, Leave, MayAnswer, MayReply, MaySend, Miss, Nothing, Read, Replies, Run, Seat, Sends, Station, Step, Turned, World, all_plain, answered, claim_alone, granted, granted_one, joined_seat, message_at, missed, names_of, new_stations, parts_upto, plain_item, received, session_ended, start, station_address, with_asked, with_heard, with_message, yielded}
+use Rattle.bus_model.specs.Heard.{StationSettings, address_heard}
+use Rattle.bus_model.specs.Machine.{AllMaySend, Answer, Ask, Begin, Begins, Carry, Carry_station, Claims, EndsSession, Event, Hear, IsFit, IsRtsFrom, Join, Leave, MayAnswer, MayReply, MaySend, Miss, Nothing, Read, Replies, Run, Seat, Sends, Station, Step, Turned, World, all_plain, answered, claim_alone, granted, granted_one, joined_seat, message_at, missed, new_stations, parts_upto, plain_item, received, session_ended, start, station_address, with_asked, with_heard, with_message, yielded}
 use Rattle.bus_model.specs.Messages.{Broadcast, Message, One, Session, Way, way_of}
 use Rattle.bus_model.specs.Traffic.{Item, Tag, claimed_by, is_station, owner_after, says}
 use Rattle.bus_model.proofs.Bridge.{address_first, address_gap, address_read, claim_group, kind_back, says_claim}
@@ -19,7 +19,7 @@ use Rattle.bus_model.proofs.Lookback.{Every, every_append, every_front, every_re
 use Rattle.bus_model.proofs.Path.{IsStations}
 use Rattle.bus_model.proofs.Seats.{kept_each, part_says}
 use Rattle.bus_model.proofs.SeatLaw.{next_heard}
-use Rattle.bus_model.proofs.Worlds.{WorldLaw, law_run, law_start, law_step, slice_get_push, slice_get_set}
+use Rattle.bus_model.proofs.Worlds.{WorldLaw, law_start, law_step, slice_get_push, slice_get_set}
 
 -- ---- nobody else claims the address
 

@@ -1,5 +1,5 @@
 -- Which of the messages begun a listener is to list, who takes no part on the bus: those that it read whole on a clear path, whoever they went to.
-use Rattle.std.specs.Prelude.{◌≡◌, ℕ, Bool, true, false, not, ◌&&◌, ◌==◌, List, [], ◌∷◌, ◌++◌, if◌then◌else◌}
+use Rattle.std.specs.Prelude.{◌≡◌, ℕ, Bool, false, not, ◌&&◌, ◌==◌, List, [], ◌∷◌, ◌++◌, if◌then◌else◌}
 use Rattle.can_frame.specs.declared.address.TheConstants.{GLOBAL_ADDRESS}
 use Rattle.dm_messages.specs.View.{view, same_kind}
 use Rattle.dm_messages.specs.declared.kind.Kind.{Kind}

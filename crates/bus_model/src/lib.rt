@@ -34,7 +34,10 @@ mod overheard;
 mod who;
 
 pub use change::{Change, Displaced};
-pub use listener::{a_listener_is_exact, clear_path_of_a_listener_looks_back, listeners_law_is_not_empty, what_a_listener_lists_was_sent};
+pub use listener::{
+    a_listener_is_exact, clear_path_of_a_listener_looks_back, listeners_law_is_not_empty,
+    what_a_listener_lists_was_sent,
+};
 pub use overheard::Overheard;
 pub use who::Who;
 

@@ -39,3 +39,4 @@ pub mod OverheardEnds
 pub mod OverheardLaw
 pub mod OverheardRuns
 pub mod OverheardClear
+pub mod OverheardAll

@@ -7,7 +7,7 @@ use Rattle.transport.specs.Assembling.{is_next}
 use Rattle.transport.specs.Pieces.{joined, packet, pieces}
 use Rattle.transport.specs.declared.control.Control.TheVariants.{Abort, Bam, Rts}
 use Rattle.reassembly.specs.Partials.{is_whole, unfinished, with_packet, with_piece}
-use Rattle.bus_model.specs.Expected.{Missed, Own, Received, Reception, is_anchored, is_part, passed, readings}
+use Rattle.bus_model.specs.Expected.{Missed, Own, Received, Reception, is_anchored, is_part, readings}
 use Rattle.bus_model.specs.Heard.{kind_of, owner_heard}
 use Rattle.bus_model.specs.Messages.{Broadcast, IsAmong, Message, One, Session, Way, last_part_of, payload_sent, way_of}
 use Rattle.bus_model.specs.Overheard.{HalfSent, MessageSent, between_after, between_heard, gaps_heard, is_named, is_pair, kept_by_name, newly_sent, sent_by, sent_whole, who_at, who_heard}
@@ -19,7 +19,7 @@ use Rattle.bus_model.proofs.Bridge.{all_pieces, count_of, many_last, one_last, s
 use Rattle.bus_model.proofs.Lawful.{IsNoStart, IsPlain, IsVoiced, Lawful, PartLaw, group_at, tag_of}
 use Rattle.bus_model.proofs.Lookback.{Every, and_parts, ne_test, same_test, true_test}
 use Rattle.bus_model.proofs.OverheardParts.{IsSoFar, IsUnder, next_at, whole_at}
-use Rattle.bus_model.proofs.OverheardTracks.{IsTrack, cast_track, owner_read, session_track, so_far_read}
+use Rattle.bus_model.proofs.OverheardTracks.{IsTrack, carried, cast_track, owner_read, session_track, so_far_read}
 use Rattle.bus_model.proofs.Path.{bam_way, later_part, not_one, one_to_all, to_all}
 use Rattle.bus_model.proofs.SeatLaw.{IsBooked, Numbered}
 use Rattle.bus_model.proofs.Seats.{part_says}
@@ -66,25 +66,25 @@ next_ends m d i b o to last le h =
         )
 
 -- a part of a message in packets
-packet_ends : (st : List ℕ) (begun : List Message) (m : Message) (d : ℕ) (last : List Item → Option Tag) → IsTrack st m d last → m.destination ≡ d → way_of m ≢ One → Numbered begun → IsAmong m begun → (j : ℕ) (e : Item) (path : List Reception) → NoneOwn path → Lawful st (passed path) → Every (IsBooked begun) (passed path)
-    → PartLaw st e (tag_of m j) (passed path) → e.tag ≡ Some (tag_of m j) → ((older : List Reading) → j ≡ 0 → sent_by (says e) older ≡ None) → IsEnded m (j == last_part_of m && is_read_back m (Received e ∷ path)) (sent_by (says e) (readings path))
-packet_ends st begun m d last track to many num among zero e path own law booked p tag none =
+packet_ends : (st : List ℕ) (begun : List Message) (m : Message) (d : ℕ) (last : List Item → Option Tag) → IsTrack st m d last → m.destination ≡ d → way_of m ≢ One → Numbered begun → IsAmong m begun → (j : ℕ) (e : Item) (old : List Item) (path : List Reception) → NoneOwn path → Lawful st (carried old path) → Every (IsBooked begun) (carried old path)
+    → PartLaw st e (tag_of m j) (carried old path) → e.tag ≡ Some (tag_of m j) → ((older : List Reading) → j ≡ 0 → sent_by (says e) older ≡ None) → IsEnded m (j == last_part_of m && is_read_back m (Received e ∷ path)) (sent_by (says e) (readings path))
+packet_ends st begun m d last track to many num among zero e old path own law booked p tag none =
     let n = many_last m p.proper many in
     inl (rw (n.0, ne_test 0 (count_of m) (let l = n.1 in omega arith)) refl, none (readings path) refl)
-packet_ends st begun m d last track to many num among (suc i) e path own law booked p tag none =
+packet_ends st begun m d last track to many num among (suc i) e old path own law booked p tag none =
     let n = many_last m p.proper many in
     let le : suc i ≤ count_of m = (let q : suc i ≤ last_part_of m = p.upto in let l = n.0 in omega arith) in
-    let next = track.next e (passed path) i p in
-    let h = so_far_read st begun m d last track n.1 num among path own law booked i (omega arith) next.1 in
+    let next = track.next e (carried old path) i p in
+    let h = so_far_read st begun m d last track n.1 num among old path own law booked i (omega arith) next.1 in
     rw (later_part m i e.tag tag, next.0) (next_ends m d i (is_read_back m path) (between_heard m.source d (readings path)) to n.0 le h)
 
 -- a part of whichever message
-pub part_ends : (st : List ℕ) (begun : List Message) (m : Message) (j : ℕ) (e : Item) (path : List Reception) → Numbered begun → IsAmong m begun → NoneOwn path → Lawful st (passed path) → Every (IsBooked begun) (passed path)
-    → PartLaw st e (tag_of m j) (passed path) → e.tag ≡ Some (tag_of m j) → IsEnded m (j == last_part_of m && is_read_back m (Received e ∷ path)) (sent_by (says e) (readings path))
-part_ends st begun m j e path num among own law booked p tag = by_way (way_of m) refl
+pub part_ends : (st : List ℕ) (begun : List Message) (m : Message) (j : ℕ) (e : Item) (old : List Item) (path : List Reception) → Numbered begun → IsAmong m begun → NoneOwn path → Lawful st (carried old path) → Every (IsBooked begun) (carried old path)
+    → PartLaw st e (tag_of m j) (carried old path) → e.tag ≡ Some (tag_of m j) → IsEnded m (j == last_part_of m && is_read_back m (Received e ∷ path)) (sent_by (says e) (readings path))
+part_ends st begun m j e old path num among own law booked p tag = by_way (way_of m) refl
   where
     said : (w : Way) → way_of m ≡ w → says e ≡ group_at w m j
-    said w i = part_says st e (tag_of m j) (passed path) p ∙ ap (λ (v : Way). group_at v m j) i
+    said w i = part_says st e (tag_of m j) (carried old path) p ∙ ap (λ (v : Way). group_at v m j) i
 
     by_way : (w : Way) → way_of m ≡ w → IsEnded m (j == last_part_of m && is_read_back m (Received e ∷ path)) (sent_by (says e) (readings path))
     by_way One i =
@@ -94,16 +94,16 @@ part_ends st begun m j e path num among own law booked p tag = by_way (way_of m)
         let here : (j == last_part_of m) ≡ true = rw (zero_j, last) refl in
         let to : m.destination ≡ 255 = true_test m.destination 255 (one_to_all m p.proper i) in
         let who : Who = who_at (if is_anchored m.source path then Some m.name else None) m.source (gaps_heard (readings path)) in
-        rw (here, first, said One i, owner_read m.source m.name path own p.owned)
+        rw (here, first, said One i, owner_read m.source m.name old path own p.owned)
         (inr (who, (m.source, gaps_heard (readings path), refl), ap (λ (v : ℕ). Some (single who v)) (sym to)))
       where
         single : Who → ℕ → MessageSent
         single w to = record { who = w; kind = m.kind; to = to; bytes = payload_sent m }
     by_way Broadcast i =
-        packet_ends st begun m 255 _ (cast_track st m i) (true_test m.destination 255 (to_all m i)) (not_one m i) num among j e path own law booked p tag
+        packet_ends st begun m 255 _ (cast_track st m i) (true_test m.destination 255 (to_all m i)) (not_one m i) num among j e old path own law booked p tag
         (λ older z. rw (said Broadcast i, z) refl)
     by_way (Session d) i =
-        packet_ends st begun m d _ (session_track st m d p.proper i) (session_destination m d i).0 (no_one m d i) num among j e path own law booked p tag
+        packet_ends st begun m d _ (session_track st m d p.proper i) (session_destination m d i).0 (no_one m d i) num among j e old path own law booked p tag
         (λ older z. rw (said (Session d) i, z) refl)
 
 -- ---- at a frame that is no part
@@ -147,36 +147,36 @@ units_claim st c m (Some j) h = by_name (is_named m j.tag.who) refl
     by_name true i = (h.0, ap Some (named_is j.tag.who i h.3), h.2, h.3)
 
 -- an announcement to all: only a unit's is one of a diagnostic message
-units_start : (st : List ℕ) (e : Item) (path : List Reception) → Lawful st (e ∷ passed path) → NoneOwn path → (s d x y p : ℕ) → says e ≡ ConnectionManagement s d (Bam x y p) → IsUnits st (claimed_by s (passed path)) (newly_sent (kind_of p) x (who_heard s (readings path)))
-units_start st e path law own s d x y p f = by_tag e.tag refl
+units_start : (st : List ℕ) (e : Item) (old : List Item) (path : List Reception) → Lawful st (e ∷ carried old path) → NoneOwn path → (s d x y p : ℕ) → says e ≡ ConnectionManagement s d (Bam x y p) → IsUnits st (claimed_by s (carried old path)) (newly_sent (kind_of p) x (who_heard s (readings path)))
+units_start st e old path law own s d x y p f = by_tag e.tag refl
   where
-    by_tag : (o : Option Tag) → e.tag ≡ o → IsUnits st (claimed_by s (passed path)) (newly_sent (kind_of p) x (who_heard s (readings path)))
-    by_tag None g = let k : kind_of p ≡ None = subst IsNoStart f (law.0.starts g) in subst (λ (v : Option Kind). IsUnits st (claimed_by s (passed path)) (newly_sent v x (who_heard s (readings path)))) (sym k) tt
+    by_tag : (o : Option Tag) → e.tag ≡ o → IsUnits st (claimed_by s (carried old path)) (newly_sent (kind_of p) x (who_heard s (readings path)))
+    by_tag None g = let k : kind_of p ≡ None = subst IsNoStart f (law.0.starts g) in subst (λ (v : Option Kind). IsUnits st (claimed_by s (carried old path)) (newly_sent v x (who_heard s (readings path)))) (sym k) tt
     by_tag (Some t) g =
         let part = law.0.tagged t g in
-        let source = (bam_way (way_of t.message) t.message t.part s d x y p (sym f ∙ part_says st e t (passed path) part)).1 in
-        let owned : claimed_by s (passed path) ≡ Some t.message.name = subst (λ (v : ℕ). claimed_by v (passed path) ≡ Some t.message.name) source part.owned in
-        by_kind (kind_of p) owned part.unit (under (is_anchored s path) (owner_read s t.message.name path own owned))
+        let source = (bam_way (way_of t.message) t.message t.part s d x y p (sym f ∙ part_says st e t (carried old path) part)).1 in
+        let owned : claimed_by s (carried old path) ≡ Some t.message.name = subst (λ (v : ℕ). claimed_by v (carried old path) ≡ Some t.message.name) source part.owned in
+        by_kind (kind_of p) owned part.unit (under (is_anchored s path) (owner_read s t.message.name old path own owned))
       where
         under : (b : Bool) → owner_heard s (readings path) ≡ (if b then Some t.message.name else None) → IsUnderNoOther t.message.name (who_heard s (readings path))
         under true o = rw o refl
         under false o = rw o tt
 
-        by_kind : (k : Option Kind) → claimed_by s (passed path) ≡ Some t.message.name → is_station st t.message.name ≡ false → IsUnderNoOther t.message.name (who_heard s (readings path)) → IsUnits st (claimed_by s (passed path)) (newly_sent k x (who_heard s (readings path)))
+        by_kind : (k : Option Kind) → claimed_by s (carried old path) ≡ Some t.message.name → is_station st t.message.name ≡ false → IsUnderNoOther t.message.name (who_heard s (readings path)) → IsUnits st (claimed_by s (carried old path)) (newly_sent k x (who_heard s (readings path)))
         by_kind None owned unit u = tt
         by_kind (Some k) owned unit u = (t.message.name, owned, unit, u)
 
-units_half : (st : List ℕ) (path : List Reception) → Lawful st (passed path) → NoneOwn path → (a : ℕ) → IsUnits st (claimed_by a (passed path)) (between_heard a 255 (readings path))
-units_half st [] law own a = tt
-units_half st (Own e ∷ path) law own a = absurd own
-units_half st (Missed es ∷ path) law own a = tt
-units_half st (Received e ∷ path) law own a = by_frame (units_half st path law.1 own a) (says e) refl
+units_half : (st : List ℕ) (old : List Item) (path : List Reception) → Lawful st (carried old path) → NoneOwn path → (a : ℕ) → IsUnits st (claimed_by a (carried old path)) (between_heard a 255 (readings path))
+units_half st old [] law own a = tt
+units_half st old (Own e ∷ path) law own a = absurd own
+units_half st old (Missed es ∷ path) law own a = tt
+units_half st old (Received e ∷ path) law own a = by_frame (units_half st old path law.1 own a) (says e) refl
   where
     before : Option HalfSent
     before = between_heard a 255 (readings path)
 
     claimed : Option ℕ
-    claimed = claimed_by a (passed path)
+    claimed = claimed_by a (carried old path)
 
     never : (t : Bool) → t && false ≡ true → ⊥
     never true h = cc
@@ -186,7 +186,7 @@ units_half st (Received e ∷ path) law own a = by_frame (units_half st path law
     by_frame h (ConnectionManagement s d (Bam x y p)) g =
         units_if st claimed (newly_sent (kind_of p) x (who_heard a (readings path))) before (is_pair a 255 s d && 255 == 255)
         (λ i. let same : s ≡ a = true_test s a (and_parts (s == a) (d == 255) (and_parts (is_pair a 255 s d) (255 == 255) i).0).0 in
-        subst (λ (v : ℕ). IsUnits st (claimed_by v (passed path)) (newly_sent (kind_of p) x (who_heard v (readings path)))) same (units_start st e path law own s d x y p g)) h
+        subst (λ (v : ℕ). IsUnits st (claimed_by v (carried old path)) (newly_sent (kind_of p) x (who_heard v (readings path)))) same (units_start st e old path law own s d x y p g)) h
     by_frame h (ConnectionManagement s d (Rts x y z p)) g =
         units_if st claimed (newly_sent (kind_of p) x (who_heard a (readings path))) before (is_pair a 255 s d && not (255 == 255)) (λ i. absurd (never (is_pair a 255 s d) i)) h
     by_frame h (ConnectionManagement s d (Abort x p)) g =
@@ -201,8 +201,8 @@ units_half st (Received e ∷ path) law own a = by_frame (units_half st path law
     by_frame h f g = h
 
 -- a station's packets end no unit's message
-pub other_ends_none : (st : List ℕ) (e : Item) (path : List Reception) → Lawful st (e ∷ passed path) → NoneOwn path → e.tag ≡ None → sent_by (says e) (readings path) ≡ None
-other_ends_none st e path law own none = by_seat (is_station st e.name) refl
+pub other_ends_none : (st : List ℕ) (e : Item) (old : List Item) (path : List Reception) → Lawful st (e ∷ carried old path) → NoneOwn path → e.tag ≡ None → sent_by (says e) (readings path) ≡ None
+other_ends_none st e old path law own none = by_seat (is_station st e.name) refl
   where
     nothing : (c : Option ℕ) → c ≡ Some e.name → is_station st e.name ≡ true → (o : Option HalfSent) → IsUnits st c o → o ≡ None
     nothing c v station None h = refl
@@ -215,8 +215,8 @@ other_ends_none st e path law own none = by_seat (is_station st e.name) refl
     by_frame station (Diagnostic k s q) f = absurd (subst IsNoStart f (law.0.starts none))
     by_frame station (DataTransfer s d q) f =
         let to : d ≡ 255 = subst IsNoStart f (law.0.starts none) in
-        let v : claimed_by s (passed path) ≡ Some e.name = subst (λ (g : Group). IsVoiced e.name g (passed path)) f law.0.voiced in
-        rw to (ap (λ (o : Option HalfSent). sent_whole 255 (with_packet q o)) (nothing (claimed_by s (passed path)) v station (between_heard s 255 (readings path)) (units_half st path law.1 own s)))
+        let v : claimed_by s (carried old path) ≡ Some e.name = subst (λ (g : Group). IsVoiced e.name g (carried old path)) f law.0.voiced in
+        rw to (ap (λ (o : Option HalfSent). sent_whole 255 (with_packet q o)) (nothing (claimed_by s (carried old path)) v station (between_heard s 255 (readings path)) (units_half st old path law.1 own s)))
     by_frame station _ f = refl
 
     plain : (f : Group) → IsPlain f → sent_by f (readings path) ≡ None

@@ -1,8 +1,8 @@
 -- The listener's law: at each reading of its path one entry comes to what it lists and to what it is to list, or none to both.
-use Rattle.std.proofs.Common.{◌≡◌, ◌≢◌, ℕ, ◌<◌, ◌≤◌, Bool, true, false, ◌&&◌, ◌==◌, List, [], ◌∷◌, length, Option, Some, None, if◌then◌else◌, sym, refl, ap, ◌∙◌, subst, inl, inr, arith}
+use Rattle.std.proofs.Common.{◌≡◌, ◌≢◌, ℕ, ◌<◌, ◌≤◌, Bool, true, false, ◌&&◌, ◌==◌, List, [], ◌∷◌, ◌++◌, length, Option, Some, None, if◌then◌else◌, sym, refl, ap, ◌∙◌, subst, inl, inr, arith}
 use Rattle.dm_messages.specs.View.{decoding, same_kind}
 use Rattle.dm_messages.specs.declared.kind.Kind.{Kind}
-use Rattle.bus_model.specs.Expected.{Missed, Own, Received, Reception, is_part, passed, readings}
+use Rattle.bus_model.specs.Expected.{Missed, Own, Received, Reception, is_part, readings}
 use Rattle.bus_model.specs.Heard.{StationSettings}
 use Rattle.bus_model.specs.Machine.{AreFit, Event, Run, World, names_of, new_stations, start}
 use Rattle.bus_model.specs.Messages.{IsAmong, IsProper, Message, last_part_of, payload_sent}
@@ -18,6 +18,7 @@ use Rattle.bus_model.proofs.Lookback.{EachTag, Every, HasTag, and_parts, every_r
 use Rattle.bus_model.proofs.Order.{all_before}
 use Rattle.bus_model.proofs.OverheardEnds.{IsEnded, other_ends_none, part_ends}
 use Rattle.bus_model.proofs.OverheardParts.{IsUnder}
+use Rattle.bus_model.proofs.OverheardTracks.{carried, carried_is}
 use Rattle.bus_model.proofs.Path.{same_message}
 use Rattle.bus_model.proofs.SeatLaw.{IsBooked, Numbered, number_below}
 use Rattle.bus_model.proofs.Tells.{IsNotLast, is_listed, not_part}
@@ -55,15 +56,15 @@ lists_at n k t path = is_listed n k t.message && (t.part == last_part_of t.messa
 
 -- ---- what is to be listed
 
-none_on_path : (x : Message) (path : List Reception) → EachTag (IsNotLast x) (passed path) → is_overheard x path ≡ false
-none_on_path x [] h = refl
-none_on_path x (Own e ∷ path) h = none_on_path x path h.1
-none_on_path x (Missed es ∷ path) h = none_on_path x path (every_rest (HasTag (IsNotLast x)) es (passed path) h)
-none_on_path x (Received e ∷ path) h = rw (not_part x e.tag h.0) (none_on_path x path h.1)
+none_on_path : (x : Message) (old : List Item) (path : List Reception) → EachTag (IsNotLast x) (carried old path) → is_overheard x path ≡ false
+none_on_path x old [] h = refl
+none_on_path x old (Own e ∷ path) h = none_on_path x old path h.1
+none_on_path x old (Missed es ∷ path) h = none_on_path x old path (every_rest (HasTag (IsNotLast x)) es (carried old path) h)
+none_on_path x old (Received e ∷ path) h = rw (not_part x e.tag h.0) (none_on_path x old path h.1)
 
-part_expected : (st : List ℕ) (begun : List Message) (e : Item) (path : List Reception) (t : Tag) (n : ℕ) (k : Kind) → Numbered begun → Lawful st (e ∷ passed path) → Every (IsBooked begun) (e ∷ passed path) → e.tag ≡ Some t
+part_expected : (st : List ℕ) (begun : List Message) (e : Item) (old : List Item) (path : List Reception) (t : Tag) (n : ℕ) (k : Kind) → Numbered begun → Lawful st (e ∷ carried old path) → Every (IsBooked begun) (e ∷ carried old path) → e.tag ≡ Some t
     → expected_overheard n k begun (Received e ∷ path) ≡ one_more (lists_at n k t (Received e ∷ path)) (entry_of t.message) (expected_overheard n k begun path)
-part_expected st begun e path t n k num law booked tag = by_listing (lists_at n k t (Received e ∷ path)) refl
+part_expected st begun e old path t n k num law booked tag = by_listing (lists_at n k t (Received e ∷ path)) refl
   where
     m : Message
     m = t.message
@@ -77,8 +78,8 @@ part_expected st begun e path t n k num law booked tag = by_listing (lists_at n 
     among : IsAmong m begun
     among = booked.0 t tag
 
-    order : EachTag (IsBefore t) (passed path)
-    order = all_before st t (passed path) law.1 (law.0.tagged t tag).order
+    order : EachTag (IsBefore t) (carried old path)
+    order = all_before st t (carried old path) law.1 (law.0.tagged t tag).order
 
     -- at this part, where it is no last one of x, nothing comes of x
     unless_last : (x : Message) → is_part x (last_part_of x) e.tag ≡ false → now x ≡ before x
@@ -89,7 +90,7 @@ part_expected st begun e path t n k num law booked tag = by_listing (lists_at n 
 
     -- the last part of no message of the same NAME and kind that was begun later is older, nor of this one where this is its last
     none_older : (x : Message) → IsAmong x begun → m.number ≤ x.number → x.name ≡ m.name → x.kind ≡ m.kind → (x.number ≡ m.number → t.part ≡ last_part_of x) → is_overheard x path ≡ false
-    none_older x i le name kind at = none_on_path x path (each (passed path) order booked.1)
+    none_older x i le name kind at = none_on_path x old path (each (carried old path) order booked.1)
       where
         one : (s : Tag) → IsBefore t s → IsAmong s.message begun → IsNotLast x s
         one s b j c d =
@@ -162,8 +163,8 @@ part_listed n k m b o l ok h =
     by_name false w u = rw (u.2, never (is_listed n k m)) refl
 
 -- along any path
-exact : (st : List ℕ) (begun : List Message) (path : List Reception) → Numbered begun → NoneOwn path → Lawful st (passed path) → Every (IsBooked begun) (passed path) → (n : ℕ) (k : Kind) → entries_overheard (Named n) k (readings path) ≡ expected_overheard n k begun path
-exact st begun [] num own law booked n k = nothing begun
+exact : (st : List ℕ) (begun : List Message) (old : List Item) (path : List Reception) → Numbered begun → NoneOwn path → Lawful st (carried old path) → Every (IsBooked begun) (carried old path) → (n : ℕ) (k : Kind) → entries_overheard (Named n) k (readings path) ≡ expected_overheard n k begun path
+exact st begun old [] num own law booked n k = nothing begun
   where
     nothing : (begun : List Message) → [] ≡ expected_overheard n k begun []
     nothing [] = refl
@@ -172,19 +173,19 @@ exact st begun [] num own law booked n k = nothing begun
         none : (u : Bool) (l : List EntrySent) → l ≡ one_more (u && false) (entry_of m) l
         none true l = refl
         none false l = refl
-exact st begun (Own e ∷ path) num own law booked n k = absurd own
-exact st begun (Missed es ∷ path) num own law booked n k = exact st begun path num own (lawful_rest st es (passed path) law) (every_rest (IsBooked begun) es (passed path) booked) n k
-exact st begun (Received e ∷ path) num own law booked n k = by_tag (exact st begun path num own law.1 booked.1 n k) e.tag refl
+exact st begun old (Own e ∷ path) num own law booked n k = absurd own
+exact st begun old (Missed es ∷ path) num own law booked n k = exact st begun old path num own (lawful_rest st es (carried old path) law) (every_rest (IsBooked begun) es (carried old path) booked) n k
+exact st begun old (Received e ∷ path) num own law booked n k = by_tag (exact st begun old path num own law.1 booked.1 n k) e.tag refl
   where
     by_tag : entries_overheard (Named n) k (readings path) ≡ expected_overheard n k begun path → (o : Option Tag) → e.tag ≡ o → put_sent (Named n) k (sent_by (says e) (readings path)) (entries_overheard (Named n) k (readings path)) ≡ expected_overheard n k begun (Received e ∷ path)
     by_tag same None g =
-        rw (other_ends_none st e path law own g)
+        rw (other_ends_none st e old path law own g)
         (same ∙ entries_same (is_to_list n k (Received e ∷ path)) (is_to_list n k path) begun (λ x i. rw g refl))
     by_tag same (Some t) g =
         let p = law.0.tagged t g in
         part_listed n k t.message (t.part == last_part_of t.message && is_read_back t.message (Received e ∷ path)) (sent_by (says e) (readings path)) (entries_overheard (Named n) k (readings path)) p.proper
-        (part_ends st begun t.message t.part e path num (booked.0 t g) own law.1 booked.1 p g)
-        ∙ (ap (one_more (lists_at n k t (Received e ∷ path)) (entry_of t.message)) same ∙ sym (part_expected st begun e path t n k num law booked g))
+        (part_ends st begun t.message t.part e old path num (booked.0 t g) own law.1 booked.1 p g)
+        ∙ (ap (one_more (lists_at n k t (Received e ∷ path)) (entry_of t.message)) same ∙ sym (part_expected st begun e old path t n k num law booked g))
 
 -- ---- that it was sent, under whomever
 
@@ -200,45 +201,46 @@ sent_listed k begun w m b o l among ok h all =
     by_list true false i = all
     by_list false u i = all
 
-all_sent : (st : List ℕ) (begun : List Message) (path : List Reception) → Numbered begun → NoneOwn path → Lawful st (passed path) → Every (IsBooked begun) (passed path) → (w : Who) (k : Kind) → AreSent k begun (entries_overheard w k (readings path))
-all_sent st begun [] num own law booked w k = tt
-all_sent st begun (Own e ∷ path) num own law booked w k = absurd own
-all_sent st begun (Missed es ∷ path) num own law booked w k = all_sent st begun path num own (lawful_rest st es (passed path) law) (every_rest (IsBooked begun) es (passed path) booked) w k
-all_sent st begun (Received e ∷ path) num own law booked w k = by_tag (all_sent st begun path num own law.1 booked.1 w k) e.tag refl
+all_sent : (st : List ℕ) (begun : List Message) (old : List Item) (path : List Reception) → Numbered begun → NoneOwn path → Lawful st (carried old path) → Every (IsBooked begun) (carried old path) → (w : Who) (k : Kind) → AreSent k begun (entries_overheard w k (readings path))
+all_sent st begun old [] num own law booked w k = tt
+all_sent st begun old (Own e ∷ path) num own law booked w k = absurd own
+all_sent st begun old (Missed es ∷ path) num own law booked w k = all_sent st begun old path num own (lawful_rest st es (carried old path) law) (every_rest (IsBooked begun) es (carried old path) booked) w k
+all_sent st begun old (Received e ∷ path) num own law booked w k = by_tag (all_sent st begun old path num own law.1 booked.1 w k) e.tag refl
   where
     by_tag : AreSent k begun (entries_overheard w k (readings path)) → (o : Option Tag) → e.tag ≡ o → AreSent k begun (put_sent w k (sent_by (says e) (readings path)) (entries_overheard w k (readings path)))
-    by_tag all None g = rw (other_ends_none st e path law own g) all
+    by_tag all None g = rw (other_ends_none st e old path law own g) all
     by_tag all (Some t) g =
         let p = law.0.tagged t g in
         sent_listed k begun w t.message _ (sent_by (says e) (readings path)) (entries_overheard w k (readings path)) (booked.0 t g) p.proper
-        (part_ends st begun t.message t.part e path num (booked.0 t g) own law.1 booked.1 p g) all
+        (part_ends st begun t.message t.part e old path num (booked.0 t g) own law.1 booked.1 p g) all
 
 -- ---- in a run
 
 -- what holds of the wire holds as far as the listener's path goes
-pub record OnPath (begun : List Message) (path : List Reception) : Type 0 where
+pub record OnPath (begun : List Message) (old : List Item) (path : List Reception) : Type 0 where
   pub names : List ℕ
   pub numbered : Numbered begun
-  pub law : Lawful names (passed path)
-  pub booked : Every (IsBooked begun) (passed path)
+  pub law : Lawful names (carried old path)
+  pub booked : Every (IsBooked begun) (carried old path)
 
-pub on_path : (settings : List StationSettings) → AreFit settings → (events : List Event) (w : World) → Run (start settings) events w → (path : List Reception) → IsPathOfListener w.wire path → OnPath w.begun path
+pub on_path : (settings : List StationSettings) → AreFit settings → (events : List Event) (w : World) → Run (start settings) events w → (path : List Reception) → (listens : IsPathOfListener w.wire path) → OnPath w.begun listens.before path
 on_path settings fit events w run path listens =
     let st = names_of (new_stations 0 settings) in
     let law = law_run st (start settings) events w (law_start settings fit) run in
+    let along : w.wire ≡ listens.later ++ carried listens.before path = listens.along ∙ ap (λ (v : List Item). listens.later ++ v) (sym (carried_is listens.before path)) in
     record {
       names = st;
       numbered = law.numbered;
-      law = lawful_rest st listens.pending (passed path) (subst (Lawful st) listens.along law.wire);
-      booked = every_rest (IsBooked w.begun) listens.pending (passed path) (subst (Every (IsBooked w.begun)) listens.along law.booked);
+      law = lawful_rest st listens.later (carried listens.before path) (subst (Lawful st) along law.wire);
+      booked = every_rest (IsBooked w.begun) listens.later (carried listens.before path) (subst (Every (IsBooked w.begun)) along law.booked);
     }
 
 pub listener_exact : (settings : List StationSettings) → AreFit settings → (events : List Event) (w : World) → Run (start settings) events w → (path : List Reception) → IsPathOfListener w.wire path → (n : ℕ) (k : Kind) → entries_overheard (Named n) k (readings path) ≡ expected_overheard n k w.begun path
 listener_exact settings fit events w run path listens n k =
     let on = on_path settings fit events w run path listens in
-    exact on.names w.begun path on.numbered listens.none_own on.law on.booked n k
+    exact on.names w.begun listens.before path on.numbered listens.none_own on.law on.booked n k
 
 pub listener_sent : (settings : List StationSettings) → AreFit settings → (events : List Event) (w : World) → Run (start settings) events w → (path : List Reception) → IsPathOfListener w.wire path → (who : Who) (k : Kind) → AreSent k w.begun (entries_overheard who k (readings path))
 listener_sent settings fit events w run path listens who k =
     let on = on_path settings fit events w run path listens in
-    all_sent on.names w.begun path on.numbered listens.none_own on.law on.booked who k
+    all_sent on.names w.begun listens.before path on.numbered listens.none_own on.law on.booked who k

@@ -1,5 +1,5 @@
--- What a listener lists of the run that shows something in each way, and a run that shows a station what it does not show a listener.
-use Rattle.std.proofs.Common.{◌≡◌, List, [], ◌∷◌, refl, sym, ap}
+-- What a listener lists of the run that shows something in each way; and a run that shows a station what it does not show a listener.
+use Rattle.std.proofs.Common.{◌≡◌, List, [], ◌∷◌, ◌++◌, refl, sym, ap}
 use Rattle.can_frame.specs.FrameValue.{FrameValue}
 use Rattle.dm_messages.specs.declared.kind.Kind.TheVariants.{Dm2}
 use Rattle.parameter_group.specs.Group.{group_of}
@@ -10,12 +10,12 @@ use Rattle.bus_model.specs.Expected.{passed}
 use Rattle.bus_model.specs.Heard.{address_heard}
 use Rattle.bus_model.specs.Machine.{Ask, Begins, Carry, Carry_station, Event, Hear, Join, Nothing, Read, Run, Sends, World, start}
 use Rattle.bus_model.specs.Messages.{frame_of_part, last_part_of, payload_sent, way_of}
-use Rattle.bus_model.specs.OverheardExample.{IsNotOverheard, IsOverheardEachWay, all_but_first, all_read}
+use Rattle.bus_model.specs.OverheardExample.{IsNotOverheard, IsOverheardEachWay, all_after_first, all_read}
 use Rattle.bus_model.specs.OverheardExpected.{IsPathOfListener, NoneOwn}
 use Rattle.bus_model.specs.Traffic.{Item}
 use Rattle.bus_model.proofs.Runs.{another_address, ask_dm2, clear_to_send, each_way, each_way_run, proper_session, small_5, two_of_two, zero_holds}
 
-reads_all : (xs : List Item) → passed (all_read xs) ≡ xs
+reads_all : (xs : List Item) → passed (all_read xs) ++ [] ≡ xs
 reads_all [] = refl
 reads_all (e ∷ xs) = ap (λ (v : List Item). e ∷ v) (reads_all xs)
 
@@ -24,20 +24,25 @@ sends_none [] = tt
 sends_none (e ∷ xs) = sends_none xs
 
 pub all_read_listens : (wire : List Item) → IsPathOfListener wire (all_read wire)
-all_read_listens wire = record { pending = []; along = sym (reads_all wire); none_own = sends_none wire }
+all_read_listens wire = record { later = []; before = []; along = sym (reads_all wire); none_own = sends_none wire }
 
-reads_rest : (xs : List Item) → passed (all_but_first xs) ≡ xs
+abbrev oldest : List Item → List Item
+oldest [] = []
+oldest (e ∷ []) = e ∷ []
+oldest (e ∷ d ∷ xs) = oldest (d ∷ xs)
+
+reads_rest : (xs : List Item) → passed (all_after_first xs) ++ oldest xs ≡ xs
 reads_rest [] = refl
 reads_rest (e ∷ []) = refl
 reads_rest (e ∷ d ∷ xs) = ap (λ (v : List Item). e ∷ v) (reads_rest (d ∷ xs))
 
-rest_sends_none : (xs : List Item) → NoneOwn (all_but_first xs)
+rest_sends_none : (xs : List Item) → NoneOwn (all_after_first xs)
 rest_sends_none [] = tt
 rest_sends_none (e ∷ []) = tt
 rest_sends_none (e ∷ d ∷ xs) = rest_sends_none (d ∷ xs)
 
-pub rest_listens : (wire : List Item) → IsPathOfListener wire (all_but_first wire)
-rest_listens wire = record { pending = []; along = sym (reads_rest wire); none_own = rest_sends_none wire }
+pub rest_listens : (wire : List Item) → IsPathOfListener wire (all_after_first wire)
+rest_listens wire = record { later = []; before = oldest wire; along = sym (reads_rest wire); none_own = rest_sends_none wire }
 
 pub overheard_run : (w : World) × Run (start one_station) each_way w × IsOverheardEachWay w
 unfolding group_of way_of payload_sent frame_of_part last_part_of each_way_run

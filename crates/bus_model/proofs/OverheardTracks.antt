@@ -1,5 +1,5 @@
 -- Back along a lawful wire, what a listener's readings say of a message in packets.
-use Rattle.std.proofs.Common.{◌≡◌, ◌⊎◌, ℕ, suc, zero, ◌<◌, ◌≤◌, Bool, true, false, ◌&&◌, ◌||◌, ◌==◌, List, [], ◌∷◌, length, Option, Some, None, if◌then◌else◌, sym, refl, ap, ◌∙◌, subst, inl, inr, arith}
+use Rattle.std.proofs.Common.{◌≡◌, ◌⊎◌, ℕ, suc, zero, ◌<◌, ◌≤◌, Bool, true, false, ◌&&◌, ◌||◌, ◌==◌, List, [], ◌∷◌, ◌++◌, length, Option, Some, None, if◌then◌else◌, sym, refl, ap, ◌∙◌, subst, inl, inr, arith, append_assoc}
 use Rattle.dm_messages.specs.View.{pgn_of_kind}
 use Rattle.parameter_group.specs.Group.{AddressClaimed, ConnectionManagement, DataTransfer, Group}
 use Rattle.transport.specs.Pieces.{packet}
@@ -20,12 +20,25 @@ use Rattle.bus_model.proofs.SeatLaw.{IsBooked, Numbered}
 use Rattle.bus_model.proofs.Seats.{part_says}
 use Rattle.bus_model.proofs.Sessions.{break_foreign, continues_session, pack_way, rts_way, sess_claimed}
 
+-- the frames carried up to the end of a path that began after the old ones
+abbrev pub carried : List Item → List Reception → List Item
+carried old [] = old
+carried old (Own e ∷ path) = e ∷ carried old path
+carried old (Received e ∷ path) = e ∷ carried old path
+carried old (Missed es ∷ path) = es ++ carried old path
+
+pub carried_is : (old : List Item) (path : List Reception) → carried old path ≡ passed path ++ old
+carried_is old [] = refl
+carried_is old (Own e ∷ path) = ap (λ (v : List Item). e ∷ v) (carried_is old path)
+carried_is old (Received e ∷ path) = ap (λ (v : List Item). e ∷ v) (carried_is old path)
+carried_is old (Missed es ∷ path) = ap (λ (v : List Item). es ++ v) (carried_is old path) ∙ sym (append_assoc es (passed path) old)
+
 -- the owner of an address whose last claim was read, with nothing missed since
-pub owner_read : (a n : ℕ) (path : List Reception) → NoneOwn path → claimed_by a (passed path) ≡ Some n → owner_heard a (readings path) ≡ (if is_anchored a path then Some n else None)
-owner_read a n [] own h = refl
-owner_read a n (Own e ∷ path) own h = absurd own
-owner_read a n (Missed es ∷ path) own h = refl
-owner_read a n (Received e ∷ path) own h = owner_step a n (says e) (claimed_by a (passed path)) (owner_heard a (readings path)) (is_anchored a path) (owner_read a n path own) h
+pub owner_read : (a n : ℕ) (old : List Item) (path : List Reception) → NoneOwn path → claimed_by a (carried old path) ≡ Some n → owner_heard a (readings path) ≡ (if is_anchored a path then Some n else None)
+owner_read a n old [] own h = refl
+owner_read a n old (Own e ∷ path) own h = absurd own
+owner_read a n old (Missed es ∷ path) own h = refl
+owner_read a n old (Received e ∷ path) own h = owner_step a n (says e) (claimed_by a (carried old path)) (owner_heard a (readings path)) (is_anchored a path) (owner_read a n old path own) h
 
 -- no part of the message
 abbrev pub IsNoPartOf : Message → Item → Type 0
@@ -34,7 +47,6 @@ IsNoPartOf m e = (t : Tag) → e.tag ≡ Some t → t.message ≡ m → ⊥
 -- A walk back along the wire that finds the message's last part: its first part announces it, each later one is the next packet behind the part
 -- before it, and what the walk passes over leaves it alone.
 pub record IsTrack (st : List ℕ) (m : Message) (d : ℕ) (last : List Item → Option Tag) : Type 0 where
-  pub none : last [] ≡ None
   pub first : (e : Item) (xs : List Item) → PartLaw st e (tag_of m 0) xs → (who : Who) (o : Option HalfSent)
       → between_after m.source d (says e) who o ≡ newly_sent (kind_of (pgn_of_kind m.kind)) (length (payload_sent m)) who
   pub next : (e : Item) (xs : List Item) (i : ℕ) → PartLaw st e (tag_of m (suc i)) xs
@@ -104,7 +116,6 @@ cast_bystander st m j e xs way allowed law c foreign notcast = by_frame
 
 pub cast_track : (st : List ℕ) (m : Message) → way_of m ≡ Broadcast → IsTrack st m 255 (cast m.name m.source)
 cast_track st m w = record {
-  none = refl;
   first = λ e xs p who o.
       let f : says e ≡ group_at Broadcast m 0 = part_says st e (tag_of m 0) xs p ∙ ap (λ (v : Way). group_at v m 0) w in
       rw (f, same_test m.source) refl;
@@ -200,7 +211,6 @@ session_bystander st m d j e xs ok way allowed law c unbroken notsess = by_frame
 
 pub session_track : (st : List ℕ) (m : Message) (d : ℕ) → IsProper m → way_of m ≡ Session d → IsTrack st m d (sess m.name m.source d)
 session_track st m d ok w = record {
-  none = refl;
   first = λ e xs p who o.
       let f : says e ≡ group_at (Session d) m 0 = part_says st e (tag_of m 0) xs p ∙ ap (λ (v : Way). group_at v m 0) w in
       let to : (d == 255) ≡ false = (let s = session_to m d ok w in ne_test d 255 (omega arith)) in
@@ -225,28 +235,28 @@ session_track st m d ok w = record {
 -- ---- the walk
 
 -- the part itself
-part_read : (st : List ℕ) (m : Message) (d : ℕ) (last : List Item → Option Tag) → IsTrack st m d last → 0 < count_of m → (j : ℕ) (e : Item) (path : List Reception) → NoneOwn path → j ≤ count_of m → PartLaw st e (tag_of m j) (passed path) → e.tag ≡ Some (tag_of m j)
-    → ((i : ℕ) → i ≤ count_of m → last (passed path) ≡ Some (tag_of m i) → IsSoFar m i (is_read_back m path) (between_heard m.source d (readings path)))
+part_read : (st : List ℕ) (m : Message) (d : ℕ) (last : List Item → Option Tag) → IsTrack st m d last → 0 < count_of m → (j : ℕ) (e : Item) (old : List Item) (path : List Reception) → NoneOwn path → j ≤ count_of m → PartLaw st e (tag_of m j) (carried old path) → e.tag ≡ Some (tag_of m j)
+    → ((i : ℕ) → i ≤ count_of m → last (carried old path) ≡ Some (tag_of m i) → IsSoFar m i (is_read_back m path) (between_heard m.source d (readings path)))
     → IsSoFar m j (is_read_back m (Received e ∷ path)) (between_heard m.source d (readings (Received e ∷ path)))
-part_read st m d last track some zero e path own le p tag before =
-    rw (first_is_part m e.tag tag, track.first e (passed path) p (who_heard m.source (readings path)) (between_heard m.source d (readings path)), owner_read m.source m.name path own p.owned)
+part_read st m d last track some zero e old path own le p tag before =
+    rw (first_is_part m e.tag tag, track.first e (carried old path) p (who_heard m.source (readings path)) (between_heard m.source d (readings path)), owner_read m.source m.name old path own p.owned)
     (begins m (is_anchored m.source path) m.source (gaps_heard (readings path)) some)
-part_read st m d last track some (suc i) e path own le p tag before =
-    let n = track.next e (passed path) i p in
+part_read st m d last track some (suc i) e old path own le p tag before =
+    let n = track.next e (carried old path) i p in
     rw (later_part m i e.tag tag, n.0, same_test m.source, same_test d)
     (goes_on m i (is_read_back m path) (between_heard m.source d (readings path)) (omega arith) (before i (omega arith) n.1))
 
 -- back from part j: what the listener has half sent
-pub so_far_read : (st : List ℕ) (begun : List Message) (m : Message) (d : ℕ) (last : List Item → Option Tag) → IsTrack st m d last → 0 < count_of m → Numbered begun → IsAmong m begun → (path : List Reception) → NoneOwn path → Lawful st (passed path) → Every (IsBooked begun) (passed path)
-    → (j : ℕ) → j ≤ count_of m → last (passed path) ≡ Some (tag_of m j) → IsSoFar m j (is_read_back m path) (between_heard m.source d (readings path))
-so_far_read st begun m d last track some num among [] own law booked j le h = let n = track.none in cc
-so_far_read st begun m d last track some num among (Own e ∷ path) own law booked j le h = absurd own
-so_far_read st begun m d last track some num among (Missed es ∷ path) own law booked j le h = inl (refl, refl)
-so_far_read st begun m d last track some num among (Received e ∷ path) own law booked j le h =
-    elim (track.back e (passed path) j law.0 law.1 h) [
-      | inl tag ↦ part_read st m d last track some j e path own le (law.0.tagged (tag_of m j) tag) tag (so_far_read st begun m d last track some num among path own law.1 booked.1)
+pub so_far_read : (st : List ℕ) (begun : List Message) (m : Message) (d : ℕ) (last : List Item → Option Tag) → IsTrack st m d last → 0 < count_of m → Numbered begun → IsAmong m begun → (old : List Item) (path : List Reception) → NoneOwn path → Lawful st (carried old path) → Every (IsBooked begun) (carried old path)
+    → (j : ℕ) → j ≤ count_of m → last (carried old path) ≡ Some (tag_of m j) → IsSoFar m j (is_read_back m path) (between_heard m.source d (readings path))
+so_far_read st begun m d last track some num among old [] own law booked j le h = inl (refl, refl)
+so_far_read st begun m d last track some num among old (Own e ∷ path) own law booked j le h = absurd own
+so_far_read st begun m d last track some num among old (Missed es ∷ path) own law booked j le h = inl (refl, refl)
+so_far_read st begun m d last track some num among old (Received e ∷ path) own law booked j le h =
+    elim (track.back e (carried old path) j law.0 law.1 h) [
+      | inl tag ↦ part_read st m d last track some j e old path own le (law.0.tagged (tag_of m j) tag) tag (so_far_read st begun m d last track some num among old path own law.1 booked.1)
       | inr other ↦
           rw (not_first begun m e num among booked.0 other.2)
           (stays m j d (says e) (who_heard m.source (readings path)) (is_read_back m path) (between_heard m.source d (readings path)) other.1
-          (so_far_read st begun m d last track some num among path own law.1 booked.1 j le other.0))
+          (so_far_read st begun m d last track some num among old path own law.1 booked.1 j le other.0))
     ]

@@ -21,3 +21,4 @@ pub mod OverheardFollows
 pub mod OverheardExpected
 pub mod OverheardClearPath
 pub mod OverheardExample
+pub mod OverheardWhole

@@ -7,7 +7,7 @@ use Rattle.dm_messages.specs.declared.kind.Kind.{Kind}
 use Rattle.dm_messages.specs.declared.kind.Kind.TheVariants.{Dm1, Dm2}
 use Rattle.fault_memory.specs.Memory.{MemoryValue, new_memory}
 use Rattle.bus_model.specs.Example.{example_settings, faulty_memory}
-use Rattle.bus_model.specs.Expected.{Reception, Received, Missed, readings}
+use Rattle.bus_model.specs.Expected.{Reception, Received, readings}
 use Rattle.bus_model.specs.Heard.{entries_heard}
 use Rattle.bus_model.specs.Machine.{IsAt, Station, World}
 use Rattle.bus_model.specs.Overheard.{EntrySent, entries_overheard}
@@ -21,11 +21,11 @@ abbrev pub all_read : List Item → List Reception
 all_read [] = []
 all_read (e ∷ older) = Received e ∷ all_read older
 
--- one that misses the oldest, and reads all others
-abbrev pub all_but_first : List Item → List Reception
-all_but_first [] = []
-all_but_first (e ∷ []) = Missed (e ∷ []) ∷ []
-all_but_first (e ∷ d ∷ older) = Received e ∷ all_but_first (d ∷ older)
+-- one that began after the oldest, and reads each later one
+abbrev pub all_after_first : List Item → List Reception
+all_after_first [] = []
+all_after_first (e ∷ []) = []
+all_after_first (e ∷ d ∷ older) = Received e ∷ all_after_first (d ∷ older)
 
 -- an entry that went to this address
 abbrev pub entry_to : ℕ → Kind → MemoryValue → EntrySent
@@ -36,14 +36,14 @@ pub record ListsEachWay (who : Who) (path : List Reception) : Type 0 where
   pub single_and_broadcast : entries_overheard who Dm1 (readings path) ≡ entry_to GLOBAL_ADDRESS Dm1 faulty_memory ∷ entry_to GLOBAL_ADDRESS Dm1 new_memory ∷ []
   pub session : entries_overheard who Dm2 (readings path) ≡ entry_to 249 Dm2 faulty_memory ∷ []
 
--- of NAME 5 one that read its claim, and under nobody's one that missed it, which lists nothing under that NAME
+-- of NAME 5 one that read its claim, and under nobody's one that began after it, which lists nothing under that NAME
 pub record IsOverheardEachWay (w : World) : Type 0 where
   pub begun : length w.begun ≡ 3
   pub listens : IsPathOfListener w.wire (all_read w.wire)
   pub named : ListsEachWay (Named 5) (all_read w.wire)
-  pub listens_late : IsPathOfListener w.wire (all_but_first w.wire)
-  pub unclaimed : ListsEachWay (Unclaimed 0 1) (all_but_first w.wire)
-  pub no_name : entries_overheard (Named 5) Dm1 (readings (all_but_first w.wire)) ≡ []
+  pub listens_late : IsPathOfListener w.wire (all_after_first w.wire)
+  pub unclaimed : ListsEachWay (Unclaimed 0 0) (all_after_first w.wire)
+  pub no_name : entries_overheard (Named 5) Dm1 (readings (all_after_first w.wire)) ≡ []
 
 -- of NAME 5 a DM2 by session at the station, and none at a listener that misses nothing
 pub record IsNotOverheard (w : World) : Type 0 where

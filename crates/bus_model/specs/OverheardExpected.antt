@@ -17,10 +17,11 @@ NoneOwn (Own e ∷ older) = ⊥
 NoneOwn (Received e ∷ older) = NoneOwn older
 NoneOwn (Missed es ∷ older) = NoneOwn older
 
--- what became of the frames carried at a listener: it read or missed each of them, from the first one to some later one, and sent none
+-- what became of frames carried at a listener: it read or missed each of them, from some one on up to some later one, and sent none
 pub record IsPathOfListener (wire : List Item) (path : List Reception) : Type 0 where
-  pub pending : List Item
-  pub along : wire ≡ pending ++ passed path
+  pub later : List Item
+  pub before : List Item
+  pub along : wire ≡ later ++ (passed path ++ before)
   pub none_own : NoneOwn path
 
 -- who is to receive the session ends it (SAE J1939-21)

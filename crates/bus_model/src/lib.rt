@@ -35,7 +35,8 @@ mod who;
 
 pub use change::{Change, Displaced};
 pub use listener::{
-    a_listener_is_exact, clear_path_of_a_listener_looks_back, listeners_law_is_not_empty,
+    a_listener_is_exact, a_listener_that_missed_nothing_lists_all,
+    clear_path_of_a_listener_looks_back, listeners_law_is_not_empty,
     what_a_listener_lists_was_sent,
 };
 pub use overheard::Overheard;

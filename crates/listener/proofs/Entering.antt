@@ -2,7 +2,6 @@
 use Rattle.std.proofs.Common.{◌≡◌, ℕ, ◌<◌, Bool, true, false, ◌==◌, ◌&&◌, List, [], ◌∷◌, ◌++◌, Option, Some, None, if◌then◌else◌, is_some, reverse, refl, sym, ap, ◌∙◌, subst}
 use Rattle.std.proofs.lemmas.Grind.{reverse_onto}
 use Rattle.address_claim.specs.Claiming.{is_held}
-use Rattle.bus_model.specs.Changed.{displaced_by}
 use Rattle.bus_model.specs.Heard.{RowHeard, kind_of}
 use Rattle.bus_model.specs.Overheard.{EntrySent, MessageSent, entries_overheard, put_sent, put_shown, same_who, sent_by}
 use Rattle.bus_model.specs.OverheardChanged.{announcement_change, gave_up, sent_change, why_unread}

@@ -1,5 +1,5 @@
 -- After each thing that a frame can say, the tables have of each address and pair what was then overheard.
-use Rattle.std.proofs.Common.{◌≡◌, ◌≢◌, ℕ, ◌+◌, ◌<◌, Bool, true, false, not, ◌&&◌, ◌||◌, ◌==◌, List, ◌∷◌, Option, Some, None, is_some, if◌then◌else◌, unwrap_or, length, map, refl, sym, ap, ◌∙◌, subst}
+use Rattle.std.proofs.Common.{◌≡◌, ℕ, ◌+◌, ◌<◌, Bool, true, false, not, ◌&&◌, ◌||◌, ◌==◌, List, ◌∷◌, Option, Some, None, is_some, if◌then◌else◌, unwrap_or, map, refl, sym, ap, ◌∙◌, subst}
 use Rattle.std.specs.Prelude.{slice_set}
 use Rattle.std.specs.Option.{option_map}
 use Rattle.std.proofs.lemmas.Bool.{eqb-true}
@@ -16,10 +16,10 @@ use Rattle.reassembly.specs.Pairs.{pair_at, with_pair}
 use Rattle.reassembly.specs.Partials.{after_packet, with_packet}
 use Rattle.reassembly.specs.Tables.{at, empty_table}
 use Rattle.bus_model.specs.Heard.{ack_in_row, counted, kind_of, missed_count, names_after, names_heard, owner_heard, row_with_ack, with_name, without_address}
-use Rattle.bus_model.specs.Overheard.{HalfSent, MessageSent, newly_sent, between_after, between_heard, gaps_heard, is_lost_on, is_pair, kept_by_name, row_overheard, row_with_group, sent_by, sent_whole, unread_overheard, who_at, who_heard}
+use Rattle.bus_model.specs.Overheard.{HalfSent, MessageSent, newly_sent, between_after, between_heard, gaps_heard, is_lost_on, is_pair, kept_by_name, row_overheard, row_with_group, sent_by, sent_whole, unread_overheard, who_heard}
 use Rattle.bus_model.specs.Traffic.{owner_after}
 use Rattle.bus_model.specs.declared.who.Who.{Who}
-use Rattle.station_table.specs.KeptValue.{KeptValue, changed_under, kept_under, nothing_kept, with_ack, with_claimed, with_row}
+use Rattle.station_table.specs.KeptValue.{kept_under, nothing_kept, with_ack, with_claimed}
 use Rattle.station_table.specs.StandsFor.{row_known}
 use Rattle.station_table.proofs.Claims.{kept_once_claimed, names_once_claimed, no_address, row_acknowledged, row_of_claimant, row_of_other}
 use Rattle.station_table.proofs.Lines.{written_place}

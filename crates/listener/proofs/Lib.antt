@@ -8,3 +8,4 @@ pub mod Told
 pub mod Entering
 pub mod Calls
 pub mod Reasons
+pub mod Exact

@@ -1,14 +1,14 @@
 -- Tables of pairs after one change.
-use Rattle.std.proofs.Common.{◌≡◌, ◌≢◌, ℕ, ◌<◌, Bool, true, false, not, ◌&&◌, ◌||◌, ◌==◌, List, Option, Some, None, if◌then◌else◌, length, refl, sym, ap, ◌∙◌, subst}
-use Rattle.std.specs.Prelude.{slice_set, slice_index_or}
-use Rattle.std.proofs.lemmas.Bool.{eq-eqb, eqb-true, ne_eqb}
+use Rattle.std.proofs.Common.{◌≡◌, ℕ, ◌<◌, Bool, true, false, ◌&&◌, ◌==◌, List, Option, Some, None, if◌then◌else◌, length, refl, sym, ap, ◌∙◌, subst}
+use Rattle.std.specs.Prelude.{slice_set}
+use Rattle.std.proofs.lemmas.Bool.{eqb-true}
 use Rattle.std.proofs.lemmas.List.{length-set, length-replicate, get_or-replicate, set-get_or}
 use Rattle.reassembly.specs.Pairs.{no_pairs, pair_at, pairs_from, with_pair}
-use Rattle.reassembly.specs.Partials.{after_packet, answer_to, with_packet}
+use Rattle.reassembly.specs.Partials.{answer_to}
 use Rattle.reassembly.specs.TableLaws.{at-empty, at-set, item-set, places-empty, written_back}
 use Rattle.reassembly.specs.Tables.{at, empty_table}
-use Rattle.bus_model.specs.Overheard.{HalfSent, MessageSent}
-use Rattle.listener.specs.ListenerSteps.{after_packet_between, whole_with}
+use Rattle.bus_model.specs.Overheard.{HalfSent}
+use Rattle.listener.specs.ListenerSteps.{after_packet_between}
 use Rattle.listener.specs.ListenerValue.{AreFor256, ListenerValue}
 
 -- what is written of a source

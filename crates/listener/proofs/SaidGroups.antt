@@ -1,5 +1,5 @@
 -- What a frame says decides what is done.
-use Rattle.std.proofs.Common.{◌≡◌, Option, ap, ◌∙◌, subst}
+use Rattle.std.proofs.Common.{◌≡◌, ap, ◌∙◌, subst}
 use Rattle.parameter_group.specs.Group.{Group}
 use Rattle.bus_model.specs.declared.overheard.Overheard.{Overheard}
 use Rattle.listener.specs.ListenerSteps.{group_taken, group_told}

@@ -1,9 +1,9 @@
 -- What a reading changes by the tables is what was overheard to change.
-use Rattle.std.proofs.Common.{◌≡◌, ℕ, ◌<◌, Bool, ◌==◌, List, ◌∷◌, Option, Some, None, if◌then◌else◌, refl, sym, ap, ◌∙◌}
+use Rattle.std.proofs.Common.{◌≡◌, ℕ, ◌<◌, Bool, ◌==◌, List, Option, Some, None, if◌then◌else◌, refl, sym, ap, ◌∙◌}
 use Rattle.address_claim.specs.Claiming.{is_held}
 use Rattle.bus_model.specs.Changed.{displaced_by, is_again}
 use Rattle.bus_model.specs.Heard.{RowHeard, ack_in_row, address_in_row, kind_of, owner_heard}
-use Rattle.bus_model.specs.Overheard.{HalfSent, MessageSent, address_overheard, between_heard, row_overheard, sent_by, sent_whole}
+use Rattle.bus_model.specs.Overheard.{HalfSent, address_overheard, sent_by, sent_whole}
 use Rattle.bus_model.specs.OverheardChanged.{ack_overheard, announcement_change, change_overheard, claim_overheard, gave_up, group_overheard, has_still, sent_change}
 use Rattle.bus_model.specs.declared.overheard.Overheard.{Overheard}
 use Rattle.bus_model.specs.declared.overheard.Overheard.TheVariants.{Acknowledged, Nothing}

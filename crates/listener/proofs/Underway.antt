@@ -4,15 +4,14 @@ use Rattle.address_claim.specs.Claiming.{is_held}
 use Rattle.can_frame.specs.FrameValue.{FrameValue}
 use Rattle.can_frame.specs.declared.reading.Reading.{Reading}
 use Rattle.can_frame.specs.declared.reading.Reading.TheVariants.{Empty, Frame, Gap}
-use Rattle.parameter_group.specs.Group.{Acknowledgment, AddressClaimed, CannotClaim, ConnectionManagement, DataTransfer, Diagnostic, Group, Other, Request, group_of}
+use Rattle.parameter_group.specs.Group.{AddressClaimed, Group, group_of}
 use Rattle.bus_model.specs.Overheard.{HalfSent, between_heard, gaps_heard, is_named, kept_by_name, who_at, who_heard}
 use Rattle.bus_model.specs.OverheardBack.{EndNone, EndsNone, IsAnnouncement}
 use Rattle.bus_model.specs.Traffic.{owner_after}
 use Rattle.bus_model.specs.declared.who.Who.{Who}
-use Rattle.bus_model.specs.declared.who.Who.TheVariants.{Named, Unclaimed}
 use Rattle.bus_model.specs.Heard.{owner_heard}
 use Rattle.bus_model.proofs.Between.{between_back}
-use Rattle.bus_model.proofs.Lookback.{same_test, true_test}
+use Rattle.bus_model.proofs.Lookback.{true_test}
 
 announcing_claims_none : (a d size pgn : ℕ) (g : Group) (o : Option ℕ) → IsAnnouncement a d size pgn g → owner_after a g o ≡ o
 announcing_claims_none a d size pgn (AddressClaimed s n) o i = absurd i

@@ -1,3 +1,4 @@
 pub mod ListenerValue
 pub mod ListenerSteps
 pub mod SentEntries
+pub mod PathTold

@@ -1,5 +1,5 @@
 -- What each reading does to a listener's tables, what it changes, and which entry it lists.
-use Rattle.std.specs.Prelude.{◌≡◌, ℕ, ◌+◌, Bool, false, List, [], Option, Some, None, ◌||◌, ◌==◌, if◌then◌else◌, is_some, slice_set}
+use Rattle.std.specs.Prelude.{ℕ, ◌+◌, Bool, false, List, [], Option, Some, None, ◌==◌, if◌then◌else◌, is_some, slice_set}
 use Rattle.address_claim.specs.Claiming.{is_held}
 use Rattle.can_frame.specs.declared.address.TheConstants.{GLOBAL_ADDRESS}
 use Rattle.can_frame.specs.declared.reading.Reading.{Reading}

@@ -1,5 +1,5 @@
 -- What a listener holds in its tables.
-use Rattle.std.specs.Prelude.{◌≡◌, ℕ, ◌+◌, ◌<◌, List, Option, length, map}
+use Rattle.std.specs.Prelude.{◌≡◌, ℕ, ◌<◌, List, Option, length, map}
 use Rattle.can_frame.specs.declared.reading.Reading.{Reading}
 use Rattle.bus_model.specs.Heard.{missed_count, names_heard, owner_heard}
 use Rattle.bus_model.specs.Overheard.{HalfSent, between_heard, gaps_heard, row_overheard, unread_overheard, who_at}

@@ -14,6 +14,8 @@ mod sending;
 
 pub use bus_model::{Displaced, Overheard, Who};
 pub use entry::SentEntry;
-pub use laws::sent_lists_are_what_was_overheard;
+pub use laws::{
+    entries_of_sent_lists_were_sent, sent_lists_are_exact, sent_lists_are_what_was_overheard,
+};
 pub use listener::Listener;
 pub use lists::SentLists;

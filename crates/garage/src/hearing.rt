@@ -12,7 +12,7 @@ ghost use Rattle.garage_steps.specs.Answers.{Hears, PassesNext};
 ghost use Rattle.garage_steps.specs.Calls.{HearsFull, HearsNothing, IsWant};
 ghost use Rattle.garage_steps.specs.Crew.{AreSeated, Comes};
 ghost use Rattle.garage.specs.ParkedUnits.{asked_of, sitting_of};
-ghost use Rattle.garage_steps.specs.Hearing.{HasHeardAll, HearsFrame, HearsMany, HearsOut, IsHearingCut, IsLast};
+ghost use Rattle.garage_steps.specs.Hearing.{HasHeardAll, HearsMany, HearsNext, HearsOut, IsHearingCut, IsLast};
 ghost use Rattle.garage_steps.specs.Room.{IsFull};
 ghost use Rattle.garage_steps.specs.Rounds.{HearOnward};
 
@@ -37,7 +37,7 @@ pub(crate) struct LastFrame {
     pub(crate) acceptance: Acceptance,
 }
 
-/// How units hear. Each frame that a unit hears is heard by `hear_frame`: a frame that asks nothing of it and makes it do nothing
+/// How units hear. Each frame that a unit hears is heard by `hear`: a frame that asks nothing of it and makes it do nothing
 /// is passed over (`passes_over`), to any other one it reacts (`react`).
 ///
 /// A frame's acceptance is found by its identifier for the most part, and in a round once for all units.
@@ -95,43 +95,11 @@ impl Garage {
         let Some(frame) = self.next_for(seat) else {
             return Ok(HeardOne::Nothing);
         };
-        let acceptance = Acceptance::of(&frame);
-        self.hear_frame(alloc, seat, frame, Some(&acceptance), unit)?;
-        Ok(HeardOne::Frame(frame))
-    }
-
-    /// The unit on the seat hears this frame, its next one, whose acceptance this is; none, where it is known not to pass it over.
-    /// It is asked exactly what the frame puts to it, and is else as it was.
-    ///
-    /// Refused where the journal has no room, then where there is no memory; then nothing changed, and the unit was not asked.
-    #[inline(always)]
-    fn hear_frame(
-        &mut self,
-        alloc: Global,
-        seat: u32,
-        frame: Frame,
-        acceptance: Option<&Acceptance>,
-        unit: &mut dyn Unit,
-    ) -> Result<(), GarageError>
-        requires unit { IsUnit (state_of self.old).traffic seat }
-        requires next { next_for (state_of self.old) seat ≡ Some frame }
-        requires acceptance { IfSome acceptance (λ s. IsAcceptance s.now frame) }
-        ensures name { name_of unit.new ≡ name_of unit.old }
-        ensures ok { OnOk result ((u : _) × (unit.new ≡ (unit.old.0, u))
-            × Hears self.old seat (memory_of unit.old) (Answers unit.old) unit.old.1 (HeardOne.Frame frame) self.new
-            (memory_of unit.new) u) }
-        ensures full { IsErrOf result GarageError.BookFull ↔ IsFull self.old }
-        ensures only { IfErr result IsWant }
-        ensures err { OnErr result (self.new ≡ self.old) }
-        ensures unasked { OnErr result (unit.new ≡ unit.old) }
-    {
-        let Some(acceptance) = acceptance else {
-            return self.react(alloc, seat, frame, unit);
-        };
-        if self.passes_over(seat, acceptance, &*unit) {
-            return Ok(());
+        if self.passes_over(seat, &Acceptance::of(&frame), &*unit) {
+            return Ok(HeardOne::Frame(frame));
         }
-        self.react(alloc, seat, frame, unit)
+        self.react(alloc, seat, frame, unit)?;
+        Ok(HeardOne::Frame(frame))
     }
 
     /// The unit on the seat passes over its next frame, whose acceptance this is; returns whether it did. Else, and where the
@@ -267,53 +235,42 @@ impl Garage {
             self.new parked.new) }
     {
         for heard in 0..most {
-            let Some(frame) = self.next_for(parked.seat) else {
+            let HeardOne::Frame(_) = self.hear_seated(alloc, &mut *parked)? else {
                 return Ok(heard);
             };
-            let acceptance = Acceptance::of(&frame);
-            self.hear_seated(alloc, &mut *parked, frame, Some(&acceptance))?;
         }
         Ok(most)
     }
 
-    /// A unit in its seat hears this frame, its next one, as `hear_frame` does.
-    ///
-    /// Refused where the journal has no room, then where there is no memory; then nothing changed.
+    /// A unit in its seat hears its next frame, as `hear` does, and counts that.
     #[inline(always)]
     fn hear_seated(
         &mut self,
         alloc: Global,
         parked: &mut Parked,
-        frame: Frame,
-        acceptance: Option<&Acceptance>,
-    ) -> Result<(), GarageError>
-        requires seated { IsSeated self.old parked.old.seat (name_of parked.old.unit) parked.old.events }
-        requires next { next_for (state_of self.old) parked.old.seat ≡ Some frame }
-        requires acceptance { IfSome acceptance (λ s. IsAcceptance s.now frame) }
-        ensures heard { OnOk result (HearsFrame (sitting_of (λ b. name_of b) (λ b. memory_of b)) (asked_of (λ b. Answers b)) frame
+    ) -> Result<HeardOne, GarageError>
+        requires { IsSeated self.old parked.old.seat (name_of parked.old.unit) parked.old.events }
+        ensures heard { IfOk result (λ h. HearsNext (sitting_of (λ b. name_of b) (λ b. memory_of b)) (asked_of (λ b. Answers b)) h
             self.old parked.old self.new parked.new) }
-        ensures full { IsErrOf result GarageError.BookFull ↔ IsFull self.old }
+        ensures nothing { HearsNothing self.old parked.old.seat result }
+        ensures full { HearsFull self.old parked.old.seat result }
         ensures only { IfErr result IsWant }
         ensures err { OnErr result ((self.new ≡ self.old) × (parked.new ≡ parked.old)) }
     {
-        self.hear_frame(alloc, parked.seat, frame, acceptance, &mut *parked.unit)?;
+        let heard = self.hear(alloc, parked.seat, &mut *parked.unit)?;
         parked.events = self.events_of(parked.seat);
-        Ok(())
+        Ok(heard)
     }
 
-    /// A unit in its seat hears all that it has not heard; most have not heard the last frame of the wire alone, and did not pass it over
-    /// (`pass_in_turn`).
+    /// A unit in its seat hears all that it has not heard.
     ///
     /// Refused where the journal has no room, then where there is no memory; what was heard before stays.
-    #[inline(always)]
     pub(crate) fn catch_up(
         &mut self,
         alloc: Global,
         parked: &mut Parked,
-        last: &LastFrame,
     ) -> Result<(), GarageError>
-        requires seated { IsSeated self.old parked.old.seat (name_of parked.old.unit) parked.old.events }
-        requires last { IsLast last.now.frame last.now.acceptance self.old }
+        requires { IsSeated self.old parked.old.seat (name_of parked.old.unit) parked.old.events }
         ensures heard { OnOk result (HearsOut (sitting_of (λ b. name_of b) (λ b. memory_of b)) (asked_of (λ b. Answers b)) self.old
             parked.old self.new parked.new) }
         ensures cut { IfErr result (λ e. (n : ℕ)
@@ -321,12 +278,6 @@ impl Garage {
             self.new parked.new) }
     {
         let unheard = self.unheard(parked.seat);
-        if unheard == 0 {
-            return Ok(());
-        }
-        if unheard == 1 {
-            return self.hear_seated(alloc, parked, last.frame, None);
-        }
         let _ = self.hear_some(alloc, parked, unheard)?;
         Ok(())
     }

@@ -44,7 +44,9 @@ impl Garage {
         if !self.knows(parked) {
             return Err(GarageError::Stranger);
         }
-        self.begin_seated(alloc, parked)
+        let begin = self.begin(alloc, parked.seat, &*parked.unit)?;
+        parked.events = self.events_of(parked.seat);
+        Ok(begin)
     }
 
     /// Lets a parked unit tell the journal that a turn of it is over.
@@ -74,7 +76,8 @@ impl Garage {
         if !self.knows(parked) {
             return Err(GarageError::Stranger);
         }
-        self.turn_seated(parked)?;
+        self.turned(parked.seat)?;
+        parked.events = self.events_of(parked.seat);
         Ok(())
     }
 
@@ -85,45 +88,5 @@ impl Garage {
         ensures { IsTrue result ↔ IsSeated self.now parked.now.seat (name_of parked.now.unit) parked.now.events }
     {
         self.is_seated(parked.seat, parked.name(), parked.events)
-    }
-
-    /// Begins a DM1 of the memory of a unit in its seat.
-    ///
-    /// Refused, in this order, and then nothing changed:
-    /// - `Unclaimed` if the unit holds no address;
-    /// - if a DM1 can begin, `BookFull`, then `OutOfMemory`.
-    fn begin_seated(&mut self, alloc: Global, parked: &mut Parked) -> Result<Begin, GarageError>
-        requires { IsSeated self.old parked.old.seat (name_of parked.old.unit) parked.old.events }
-        ensures kept { (parked.new.seat ≡ parked.old.seat) × (parked.new.unit ≡ parked.old.unit) }
-        ensures seated { IsSeated self.new parked.new.seat (name_of parked.new.unit) parked.new.events }
-        ensures ok { IfOk result (λ b. Begins self.old parked.old.seat (memory_of parked.old.unit) b self.new) }
-        ensures counted { IfOk result (λ b. parked.new.events ≡ counted_beginning parked.old.events b) }
-        ensures unclaimed { BeginsUnclaimed self.old parked.old.seat result }
-        ensures held { BeginsHeld self.old parked.old.seat result }
-        ensures full { BeginsFull self.old parked.old.seat result }
-        ensures only { IfErr result IsBeginRefusal }
-        ensures err { OnErr result ((self.new ≡ self.old) × (parked.new ≡ parked.old)) }
-    {
-        let begin = self.begin(alloc, parked.seat, &*parked.unit)?;
-        parked.events = self.events_of(parked.seat);
-        Ok(begin)
-    }
-
-    /// Ends a turn of a unit in its seat.
-    ///
-    /// Refused: `BookFull`, then `OutOfMemory`. Then nothing changed.
-    fn turn_seated(&mut self, parked: &mut Parked) -> Result<(), GarageError>
-        requires { IsSeated self.old parked.old.seat (name_of parked.old.unit) parked.old.events }
-        ensures kept { (parked.new.seat ≡ parked.old.seat) × (parked.new.unit ≡ parked.old.unit) }
-        ensures seated { IsSeated self.new parked.new.seat (name_of parked.new.unit) parked.new.events }
-        ensures ok { OnOk result (Adds self.old (Turned parked.old.seat) self.new) }
-        ensures counted { OnOk result (parked.new.events ≡ parked.old.events + 1) }
-        ensures full { IsErrOf result GarageError.BookFull ↔ IsFull self.old }
-        ensures only { IfErr result IsWant }
-        ensures err { OnErr result ((self.new ≡ self.old) × (parked.new ≡ parked.old)) }
-    {
-        self.turned(parked.seat)?;
-        parked.events = self.events_of(parked.seat);
-        Ok(())
     }
 }

@@ -126,7 +126,7 @@ impl Garage {
         while next < units.len() {
             next = self.pass_in_turn(&mut *units, next, &last);
             if next < units.len() {
-                self.catch_up(alloc, &mut units[next], &last)?;
+                self.catch_up(alloc, &mut units[next])?;
                 next += 1;
             }
         }

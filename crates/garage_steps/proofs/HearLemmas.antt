@@ -1,6 +1,6 @@
 -- Frames that a unit hears one after another.
 use Rattle.std.proofs.Common.{ℕ, zero, suc, ◌≡◌, ◌≢◌, ◌+◌, ◌-◌, ◌<◌, ◌≤◌, List, [], ◌∷◌, Option, Some, None, IsSome, IfErr, OnErr, IsErrOf, Result, Ok, Err, get_or, set, map, length, refl, sym, ap, ◌∙◌, subst, arith, inl, inr}
-use Rattle.std.specs.Prelude.{slice_get, ◌↔◌}
+use Rattle.std.specs.Prelude.{Bool, slice_get, ◌↔◌}
 use Rattle.std.specs.Option.{option_map}
 use Rattle.std.proofs.lemmas.List.{get_or-set_same, get_or-set_other}
 use Rattle.can_frame.specs.FrameValue.{FrameValue}
@@ -13,7 +13,7 @@ use Rattle.bus_ledger.specs.declared.traffic.CarriedFrame.{CarriedFrame}
 use Rattle.bus_ledger.specs.declared.traffic.QueuedFrame.{QueuedFrame}
 use Rattle.bus_ledger.specs.declared.traffic.Which.TheVariants as which
 use Rattle.node_core.specs.Deed.{heard_of}
-use Rattle.node_core.specs.Reaction.{reaction}
+use Rattle.node_core.specs.Reaction.{question, reaction}
 use Rattle.node_core.specs.declared.heard.Answer.{Answer as UnitAnswer}
 use Rattle.node_core.specs.declared.heard.Withdraw.{Withdraw}
 use Rattle.node_core.specs.declared.heard.Withdraw.TheVariants as withdraw
@@ -21,10 +21,13 @@ use Rattle.journal.specs.State.{State, unit_at}
 use Rattle.journal.specs.Steps.{after_hear_of, begins_session, next_for, put_all, session_message_after, tagged, withdrawn_by}
 use Rattle.journal.specs.Journal.{GarageValue, Adds, IsSeated, state_after, state_of}
 use Rattle.journal.specs.declared.event.Event.TheVariants.{Hear}
-use Rattle.garage_steps.specs.Answers.{Passes, PassesNext}
-use Rattle.garage_steps.specs.Calls.{IsWant}
+use Rattle.garage_steps.specs.Answers.{Hears, Passes, PassesNext, counted_hearing}
+use Rattle.garage_steps.specs.Calls.{HearsFull, HearsNothing, IsWant}
+use Rattle.garage_steps.specs.declared.answers.HeardOne.{HeardOne}
+use Rattle.garage_steps.specs.declared.answers.HeardOne.TheVariants as heard
+use Rattle.node_core.specs.Asking.{IsAsked}
 use Rattle.garage_steps.specs.Crew.{AreOthersUntouched, Comes, KeepsUnit, Sits, Sitting}
-use Rattle.garage_steps.specs.Hearing.{HasHeardAll, HearsFrame, HearsMany, HearsOut, IsHearingCut, IsLast, IsWantAt}
+use Rattle.garage_steps.specs.Hearing.{HasHeardAll, HearsFrame, HearsMany, HearsNext, HearsOut, IsHearingCut, IsLast, IsWantAt}
 use Rattle.garage_steps.specs.Room.{IsFull}
 use Rattle.garage_steps.specs.declared.error.GarageError.{GarageError}
 use Rattle.garage_steps.specs.declared.error.GarageError.TheVariants.{BookFull}
@@ -222,12 +225,48 @@ cut_here {P} sitting asked n e f a b b' p q q' h sits same kept next want =
       want = want;
     }
 
--- the first hearing that was refused
-pub cut_first : {P T : Type 0} (sitting : P → Sitting) (asked : P → P → Option Question → UnitAnswer → Type 0) (r : Result T GarageError) (f : FrameValue) (g g' : GarageValue) (p p' : P)
-    → Sits g (sitting p) → next_for (state_of g) (sitting p).seat ≡ Some f → IfErr r IsWant → OnErr r ((g' ≡ g) × (p' ≡ p)) → (IsErrOf r BookFull ↔ IsFull g) → IfErr r (λ e. (n : ℕ) × IsHearingCut sitting asked n e g p g' p')
-cut_first sitting asked (Ok x) f g g' p p' sits next want same full = tt
-cut_first sitting asked (Err e) f g g' p p' sits next want same full =
-    (0, cut_here sitting asked 0 e f g g g' p p p' (many_none sitting asked g p) sits same.0 same.1 next (want_at g g' e same.0 (λ b. full.0 (ap Err b)) (λ x. (let y = full.1 x in cc)) want))
+-- where nothing is answered but a refusal there is a frame
+pub cut_next : {P : Type 0} (sitting : P → Sitting) (asked : P → P → Option Question → UnitAnswer → Type 0) (n : ℕ) (e : GarageError) (a b b' : GarageValue) (p q q' : P)
+    → HearsMany sitting asked n a p b q → Sits a (sitting p) → b' ≡ b → q' ≡ q → HearsNothing b (sitting q).seat (Err e) → HearsFull b (sitting q).seat (Err e) → IsWant e → IsHearingCut sitting asked n e a p b' q'
+cut_next {P} sitting asked n e a b b' p q q' h sits same kept nothing full want =
+    let next = there (next_for (state_of b) (sitting q).seat) (λ none. (let x = nothing.1 none in absurd cc)) in
+    cut_here sitting asked n e next.0 a b b' p q q' h sits same kept next.1
+    (want_at b b' e same (λ x. (full.0 (ap Err x)).1) (λ f. (let y = full.1 (some_of (next_for (state_of b) (sitting q).seat) next.0 next.1, f) in cc)) want)
+  where
+    there : {T : Type 0} (o : Option T) → (o ≡ None → ⊥) → (x : T) × (o ≡ Some x)
+    there None f = absurd (f refl)
+    there (Some x) f = (x, refl)
+
+-- a next hearing, by what is heard
+pub next_heard : {P X : Type 0} (sitting : P → Sitting) (asked : P → P → Option Question → UnitAnswer → Type 0) (h : HeardOne) (g g' : GarageValue) (p p' : P) (answers : Question → Bool → X → Type 0) (unit unit' : X)
+    → Hears g (sitting p).seat (sitting p).memory answers unit h g' (sitting p').memory unit' → (sitting p').seat ≡ (sitting p).seat → (sitting p').name ≡ (sitting p).name
+    → (sitting p').events ≡ counted_hearing (sitting p).events h → ((o : Option Question) (a : UnitAnswer) → IsAsked answers o a unit unit' → asked p p' o a)
+    → (unit' ≡ unit → (sitting p').events ≡ (sitting p).events → p' ≡ p) → HearsNext sitting asked h g p g' p'
+next_heard sitting asked (heard.Frame f) g g' p p' answers unit unit' hears seat name counted asks same = record {
+  next = hears.0;
+  answer = hears.1.0;
+  adds = hears.1.1;
+  memory = hears.1.2;
+  asked_it = asks (question (unit_at (state_of g) (sitting p).seat).node f) hears.1.0 hears.1.3;
+  seat = seat;
+  name = name;
+  counted = counted;
+}
+next_heard sitting asked heard.Nothing g g' p p' answers unit unit' hears seat name counted asks same = (hears.0, hears.1, same hears.3 counted)
+
+-- a frame more
+pub next_more : {P : Type 0} (sitting : P → Sitting) (asked : P → P → Option Question → UnitAnswer → Type 0) (n m : ℕ) (h : HeardOne) (f : FrameValue) (a b c : GarageValue) (p q r : P)
+    → m ≡ n + 1 → HearsMany sitting asked n a p b q → HearsNext sitting asked h b q c r → h ≡ heard.Frame f → HearsMany sitting asked m a p c r
+next_more sitting asked n m h f a b c p q r e many next is = many_more sitting asked n m f a b c p q r e many (subst (λ (x : HeardOne). HearsNext sitting asked x b q c r) is next)
+
+-- none more
+pub next_none : {P : Type 0} (sitting : P → Sitting) (asked : P → P → Option Question → UnitAnswer → Type 0) (n : ℕ) (h : HeardOne) (a b c : GarageValue) (p q r : P)
+    → HearsMany sitting asked n a p b q → Sits a (sitting p) → HearsNext sitting asked h b q c r → h ≡ heard.Nothing → HearsMany sitting asked n a p c r × HasHeardAll (sitting p).seat c
+next_none {P} sitting asked n h a b c p q r many sits next is =
+    let none : HearsNext sitting asked heard.Nothing b q c r = subst (λ (x : HeardOne). HearsNext sitting asked x b q c r) is next in (
+      many_same sitting asked n a b c p q r many none.1 none.2,
+      subst (λ (v : GarageValue). HasHeardAll (sitting p).seat v) (sym none.1) (subst (λ (k : ℕ). HasHeardAll k b) (hearing_many sitting asked n a p b q many sits).seat none.0),
+    )
 
 -- ---- all that a unit had not heard
 

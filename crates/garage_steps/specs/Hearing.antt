@@ -12,6 +12,8 @@ use Rattle.journal.specs.Steps.{next_for}
 use Rattle.journal.specs.Journal.{GarageValue, Adds, state_of}
 use Rattle.journal.specs.declared.event.Event.TheVariants as event
 use Rattle.garage_steps.specs.Crew.{Sitting}
+use Rattle.garage_steps.specs.declared.answers.HeardOne.{HeardOne}
+use Rattle.garage_steps.specs.declared.answers.HeardOne.TheVariants as heard
 use Rattle.garage_steps.specs.Room.{IsFull}
 use Rattle.garage_steps.specs.declared.error.GarageError.{GarageError}
 use Rattle.garage_steps.specs.declared.error.GarageError.TheVariants.{BookFull, OutOfMemory}
@@ -45,6 +47,11 @@ pub record HearsFrame {P : Type 0} (sitting : P → Sitting) (asked : P → P �
   pub seat : (sitting p').seat ≡ (sitting p).seat
   pub name : (sitting p').name ≡ (sitting p).name
   pub counted : (sitting p').events ≡ (sitting p).events + 1
+
+-- its next frame, or the whole wire before
+abbrev pub HearsNext : {P : Type 0} → (P → Sitting) → (P → P → Option Question → UnitAnswer → Type 0) → HeardOne → GarageValue → P → GarageValue → P → Type 0
+HearsNext sitting asked (heard.Frame f) g p g' p' = HearsFrame sitting asked f g p g' p'
+HearsNext sitting asked heard.Nothing g p g' p' = HasHeardAll (sitting p).seat g × (g' ≡ g) × (p' ≡ p)
 
 -- it heard so many frames, one after another
 unfoldable pub HearsMany : {P : Type 0} → (P → Sitting) → (P → P → Option Question → UnitAnswer → Type 0) → ℕ → GarageValue → P → GarageValue → P → Type 0

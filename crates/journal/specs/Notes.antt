@@ -18,12 +18,12 @@ event_of (note.Ordered station order) memory = Ordered station order
 event_of (note.Leave seat) memory = Leave seat
 event_of (note.Inject frame) memory = Inject frame
 
-abbrev pub told : Note × MemoryValue → Event
-told n = event_of n.0 n.1
+abbrev pub event_noted : Note × MemoryValue → Event
+event_noted n = event_of n.0 n.1
 
 -- the events, the newest first, that notes tell, the oldest first
 abbrev pub events_of : List (Note × MemoryValue) → List Event
-events_of notes = reverse (map told notes)
+events_of notes = reverse (map event_noted notes)
 
 -- the memory that stands first here; where none does, that of a new unit
 abbrev pub memory_held : List (Unit {0} × MemoryValue) → MemoryValue

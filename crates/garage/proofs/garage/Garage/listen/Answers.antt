@@ -24,8 +24,8 @@ returns-in_default-clause-cut g c =
 pub returns-in_default-clause-comes : goal.returns-in_default-clause-comes
 returns-in_default-clause-comes g c = rest_comes c.read_rest.result (length c.args.self.now.settings.stations) c.args.self.now c.read_rest.new.self c.read_rest.ensures.reads c.read_rest.ensures.cut
 
-pub catch_up-requires-clause-seated : goal.catch_up-requires-clause-seated
-catch_up-requires-clause-seated g c = c.pass_in_turn-next.ensures.seated.each c.pass_in_turn-next.result (get_or c.pass_in_turn-next.new.units c.pass_in_turn-next.result c.index-units-next.result) (slice_get-get_or c.pass_in_turn-next.new.units c.pass_in_turn-next.result c.index-units-next.result c.if-next-units.true)
+pub catch_up-requires : goal.catch_up-requires
+catch_up-requires g c = c.pass_in_turn-next.ensures.seated.each c.pass_in_turn-next.result (get_or c.pass_in_turn-next.new.units c.pass_in_turn-next.result c.index-units-next.result) (slice_get-get_or c.pass_in_turn-next.new.units c.pass_in_turn-next.result c.index-units-next.result c.if-next-units.true)
 
 pub returns-in_err-catch_up-clause-seated : goal.returns-in_err-catch_up-clause-seated
 returns-in_err-catch_up-clause-seated g c =

@@ -1,23 +1,23 @@
 use Rattle.std.proofs.Common.{◌∙◌, subst}
 use Rattle.garage_steps.specs.Answers.{Begins}
 use Rattle.garage_steps.proofs.SeatKept.{beginning_counted, is_unit, still_seated, unit_begins}
-use Rattle.garage.proofs.garage.Garage.begin_seated.Goals as goal
+use Rattle.garage.proofs.garage.Garage.let_begin.Goals as goal
 
 pub events_of-parked-requires : goal.events_of-parked-requires
 events_of-parked-requires g c =
     is_unit c.args.self.now c.begin.new.self c.args.parked.now.seat
-    (unit_begins c.args.self.now c.args.parked.now.seat _ c.in_ok-begin.begin c.begin.new.self c.in_ok-begin.ensures.ok c.requires.unit.1)
-    c.requires.unit
+    (unit_begins c.args.self.now c.args.parked.now.seat _ c.in_ok-begin.begin c.begin.new.self c.in_ok-begin.ensures.ok (c.knows.ensures.0 c.if-not-knows.false).unit.1)
+    (c.knows.ensures.0 c.if-not-knows.false).unit
 
 pub returns-clause-seated : goal.returns-clause-seated
-returns-clause-seated g c =
+returns-clause-seated g c = λ s.
     still_seated c.args.self.now c.begin.new.self c.args.parked.now.seat _ c.args.parked.now.events c.events_of-parked.result
-    (unit_begins c.args.self.now c.args.parked.now.seat _ c.in_ok-begin.begin c.begin.new.self c.in_ok-begin.ensures.ok c.requires.unit.1) c.requires c.events_of-parked.ensures.count
+    (unit_begins c.args.self.now c.args.parked.now.seat _ c.in_ok-begin.begin c.begin.new.self c.in_ok-begin.ensures.ok (c.knows.ensures.0 c.if-not-knows.false).unit.1) (c.knows.ensures.0 c.if-not-knows.false) c.events_of-parked.ensures.count
 
 pub returns-clause-counted : goal.returns-clause-counted
 returns-clause-counted g c =
     c.events_of-parked.ensures.count
-    ∙ beginning_counted c.args.self.now c.args.parked.now.seat _ c.in_ok-begin.begin c.begin.new.self c.args.parked.now.events c.in_ok-begin.ensures.ok c.requires.counted
+    ∙ beginning_counted c.args.self.now c.args.parked.now.seat _ c.in_ok-begin.begin c.begin.new.self c.args.parked.now.events c.in_ok-begin.ensures.ok (c.knows.ensures.0 c.if-not-knows.false).counted
 
 pub returns-clause-ok : goal.returns-clause-ok
 returns-clause-ok g c =

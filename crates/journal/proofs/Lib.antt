@@ -27,3 +27,4 @@ pub mod Lifted
 pub mod Living
 pub mod Fitting
 pub mod Examples
+pub mod Overhearing

@@ -7,6 +7,7 @@
 
 mod event;
 mod laws;
+mod listener;
 mod memory_then;
 mod note;
 mod notes;
@@ -18,6 +19,9 @@ pub use event::Event;
 pub use laws::{
     commanded_addresses_can_be_held, journal_is_a_run, journal_is_not_empty, nothing_stays_unread,
     path_is_marked, shown_is_expected, station_stands_for_its_readings,
+};
+pub use listener::{
+    a_listener_beside_it_is_exact, clear_path_beside_it_looks_back, what_is_listed_beside_it_was_sent,
 };
 pub use memory_then::MemoryThen;
 pub use notes::{Journal, MOST_EVENTS};

@@ -1,5 +1,6 @@
 -- The listener's law, put to readings as they are told.
 use Rattle.std.proofs.Common.{◌≡◌, ℕ, ◌+◌, List, [], ◌∷◌, Option, reverse, refl, sym, ap, ◌∙◌, subst}
+use Rattle.can_frame.specs.FrameValue.{FrameValue}
 use Rattle.can_frame.specs.declared.reading.Reading.{Reading}
 use Rattle.can_frame.specs.declared.reading.Reading.TheVariants.{Frame, Gap, Empty}
 use Rattle.dm_messages.specs.declared.kind.Kind.{Kind}
@@ -43,7 +44,7 @@ alike (Frame f ∷ h) [] t = absurd t
 alike (Frame f ∷ h) (Own e ∷ path) t = absurd t
 alike (Frame f ∷ h) (Missed es ∷ path) t = absurd t
 alike (Frame f ∷ h) (Received e ∷ path) t =
-    subst (λ (v : _). SaysAlike (Frame f ∷ h) (Frame v ∷ readings path)) t.0 (by_frame (alike h path t.1))
+    subst (λ (v : FrameValue). SaysAlike (Frame f ∷ h) (Frame v ∷ readings path)) t.0 (by_frame (alike h path t.1))
   where
     by_frame : SaysAlike h (readings path) → SaysAlike (Frame f ∷ h) (Frame f ∷ readings path)
     by_frame older = record {
@@ -53,10 +54,13 @@ alike (Frame f ∷ h) (Received e ∷ path) t =
       entries = λ w k. rw (message_alike (group_of f) h (readings path) older, older.entries w k) refl;
     }
 
+pub entries_exact : (settings : List StationSettings) → AreFit settings → (events : List Event) (w : World) → Run (start settings) events w → (path : List Reception) → IsPathOfListener w.wire path → (h : List Reading) → TellsPath h path → (n : ℕ) (k : Kind)
+    → entries_overheard (Named n) k h ≡ expected_overheard n k w.begun path
+entries_exact settings fit events w run path listens h told n k = (alike h path told).entries (Named n) k ∙ listener_exact settings fit events w run path listens n k
+
 pub lists_exact : (settings : List StationSettings) → AreFit settings → (events : List Event) (w : World) → Run (start settings) events w → (path : List Reception) → IsPathOfListener w.wire path → (h : List Reading) → TellsPath h path → (n : ℕ) (k : Kind)
     → lists_overheard h (Named n) k ≡ reverse (expected_overheard n k w.begun path)
-lists_exact settings fit events w run path listens h told n k =
-    ap (λ (v : List EntrySent). reverse v) ((alike h path told).entries (Named n) k ∙ listener_exact settings fit events w run path listens n k)
+lists_exact settings fit events w run path listens h told n k = ap (λ (v : List EntrySent). reverse v) (entries_exact settings fit events w run path listens h told n k)
 
 pub entries_sent : (settings : List StationSettings) → AreFit settings → (events : List Event) (w : World) → Run (start settings) events w → (path : List Reception) → IsPathOfListener w.wire path → (h : List Reading) → TellsPath h path → (who : Who) (k : Kind)
     → AreSent k w.begun (entries_overheard who k h)

@@ -13,7 +13,7 @@ use Rattle.bus_model.proofs.OverheardLaw.{listener_exact, listener_sent}
 use Rattle.journal.specs.Journal.{GarageValue, injected_of, state_of}
 use Rattle.journal.specs.Promises.{IsLawful, wire_of}
 use Rattle.journal.specs.Worlds.{stations_of, world_of}
-use Rattle.journal.proofs.Reaching.{Reached, reached}
+use Rattle.journal.proofs.Reaching.{reached}
 use Rattle.journal.proofs.Readings.{settings_fit}
 
 pub exact : (g : GarageValue) → IsLawful g → injected_of g.journal ≡ 0 → (path : List Reception) → IsPathOfListener (wire_of (state_of g)) path → (n : ℕ) (k : Kind)

@@ -21,7 +21,8 @@ pub use laws::{
     path_is_marked, shown_is_expected, station_stands_for_its_readings,
 };
 pub use listener::{
-    a_listener_beside_it_is_exact, clear_path_beside_it_looks_back, what_is_listed_beside_it_was_sent,
+    a_listener_beside_it_is_exact, clear_path_beside_it_looks_back,
+    what_is_listed_beside_it_was_sent,
 };
 pub use memory_then::MemoryThen;
 pub use notes::{Journal, MOST_EVENTS};

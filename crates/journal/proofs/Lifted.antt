@@ -1,13 +1,16 @@
 -- The law of the bus's machine, put to the world that a journal leads to, in the words of the journal.
-use Rattle.std.proofs.Common.{◌≡◌, ◌<◌, ℕ, suc, zero, Bool, true, false, List, [], ◌∷◌, ◌++◌, length, if◌then◌else◌, ◌==◌, append_assoc, Some, reverse, take, drop, slice_get, refl, sym, ap, ◌∙◌, subst}
+use Rattle.std.proofs.Common.{◌≡◌, ◌<◌, ℕ, suc, zero, Bool, true, false, List, [], ◌∷◌, ◌++◌, length, map, if◌then◌else◌, ◌==◌, append_assoc, Some, reverse, take, drop, slice_get, refl, sym, ap, ◌∙◌, subst, arith}
 use Rattle.std.specs.Prelude.{◌↔◌}
 use Rattle.std.proofs.lemmas.List.{reverse-append}
 use Rattle.dm_messages.specs.declared.kind.Kind.{Kind}
 use Rattle.dm_messages.specs.declared.shown.Shown.{Shown}
 use Rattle.bus_model.specs.ClearPath.{IsOnClearPath, NoneMissed}
-use Rattle.bus_model.specs.Expected.{is_clear, passed}
+use Rattle.bus_model.specs.Expected.{Reception, Received, is_clear, passed}
+use Rattle.bus_model.specs.Machine.{AreFit, Run, start}
+use Rattle.bus_model.specs.Heard.{StationSettings}
 use Rattle.can_frame.specs.declared.reading.Reading.{Reading}
 use Rattle.bus_model.specs.Heard.{ended, entries_heard, put}
+use Rattle.bus_model.proofs.Only.{IsMeant, meant_for_it}
 use Rattle.bus_model.specs.LawfulTraffic.{IsLawfulTraffic}
 use Rattle.bus_model.specs.Messages.{Message, IsAmong}
 use Rattle.bus_model.specs.Traffic.{Item}
@@ -21,11 +24,13 @@ use Rattle.bus_model.proofs.Wire.{lawful_traffic}
 use Rattle.bus_model.proofs.Worlds.{passed_booked}
 use Rattle.journal.specs.Journal.{GarageValue, Adds, injected_of, listed_at, readings_at, shown_at, state_of, with_event}
 use Rattle.journal.specs.Promises.{IsFromOwner, IsLawful, IsPrefix, KeepsLists, wire_of}
-use Rattle.journal.specs.State.{path_at, setting_at}
-use Rattle.journal.specs.Worlds.{items_of, station_of_at, world_station}
+use Rattle.journal.specs.State.{StationSetting, path_at, setting_at}
+use Rattle.journal.specs.Worlds.{items_of, law_settings, station_of, station_of_at, stations_of, world_of, world_station}
 use Rattle.journal.specs.declared.event.Event.{Event}
 use Rattle.journal.specs.declared.event.Event.TheVariants.{Join, Hear, Begin, Turned, Carry, Read, Ordered, Leave, Inject}
-use Rattle.journal.proofs.Headline.{holds_after, law_after, names_in, world_after}
+use Rattle.journal.proofs.Reaching.{reached}
+use Rattle.journal.proofs.Readings.{settings_fit}
+use Rattle.journal.proofs.Headline.{at_after, holds_after, law_after, names_in, world_after}
 
 pub lawful_wire : (g : GarageValue) → IsLawful g → injected_of g.journal ≡ 0 → IsLawfulTraffic (state_of g).begun (wire_of (state_of g))
 unfolding world_after
@@ -83,6 +88,19 @@ quiet g fit none y h whole n k =
     let lawful = lawful_path g fit none y h in
     let booked = passed_booked st w (world_station (state_of g) y (setting_at g.settings y)) l here in
     ap reverse (expected_whole r n k w.begun path (λ m among. clear_whole r st w.begun m path l.numbered among whole lawful here.marked booked))
+
+-- what the only station is sent
+pub meant : (g : GarageValue) → IsLawful g → injected_of g.journal ≡ 0 → (station : StationSetting) → g.settings.stations ≡ station ∷ [] → (after before : List Reception) (e : Item)
+    → path_at (state_of g) 0 ≡ after ++ Received e ∷ before → IsMeant (station_of g.settings) e before
+unfolding world_after
+meant g fit none station one after before e path =
+    let r = g.settings in
+    let now = reached r g.journal fit none in
+    let alone : stations_of r ≡ law_settings station ∷ [] = ap (map law_settings) one in
+    let many = ap length one in
+    meant_for_it (law_settings station) (subst AreFit alone (settings_fit r g.journal fit)).0 now.events (world_of r (state_of g) now.seats)
+    (subst (λ (s : List StationSettings). Run (start s) now.events (world_of r (state_of g) now.seats)) alone now.run) 0 (world_station (state_of g) 0 (setting_at r 0))
+    (at_after r g.journal fit none 0 (omega arith)) after before e path
 
 -- a reading more
 grown : (before after : List Shown) → (more : List Shown) × (after ≡ more ++ before) → IsPrefix (reverse before) (reverse after)

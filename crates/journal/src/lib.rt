@@ -28,7 +28,7 @@ pub use memory_then::MemoryThen;
 pub use notes::{Journal, MOST_EVENTS};
 pub use order::Order;
 pub use promises::{
-    clear_path_looks_back, lists_only_grow, nothing_missed_shows_all, traffic_is_lawful,
-    who_sends_holds_the_address,
+    clear_path_looks_back, lists_only_grow, meant_for_the_only_station, nothing_missed_shows_all,
+    traffic_is_lawful, who_sends_holds_the_address,
 };
 pub use tally::Tally;

@@ -1,13 +1,15 @@
-ghost use Rattle.std.specs.Prelude.{◌≡◌, ◌<◌, ℕ, ◌↔◌, true, length, reverse};
+ghost use Rattle.std.specs.Prelude.{◌≡◌, ◌<◌, ◌++◌, ◌∷◌, ℕ, List, [], Some, ◌↔◌, true, length, reverse};
 ghost use Rattle.dm_messages.specs.declared.kind.Kind.{Kind};
 ghost use Rattle.bus_model.specs.ClearPath.{IsOnClearPath, NoneMissed};
-ghost use Rattle.bus_model.specs.Expected.{is_clear};
+ghost use Rattle.bus_model.specs.Expected.{Reception, Received, is_clear, is_for, readings};
+ghost use Rattle.bus_model.specs.Heard.{address_heard};
+ghost use Rattle.bus_model.specs.Traffic.{Item, Tag};
 ghost use Rattle.bus_model.specs.LawfulTraffic.{IsLawfulTraffic};
 ghost use Rattle.bus_model.specs.Messages.{Message, IsAmong};
 ghost use Rattle.bus_model.specs.Whole.{received_whole};
 ghost use Rattle.journal.specs.Journal.{GarageValue, Adds, injected_of, shown_at, state_of};
-ghost use Rattle.journal.specs.State.{path_at};
-ghost use Rattle.journal.specs.Worlds.{station_of_at};
+ghost use Rattle.journal.specs.State.{StationSetting, path_at};
+ghost use Rattle.journal.specs.Worlds.{station_of, station_of_at};
 ghost use Rattle.journal.specs.declared.event.Event.{Event};
 ghost use Rattle.journal.specs.Promises.{IsFromOwner, IsLawful, KeepsLists, wire_of};
 
@@ -40,6 +42,14 @@ pub fn nothing_missed_shows_all()
 pub fn clear_path_looks_back()
     ensures { (g : GarageValue) → IsLawful g → injected_of g.journal ≡ 0 → (y : ℕ) → y < length g.settings.stations → (m : Message) → IsAmong m (state_of g).begun
         → (is_clear (station_of_at g.settings y) m (path_at (state_of g) y) ≡ true) ↔ IsOnClearPath (station_of_at g.settings y) m (path_at (state_of g) y) }
+{}
+
+/// Where there is one station, each message of which it reads the first frame goes to all, or to the address that it then holds.
+///
+/// So what is promised of such a garage need not ask for that.
+pub fn meant_for_the_only_station()
+    ensures { (g : GarageValue) → IsLawful g → injected_of g.journal ≡ 0 → (station : StationSetting) → g.settings.stations ≡ station ∷ [] → (after before : List Reception) (e : Item) (t : Tag)
+        → path_at (state_of g) 0 ≡ after ++ Received e ∷ before → e.tag ≡ Some t → t.part ≡ 0 → is_for (address_heard (station_of g.settings) (readings before)) t.message ≡ true }
 {}
 
 /// A list only grows: each list of each station keeps its entries.

@@ -56,9 +56,6 @@ none_offers a kept none k =
     let clash : None ≡ Some r = sym n ∙ o'' in
     cc)
 
-pub some_waits : (a : Inside) → (k : ℕ) × (0 < length (book_at a.seats.items k).seat.queue) → (k : ℕ) × (0 < length (seat_at (traffic_of a) k).queue)
-some_waits a w = (w.0, rw (seat_book a.seats.items w.0) w.1)
-
 within_or_past : (k n : ℕ) → (k < n) ⊎ (n ≤ k)
 within_or_past k zero = inr (omega arith)
 within_or_past zero (suc n) = inl (omega arith)
@@ -96,9 +93,6 @@ next_seat_is a v n lowest seats live (Some k) is kept es el en best = (best.1.0,
 
 pub in_order_of : (a : Inside) (seats : List SeatBook) (live : List ℕ) → IsKept a → seats ≡ a.seats.items → live ≡ a.live.items → IsInOrder seats live
 in_order_of a seats live kept es el = rw (es, el) (in_order a kept)
-
-pub waiting_is : (a : Inside) (v : BusValue) (seats : List SeatBook) → bus_value_of a ≡ v → seats ≡ a.seats.items → (k : ℕ) × (0 < length (book_at seats k).seat.queue) → (k : ℕ) × (0 < length (seat_at v.traffic k).queue)
-waiting_is a v seats is es w = subst (λ (b : BusValue). (k : ℕ) × (0 < length (seat_at b.traffic k).queue)) is (some_waits a (subst (λ (s : List SeatBook). (k : ℕ) × (0 < length (book_at s k).seat.queue)) es w))
 
 pub idle_is : (a : Inside) (v : BusValue) (seats : List SeatBook) (live : List ℕ) → bus_value_of a ≡ v → IsKept a → seats ≡ a.seats.items → live ≡ a.live.items
     → ((i : ℕ) → i < length live → (book_at seats (get_or live i 0)).seat.queue ≡ []) → IsIdle v.traffic

@@ -71,20 +71,6 @@ pub others_filled : (ps : List Queued) (y : Queued) → All IsFilled ps → All 
 others_filled [] y filled = filled
 others_filled (x ∷ ps) y filled = All-drop IsFilled 1 (x ∷ ps) filled
 
--- its first place holds one frame fewer
-pub without_frame : (ps : List Queued) (p y : Queued) → All IsFilled ps → 0 < length ps → p ≡ get_or ps 0 p → frames_at y ≡ drop 1 (frames_at p) → frames_in (set ps 0 y) ≡ drop 1 (frames_in ps)
-without_frame [] p y filled h read e = absurd (omega arith)
-without_frame (x ∷ ps) p y filled h read e =
-    ap (λ (l : List QueuedFrame). l ++ frames_in ps) (e ∙ ap (λ (z : Queued). drop 1 (frames_at z)) read)
-    ∙ sym (rest_of_both (frames_at x) (frames_in ps) (All-head IsFilled x ps filled))
-
--- one place more
-pub frames_push : (ps : List Queued) (p : Queued) → frames_in (ps ++ p ∷ []) ≡ frames_in ps ++ frames_at p
-frames_push ps p = flat_map-append frames_at ps (p ∷ []) ∙ ap (λ (l : List QueuedFrame). frames_in ps ++ l) (append-nil (frames_at p))
-
-pub length_push_frames : (ps : List Queued) (p : Queued) → length (frames_in (ps ++ p ∷ [])) ≡ length (frames_in ps) + length (frames_at p)
-length_push_frames ps p = ap length (frames_push ps p) ∙ length-append (frames_in ps) (frames_at p)
-
 -- the frames of a session, and the others
 none_kept : (message : ℕ) (run : List NumberedFrame) → filter (λ q. not (is_in_session q)) (map (run_frame message true) run) ≡ []
 none_kept message [] = refl

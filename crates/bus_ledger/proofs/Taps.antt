@@ -30,15 +30,6 @@ station_within a v y is h = let n = stations_are a v is in omega arith
 pub tap_is : (a : Inside) (v : BusValue) (y : ℕ) → bus_value_of a ≡ v → IsKept a → IsStation v.traffic y → tap_at a y ≡ window_of v.traffic y
 tap_is a v y is kept h = kept.receive_windows y (station_within a v y is h) ∙ ap (λ (b : BusValue). window_of b.traffic y) is
 
--- no more frames were missed than were carried
-pub may_miss : (a : Inside) (v : BusValue) → bus_value_of a ≡ v → IsKept a → length v.traffic.wire + 1 < 2 ^ 32 → AllMayMiss a.receive_windows.items
-may_miss a v is kept few y h =
-    let n = stations_are a v is in
-    let t = ap (λ (w : WindowValue). w.missed) (tap_is a v y is kept (omega arith)) in
-    let unread = length-map (not_yet_read v.traffic y) frame_of in
-    let left : length (not_yet_read v.traffic y) ≤ length v.traffic.wire = (let d = length-drop (seat_at v.traffic y).heard v.traffic.wire in omega arith) in
-    omega arith
-
 -- each window took in the frame that seat k carried
 pub record Takes (old new : List WindowValue) (k : ℕ) (f : FrameValue) : Type 0 where
   pub many : length new ≡ length old
@@ -64,9 +55,6 @@ pub set_sizes : (ws : List WindowValue) (y : ℕ) (w : WindowValue) → w.size �
 set_sizes [] y w e = refl
 set_sizes (x ∷ xs) zero w e = ap (λ (n : ℕ). n ∷ map size_of xs) e
 set_sizes (x ∷ xs) (suc y) w e = ap (λ (l : List ℕ). x.size ∷ l) (set_sizes xs y w e)
-
-pub some_station : (a : Inside) (v : BusValue) → bus_value_of a ≡ v → IsKept a → IsStation v.traffic 0
-some_station a v is kept = subst (λ (b : BusValue). IsStation b.traffic 0) is kept.sound.some
 
 -- the same where the windows were handed over as a slice, which came back
 pub takes_of : (ws read now back : List WindowValue) (k : ℕ) (f : FrameValue) → read ≡ ws → length now ≡ length read → back ≡ now

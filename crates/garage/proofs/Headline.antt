@@ -74,10 +74,6 @@ missed_heard a v y n x is stands h read e =
     let below = station_below a v y is stands h in
     e ∙ (ap (λ (s : StationValue). s.missed) (post_table a y x stands below read) ∙ ((tables a y stands below).missed ∙ ap (λ (g : GarageValue). missed_count (readings_at y g.journal)) is))
 
-pub missed_kept : (a : Inside) (v : GarageValue) (y n : ℕ) (x : Post) → garage_value_of a ≡ v → Stands a → y < length v.settings.stations → x ≡ get_or a.posts.items y x → n ≡ x.station.missed → n ≡ (table_at (state_of v) y).missed
-missed_kept a v y n x is stands h read e =
-    e ∙ (ap (λ (s : StationValue). s.missed) (post_table a y x stands (station_below a v y is stands h) read) ∙ ap (λ (g : GarageValue). (table_at (state_of g) y).missed) is)
-
 pub none_unread : (a : Inside) (v : GarageValue) (y n : ℕ) (x : Post) → garage_value_of a ≡ v → Stands a → y < length v.settings.stations → x ≡ get_or a.posts.items y x → n ≡ x.station.unread → injected_of v.journal ≡ 0 → n ≡ 0
 none_unread a v y n x is stands h read e none =
     let h' : y < length (settings_of a).stations = subst (λ (g : GarageValue). y < length g.settings.stations) (sym is) h in
@@ -89,10 +85,6 @@ unread_heard a v y n x is stands h read e =
     let below = station_below a v y is stands h in
     e ∙ (ap (λ (s : StationValue). s.unread) (post_table a y x stands below read) ∙ ((tables a y stands below).unread ∙ ap (λ (g : GarageValue). unread_count (station_of_at g.settings y) (readings_at y g.journal)) is))
 
-pub unread_kept : (a : Inside) (v : GarageValue) (y n : ℕ) (x : Post) → garage_value_of a ≡ v → Stands a → y < length v.settings.stations → x ≡ get_or a.posts.items y x → n ≡ x.station.unread → n ≡ (table_at (state_of v) y).unread
-unread_kept a v y n x is stands h read e =
-    e ∙ (ap (λ (s : StationValue). s.unread) (post_table a y x stands (station_below a v y is stands h) read) ∙ ap (λ (g : GarageValue). (table_at (state_of g) y).unread) is)
-
 pub row_known_heard : (a : Inside) (v : GarageValue) (y n : ℕ) (x : Post) (o : Option Row) → garage_value_of a ≡ v → Stands a → y < length v.settings.stations → x ≡ get_or a.posts.items y x
     → o ≡ row_of x.station.owners n (kept_under x.station.rows n) → option_map row_heard_as o ≡ row_heard (station_of_at v.settings y) n (readings_at y v.journal)
 row_known_heard a v y n x o is stands h read e =
@@ -100,12 +92,6 @@ row_known_heard a v y n x o is stands h read e =
     row_as_heard (station_of_at (settings_of a) y) (setting_at (settings_of a) y).grant (table_at (state_of (garage_value_of a)) y) (readings_at y a.journal) n o
     (e ∙ ap (λ (s : StationValue). row_of s.owners n (kept_under s.rows n)) (post_table a y x stands below read)) (tables a y stands below)
     ∙ ap (λ (g : GarageValue). row_heard (station_of_at g.settings y) n (readings_at y g.journal)) is
-
-pub row_kept : (a : Inside) (v : GarageValue) (y n : ℕ) (x : Post) (o : Option Row) → garage_value_of a ≡ v → Stands a → y < length v.settings.stations → x ≡ get_or a.posts.items y x
-    → o ≡ row_of x.station.owners n (kept_under x.station.rows n) → o ≡ row_of (table_at (state_of v) y).owners n (kept_under (table_at (state_of v) y).rows n)
-row_kept a v y n x o is stands h read e =
-    e ∙ (ap (λ (s : StationValue). row_of s.owners n (kept_under s.rows n)) (post_table a y x stands (station_below a v y is stands h) read)
-    ∙ ap (λ (g : GarageValue). row_of (table_at (state_of g) y).owners n (kept_under (table_at (state_of g) y).rows n)) is)
 
 -- the tables of a station on its post
 pub kept_tables : (a : Inside) (v : GarageValue) (y : ℕ) (x : Post) → garage_value_of a ≡ v → Stands a → y < length v.settings.stations → x ≡ get_or a.posts.items y x

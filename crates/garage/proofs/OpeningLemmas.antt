@@ -48,9 +48,6 @@ no_tallies k = refl
 
 -- ---- what the settings say
 
-pub can_start : (settings : List Setting) (limit : ℕ) → AreSettings settings limit → All CanStart settings
-can_start settings limit are = All-weaker (λ (s : Setting). IsSetting (setting_value s) limit) CanStart (λ s h. (h.address, h.some_grant)) settings are.each
-
 windows_of : (settings : List Setting) (limit : ℕ) → All (λ s. IsSetting (setting_value s) limit) settings → All (λ (s : StationSeat). HasWindow s.window) (map station_seat_of settings)
 windows_of [] limit all = All-nil (λ (s : StationSeat). HasWindow s.window)
 windows_of (s ∷ ss) limit all =

@@ -64,11 +64,6 @@ posting_more settings start bus bus' i claim p h now is spares =
           };
     }
 
-pub posting_ends : (settings : List Setting) (start : Traffic) (bus : BusValue) (n : ℕ) → n ≡ length settings → IsPosting settings start bus n → bus.traffic ≡ with_claims 0 (map setting_value settings) start
-posting_ends settings start bus n e p =
-    let many = length-map settings setting_value in
-    sym (ap (λ (l : List StationSetting). with_claims n l bus.traffic) (drop_all n (map setting_value settings) (omega arith))) ∙ p.claims
-
 -- one post more
 pub posts_more : (posts : List Post) (settings : List Setting) (i : ℕ) (p : Post) → ArePostsOf posts settings i
     → p ≡ record { setting = setting_in settings i; station = new_station (setting_in settings i).name (setting_in settings i).address (setting_in settings i).grant; lists = [] } → ArePostsOf (posts ++ p ∷ []) settings (i + 1)

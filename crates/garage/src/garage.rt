@@ -83,6 +83,16 @@ impl Garage {
         self.stations
     }
 
+    /// The number of the first station. Each garage has one.
+    #[inline(always)]
+    pub(crate) fn first(&self) -> u32
+        ensures number { result ≡ 0 }
+        ensures there { 0 < length self.now.settings.stations }
+    {
+        let _ = self.stations();
+        0
+    }
+
     /// What became of the frames that a seat queued. None if the seat was never given.
     ///
     /// The frame ledger: each frame queued was carried, was withdrawn or waits.

@@ -244,11 +244,7 @@ impl Garage {
 
     /// A unit in its seat hears its next frame, as `hear` does, and counts that.
     #[inline(always)]
-    fn hear_seated(
-        &mut self,
-        alloc: Global,
-        parked: &mut Parked,
-    ) -> Result<HeardOne, GarageError>
+    fn hear_seated(&mut self, alloc: Global, parked: &mut Parked) -> Result<HeardOne, GarageError>
         requires { IsSeated self.old parked.old.seat (name_of parked.old.unit) parked.old.events }
         ensures heard { IfOk result (λ h. HearsNext (sitting_of (λ b. name_of b) (λ b. memory_of b)) (asked_of (λ b. Answers b)) h
             self.old parked.old self.new parked.new) }
@@ -265,11 +261,7 @@ impl Garage {
     /// A unit in its seat hears all that it has not heard.
     ///
     /// Refused where the journal has no room, then where there is no memory; what was heard before stays.
-    pub(crate) fn catch_up(
-        &mut self,
-        alloc: Global,
-        parked: &mut Parked,
-    ) -> Result<(), GarageError>
+    pub(crate) fn catch_up(&mut self, alloc: Global, parked: &mut Parked) -> Result<(), GarageError>
         requires { IsSeated self.old parked.old.seat (name_of parked.old.unit) parked.old.events }
         ensures heard { OnOk result (HearsOut (sitting_of (λ b. name_of b) (λ b. memory_of b)) (asked_of (λ b. Answers b)) self.old
             parked.old self.new parked.new) }

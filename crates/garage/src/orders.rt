@@ -37,8 +37,8 @@ impl Garage {
         ensures err { OnErr result (self.new ≡ self.old) }
         ensures lists { KeepsLists self.old self.new }
     {
-        let _ = self.stations();
-        self.ask_at(alloc, 0, name, ask)
+        let first = self.first();
+        self.ask_at(alloc, first, name, ask)
     }
 
     /// Has a station ask the unit of a NAME.
@@ -82,8 +82,8 @@ impl Garage {
         ensures err { OnErr result (self.new ≡ self.old) }
         ensures lists { KeepsLists self.old self.new }
     {
-        let _ = self.stations();
-        self.ask_all_at(alloc, 0, ask)
+        let first = self.first();
+        self.ask_all_at(alloc, first, ask)
     }
 
     /// Has a station ask all.
@@ -119,8 +119,8 @@ impl Garage {
         ensures err { OnErr result (self.new ≡ self.old) }
         ensures lists { KeepsLists self.old self.new }
     {
-        let _ = self.stations();
-        self.command_at(alloc, 0, name, address)
+        let first = self.first();
+        self.command_at(alloc, first, name, address)
     }
 
     /// Has a station command the unit of a NAME to hold an address.

@@ -29,8 +29,8 @@ impl Garage {
         ensures kept { result ≡ row_of (table_at (state_of self.now) 0).owners name
             (kept_under (table_at (state_of self.now) 0).rows name) }
     {
-        let _ = self.stations();
-        self.row_at(0, name)
+        let first = self.first();
+        self.row_at(first, name)
     }
 
     /// What a station knows of a NAME. None before it read its first claim.

@@ -29,8 +29,8 @@ impl Garage {
         ensures err { OnErr result (self.new ≡ self.old) }
         ensures lists { KeepsLists self.old self.new }
     {
-        let _ = self.stations();
-        self.read_at(alloc, 0)
+        let first = self.first();
+        self.read_at(alloc, first)
     }
 
     /// Has a station take its next reading.

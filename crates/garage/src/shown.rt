@@ -26,8 +26,8 @@ impl Garage {
             → (is_clear (station_of self.now.settings) m (path_at (state_of self.now) 0) ≡ true)
             ↔ IsOnClearPath (station_of self.now.settings) m (path_at (state_of self.now) 0) }
     {
-        let _ = self.stations();
-        self.shown_at(0, name, kind)
+        let first = self.first();
+        self.shown_at(first, name, kind)
     }
 
     /// What a station shows of a kind under a NAME, the oldest entry first.
@@ -64,8 +64,8 @@ impl Garage {
         ensures heard { result ≡ missed_count (readings_of self.now.journal) }
         ensures kept { result ≡ (table_at (state_of self.now) 0).missed }
     {
-        let _ = self.stations();
-        self.missed_at(0)
+        let first = self.first();
+        self.missed_at(first)
     }
 
     /// How many frames a station was told of as missed.
@@ -84,8 +84,8 @@ impl Garage {
         ensures heard { result ≡ unread_count (station_of self.now.settings) (readings_of self.now.journal) }
         ensures kept { result ≡ (table_at (state_of self.now) 0).unread }
     {
-        let _ = self.stations();
-        self.unread_at(0)
+        let first = self.first();
+        self.unread_at(first)
     }
 
     /// How many messages a station could not read. 0 if no frame came from outside.

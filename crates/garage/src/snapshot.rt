@@ -62,8 +62,8 @@ impl Garage {
         ensures none { injected_of self.now.journal ≡ 0 → IfOk result (λ s. s.unread ≡ 0) }
         ensures err { IfErr result (λ e. e ≡ GarageError.OutOfMemory) }
     {
-        let _ = self.stations();
-        self.snapshot_at(alloc, 0)
+        let first = self.first();
+        self.snapshot_at(alloc, first)
     }
 
     /// What a station knows now of every NAME that it read a claim of.

@@ -202,11 +202,6 @@ comes_both a b c h h' = leads_both IsOfRound h.0 a b c h'.0 h.1 h'.1
 pub comes_heard : (g : GarageValue) (k : ℕ) (memory : MemoryValue) (answered : UnitAnswer) (g' : GarageValue) → Adds g (Hear k memory answered) g' → Comes g g'
 comes_heard g k memory answered g' h = comes_one g g' (Hear k memory answered) h tt
 
-pub comes_read : (y : ℕ) (g g' : GarageValue) (r : Reading) → Reads y g r g' → Comes g g'
-comes_read y g g' reading.Empty h = comes_same g g' h.1
-comes_read y g g' (reading.Frame f) h = comes_one g g' (Read y (reading.Frame f)) h tt
-comes_read y g g' (reading.Gap n) h = comes_one g g' (Read y (reading.Gap n)) h tt
-
 pub comes_carried : (g g' : GarageValue) (c : Carried) → AddsCarry g c g' → Comes g g'
 comes_carried g g' (carried.Frame j f) h = comes_one g g' (Carry j) h.1 tt
 comes_carried g g' carried.Idle h = comes_same g g' h.1

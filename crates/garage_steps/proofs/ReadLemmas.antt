@@ -220,13 +220,3 @@ cut_comes e a b h = comes_both a h.before b (turn_comes h.station a h.before h.t
 -- a station that was there still is
 pub turn_there : (y n : ℕ) (a b : GarageValue) → EachReads n a b → y < length a.settings.stations → y < length b.settings.stations
 turn_there y n a b h l = (let e = comes_settings a b (turn_comes n a b h) in rw e l)
-
--- reading that was refused
-pub read_left : (y : ℕ) (g g' : GarageValue) (e : GarageError) → g' ≡ g → IsUnread y g → (e ≡ BookFull → IsUnread y g × IsFull g) → (IsUnread y g × IsFull g → e ≡ BookFull) → IsWant e → IsUnread y g' × IsWantAt g' e
-read_left y g g' e same left full back want = (
-  subst (λ (v : GarageValue). IsUnread y v) (sym same) left,
-  want_at g g' e same (λ b. (full b).1) (λ f. back (left, f)) want,
-)
-
-pub reading_cut : (e : GarageError) (n : ℕ) (a b c : GarageValue) → n < length a.settings.stations → EachReads n a b → TakesReadings n b c → IsUnread n c × IsWantAt c e → IsReadingCut e a c
-reading_cut e n a b c l turn reads left = record { station = n; one = l; before = b; turn = turn; reads = reads; left = left.0; want = left.1 }

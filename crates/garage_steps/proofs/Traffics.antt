@@ -65,12 +65,6 @@ put_push k (x ∷ qs) q t = put_push k qs q (queued k x t)
 abbrev pub weight : SeatValue → ℕ
 weight s = cond {A = ℕ} s.live 1 0
 
-pub count_live : (xs : List SeatValue) (k : ℕ) → k < length xs → (get_or xs k nobody).live ≡ true → 1 ≤ count_by (λ (s : SeatValue). s.live) xs
-count_live xs k h live =
-    let s = sum_by-set weight xs k nobody nobody h in
-    let one : weight (get_or xs k nobody) ≡ 1 = rw live refl in
-    omega arith
-
 pub count_left : (xs : List SeatValue) (k : ℕ) → k < length xs → (get_or xs k nobody).live ≡ true → count_by (λ (s : SeatValue). s.live) (set xs k (leaving (get_or xs k nobody))) + 1 ≡ count_by (λ (s : SeatValue). s.live) xs
 count_left xs k h live =
     let s = sum_by-set weight xs k (leaving (get_or xs k nobody)) nobody h in

@@ -92,10 +92,6 @@ seats_joined n a s =
     rw (get_or_push s.traffic.seats (newcomer n (length s.traffic.wire)) nobody (length s.traffic.seats) refl)
     (set_at s.traffic.seats (newcomer n (length s.traffic.wire)) [] _ (length s.traffic.seats) refl)
 
-units_joined : (n a : ℕ) (s : State) → (after_join n a s).units ≡ s.units ++ new_unit n a ∷ []
-unfolding after_join
-units_joined n a s = refl
-
 seat_before : (n a : ℕ) (s : State) (k : ℕ) → k < length s.traffic.seats → seat_at (after_join n a s).traffic k ≡ seat_at s.traffic k
 seat_before n a s k l = rw (seats_joined n a s) (get_or_append_left s.traffic.seats (newly n a s ∷ []) nobody k l)
 

@@ -91,10 +91,6 @@ seat_carried begun items e v u x s = record {
 
 -- ---- items
 
--- the item of a carried frame depends on its seat's NAME and the message of its tag
-pub item_same : (s t : State) (c : CarriedFrame) → (seat_at s.traffic (seat_number_of c.seat)).name ≡ (seat_at t.traffic (seat_number_of c.seat)).name → part_of s.begun c.tag ≡ part_of t.begun c.tag → item_of s c ≡ item_of t c
-item_same s t c n p = rw (n, p) refl
-
 -- no NAME of a given seat changes
 abbrev pub SameNames : State → State → Type 0
 SameNames s t = (k : ℕ) → k < length s.traffic.seats → (seat_at t.traffic k).name ≡ (seat_at s.traffic k).name

@@ -26,9 +26,6 @@ claim_of r = queued_frame (claim_frame_value r.name (Some r.address)) None
 abbrev claiming : StationSetting → SeatValue
 claiming r = queueing (claim_of r) (newcomer r.name 0)
 
-abbrev new_seats : Settings → List SeatValue
-new_seats r = map (λ (x : StationSetting). newcomer x.name 0) r.stations
-
 abbrev started : Settings → Traffic
 started r = with_claims 0 r.stations (new_traffic (map station_seat r.stations))
 

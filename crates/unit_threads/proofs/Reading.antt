@@ -40,10 +40,6 @@ leaves_more y a b c (reading.Frame f) g h = leaves_both y a b c g (leaves_event 
 leaves_more y a b c (reading.Gap n) g h = leaves_both y a b c g (leaves_event y b c (reading.Gap n) h)
 leaves_more y a b c reading.Empty g h = leaves_both y a b c g (leaves_same y b c h.1)
 
--- one that was refused changed nothing
-pub leaves_still : (y : ℕ) (a b c : GarageValue) → LeavesOthers y a b → c ≡ b → LeavesOthers y a c
-leaves_still y a b c g e = leaves_both y a b c g (leaves_same y b c e)
-
 -- ---- station after station
 
 -- how far the stations have read
@@ -51,9 +47,6 @@ pub record HasReadTo (n : ℕ) (old new : GarageValue) : Type 0 where
   pub turn : ReadInTurn n old new
   pub all : HaveReadAll n new
   pub settings : new.settings ≡ old.settings
-
-pub read_none : (g : GarageValue) → HasReadTo 0 g g
-read_none g = record { turn = refl; all = λ y h. absurd (omega arith); settings = refl }
 
 pub turn_more : (n m : ℕ) (a b c : GarageValue) → m ≡ n + 1 → ReadInTurn n a b → GrowsBy (IsReadOf n) b c → ReadInTurn m a c
 turn_more n m a b c e turn reads =

@@ -9,7 +9,9 @@ use Rattle.journal.specs.Promises.{KeepsLists}
 use Rattle.journal.specs.declared.event.Event.{Event}
 use Rattle.journal.specs.declared.event.Event.TheVariants as event
 use Rattle.journal.proofs.Lifted.{keeps_adds, keeps_same}
-use Rattle.garage_steps.specs.Answers.{Hears, Begins}
+use Rattle.garage_steps.specs.Answers.{Hears, Begins, Reads}
+use Rattle.can_frame.specs.declared.reading.Reading.{Reading}
+use Rattle.can_frame.specs.declared.reading.Reading.TheVariants as reading
 use Rattle.garage.specs.Inside.{settings_of, garage_value_of, Stands}
 use Rattle.garage.specs.declared.garage.Garage.TheInside.{Inside}
 use Rattle.garage_steps.specs.declared.answers.HeardOne.{HeardOne}
@@ -51,3 +53,8 @@ lists_heard old new k memory memory' answers unit unit' heard.Nothing h = keeps_
 pub lists_begun : (old new : GarageValue) (k : ℕ) (memory : MemoryValue) (b : Began) → Begins old k memory b new → KeepsLists old new
 lists_begun old new k memory began.Begun h = lists_of_event old new (event.Begin k memory) h
 lists_begun old new k memory began.Held h = keeps_same old new h.1
+
+pub lists_read : (y : ℕ) (old : GarageValue) (r : Reading) (new : GarageValue) → Reads y old r new → KeepsLists old new
+lists_read y old reading.Empty new h = keeps_same old new h.1
+lists_read y old (reading.Frame f) new h = lists_of_event old new (event.Read y (reading.Frame f)) h
+lists_read y old (reading.Gap n) new h = lists_of_event old new (event.Read y (reading.Gap n)) h

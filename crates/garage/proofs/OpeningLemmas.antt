@@ -2,7 +2,7 @@
 use Rattle.std.proofs.Common.{ℕ, suc, zero, ◌≡◌, ◌≢◌, ◌<◌, ◌≤◌, List, [], ◌∷◌, map, reverse, length, refl, sym, ap, ◌∙◌, subst, arith, inl, inr}
 use Rattle.std.specs.List.{All}
 use Rattle.std.proofs.lemmas.List.{get_or-map, get_or_past, length-map, length-set}
-use Rattle.std.proofs.lemmas.List.Elements.{All-head, All-tail, All-nil, All-cons, All-weaker}
+use Rattle.std.proofs.lemmas.List.Elements.{All-head, All-tail, All-nil, All-cons}
 use Rattle.std.proofs.lemmas.List.Sums.{count_by-le-length}
 use Rattle.bus_ledger.specs.BusValue.{SeatValue, Traffic, nobody, seat_at}
 use Rattle.bus_ledger.specs.Changes.{HasWindow, new_traffic, seat_of_station}
@@ -20,7 +20,7 @@ use Rattle.journal.proofs.Starting.{claims_wire, seat_started, start_stands}
 use Rattle.journal.proofs.Station.{new_at}
 use Rattle.bus_ledger.proofs.Numbers.{same_or_not}
 use Rattle.garage_steps.proofs.Traffics.{within_or_past}
-use Rattle.garage.specs.Opening.{nothing_set, setting_in, setting_value, station_seat_of, with_stations, HaveOwnNames, HaveNames, AreSettings, CanStart, IsSetting}
+use Rattle.garage.specs.Opening.{nothing_set, setting_in, setting_value, station_seat_of, with_stations, HaveOwnNames, HaveNames, AreSettings, IsSetting}
 use Rattle.garage.specs.Inside.{no_tally, post_at, post_setting, settings_of, garage_value_of, unit_of, ArePostsOf, Stands}
 use Rattle.garage.specs.declared.garage.Garage.TheInside.{Inside}
 use Rattle.garage.specs.declared.garage.Post.{Post}

@@ -1,6 +1,6 @@
 -- The stations of a new garage: their claims are queued one after another.
 use Rattle.std.proofs.Common.{ℕ, suc, ◌≡◌, ◌≢◌, ◌+◌, ◌<◌, ◌≤◌, List, [], ◌∷◌, ◌++◌, map, length, get_or, drop, None, Some, refl, sym, ap, ◌∙◌, arith, inl, inr}
-use Rattle.std.proofs.lemmas.List.{drop_all, drop_more, get_or_read, get_or-map, get_or-set_other, get_or_push, get_or_append_left, length-map, length-set, length_push}
+use Rattle.std.proofs.lemmas.List.{drop_more, get_or_read, get_or-map, get_or-set_other, get_or_push, get_or_append_left, length-map, length-set, length_push}
 use Rattle.address_claim.specs.Frames.{claim_frame_value}
 use Rattle.bus_ledger.proofs.Numbers.{same_or_not}
 use Rattle.bus_ledger.specs.BusValue.{BusValue, Traffic, nobody, seat_at, spare_at}

@@ -1,4 +1,4 @@
-ghost use Rattle.std.specs.Prelude.{◌≡◌, ◌+◌, ◌-◌, ◌<◌, ◌≤◌, ◌^◌, ◌↔◌, ◌⊎◌, ◌∷◌, ℕ, length, IfOk, IfErr, IfSome, IsErrOf, IsFalse, IsTrue, MatchOption, OnErr, OnOk, Some};
+ghost use Rattle.std.specs.Prelude.{◌≡◌, ◌+◌, ◌-◌, ◌<◌, ◌≤◌, ◌^◌, ◌↔◌, ◌⊎◌, ◌∷◌, ℕ, length, IfOk, IfErr, IfSome, IsErrOf, IsFalse, IsTrue, OnErr, OnOk, Some};
 ghost use Rattle.can_frame.specs.FrameValue.{FrameValue};
 ghost use Rattle.fault_memory.specs.Memory.{IsLawfulMemory};
 ghost use Rattle.bus_ledger.specs.BusValue.{IsUnit, seat_at};
@@ -10,11 +10,10 @@ ghost use Rattle.journal.specs.Steps.{begins_session, next_for};
 ghost use Rattle.journal.specs.declared.event.Event.TheVariants.{Hear};
 ghost use Rattle.garage_steps.specs.Answers.{Hears, PassesNext};
 ghost use Rattle.garage_steps.specs.Calls.{HearsFull, HearsNothing, IsWant};
-ghost use Rattle.garage_steps.specs.Crew.{AreSeated, Comes};
+ghost use Rattle.garage_steps.specs.Crew.{Comes};
 ghost use Rattle.garage.specs.ParkedUnits.{asked_of, sitting_of};
-ghost use Rattle.garage_steps.specs.Hearing.{HasHeardAll, HearsMany, HearsNext, HearsOut, IsHearingCut, IsLast};
+ghost use Rattle.garage_steps.specs.Hearing.{HasHeardAll, HearsMany, HearsNext, HearsOut, IsHearingCut};
 ghost use Rattle.garage_steps.specs.Room.{IsFull};
-ghost use Rattle.garage_steps.specs.Rounds.{HearOnward};
 
 use crate::garage::{Garage, Place};
 use crate::plug::Parked;
@@ -30,17 +29,8 @@ use node_core::{Acceptance, Answer};
 use std::alloc::Global;
 use unit_trait::Unit;
 
-/// The last frame of the wire, and what it tells the units that it asks nothing of.
-#[derive(Clone, Copy, PartialEq, Eq)]
-pub(crate) struct LastFrame {
-    pub(crate) frame: Frame,
-    pub(crate) acceptance: Acceptance,
-}
-
-/// How units hear. Each frame that a unit hears is heard by `hear`: a frame that asks nothing of it and makes it do nothing
-/// is passed over (`passes_over`), to any other one it reacts (`react`).
-///
-/// A frame's acceptance is found by its identifier for the most part, and in a round once for all units.
+/// How units hear. A frame that asks nothing of a unit and makes it do nothing is passed over (`passes_over`), to any other one it
+/// reacts (`react`). A frame's acceptance is found by its identifier for the most part, and in a round once for all units.
 impl Garage {
     /// The next frame that the unit on the seat has not heard.
     #[tactic(auto, using(crate::proofs::Passing::next_is))]
@@ -58,18 +48,6 @@ impl Garage {
         ensures { (seat_at (state_of self.now).traffic seat).heard + result ≡ length (state_of self.now).traffic.wire }
     {
         self.bus.unheard(seat)
-    }
-
-    /// The last frame of the wire; nothing where it has none.
-    pub(crate) fn last_frame(&self) -> Option<LastFrame>
-        ensures { MatchOption result (length (state_of self.now).traffic.wire ≡ 0) (λ l. IsLast l.frame l.acceptance self.now) }
-    {
-        let last = self.bus.wire_len().checked_sub(1)?;
-        let frame = self.bus.wire_frame(last)?;
-        Some(LastFrame {
-            frame,
-            acceptance: Acceptance::of(&frame),
-        })
     }
 
     /// The unit on the seat hears its next frame. It is asked exactly what the frame puts to it, and is else as it was.
@@ -273,64 +251,12 @@ impl Garage {
         let _ = self.hear_some(alloc, parked, unheard)?;
         Ok(())
     }
-
-    /// From the `first` unit on each in turn passes over the last frame of the wire, where it is its next one, or has heard all, as
-    /// far as that goes. Answers the number of the first that is to hear otherwise: it and all after it are as they were.
-    ///
-    /// That is what `catch_up` does with most units, by the same commit. Room is looked at once for all of them, which for 64 units
-    /// saves a fifth of the instructions of a round.
-    #[inline(never)]
-    pub(crate) fn pass_in_turn(
-        &mut self,
-        units: &mut [Parked],
-        first: usize,
-        last: &LastFrame,
-    ) -> usize
-        requires seated { AreSeated (sitting_of (λ b. name_of b) (λ b. memory_of b)) self.old units.old }
-        requires last { IsLast last.now.frame last.now.acceptance self.old }
-        requires first { first ≤ length units.old }
-        ensures seated { AreSeated (sitting_of (λ b. name_of b) (λ b. memory_of b)) self.new units.new }
-        ensures last { IsLast last.now.frame last.now.acceptance self.new }
-        ensures heard { HearOnward (sitting_of (λ b. name_of b) (λ b. memory_of b)) (asked_of (λ b. Answers b)) first result
-            self.old units.old self.new units.new }
-        ensures count { length units.new ≡ length units.old }
-        ensures onward { first ≤ result }
-        ensures within { result ≤ length units.new }
-    {
-        if !has_room(&self.journal, with_live(units.len(), self.live), self.limit) {
-            return first;
-        }
-        let stations = self.stations;
-        for i in first..units.len() {
-            let seat = units[i].seat;
-            let behind = self.bus.unheard(seat);
-            if behind == 0 {
-                continue;
-            }
-            if behind != 1 {
-                return i;
-            }
-            let place = &mut self.places[(seat - stations) as usize];
-            if !place.node.absorb(&last.acceptance) {
-                return i;
-            }
-            pass_over(
-                place,
-                &mut self.bus,
-                &mut self.journal,
-                seat,
-                units[i].memory(),
-            );
-            units[i].events = place.tally.events;
-        }
-        units.len()
-    }
 }
 
 /// The one commit for a frame that a unit passes over, once its node has absorbed it: the unit has one event more, its seat has
 /// heard one frame more, and the journal tells that it heard with this memory and was not asked. There is room.
 #[inline(always)]
-fn pass_over(
+pub(crate) fn pass_over(
     place: &mut Place,
     bus: &mut Bus,
     journal: &mut Journal,
@@ -349,14 +275,4 @@ fn pass_over(
     place.tally.events += 1;
     bus.mark_heard(seat);
     journal.note_hear(seat, &MemoryThen::of(memory), Answer::NotAsked);
-}
-
-/// How many events so many units may hear and all live ones leave by; the most that can be said, where it is more.
-fn with_live(count: usize, live: u32) -> u32
-    ensures { (result ≡ 2 ^ 32 - 1) ⊎ (result ≡ count + live) }
-{
-    match u32::try_from(count) {
-        Ok(count) => count.saturating_add(live),
-        Err(_) => u32::MAX,
-    }
 }

@@ -1,4 +1,4 @@
-ghost use Rattle.std.specs.Prelude.{◌≡◌, ◌≢◌, ◌<◌, ◌+◌, ◌↔◌, ◌⊎◌, ℕ, suc, length, slice_get, IfOk, IfErr, IfSome, IsErrOf, IsNone, OnOk, Some};
+ghost use Rattle.std.specs.Prelude.{◌≡◌, ◌≢◌, ◌<◌, ◌≤◌, ◌-◌, ◌+◌, ◌^◌, ◌↔◌, ◌⊎◌, ℕ, suc, length, slice_get, IfOk, IfErr, IfSome, IsErrOf, IsNone, MatchOption, OnOk, Some};
 ghost use Rattle.std.specs.Bool.{MatchBool};
 ghost use Rattle.bus_ledger.specs.Reception.{next_reading};
 ghost use Rattle.journal.specs.Journal.{state_of};
@@ -7,16 +7,24 @@ ghost use Rattle.garage_steps.specs.Calls.{IsWant};
 ghost use Rattle.garage_steps.specs.Crew.{AreSeated, AreUntouched, Comes};
 ghost use Rattle.garage.specs.ParkedUnits.{asked_of, sitting_of};
 ghost use Rattle.garage_steps.specs.Hearing.{HasHeardAll, IsLast, IsWantAt};
-ghost use Rattle.garage_steps.specs.Rounds.{EndsSo, HasReadAll, HaveReadAll, HaveRounds, IsListeningCut, IsReadingCut, IsRoundCut, IsUnread, Listens, EachReads, TakesReadings};
+ghost use Rattle.garage_steps.specs.Rounds.{EndsSo, HasReadAll, HaveReadAll, HaveRounds, HearOnward, IsListeningCut, IsReadingCut, IsRoundCut, IsUnread, Listens, EachReads, TakesReadings};
 
 use crate::garage::Garage;
-use crate::hearing::LastFrame;
+use crate::hearing::pass_over;
 use crate::plug::Parked;
 use bus_ledger::Carried;
-use can_frame::Reading;
-use garage_steps::{GarageError, Rounds};
+use can_frame::{Frame, Reading};
+use garage_steps::{GarageError, Rounds, has_room};
+use node_core::Acceptance;
 use std::alloc::Global;
 use unit_trait::Unit;
+
+/// The last frame of the wire, and what it tells the units that it asks nothing of.
+#[derive(Clone, Copy, PartialEq, Eq)]
+pub(crate) struct LastFrame {
+    pub(crate) frame: Frame,
+    pub(crate) acceptance: Acceptance,
+}
 
 impl Garage {
     /// Runs rounds with these units, so many at most. In a round each unit in turn takes its seat and hears all that it has not
@@ -148,6 +156,70 @@ impl Garage {
         None
     }
 
+    /// The last frame of the wire; nothing where it has none.
+    pub(crate) fn last_frame(&self) -> Option<LastFrame>
+        ensures { MatchOption result (length (state_of self.now).traffic.wire ≡ 0) (λ l. IsLast l.frame l.acceptance self.now) }
+    {
+        let last = self.bus.wire_len().checked_sub(1)?;
+        let frame = self.bus.wire_frame(last)?;
+        Some(LastFrame {
+            frame,
+            acceptance: Acceptance::of(&frame),
+        })
+    }
+
+    /// From the `first` unit on each in turn passes over the last frame of the wire, where it is its next one, or has heard all, as
+    /// far as that goes. Answers the number of the first that is to hear otherwise: it and all after it are as they were.
+    ///
+    /// That is what `catch_up` does with most units, by the same commit. Room is looked at once for all of them, which for 64 units
+    /// saves a fifth of the instructions of a round.
+    #[inline(never)]
+    pub(crate) fn pass_in_turn(
+        &mut self,
+        units: &mut [Parked],
+        first: usize,
+        last: &LastFrame,
+    ) -> usize
+        requires seated { AreSeated (sitting_of (λ b. name_of b) (λ b. memory_of b)) self.old units.old }
+        requires last { IsLast last.now.frame last.now.acceptance self.old }
+        requires first { first ≤ length units.old }
+        ensures seated { AreSeated (sitting_of (λ b. name_of b) (λ b. memory_of b)) self.new units.new }
+        ensures last { IsLast last.now.frame last.now.acceptance self.new }
+        ensures heard { HearOnward (sitting_of (λ b. name_of b) (λ b. memory_of b)) (asked_of (λ b. Answers b)) first result
+            self.old units.old self.new units.new }
+        ensures count { length units.new ≡ length units.old }
+        ensures onward { first ≤ result }
+        ensures within { result ≤ length units.new }
+    {
+        if !has_room(&self.journal, with_live(units.len(), self.live), self.limit) {
+            return first;
+        }
+        let stations = self.stations;
+        for i in first..units.len() {
+            let seat = units[i].seat;
+            let behind = self.bus.unheard(seat);
+            if behind == 0 {
+                continue;
+            }
+            if behind != 1 {
+                return i;
+            }
+            let place = &mut self.places[(seat - stations) as usize];
+            if !place.node.absorb(&last.acceptance) {
+                return i;
+            }
+            pass_over(
+                place,
+                &mut self.bus,
+                &mut self.journal,
+                seat,
+                units[i].memory(),
+            );
+            units[i].events = place.tally.events;
+        }
+        units.len()
+    }
+
     /// Each station in turn reads all.
     fn read_rest(&mut self, alloc: Global) -> Result<(), GarageError>
         ensures untouched { AreUntouched self.old self.new }
@@ -194,4 +266,14 @@ fn seat_before(units: &[Parked], i: usize) -> u32
     ensures before { (k : ℕ) → i ≡ suc k → IfSome (slice_get units.now k) (λ p. result ≡ p.seat) }
 {
     if i == 0 { 0 } else { units[i - 1].seat }
+}
+
+/// How many events so many units may hear and all live ones leave by; the most that can be said, where it is more.
+fn with_live(count: usize, live: u32) -> u32
+    ensures { (result ≡ 2 ^ 32 - 1) ⊎ (result ≡ count + live) }
+{
+    match u32::try_from(count) {
+        Ok(count) => count.saturating_add(live),
+        Err(_) => u32::MAX,
+    }
 }

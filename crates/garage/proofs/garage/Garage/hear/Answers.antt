@@ -1,4 +1,4 @@
-use Rattle.std.proofs.Common.{◌≡◌, refl, subst, sym, ◌∙◌}
+use Rattle.std.proofs.Common.{refl, subst, sym, ◌∙◌}
 use Rattle.journal.specs.Journal.{GarageValue}
 use Rattle.garage_steps.specs.Answers.{Hears}
 use Rattle.garage_steps.specs.declared.answers.HeardOne.TheVariants as heard

@@ -1,4 +1,4 @@
-use Rattle.std.proofs.Common.{◌≡◌, ℕ, refl, ap, ◌∙◌}
+use Rattle.std.proofs.Common.{ℕ, refl, ap, ◌∙◌}
 use Rattle.garage_steps.specs.Answers.{Hears}
 use Rattle.garage_steps.proofs.HearLemmas.{next_heard}
 use Rattle.garage_steps.proofs.SeatKept.{hearing_counted, is_unit, unit_hears}

@@ -11,7 +11,7 @@ use Rattle.garage.specs.Obeying.{Obeys}
 use Rattle.garage.proofs.Standing.{added, station_below, station_there, state, stands_more, tallies_still, fresh_still}
 use Rattle.garage.proofs.OrderLemmas.{joins_ordered, ordered_is, reacts}
 use Rattle.garage.proofs.InHand.{seat_of_station}
-use Rattle.garage.proofs.Lists.{lists_pushed}
+use Rattle.garage.proofs.Lists.{lists_of_event}
 use Rattle.garage.proofs.garage.Garage.obey.Goals as goal
 
 pub reserve-requires : goal.reserve-requires
@@ -61,16 +61,6 @@ invariant_of-self-2 c =
       places = (let w = stands.places in omega arith);
     })
 
-pub returns-clause-lists : goal.returns-clause-lists
-returns-clause-lists c =
-    let a = c.self.inside in
-    let r = c.in-Ok.reaction in
-    let now : Obeys (table_at (state_of c.args.self.now) c.args.station) c.args.order r =
-    subst (λ (x : Result Reaction StationError). IfOk x (Obeys (table_at (state_of c.args.self.now) c.args.station) c.args.order)) c.in-Ok.is c.requires.obeys in
-    let obeys : Obeys (table_at (state a) c.args.station) c.args.order r =
-    subst (λ (g : GarageValue). Obeys (table_at (state_of g) c.args.station) c.args.order r) (sym c.self.view_is) now in
-    lists_pushed a c.args.self.now _ _ (Ordered c.args.station c.args.order) c.self.view_is c.self.invariant refl (c.note_order.ensures) (station_there a c.args.station c.self.invariant (station_below a c.args.self.now c.args.station c.self.view_is c.self.invariant c.requires.station), (r, obeys.queues))
-
 pub returns-clause-ok : goal.returns-clause-ok
 returns-clause-ok c =
     let a = c.self.inside in
@@ -83,3 +73,6 @@ returns-clause-ok c =
     added a (record { limit = a.limit; bus = c.react.new.bus; posts = a.posts; stations = a.stations; places = a.places; begun = a.begun; live = a.live; injected = a.injected; journal = c.note_order.new.self }) c.args.self.now (Ordered y c.args.order)
     c.self.view_is refl (c.note_order.ensures)
     (station_there a y c.self.invariant (station_below a c.args.self.now y c.self.view_is c.self.invariant c.requires.station), (r, obeys.queues))
+
+pub returns-clause-lists : goal.returns-clause-lists
+returns-clause-lists c = lists_of_event c.args.self.now _ (Ordered c.args.station c.args.order) (returns-clause-ok c)

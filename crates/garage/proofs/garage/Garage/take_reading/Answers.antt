@@ -19,7 +19,7 @@ use Rattle.garage_steps.proofs.Events.{read_is, readings_with, joins_read}
 use Rattle.garage.proofs.Standing.{added, other_table, post_table, read_table, station_below, station_there, state, stands_more, still, tallies_still, fresh_still}
 use Rattle.garage.proofs.Headline.{reading_heard}
 use Rattle.garage.proofs.Listed.{listed_now, other_reading, own_reading}
-use Rattle.garage.proofs.Lists.{lists_pushed}
+use Rattle.garage.proofs.Lists.{lists_read}
 use Rattle.bus_model.specs.Heard.{entries_heard}
 use Rattle.entry_lists.specs.Entries.{entries_under}
 use Rattle.journal.specs.Worlds.{station_of_at}
@@ -121,18 +121,6 @@ invariant_of-self-2 c =
       places = (let w = stands.places in omega arith);
     })
 
-pub returns-clause-lists : goal.returns-clause-lists
-returns-clause-lists c =
-    let a = c.self.inside in
-    let y = c.args.station in
-    let r = c.args.reading.now in
-    let below = station_below a c.args.self.now y c.self.view_is c.self.invariant c.requires.station in
-    let in' : y < length a.posts.items = (let e = c.self.invariant.stations in omega arith) in
-    lists_pushed a c.args.self.now _ _ (Read y r) c.self.view_is c.self.invariant
-    (ap (λ (l : List StationSetting). let z : Settings = record { stations = l; limit = a.limit } in z) (set_settings a.posts.items y c.index_mut-post.result.now _ in' c.index_mut-post.ensures.value refl))
-    (c.note_read.ensures)
-    (station_there a y c.self.invariant below, next_is a c.args.self.now y r c.self.view_is c.requires.next, c.requires.some)
-
 pub returns-clause-ok : goal.returns-clause-ok
 returns-clause-ok c =
     let a = c.self.inside in
@@ -146,6 +134,9 @@ returns-clause-ok c =
     (added a (record { limit = a.limit; bus = c.react.new.bus; posts = with_item a.posts y (record { setting = x.setting; station = c.take.new.self; lists = c.take.new.lists }); stations = a.stations; places = a.places; begun = a.begun; live = a.live; injected = a.injected; journal = c.note_read.new.self })
     c.args.self.now (Read y r) c.self.view_is settings (c.note_read.ensures)
     (station_there a y c.self.invariant below, next_is a c.args.self.now y r c.self.view_is c.requires.next, c.requires.some))
+
+pub returns-clause-lists : goal.returns-clause-lists
+returns-clause-lists c = lists_read c.args.station c.args.self.now c.args.reading.now _ (returns-clause-ok c)
 
 -- the station and its lists are as they were (to find that by search takes a third of this function's proof)
 pub invariant_of-self-in_err-reaction : goal.invariant_of-self-in_err-reaction

@@ -14,15 +14,14 @@ run_part() {
     said=$1
     shift
     begun=$(date +%s)
-    rm -f "$said.well" "$said.ended"
+    rm -f "$said.well"
     { "$@" && : >"$said.well"; } 2>&1 | tee "$said"
-    : >"$said.ended"
     seconds=$(($(date +%s) - begun))
     add_part "$said" "$1"
 }
 
 # Begins a part that runs beside those that follow, of which others may be begun likewise. Its output is kept in a file, and shown once it is
-# waited for. Where $after has the words of a command, the part begins when that has ended.
+# waited for.
 #
 #     begin_part FILE COMMAND ..
 #     end_part FILE COMMAND ..     sets well, wrong and seconds
@@ -33,9 +32,6 @@ begin_part() {
         beside=$1
         shift
         trap 'kill "$running"; exit 1' TERM
-        ${after:-:} &
-        running=$!
-        wait "$running"
         begun=$(date +%s)
         "$@" >"$beside" 2>&1 &
         running=$!

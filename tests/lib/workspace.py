@@ -89,7 +89,7 @@ def join(folder, crate, parts):
 def results(folder, crate, *flags):
     """What each test of a crate in the copy came to, by the module and its name; the exit status, and what was said. The flags are those of `rt try`."""
     with tempfile.TemporaryDirectory(prefix="made-", dir=folder) as made:
-        ran = subprocess.run([TOP / "tests/gate/try_unchecked", "--test", *flags], cwd=folder / "crates" / crate, stdin=subprocess.DEVNULL,
+        ran = subprocess.run(["rt", "try", "--test", *flags], cwd=folder / "crates" / crate, stdin=subprocess.DEVNULL,
                              stdout=subprocess.PIPE, stderr=subprocess.STDOUT, text=True, errors="replace", env=os.environ | {"TMPDIR": made})
     told = collections.defaultdict(dict)
     for module, test, came_to in re.findall(r"^test (\w+)::(\S+) \.\.\. (\w+)", ran.stdout, re.M):

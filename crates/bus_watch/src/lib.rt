@@ -25,7 +25,7 @@ mod watch;
 pub use buses::{BusShown, BusWatch, Buses, Hearers, MOST_BUSES};
 pub use change::{Changes, WatchChange};
 pub use counts::WatchCounts;
-pub use laws::shown_lists_are_what_was_overheard;
+pub use laws::{shown_lists_are_exact, shown_lists_are_what_was_overheard};
 pub use listener::Who;
 pub use run::EntryRun;
 pub use selection::{Selection, UnitShown};

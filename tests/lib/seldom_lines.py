@@ -57,12 +57,12 @@ CONTESTED = b"""(1.000000) can0 18EEFF05#B000000000000000
 (1.450000) can0 18FECAC8#04FF69000101FFFF
 """
 
-ENTRIES = """1.300000 dm1 0000000000000090 amber (04FF); 100/1/1 contested
-1.310000 dm1 0000000000000091 amber (04FF); 101/1/1 contested
-1.349999 dm1 0000000000000090 amber (04FF); 102/1/1 contested
-1.350000 dm1 0000000000000090 amber (04FF); 103/1/1
-1.449999 dm1 0000000000000091 amber (04FF); 104/1/1 contested
-1.450000 dm1 0000000000000091 amber (04FF); 105/1/1
+ENTRIES = """1.300000 dm1 0000000000000090 amber (04FF); 100/1/1 contested (100/1: below normal, most severe)
+1.310000 dm1 0000000000000091 amber (04FF); 101/1/1 contested (101/1: below normal, most severe)
+1.349999 dm1 0000000000000090 amber (04FF); 102/1/1 contested (102/1: below normal, most severe)
+1.350000 dm1 0000000000000090 amber (04FF); 103/1/1 (103/1: below normal, most severe)
+1.449999 dm1 0000000000000091 amber (04FF); 104/1/1 contested (104/1: below normal, most severe)
+1.450000 dm1 0000000000000091 amber (04FF); 105/1/1 (105/1: below normal, most severe)
 """
 
 
@@ -159,7 +159,7 @@ def texts_of_other_rows(run, same):
         with tempfile.NamedTemporaryFile(suffix=".csv") as file:
             file.write(text)
             file.flush()
-            wanted = (0, "p6 0>all 65226 DM1: amber (04FF); 100/3/1\n", "") if told is None else (2, "", f"fault: texts\n{told}\n")
+            wanted = (0, "p6 0>all 65226 DM1: amber (04FF); 100/3/1 (100/3: voltage above normal or shorted high)\n", "") if told is None else (2, "", f"fault: texts\n{told}\n")
             found += same(run(["decode", "--texts", file.name], b"18FECA00#04FF64000301FFFF\n"), wanted, f"{text!r}")
     return found
 

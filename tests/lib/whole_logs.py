@@ -62,7 +62,7 @@ def changes_differ(file, same):
     log, _, hidden = file.stem.partition(".")
     words = ["--silence", "0", "--address", "248", *(["--unclaimed", "hide"] if hidden else [])]
     texts, errors, status = watch.watched(log_line.read_lines((TOP / "examples/logs" / f"{log}.log").read_bytes()), watch.Options.of(words, watch.PROGRAM_LISTENS))
-    lines = [line.removesuffix(" contested") for line in texts["text"].splitlines()]
+    lines = [line.replace(" contested", "") for line in texts["text"].splitlines()]
     return same(sorted(lines), sorted(file.read_text().splitlines()), "lines") + same((errors, status), ("", 0), "standard error and status")
 
 

@@ -8,7 +8,7 @@ from .frames import ABORT, BAM, END_OF_MESSAGE, GLOBAL, PACKET, RTS, TITLES, cla
 from .log_cases import reach
 from .memory import read_message
 from .notices import Absence, BadLines, without_frames
-from .words import DATA_GROUPS, address_words, code_object, dumped, message_words, name_fields, name_text, payload_words, seen, seen_json, time_text
+from .words import DATA_GROUPS, address_words, code_object, dumped, meaning_words, message_words, name_fields, name_text, payload_words, seen, seen_json, time_text
 
 MOST_BUSES = 16  # of which packets are joined
 
@@ -55,9 +55,8 @@ def place_object(line):
 
 
 def texts_behind(shown, texts):
-    """The text of each code that has one, in parentheses."""
-    told = [(code, texts.of(code)) for code in shown[1]] if shown else []
-    return "".join(f" ({code.spn}/{code.fmi}: {seen(text)})" for code, text in told if text is not None)
+    """What each code means, in parentheses."""
+    return "".join(meaning_words(code.spn, code.fmi, texts.of(code)) for code in (shown[1] if shown else []))
 
 
 def in_words(line, texts):

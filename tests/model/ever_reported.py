@@ -3,7 +3,7 @@
 from . import ever
 from .frames import KINDS
 from .log_cases import reach
-from .words import time_text
+from .words import FAILURE_MODES, meaning_words, time_text
 
 EVER_KINDS = ("dm1", "dm6")
 MOST_UNITS, MOST_CODES = 1024, 64
@@ -90,7 +90,7 @@ class EverInLog:
             reach("a unit had a lamp on at some time" if lamp else "a unit had a code at some time, and no lamp on")
             yield f"  ever {word}: {words}; last heard {time_or_dash(told.last_heard(), clock)}" + (f", not heard for the last {duration(silence)}" if silence else "")
             for (spn, fmi), *seen in codes:
-                yield f"  ever {word}: {spn}/{fmi} {seen_words(seen, clock)}"
+                yield f"  ever {word}: {spn}/{fmi} {seen_words(seen, clock)}" + meaning_words(spn, fmi)
             if more:
                 yield f"  ever {word}: further codes, up to {more} at once"
 
@@ -106,7 +106,7 @@ class EverInLog:
         told, silence = self.of(unit, kind), self.silence(unit, kind)
         lamp, *seen = told.lamp()
         codes, more = told.codes()
-        return {"lamp": lamp, **seen_object(seen), "codes": [{"spn": spn, "fmi": fmi, **seen_object(of_it)} for (spn, fmi), *of_it in codes], "more": more,
+        return {"lamp": lamp, **seen_object(seen), "codes": [{"spn": spn, "fmi": fmi, **seen_object(of_it), "fmi_text": FAILURE_MODES[fmi]} for (spn, fmi), *of_it in codes], "more": more,
                 "last_heard": time_or(told.last_heard(), None)} | ({"silent": silence // 1_000_000} if silence else {})
 
     def values(self, unit, kind, code):

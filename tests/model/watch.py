@@ -14,7 +14,7 @@ from .log_cases import reach
 from .log_line import ERROR, FD, REMOTE, SHORT
 from .notices import Absence, BadLines, Clock, without_frames
 from .clocks import Clocks
-from .words import ANSWERS, NOT_AVAILABLE, address_words, dumped, group_words, lamp_words, name_fields, name_text, seen, seen_json, shown_object, shown_words, time_text
+from .words import ANSWERS, FAILURE_MODES, NOT_AVAILABLE, address_words, dumped, group_words, lamp_words, meaning_words, name_fields, name_text, seen, seen_json, shown_object, shown_words, time_text
 
 # What the program has. To be switched on with it: all tests of lines of a log then try the program as one that listens.
 PROGRAM_LISTENS = True  # whether a listener stands behind `watch`, or still a station
@@ -143,7 +143,7 @@ class Run:
     def words(self, listens):
         """A listener says to whom it went, where that is not to all."""
         to = f" to {address_words(self.to, True)}" if listens and self.to != GLOBAL else ""
-        return shown_words(self.shown, True) + (" contested" if self.contested else "") + to
+        return shown_words(self.shown, True) + (" contested" if self.contested else "") + to + "".join(meaning_words(code.spn, code.fmi) for code in self.shown[1])
 
     def object(self, listens):
         to = {"to": self.to} if listens and self.to != GLOBAL else {}
@@ -549,7 +549,7 @@ class Watch:
 
     @staticmethod
     def header(options):
-        return HEADER + (",to" if options.listens else "") + (",bus" if options.each else "") + ",function,instance,manufacturer,identity,unit_text,code_text,name_hex" + EVER_HEADER + "\n"
+        return HEADER + (",to" if options.listens else "") + (",bus" if options.each else "") + ",function,instance,manufacturer,identity,unit_text,code_text,name_hex" + EVER_HEADER + ",fmi_text\n"
 
     @staticmethod
     def report_rows(watches, options):
@@ -570,10 +570,10 @@ class Watch:
                 to = ["" if run.to == GLOBAL else str(run.to)] if self.options.listens else []
                 for code in run.shown[1] or [None]:
                     yield [*before, word, *times, str(run.times), run.shown[0].hex().upper(), *self.code_values(code), "true" if run.contested else "false", *to], self.ever.values(
-                        (self.name, who), kind, code)
+                        (self.name, who), kind, code) + [csv_text(FAILURE_MODES[code.fmi]) if code else ""]
         if not found:
             reach("a row without entries")
-            yield before + [""] * (10 if self.options.listens else 9), [""] * 9
+            yield before + [""] * (10 if self.options.listens else 9), [""] * 10
 
     @staticmethod
     def code_values(code):

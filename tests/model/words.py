@@ -25,6 +25,16 @@ DATA_GROUPS = {
     65265: "CCVS1 cruise control/vehicle speed 1", 65266: "LFE1 fuel economy (liquid)", 65267: "VP vehicle position", 65269: "AMB ambient conditions",
     65270: "IC1 intake/exhaust conditions 1", 65271: "VEP1 vehicle electrical power 1", 65272: "TRF1 transmission fluids 1", 65276: "DD1 dash display 1",
 }
+# What each FMI says, from 0 to 31 (J1939-73, Appendix A, from memory).
+FAILURE_MODES = [
+    "above normal, most severe", "below normal, most severe", "erratic or incorrect data", "voltage above normal or shorted high",
+    "voltage below normal or shorted low", "current below normal or open circuit", "current above normal or grounded", "mechanical system not responding",
+    "abnormal frequency or pulse width", "abnormal update rate", "abnormal rate of change", "failure mode not identifiable", "bad device",
+    "out of calibration", "special instructions", "above normal, least severe", "above normal, moderately severe", "below normal, least severe",
+    "below normal, moderately severe", "received network data in error", "data drifted high", "data drifted low", "reserved failure mode",
+    "reserved failure mode", "reserved failure mode", "reserved failure mode", "reserved failure mode", "reserved failure mode", "reserved failure mode",
+    "reserved failure mode", "reserved failure mode", "condition exists",
+]
 ANSWERS = {0: "positive", 1: "negative", 2: "access denied", 3: "cannot respond now"}
 
 HIDDEN = "[\x00-\x1f\x7f-\x9f\u061c\u200e\u200f\u202a-\u202e\u2066-\u2069]"  # control characters, and marks that turn the direction of text
@@ -65,8 +75,13 @@ def code_words(codes):
 
 
 def code_object(code, text=None):
-    count = {} if text is None else {"text": text}
-    return {"spn": code.spn, "fmi": code.fmi, "count": None if code.count == NOT_AVAILABLE else code.count, **count}
+    own = {} if text is None else {"text": text}
+    return {"spn": code.spn, "fmi": code.fmi, "count": None if code.count == NOT_AVAILABLE else code.count, **own, "fmi_text": FAILURE_MODES[code.fmi]}
+
+
+def meaning_words(spn, fmi, text=None):
+    """Behind the codes: the shop's text for one, or else what its FMI says."""
+    return f" ({spn}/{fmi}: {FAILURE_MODES[fmi] if text is None else seen(text)})"
 
 
 def shown_words(shown, people):

@@ -1,4 +1,5 @@
 use crate::reading::{Numbers, Values};
+use dm_words::failure_mode_words;
 use indexmap::IndexMap;
 use std::alloc::{AllocError, Global};
 use std::fmt;
@@ -81,8 +82,8 @@ impl Texts {
     }
 }
 
-/// The texts of codes as people read them behind these: ` (190/2: Engine speed, erratic)` for each that has one. No terminal obeys
-/// them: what is hidden of a text stands by its number.
+/// What codes mean, as people read it behind these: ` (190/2: Engine speed, erratic)` for each, by the shop's text, or else by what its
+/// FMI says. No terminal obeys a text: what is hidden of it stands by its number.
 #[derive(Clone, Copy)]
 pub struct TextWords<'a> {
     pub texts: &'a Texts,
@@ -111,7 +112,7 @@ impl Texts {
         }
     }
 
-    /// Writes the text of a code in parentheses, where it has one.
+    /// Writes the text of a code in parentheses, or what its FMI says.
     fn write_text<W: fmt::Write>(&self, f: &mut fmt::Formatter<W>, code: Dtc) -> fmt::Result {
         let (spn, fmi) = (code.spn(), code.fmi());
         match self.parts_of(spn, fmi) {
@@ -123,7 +124,10 @@ impl Texts {
                 let text = Seen::line(text);
                 write!(f, " ({spn}/{fmi}: {text})")
             }
-            None => Ok(()),
+            None => {
+                let mode = failure_mode_words(fmi);
+                write!(f, " ({spn}/{fmi}: {mode})")
+            }
         }
     }
 }

@@ -2,7 +2,7 @@ use crate::joining::Joining;
 use crate::objects::{joined_object, line_object};
 use can_frame::{Frame, Pgn};
 use candump_line::{Line, Time, read_line};
-use code_texts::Texts;
+use code_texts::{TextWords, Texts};
 use dm_messages::{Shown, read};
 use frame_words::{write_joined_words, write_line_words};
 use log_lines::{Absence, FrameFate, LinesEnd, LogFault, Notices, ROOM, Wanted, next_line};
@@ -186,7 +186,7 @@ fn write_words_of_joined<W: Write>(
         return Err(LogFault::of_write(error));
     }
     if let Some(shown) = shown_in(alloc, joined.pgn, bytes)? {
-        write_texts(alloc, writer, texts, &shown)?;
+        write_texts(writer, texts, &shown)?;
     }
     match writeln!(writer) {
         Ok(()) => Ok(()),
@@ -259,37 +259,18 @@ fn write_texts_of<W: Write>(
     frame: &Frame,
 ) -> Result<(), LogFault> {
     match shown_by(alloc, frame)? {
-        Some(shown) => write_texts(alloc, writer, texts, &shown),
+        Some(shown) => write_texts(writer, texts, &shown),
         None => Ok(()),
     }
 }
 
-/// Writes the text of each code that has one.
-fn write_texts<W: Write>(
-    alloc: Global,
-    writer: &mut W,
-    texts: &Texts,
-    shown: &Shown,
-) -> Result<(), LogFault> {
-    for code in shown.codes.as_slice() {
-        write_text(alloc, writer, texts, *code)?;
-    }
-    Ok(())
-}
-
-fn write_text<W: Write>(
-    alloc: Global,
-    writer: &mut W,
-    texts: &Texts,
-    code: Dtc,
-) -> Result<(), LogFault> {
-    let spn = code.spn();
-    let fmi = code.fmi();
-    let Some(text) = texts.text_of(alloc, spn, fmi)? else {
-        return Ok(());
+/// Writes what each code means: the shop's text, or else what its FMI says.
+fn write_texts<W: Write>(writer: &mut W, texts: &Texts, shown: &Shown) -> Result<(), LogFault> {
+    let words = TextWords {
+        texts,
+        codes: shown.codes.as_slice(),
     };
-    let text = Seen::line(text.as_str());
-    match write!(writer, " ({spn}/{fmi}: {text})") {
+    match write!(writer, "{words}") {
         Ok(()) => Ok(()),
         Err(_) => Err(LogFault::Write),
     }

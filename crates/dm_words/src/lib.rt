@@ -2,9 +2,11 @@
 #![tactic(auto)]
 
 mod codes;
+mod failure_modes;
 mod lamps;
 mod objects;
 
 pub use codes::CodeWords;
+pub use failure_modes::failure_mode_words;
 pub use lamps::{LampBytes, LampWords};
 pub use objects::{NO_COUNT, put_code, put_lamps, put_number};

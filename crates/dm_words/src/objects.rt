@@ -1,3 +1,4 @@
+use crate::failure_modes::failure_mode_words;
 use crate::lamps::LampBytes;
 use json::Writer;
 use std::alloc::{AllocError, Global};
@@ -25,8 +26,8 @@ pub fn put_lamps(json: &mut Writer, alloc: Global, lamps: Lamps) -> Result<(), A
     json.string(text.as_str())
 }
 
-/// Writes a code as an object: its SPN, FMI and count, which is null where it is not available, and its text where it
-/// has one.
+/// Writes a code as an object: its SPN, FMI and count, which is null where it is not available, its text where it has
+/// one, and what its FMI says.
 ///
 /// # Errors
 /// Memory was refused.
@@ -44,5 +45,7 @@ pub fn put_code(json: &mut Writer, code: Dtc, text: Option<&str>) -> Result<(), 
         json.key("text")?;
         json.string(text)?;
     }
+    json.key("fmi_text")?;
+    json.string(failure_mode_words(code.fmi()))?;
     json.end_object()
 }

@@ -1,4 +1,4 @@
-use crate::message_words::{LAMPS, lamp_class, lamp_word, write_numbers, write_text};
+use crate::message_words::{LAMPS, lamp_class, lamp_word, write_meaning, write_numbers};
 use crate::moment::write_range;
 use crate::pieces::{write_between, write_count};
 use crate::silence::write_last_heard;
@@ -59,10 +59,8 @@ fn write_code<W: Write>(page: &mut Page<W>, words: &PageWords<'_>, code: &EverCo
     page.markup("<b>");
     write_numbers(page, spn, fmi);
     page.markup("</b> <span class=\"text\">");
-    if write_text(page, words, "", spn, fmi) {
-        page.markup(": ");
-    }
-    page.markup("</span>");
+    write_meaning(page, words, "", spn, fmi);
+    page.markup(": </span>");
     write_appearance(page, words, &code.seen);
 }
 

@@ -1,6 +1,7 @@
 use crate::pieces::{by_count, write_between, write_count};
 use crate::words::PageWords;
 use dm_messages::Kind;
+use dm_words::failure_mode_words;
 use page_text::Page;
 use picture::{Brief, Severity};
 use std::io::Write;
@@ -126,7 +127,7 @@ pub(crate) fn write_numbers<W: Write>(page: &mut Page<W>, spn: u32, fmi: u8) {
 }
 
 /// Writes the text of a code behind this, where it has one. Tells whether it has.
-pub(crate) fn write_text<W: Write>(
+fn write_text<W: Write>(
     page: &mut Page<W>,
     words: &PageWords<'_>,
     before: &'static str,
@@ -143,6 +144,20 @@ pub(crate) fn write_text<W: Write>(
             page.refuse_memory();
             false
         }
+    }
+}
+
+/// Writes what a code means behind this: its text, or else what its FMI says.
+pub(crate) fn write_meaning<W: Write>(
+    page: &mut Page<W>,
+    words: &PageWords<'_>,
+    before: &'static str,
+    spn: u32,
+    fmi: u8,
+) {
+    if !write_text(page, words, before, spn, fmi) {
+        page.markup(before);
+        page.markup(failure_mode_words(fmi));
     }
 }
 

@@ -1,7 +1,7 @@
 use crate::ever_cell::write_ever;
 use crate::labels::{write_fields, write_identity, write_label};
 use crate::message_words::{
-    LAMPS, flash_word, is_on, lamp_class, lamp_word, write_numbers, write_seen, write_text,
+    LAMPS, flash_word, is_on, lamp_class, lamp_word, write_meaning, write_numbers, write_seen,
 };
 use crate::moment::write_moment;
 use crate::pieces::{write_between, write_count};
@@ -310,9 +310,7 @@ fn write_code<W: Write>(page: &mut Page<W>, words: &PageWords<'_>, code: Dtc) {
         u64::from(code.fmi()),
         "</b> <span class=\"text\">",
     );
-    if !write_text(page, words, "", code.spn(), code.fmi()) {
-        page.markup("<span class=\"quiet\">no text</span>");
-    }
+    write_meaning(page, words, "", code.spn(), code.fmi());
     page.markup("</span><span class=\"quiet\">");
     write_seen(page, code);
     page.markup("</span></div>");
@@ -360,7 +358,7 @@ fn write_line<W: Write>(page: &mut Page<W>, words: &PageWords<'_>, codes: &[Dtc]
 
 fn write_in_line<W: Write>(page: &mut Page<W>, words: &PageWords<'_>, code: Dtc) {
     write_numbers(page, code.spn(), code.fmi());
-    write_text(page, words, " ", code.spn(), code.fmi());
+    write_meaning(page, words, " ", code.spn(), code.fmi());
 }
 
 /// That a unit is gone, or not known.

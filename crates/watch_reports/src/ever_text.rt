@@ -140,7 +140,7 @@ fn write_code<W: Write>(
     report.text("\n");
 }
 
-/// The shop's text for a code, in parentheses.
+/// What a code means, in parentheses.
 fn write_text<W: Write>(report: &mut ReportWriter<'_, W>, texts: &Texts, code: Dtc) {
     let codes = [code];
     let words = TextWords {

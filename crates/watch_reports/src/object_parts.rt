@@ -6,7 +6,7 @@ use bus_watch::{BusWatch, EntryRun, Watch, Who};
 use can_frame::GLOBAL_ADDRESS;
 use candump_line::Time;
 use code_texts::Texts;
-use dm_words::{LampBytes, NO_COUNT};
+use dm_words::{LampBytes, NO_COUNT, failure_mode_words};
 use name_field::Name;
 use std::io::Write;
 use text_buffer::is_hidden;
@@ -96,7 +96,8 @@ fn write_codes<W: Write>(report: &mut ReportWriter<'_, W>, texts: &Texts, codes:
     }
 }
 
-/// A code: its SPN, FMI and count, which is null where it is not available, and the shop's text for it, where there is one.
+/// A code: its SPN, FMI and count, which is null where it is not available, the shop's text for it, where there is one, and
+/// what its FMI says.
 fn write_code<W: Write>(report: &mut ReportWriter<'_, W>, texts: &Texts, code: Dtc) {
     let spn = code.spn();
     let fmi = code.fmi();
@@ -113,13 +114,21 @@ fn write_number<W: Write>(report: &mut ReportWriter<'_, W>, number: u8) {
     write!(report, "{number}");
 }
 
-/// The shop's text for a code, where there is one.
+/// The shop's text for a code, where there is one, and what its FMI says.
 pub(crate) fn write_code_text<W: Write>(
     report: &mut ReportWriter<'_, W>,
     texts: &Texts,
     spn: u32,
     fmi: u8,
 ) {
+    write_own_text(report, texts, spn, fmi);
+    report.text(",\"fmi_text\":\"");
+    report.text(failure_mode_words(fmi));
+    report.text("\"");
+}
+
+/// The shop's text for a code, where there is one.
+fn write_own_text<W: Write>(report: &mut ReportWriter<'_, W>, texts: &Texts, spn: u32, fmi: u8) {
     match texts.parts_of(spn, fmi) {
         Some((text, None)) => write_text(report, ",\"text\":\"", text),
         Some((text, Some(more))) => {

@@ -10,7 +10,7 @@ use can_frame::GLOBAL_ADDRESS;
 use candump_line::Time;
 use code_texts::Texts;
 use dm_messages::Kind;
-use dm_words::{LampBytes, NO_COUNT};
+use dm_words::{LampBytes, NO_COUNT, failure_mode_words};
 use name_field::Name;
 use picture::EverInLog;
 use std::io::Write;
@@ -24,8 +24,8 @@ const HEADER: &str =
 
 /// Writes the report: a row for each code of each run of equal entries, one without a code for a run without codes, and one
 /// without a kind for a unit without entries. Where each bus is watched, the bus follows; then come what the NAME says of the unit,
-/// the shop's texts for the unit and for the code, the NAME again, and what the unit told at any time.
-/// The names of the values stand before the first part.
+/// the shop's texts for the unit and for the code, the NAME again, what the unit told at any time, and what
+/// the FMI says. The names of the values stand before the first part.
 pub(crate) fn write_rows<W: Write>(
     report: &mut ReportWriter<'_, W>,
     buses: &Buses,
@@ -63,7 +63,7 @@ fn write_header<W: Write>(report: &mut ReportWriter<'_, W>, names_bus: bool) {
     }
     report.text(",function,instance,manufacturer,identity,unit_text,code_text,name_hex");
     report.text(EVER_HEADER);
-    report.text("\n");
+    report.text(",fmi_text\n");
 }
 
 /// The rows of a bus.
@@ -109,7 +109,7 @@ fn write_without_kind<W: Write>(
     report.text(",,,,,,,,,,");
     write_words(report, one, options, who, None);
     write_no_ever(report);
-    report.text("\n");
+    report.text(",\n");
 }
 
 /// The rows of a kind of messages.
@@ -173,7 +173,16 @@ fn write_row<W: Write>(
     write_doubt(report, run.contested, run.to);
     write_words(report, bus.one, options, who, code);
     write_ever(report, bus, who, kind, code);
+    write_failure_mode(report, code);
     report.text("\n");
+}
+
+/// What the FMI of a code says, behind a comma.
+fn write_failure_mode<W: Write>(report: &mut ReportWriter<'_, W>, code: Option<&Dtc>) {
+    report.text(",");
+    if let Some(code) = code {
+        write_text(report, failure_mode_words(code.fmi()));
+    }
 }
 
 /// The values between the address and the code.

@@ -223,7 +223,7 @@ fn write_shown<W: Write>(report: &mut ReportWriter<'_, W>, run: &EntryRun) {
     write_destination(report, run.to);
 }
 
-/// The shop's texts for the codes, each in parentheses.
+/// What the codes mean, each in parentheses.
 fn write_texts<W: Write>(report: &mut ReportWriter<'_, W>, texts: &Texts, run: &EntryRun) {
     let words = TextWords {
         texts,

@@ -32,11 +32,11 @@ DROPCOUNT: dropped 7 CAN frames on 'can1' socket (total drops 7)
 """
 EACH_BUS = """1.000000 can0 unit 00000000000000A0 (function 0 instance 0, manufacturer 0, identity 160) at 0
 1.000100 can1 unit 00000000000000B0 (function 0 instance 0, manufacturer 0, identity 176) at 0
-1.500000 can1 dm2 00000000000000B0 no lamp (00FF); 110/0/1 100/5/1 to 249(F9)
-1.600000 can0 dm2 00000000000000A0 amber (04FF); 1208/3/1 100/5/1 to 249(F9)
+1.500000 can1 dm2 00000000000000B0 no lamp (00FF); 110/0/1 100/5/1 to 249(F9) (110/0: above normal, most severe) (100/5: current below normal or open circuit)
+1.600000 can0 dm2 00000000000000A0 amber (04FF); 1208/3/1 100/5/1 to 249(F9) (1208/3: voltage above normal or shorted high) (100/5: current below normal or open circuit)
 1.700000 can0 ack 00000000000000A0: negative, to 249(F9), of 65228 (DM3)
 1.500000 can1 missed 7: no owner is known until units claim again (cansend can0 18EAFFFE#00EE00)
-1.800000 can1 dm1 address 0, no claim seen since gap 1: amber (04FF); 1208/3/1
+1.800000 can1 dm1 address 0, no claim seen since gap 1: amber (04FF); 1208/3/1 (1208/3: voltage above normal or shorted high)
 1.900000 can0 unread 1: dm1 of 00000000000000A0: bad length
 1.900000 can0 missed 1: no owner is known until units claim again (cansend can0 18EAFFFE#00EE00)
 1.800000 can1 missed 1: no owner is known until units claim again (cansend can0 18EAFFFE#00EE00)
@@ -46,38 +46,38 @@ can0 missed 1 unread 1
 can1 00000000000000B0    none      0      1      0    - -; function 0 instance 0, manufacturer 0, identity 176
 can1 address 0, no claim seen since gap 1      1      0      0    1 amber (04FF)
 can1   ever dm1: amber 1 time, first 1.800000, last 1.800000; last heard 1.800000
-can1   ever dm1: 1208/3 1 time, first 1.800000, last 1.800000
+can1   ever dm1: 1208/3 1 time, first 1.800000, last 1.800000 (1208/3: voltage above normal or shorted high)
 can1 missed 8 unread 0
 vcan2 00000000000000C0  33(21)      0      0      0    - -; function 0 instance 0, manufacturer 0, identity 192
 vcan2 missed 0 unread 0
 lines 15 frames 12 bad 1; not J1939: 11-bit 1, remote 0, CAN FD 0, error 0; other bus 0; not attributed 1
 """
-EACH_BUS_CSV = """name,address,kind,first_time,last_time,entries,lamps,spn,fmi,count,contested,to,bus,function,instance,manufacturer,identity,unit_text,code_text,name_hex,ever_lamp,ever_lamp_times,ever_lamp_first,ever_lamp_last,last_heard,silent,ever_code_times,ever_code_first,ever_code_last
-00000000000000A0,,dm2,1.600000,1.600000,1,04FF,1208,3,1,false,249,can0,0,0,0,160,,,0x00000000000000A0,,,,,,,,,
-00000000000000A0,,dm2,1.600000,1.600000,1,04FF,100,5,1,false,249,can0,0,0,0,160,,,0x00000000000000A0,,,,,,,,,
-00000000000000B0,,dm2,1.500000,1.500000,1,00FF,110,0,1,false,249,can1,0,0,0,176,,,0x00000000000000B0,,,,,,,,,
-00000000000000B0,,dm2,1.500000,1.500000,1,00FF,100,5,1,false,249,can1,0,0,0,176,,,0x00000000000000B0,,,,,,,,,
-"address 0, no claim seen since gap 1",0,dm1,1.800000,1.800000,1,04FF,1208,3,1,false,,can1,,,,,,,,amber,1,1.800000,1.800000,1.800000,,1,1.800000,1.800000
-00000000000000C0,33,,,,,,,,,,,vcan2,0,0,0,192,,,0x00000000000000C0,,,,,,,,,
+EACH_BUS_CSV = """name,address,kind,first_time,last_time,entries,lamps,spn,fmi,count,contested,to,bus,function,instance,manufacturer,identity,unit_text,code_text,name_hex,ever_lamp,ever_lamp_times,ever_lamp_first,ever_lamp_last,last_heard,silent,ever_code_times,ever_code_first,ever_code_last,fmi_text
+00000000000000A0,,dm2,1.600000,1.600000,1,04FF,1208,3,1,false,249,can0,0,0,0,160,,,0x00000000000000A0,,,,,,,,,,voltage above normal or shorted high
+00000000000000A0,,dm2,1.600000,1.600000,1,04FF,100,5,1,false,249,can0,0,0,0,160,,,0x00000000000000A0,,,,,,,,,,current below normal or open circuit
+00000000000000B0,,dm2,1.500000,1.500000,1,00FF,110,0,1,false,249,can1,0,0,0,176,,,0x00000000000000B0,,,,,,,,,,"above normal, most severe"
+00000000000000B0,,dm2,1.500000,1.500000,1,00FF,100,5,1,false,249,can1,0,0,0,176,,,0x00000000000000B0,,,,,,,,,,current below normal or open circuit
+"address 0, no claim seen since gap 1",0,dm1,1.800000,1.800000,1,04FF,1208,3,1,false,,can1,,,,,,,,amber,1,1.800000,1.800000,1.800000,,1,1.800000,1.800000,voltage above normal or shorted high
+00000000000000C0,33,,,,,,,,,,,vcan2,0,0,0,192,,,0x00000000000000C0,,,,,,,,,,
 """
 # The same of examples/logs/07-two-buses.log: other units at one address of two buses, asked by one tool at the same time.
 TWO_UNITS_AT_0 = """1792922400.050000 can0 unit 1000000001419907 (function 0 instance 0, manufacturer 10, identity 104711) at 0
 1792922400.050100 can1 unit 1000010001419907 (function 1 instance 0, manufacturer 10, identity 104711) at 0
 1792922400.080000 can0 unit 90008100255804D2 (function 129 instance 0, manufacturer 298, identity 1574098) at 249(F9)
 1792922400.080100 can1 unit 90008100255804D2 (function 129 instance 0, manufacturer 298, identity 1574098) at 249(F9)
-1792922401.000000 can0 dm1 1000000001419907 amber (04FF); 110/0/1
+1792922401.000000 can0 dm1 1000000001419907 amber (04FF); 110/0/1 (110/0: above normal, most severe)
 1792922401.000400 can1 dm1 1000010001419907 no lamp (00FF); -
-1792922402.330500 can1 dm2 1000010001419907 no lamp (00FF); 100/1/1 101/1/1 to 249(F9)
-1792922402.330900 can0 dm2 1000000001419907 amber (04FF); 1208/3/1 100/5/1 to 249(F9)
-1792922403.000400 can1 dm1 1000010001419907 amber (04FF); 101/1/1
+1792922402.330500 can1 dm2 1000010001419907 no lamp (00FF); 100/1/1 101/1/1 to 249(F9) (100/1: below normal, most severe) (101/1: below normal, most severe)
+1792922402.330900 can0 dm2 1000000001419907 amber (04FF); 1208/3/1 100/5/1 to 249(F9) (1208/3: voltage above normal or shorted high) (100/5: current below normal or open circuit)
+1792922403.000400 can1 dm1 1000010001419907 amber (04FF); 101/1/1 (101/1: below normal, most severe)
 can0 1000000001419907       0      3      1      0    1 amber (04FF); function 0 instance 0, manufacturer 10, identity 104711
 can0   ever dm1: amber 1 time, first 1792922401.000000, last 1792922403.000000; last heard 1792922403.000000
-can0   ever dm1: 110/0 1 time, first 1792922401.000000, last 1792922403.000000
+can0   ever dm1: 110/0 1 time, first 1792922401.000000, last 1792922403.000000 (110/0: above normal, most severe)
 can0 90008100255804D2 249(F9)      0      0      0    - -; function 129 instance 0, manufacturer 298, identity 1574098
 can0 missed 0 unread 0
 can1 1000010001419907       0      3      1      0    1 amber (04FF); function 1 instance 0, manufacturer 10, identity 104711
 can1   ever dm1: amber 1 time, first 1792922403.000400, last 1792922403.000400; last heard 1792922403.000400
-can1   ever dm1: 101/1 1 time, first 1792922403.000400, last 1792922403.000400
+can1   ever dm1: 101/1 1 time, first 1792922403.000400, last 1792922403.000400 (101/1: below normal, most severe)
 can1 90008100255804D2 249(F9)      0      0      0    - -; function 129 instance 0, manufacturer 298, identity 1574098
 can1 missed 0 unread 0
 lines 22 frames 22 bad 0; not J1939: 11-bit 0, remote 0, CAN FD 0, error 0; other bus 0; not attributed 0

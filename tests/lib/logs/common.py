@@ -10,7 +10,7 @@ KINDS = ("dm1", "dm2", "dm6")
 CLAIM = b"(1.000000) can0 18EEFF00#A000000000000000\n"
 MESSAGE = b"(1.100000) can0 18FECA00#04FFB8040301FFFF\n"
 CLAIMED = "1.000000 unit 00000000000000A0 (function 0 instance 0, manufacturer 0, identity 160) at 0\n"
-SHOWN = "1.100000 dm1 00000000000000A0 amber (04FF); 1208/3/1\n"
+SHOWN = "1.100000 dm1 00000000000000A0 amber (04FF); 1208/3/1 (1208/3: voltage above normal or shorted high)\n"
 
 
 def run(words, text=b"", **given):

@@ -51,10 +51,10 @@ def changes_of(name, words, file):
     wanted = file.read_text().splitlines()
     lines = out.splitlines()
     found = same(status, 0, "status") + same(err, "", "standard error")
-    found += same(sorted(line.removesuffix(" contested") for line in lines), sorted(wanted), "lines")
+    found += same(sorted(line.replace(" contested", "") for line in lines), sorted(wanted), "lines")
     found += same([line for line in lines if not is_change(line)], [line for line in wanted if not is_change(line)], "report")
-    marked = ["1792915210.005000 dm1 10001A092580001F amber (04FF); 190/2/1 contested"] if name == "02-contention" else []
-    return found + same([line for line in lines if line.endswith("contested")], marked, "contested")
+    marked = ["1792915210.005000 dm1 10001A092580001F amber (04FF); 190/2/1 contested (190/2: erratic or incorrect data)"] if name == "02-contention" else []
+    return found + same([line for line in lines if " contested" in line], marked, "contested")
 
 
 def log_in_json(name):
@@ -77,7 +77,7 @@ def log_in_json(name):
 def log_in_csv(name):
     status, out, err = run(["watch", "--silence", "0", "--address", "248", "--format", "csv", "--unclaimed", "hide"], log_of(name))
     header = "name,address,kind,first_time,last_time,entries,lamps,spn,fmi,count,contested,to,function,instance,manufacturer,identity,unit_text,code_text,name_hex"
-    header += ",ever_lamp,ever_lamp_times,ever_lamp_first,ever_lamp_last,last_heard,silent,ever_code_times,ever_code_first,ever_code_last"
+    header += ",ever_lamp,ever_lamp_times,ever_lamp_first,ever_lamp_last,last_heard,silent,ever_code_times,ever_code_first,ever_code_last,fmi_text"
     found = same(status, 0, "status") + same(out.splitlines()[0], header, "header") + same(units_of_csv(out), units_wanted(name), "units")
     rows = list(csv.DictReader(io.StringIO(out)))
     told = [(row["name"], row["kind"], row["first_time"], row["last_time"]) for row in rows if row["contested"] == "true"]

@@ -6,7 +6,7 @@ import tempfile
 
 from logs.common import run, same
 
-AMBER = "DM1: amber (04FF); 1208/3/1 100/5/1"
+AMBER = "DM1: amber (04FF); 1208/3/1 100/5/1 (1208/3: voltage above normal or shorted high) (100/5: current below normal or open circuit)"
 BAM = "1CECFF00#200A0002FFCAFE00"
 FIRST, LAST = "1CEBFF00#0104FFB804030164", "1CEBFF00#02000501FFFFFFFF"
 RTS = "1CECF900#100A0002FFCAFE00"
@@ -122,10 +122,11 @@ def joined_apart():
         texts.write(b"spn,fmi,text\n100,,Oil\n")
         texts.flush()
         last = run(["decode", "--join", "--texts", texts.name], text)[1].splitlines()[-1]
-        found += same(last, f"(1.000000) can0 {TO_ALL} (100/5: Oil)", "texts")
+        found += same(last, f"(1.000000) can0 {TO_ALL}".replace("current below normal or open circuit", "Oil"), "texts")
         last = json.loads(run(["decode", "--join", "--format", "json", "--texts", texts.name], text)[1].splitlines()[-1])
     wanted = {"line": 3, "joined": True, "time": "1.000000", "bus": "can0", "source": 0, "destination": 255, "pgn": 65226, "data": "04FFB804030164000501"}
-    codes = [{"spn": 1208, "fmi": 3, "count": 1}, {"spn": 100, "fmi": 5, "count": 1, "text": "Oil"}]
+    codes = [{"spn": 1208, "fmi": 3, "count": 1, "fmi_text": "voltage above normal or shorted high"},
+             {"spn": 100, "fmi": 5, "count": 1, "text": "Oil", "fmi_text": "current below normal or open circuit"}]
     wanted |= {"says": "DM1: amber; 1208/3/1 100/5/1", "lamps": "04FF", "codes": codes}
     found += same(last, wanted, "in JSON")
     named = json.loads(run(["decode", "--format", "json"], b"0CF00400#F07D820C1D00F083\n")[1])

@@ -17,7 +17,7 @@ def live_pipe_is_answered_at_once():
     found = []
     for words, first, second in (
         (["watch"], CLAIMED.encode(), SHOWN.encode()),
-        (["decode"], b"(1.000000) can0 p6 0>all 60928 claim: NAME 00000000000000A0", b"(1.100000) can0 p6 0>all 65226 DM1: amber (04FF); 1208/3/1\n"),
+        (["decode"], b"(1.000000) can0 p6 0>all 60928 claim: NAME 00000000000000A0", b"(1.100000) can0 p6 0>all 65226 DM1: amber (04FF); 1208/3/1 (1208/3: voltage above normal or shorted high)\n"),
     ):
         child = subprocess.Popen(called(*words), stdin=subprocess.PIPE, stdout=subprocess.PIPE)
         for line, wanted in ((CLAIM, first), (MESSAGE, second)):

@@ -98,7 +98,7 @@ def session_to_an_address():
         text = "".join(f"({n}.000000) can0 {frame}\n" for n, frame in enumerate(frames)).encode()
         all_shown = run(["watch", "--silence", "0"], text)[1]
         own, other = (run(["watch", "--address", address, "--silence", "0"], text)[1] for address in ("249", "248"))
-        told = f"3.000000 {kind} 00000000000000A0 amber (04FF); 1208/3/1 100/5/1 to 249(F9)\n"
+        told = f"3.000000 {kind} 00000000000000A0 amber (04FF); 1208/3/1 100/5/1 to 249(F9) (1208/3: voltage above normal or shorted high) (100/5: current below normal or open circuit)\n"
         found += [out for out in (all_shown, own) if told not in out] + ([other] if f" {kind} " in other else [])
     return found
 

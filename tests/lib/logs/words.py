@@ -32,8 +32,8 @@ def log_of_a_script():
 
 
 WORDS = [
-    ("(1792915208.500000) can0 18FECA00#04FF6E000001FFFF", "(1792915208.500000) can0 p6 0>all 65226 DM1: amber (04FF); 110/0/1"),
-    ("(1792918802.110000) can0 18FECF00#04FF64000101FFFF", "(1792918802.110000) can0 p6 0>all 65231 DM6: amber (04FF); 100/1/1"),
+    ("(1792915208.500000) can0 18FECA00#04FF6E000001FFFF", "(1792915208.500000) can0 p6 0>all 65226 DM1: amber (04FF); 110/0/1 (110/0: above normal, most severe)"),
+    ("(1792918802.110000) can0 18FECF00#04FF64000101FFFF", "(1792918802.110000) can0 p6 0>all 65231 DM6: amber (04FF); 100/1/1 (100/1: below normal, most severe)"),
     ("18FECF03#00FF00000000FFFF", "p6 3>all 65231 DM6: no lamp (00FF); -"),
     ("18FECA09#44DF00000000FFFF", "p6 9>all 65226 DM1: mil, amber (44DF); -"),
     ("18FECA0A#10DF00000000FFFF", "p6 10(0A)>all 65226 DM1: stop flashing fast (10DF); -"),
@@ -51,7 +51,7 @@ WORDS = [
     ("18FECA00#04FFB8040381FFFF", "p6 0>all 65226 DM1: cannot be read: old conversion"),
     ("18FECF00#04FFB8040381FFFF", "p6 0>all 65231 DM6: cannot be read: old conversion"),
     ("19FECF00#04FFB8040301FFFF", "p6 0>all 130767 -: data 04 FF B8 04 03 01 FF FF"),
-    ("18FECA00 04 FF B8 04 03 01 FF FF", "p6 0>all 65226 DM1: amber (04FF); 1208/3/1"),
+    ("18FECA00 04 FF B8 04 03 01 FF FF", "p6 0>all 65226 DM1: amber (04FF); 1208/3/1 (1208/3: voltage above normal or shorted high)"),
     ("", "-"),
 ]
 
@@ -97,7 +97,7 @@ def lines_in_json():
     status, out, err = run(["decode", "--format", "json"], MESSAGE + CLAIM + b"(1.0) can0 12#\n")
     objects = [json.loads(line) for line in out.splitlines()]
     wanted = {"line": 1, "time": "1.100000", "bus": "can0", "priority": 6, "source": 0, "destination": 255, "pgn": 65226}
-    wanted |= {"data": "04FFB8040301FFFF", "says": "DM1: amber; 1208/3/1", "lamps": "04FF", "codes": [{"spn": 1208, "fmi": 3, "count": 1}]}
+    wanted |= {"data": "04FFB8040301FFFF", "says": "DM1: amber; 1208/3/1", "lamps": "04FF", "codes": [{"spn": 1208, "fmi": 3, "count": 1, "fmi_text": "voltage above normal or shorted high"}]}
     found = same(objects[0], wanted, "first object") + same(objects[1]["name"], "00000000000000A0", "NAME")
     found += same(objects[1]["fields"]["identity"], 0xA0, "identity") + same(len(objects), 3, "objects")
     return found + same((status, err), (3, "line 3: no time (SECONDS.MICROSECONDS)\n"), "status and standard error")
@@ -119,7 +119,7 @@ def own_texts():
     """Texts of both numbers go before those of one; a file that holds none is refused, one that is not there is a failed read."""
     text = b"spn,fmi,text\n1208,,\"Pressure, filter\"\n,3,voltage high\n110,0,Coolant hot\n"
     lines = b"18FECA00#04FFB8040301FFFF\n18FECA00#04FF6E000001FFFF\n18FECA00#04FF6E000101FFFF\n18FECA00#04FFB8040501FFFF\n18FECA00#04FFB8041F01FFFF\n"
-    wanted = ["1208/3/1 (1208/3: Pressure, filter, voltage high)", "110/0/1 (110/0: Coolant hot)", "110/1/1", "1208/5/1 (1208/5: Pressure, filter)", "1208/31/1 (1208/31: Pressure, filter)"]
+    wanted = ["1208/3/1 (1208/3: Pressure, filter, voltage high)", "110/0/1 (110/0: Coolant hot)", "110/1/1 (110/1: below normal, most severe)", "1208/5/1 (1208/5: Pressure, filter)", "1208/31/1 (1208/31: Pressure, filter)"]
     with tempfile.NamedTemporaryFile(suffix=".csv") as texts:
         texts.write(text)
         texts.flush()
@@ -261,9 +261,27 @@ def lamps_in_words():
     found = []
     for lamps, words in LAMPS:
         frame = f"(1.000000) can0 18FECA00#{lamps}64000301FFFF\n".encode()
-        found += same(run(["decode"], frame)[1], f"(1.000000) can0 p6 0>all 65226 DM1: {words} ({lamps}); 100/3/1\n", f"decode of {lamps}")
+        found += same(run(["decode"], frame)[1], f"(1.000000) can0 p6 0>all 65226 DM1: {words} ({lamps}); 100/3/1 (100/3: voltage above normal or shorted high)\n", f"decode of {lamps}")
         found += same(json.loads(run(["decode", "--format", "json"], frame)[1])["says"], f"DM1: {words}; 100/3/1", f"decode's JSON of {lamps}")
         status, out, err = run(["watch"], frame)
-        found += same((status, err, out.splitlines()[:2]), (0, "", [f"1.000000 dm1 address 0, no claim seen: {words} ({lamps}); 100/3/1",
+        found += same((status, err, out.splitlines()[:2]), (0, "", [f"1.000000 dm1 address 0, no claim seen: {words} ({lamps}); 100/3/1 (100/3: voltage above normal or shorted high)",
                                                                     f"address 0, no claim seen      1      0      0    1 {words} ({lamps})"]), f"watch of {lamps}")
     return found
+
+
+def failure_modes_in_words():
+    """Who has no texts reads in words what each FMI says: in `watch` as text, JSON, CSV and a page, and in `decode`."""
+    found, lines = [], [(f"({fmi + 1}.000000) can0 18FECA00#04FFBE00{fmi:02X}01FFFF\n", fmi, mode) for fmi, mode in enumerate(words.FAILURE_MODES)]
+    log = "".join(line for line, _, _ in lines).encode()
+    text, page = run(["watch"], log)[1].splitlines(), run(["watch", "--format", "html"], log)[1]
+    report = [json.loads(line) for line in run(["watch", "--format", "json"], log)[1].splitlines()]
+    rows = list(csv.DictReader(io.StringIO(run(["watch", "--format", "csv"], log)[1])))
+    decoded = run(["decode"], log)[1].splitlines()
+    objects = [json.loads(line) for line in run(["decode", "--format", "json"], log)[1].splitlines()]
+    ever = report[-1]["rows"][0]["ever"]["dm1"]["codes"]
+    for at, (_, fmi, mode) in enumerate(lines):
+        behind = f"190/{fmi}/1 (190/{fmi}: {mode})"
+        told = [text[at].endswith(behind), decoded[at].endswith(behind), report[at]["codes"][0]["fmi_text"], ever[at]["fmi_text"], rows[at]["fmi_text"], objects[at]["codes"][0]["fmi_text"]]
+        found += same(told, [True, True, mode, mode, mode, mode], f"FMI {fmi}")
+        found += same(f'<b>190/{fmi}</b> <span class="text">{mode}: </span>' in page, fmi < 20, f"FMI {fmi} on the page, of which the first 20 codes are listed")
+    return found + same(len(set(words.FAILURE_MODES[:22])), 22, "words that are the same")

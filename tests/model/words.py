@@ -35,6 +35,8 @@ FAILURE_MODES = [
     "reserved failure mode", "reserved failure mode", "reserved failure mode", "reserved failure mode", "reserved failure mode", "reserved failure mode",
     "reserved failure mode", "reserved failure mode", "condition exists",
 ]
+# Why a session was aborted (J1939-21, 5.10.3, from memory).
+ABORTS = {1: "already in another session", 2: "resources needed elsewhere", 3: "timeout", 4: "CTS while sending", 5: "too many retransmissions", 6: "unexpected packet", 7: "bad sequence number", 8: "duplicate sequence number", 9: "message too long"}
 ANSWERS = {0: "positive", 1: "negative", 2: "access denied", 3: "cannot respond now"}
 
 HIDDEN = "[\x00-\x1f\x7f-\x9f\u061c\u200e\u200f\u202a-\u202e\u2066-\u2069]"  # control characters, and marks that turn the direction of text
@@ -163,7 +165,7 @@ def control_words(frame, people):
     else:
         assert what == ABORT
         reach("says: abort")
-        told = f"abort for reason {data[1]},"
+        told = f"abort for reason {data[1]}" + (f" ({ABORTS[data[1]]})" if people and data[1] in ABORTS else "") + ","
     return f"TP.CM: {told} of {group_words(control_pgn(frame), people)}"
 
 

@@ -2,6 +2,7 @@
 //! mind.
 #![tactic(auto)]
 
+mod aborted;
 mod audience;
 mod group;
 mod line;

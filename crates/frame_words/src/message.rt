@@ -4,6 +4,7 @@ ghost use Rattle.dm_messages.specs.Refusals.{refusal};
 ghost use Rattle.dm_messages.specs.View.{decoding};
 ghost use Rattle.frame_words.specs.Words.{function_text, kind_text};
 
+use crate::aborted::AbortWords;
 use crate::audience::Audience;
 use crate::group::{AddressWords, ByteWords, ControlWords, GroupWords, UnreadWords, group_name};
 use can_frame::{Frame, Pgn};
@@ -190,7 +191,7 @@ fn write_control<W: Write>(
     audience: Audience,
 ) -> io::Result<()> {
     write!(writer, "TP.CM: ")?;
-    write_step(writer, control)?;
+    write_step(writer, control, audience)?;
     let group = GroupWords(group_of(control), audience);
     write!(writer, " of {group}")
 }
@@ -207,7 +208,7 @@ fn group_of(control: &Control) -> Pgn {
 }
 
 /// Writes what a message of connection management tells.
-fn write_step<W: Write>(writer: &mut W, control: &Control) -> io::Result<()> {
+fn write_step<W: Write>(writer: &mut W, control: &Control, audience: Audience) -> io::Result<()> {
     match control {
         Control::Rts {
             size,
@@ -227,7 +228,18 @@ fn write_step<W: Write>(writer: &mut W, control: &Control) -> io::Result<()> {
         Control::Bam { size, packets, .. } => {
             write!(writer, "BAM {size} bytes in {packets} packets")
         }
-        Control::Abort { reason, .. } => write!(writer, "abort for reason {reason},"),
+        Control::Abort { reason, .. } => write_abort(writer, *reason, audience),
+    }
+}
+
+/// Writes for which reason a session was aborted, for people in words too.
+fn write_abort<W: Write>(writer: &mut W, reason: u8, audience: Audience) -> io::Result<()> {
+    match audience {
+        Audience::People => {
+            let reason = AbortWords(reason);
+            write!(writer, "abort for reason {reason},")
+        }
+        Audience::Programs => write!(writer, "abort for reason {reason},"),
     }
 }
 

@@ -285,3 +285,12 @@ def failure_modes_in_words():
         found += same(told, [True, True, mode, mode, mode, mode], f"FMI {fmi}")
         found += same(f'<b>190/{fmi}</b> <span class="text">{mode}: </span>' in page, fmi < 20, f"FMI {fmi} on the page, of which the first 20 codes are listed")
     return found + same(len(set(words.FAILURE_MODES[:22])), 22, "words that are the same")
+
+
+def aborts_in_words():
+    """Each reason for which a session was aborted, by its number, and to people in words where these are known."""
+    log = "".join(f"1CEC00F9#FF{reason:02X}FFFFFFCAFE00\n" for reason in range(256)).encode()
+    told = [line.partition("TP.CM: ")[2] for line in run(["decode"], log)[1].splitlines()]
+    says = [json.loads(line)["says"] for line in run(["decode", "--format", "json"], log)[1].splitlines()]
+    wanted = [f"abort for reason {reason}" + (f" ({words.ABORTS[reason]})" if reason in words.ABORTS else "") + ", of 65226 (DM1)" for reason in range(256)]
+    return same(told, wanted, "decode") + same(says, [f"TP.CM: abort for reason {reason}, of 65226 (DM1)" for reason in range(256)], "JSON")

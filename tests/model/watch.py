@@ -7,7 +7,7 @@ Equal entries that come one after the other under a NAME are a run.
 
 from .ever_reported import HEADER as EVER_HEADER
 from .ever_reported import EverInLog
-from .frames import BAM, GLOBAL, KINDS, PACKET, RTS, claim, control_of
+from .frames import BAM, GLOBAL, KINDS, NULL, PACKET, RTS, claim, control_of
 from .heard import Station
 from .listener import Listener, Unclaimed
 from .log_cases import reach
@@ -26,6 +26,7 @@ WORD_OF = {kind: word for word, kind in KINDS.items()}
 FOREIGN = {SHORT: "short", REMOTE: "remote", FD: "fd", ERROR: "error"}
 COUNTS = ["all", "frame", "bad", "short", "remote", "fd", "error", "other_bus", "drop", "note", "withheld"]
 HEADER = "name,address,kind,first_time,last_time,entries,lamps,spn,fmi,count,contested"
+NO_UNIT = "no unit's address"  # 254 and 255 (J1939-81)
 UNITS_CLAIM = "cansend can0 18EAFFFE#00EE00"
 
 
@@ -121,9 +122,15 @@ def csv_text(text):
 
 
 def field_words(name):
-    """The same in words."""
-    keys = unit_keys(name)
-    return f"function {keys['function']} instance {keys['instance']}, manufacturer {keys['manufacturer']}, identity {keys['identity']}"
+    """The same in words; of a function from 128 on with the industry group and the vehicle system, on which it depends (J1939-81)."""
+    keys, fields = unit_keys(name), name_fields(name)
+    of = f" (industry group {fields['industry_group']}, vehicle system {fields['vehicle_system']})" if keys["function"] > 127 else ""
+    return f"function {keys['function']}{of} instance {keys['instance']}, manufacturer {keys['manufacturer']}, identity {keys['identity']}"
+
+
+def source_words(address):
+    """An address that a message came from; 255 is not all then."""
+    return "255(FF)" if address == GLOBAL else address_words(address, True)
 
 
 def time_asked(word, clock):
@@ -382,7 +389,7 @@ class Watch:
             if self.options.listens:
                 reach("an address that nobody claimed is told of, and has no row")
             self.told_unowned.add(source)
-            self.write(number, "unowned", f"unowned DM from {address_words(source, True)}, which nobody has claimed in what was read: not shown", address=source)
+            self.write(number, "unowned", f"unowned DM from {source_words(source)}, which nobody has claimed in what was read: not shown", address=source)
 
     def tell_ack(self, number, name, control, pgn, source, requester, to):
         """A listener hears those to others too, and shows all, or those to the one address whose messages are shown."""
@@ -460,11 +467,11 @@ class Watch:
         """An address that nobody claimed is another unit behind each gap, and is told apart."""
         if not isinstance(who, Unclaimed):
             return name_text(who)
-        return self.unclaimed_words(who, address_words(who.address, True))
+        return self.unclaimed_words(who, source_words(who.address))
 
     @staticmethod
     def unclaimed_words(who, address):
-        return f"address {address}, no claim seen" + (f" since gap {who.gaps}" if who.gaps else "")
+        return f"address {address}, {'no claim seen' if who.address < NULL else NO_UNIT}" + (f" since gap {who.gaps}" if who.gaps else "")
 
     def who_object(self, who):
         if isinstance(who, Unclaimed):

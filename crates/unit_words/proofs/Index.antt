@@ -4,6 +4,7 @@ use Rattle.std.proofs.lemmas.List.Elements.{All-nil, All-cons, All-push, All-wea
 use Rattle.std.specs.Prelude.{slice_index_or}
 use Rattle.std.specs.HashMap.{HashMap, get, Updates}
 use Rattle.std.specs.List.{All}
+use Rattle.std.specs.Bool.{then_some}
 use Rattle.std.specs.Option.{option_eq}
 use Rattle.unit_words.specs.Exact.{is_given_as, fits, exactness, NoneFits, IsPlaceOf}
 use Rattle.unit_words.specs.Index.{is_same, key_of_row, exactness_of, IsKeyOf, NoneGives, IsLastRow, IsIndexed}
@@ -19,13 +20,20 @@ bit_within : (t : Bool) (n : ℕ) → (if t then n else 0) ≤ n
 bit_within true n = omega arith
 bit_within false n = omega arith
 
-pub at_most_seven : (rows : List UnitRow) (name : ℕ) → All (IsBelow name 8) rows
-at_most_seven rows name = All-weaker (λ row. exactness row < 8) (IsBelow name 8) (λ row h yes. h) rows (each rows)
+pub at_most_31 : (rows : List UnitRow) (name : ℕ) → All (IsBelow name 32) rows
+at_most_31 rows name = All-weaker (λ row. exactness row < 32) (IsBelow name 32) (λ row h yes. h) rows (each rows)
   where
-    each : (rows : List UnitRow) → All (λ row. exactness row < 8) rows
-    each [] = All-nil (λ row. exactness row < 8)
-    each (row ∷ rows) = All-cons (λ row. exactness row < 8) row rows
-        (omega (arith, bit_within (is_some row.name) 4, bit_within (is_some row.function) 2, bit_within (is_some row.manufacturer) 1)) (each rows)
+    each : (rows : List UnitRow) → All (λ row. exactness row < 32) rows
+    each [] = All-nil (λ row. exactness row < 32)
+    each (row ∷ rows) = All-cons (λ row. exactness row < 32) row rows
+        (omega (
+          arith,
+          bit_within (is_some row.name) 16,
+          bit_within (is_some row.function) 8,
+          bit_within (is_some row.industry_group) 4,
+          bit_within (is_some row.vehicle_system) 2,
+          bit_within (is_some row.manufacturer) 1,
+        )) (each rows)
 
 pub none_fits : (rows : List UnitRow) (name : ℕ) → All (IsBelow name 0) rows → NoneFits rows name
 none_fits rows name h = All-weaker (IsBelow name 0) (λ row. fits row name ≡ false) (λ row below. no row below (fits row name) refl) rows h
@@ -99,7 +107,7 @@ indexed_more rows row old new was updates key = rw (updates.0 key) (go (is_same 
     )
 
 -- a value is given, and as this number, exactly where its part of a key is the same
-part : (t : Bool) (n : ℕ) (given : Option ℕ) → (option_eq nat_eq given (if t then Some n else None) ≡ true) ↔ ((is_given_as given n ≡ true) × (is_some given ≡ t))
+part : (t : Bool) (n : ℕ) (given : Option ℕ) → (option_eq nat_eq given (then_some t n) ≡ true) ↔ ((is_given_as given n ≡ true) × (is_some given ≡ t))
 part true n None = (λ e. absurd cc, λ h. absurd cc)
 part true n (Some g) = (λ e. (e, refl), λ h. h.0)
 part false n None = (λ e. (refl, refl), λ h. refl)
@@ -127,30 +135,41 @@ both true b = (λ e. (refl, e), λ h. h.1)
 both false b = (λ e. absurd cc, λ h. absurd cc)
 
 -- what so exact rows give
-exact_parts : (a b c x y z : Bool) → exactness_of x y z ≡ exactness_of a b c → (x ≡ a) × (y ≡ b) × (z ≡ c)
-exact_parts a b c x y z e =
-    let first : bit x ≡ bit a = omega (arith, e, times a 4, times b 2, times c 1, times x 4, times y 2, times z 1, bit_most a, bit_most b, bit_most c, bit_most x, bit_most y, bit_most z) in
-    let second : bit y ≡ bit b = omega (arith, e, times a 4, times b 2, times c 1, times x 4, times y 2, times z 1, bit_most a, bit_most b, bit_most c, bit_most x, bit_most y, bit_most z) in
-    let third : bit z ≡ bit c = omega (arith, e, times a 4, times b 2, times c 1, times x 4, times y 2, times z 1, bit_most a, bit_most b, bit_most c, bit_most x, bit_most y, bit_most z) in
-    (bit_same x a first, bit_same y b second, bit_same z c third)
+exact_parts : (a b c d e v w x y z : Bool) → exactness_of v w x y z ≡ exactness_of a b c d e → (v ≡ a) × (w ≡ b) × (x ≡ c) × (y ≡ d) × (z ≡ e)
+exact_parts a b c d e v w x y z same =
+    let first : bit v ≡ bit a = omega (arith, same, times a 16, times b 8, times c 4, times d 2, times e 1, times v 16, times w 8, times x 4, times y 2, times z 1, bit_most a, bit_most b, bit_most c, bit_most d, bit_most e, bit_most v, bit_most w, bit_most x, bit_most y, bit_most z) in
+    let second : bit w ≡ bit b = omega (arith, same, times a 16, times b 8, times c 4, times d 2, times e 1, times v 16, times w 8, times x 4, times y 2, times z 1, bit_most a, bit_most b, bit_most c, bit_most d, bit_most e, bit_most v, bit_most w, bit_most x, bit_most y, bit_most z) in
+    let third : bit x ≡ bit c = omega (arith, same, times a 16, times b 8, times c 4, times d 2, times e 1, times v 16, times w 8, times x 4, times y 2, times z 1, bit_most a, bit_most b, bit_most c, bit_most d, bit_most e, bit_most v, bit_most w, bit_most x, bit_most y, bit_most z) in
+    let fourth : bit y ≡ bit d = omega (arith, same, times a 16, times b 8, times c 4, times d 2, times e 1, times v 16, times w 8, times x 4, times y 2, times z 1, bit_most a, bit_most b, bit_most c, bit_most d, bit_most e, bit_most v, bit_most w, bit_most x, bit_most y, bit_most z) in
+    let fifth : bit z ≡ bit e = omega (arith, same, times a 16, times b 8, times c 4, times d 2, times e 1, times v 16, times w 8, times x 4, times y 2, times z 1, bit_most a, bit_most b, bit_most c, bit_most d, bit_most e, bit_most v, bit_most w, bit_most x, bit_most y, bit_most z) in
+    (bit_same v a first, bit_same w b second, bit_same x c third, bit_same y d fourth, bit_same z e fifth)
 
-pub key_is : (a b c : Bool) (name : ℕ) (key : UnitKey) → key.name ≡ (if a then Some name else None) → key.function ≡ (if b then Some (fields_of name).function else None)
-    → key.manufacturer ≡ (if c then Some (fields_of name).manufacturer else None) → IsKeyOf name (exactness_of a b c) key
-key_is a b c name key n f m row =
+pub key_is : (a b c d e : Bool) (name : ℕ) (key : UnitKey) → key.name ≡ then_some a name → key.function ≡ then_some b (fields_of name).function
+    → key.industry_group ≡ then_some c (fields_of name).industry_group → key.vehicle_system ≡ then_some d (fields_of name).vehicle_system
+    → key.manufacturer ≡ then_some e (fields_of name).manufacturer → IsKeyOf name (exactness_of a b c d e) key
+key_is a b c d e name key n f g s m row =
     let pn = part a name row.name in
     let pf = part b (fields_of name).function row.function in
-    let pm = part c (fields_of name).manufacturer row.manufacturer in
-    rw (n, f, m) (
-      λ e.
-          let h = (both _ _).0 e in
-          let k = (both _ _).0 h.1 in
-          let x = pn.0 h.0 in
-          let y = pf.0 k.0 in
+    let pg = part c (fields_of name).industry_group row.industry_group in
+    let ps = part d (fields_of name).vehicle_system row.vehicle_system in
+    let pm = part e (fields_of name).manufacturer row.manufacturer in
+    rw (n, f, g, s, m) (
+      λ all.
+          let h = (both _ _).0 all in
+          let i = (both _ _).0 h.1 in
+          let j = (both _ _).0 i.1 in
+          let k = (both _ _).0 j.1 in
+          let v = pn.0 h.0 in
+          let w = pf.0 i.0 in
+          let x = pg.0 j.0 in
+          let y = ps.0 k.0 in
           let z = pm.0 k.1 in
-          ((both _ _).1 (x.0, (both _ _).1 (y.0, z.0)), rw (x.1, y.1, z.1) refl),
-      λ h.
-          let fit = (both _ _).0 h.0 in
-          let rest = (both _ _).0 fit.1 in
-          let same = exact_parts a b c (is_some row.name) (is_some row.function) (is_some row.manufacturer) h.1 in
-          (both _ _).1 (pn.1 (fit.0, same.0), (both _ _).1 (pf.1 (rest.0, same.1), pm.1 (rest.1, same.2))),
+          ((both _ _).1 (v.0, (both _ _).1 (w.0, (both _ _).1 (x.0, (both _ _).1 (y.0, z.0)))), rw (v.1, w.1, x.1, y.1, z.1) refl),
+      λ all.
+          let h = (both _ _).0 all.0 in
+          let i = (both _ _).0 h.1 in
+          let j = (both _ _).0 i.1 in
+          let k = (both _ _).0 j.1 in
+          let same = exact_parts a b c d e (is_some row.name) (is_some row.function) (is_some row.industry_group) (is_some row.vehicle_system) (is_some row.manufacturer) all.1 in
+          (both _ _).1 (pn.1 (h.0, same.0), (both _ _).1 (pf.1 (i.0, same.1), (both _ _).1 (pg.1 (j.0, same.2), (both _ _).1 (ps.1 (k.0, same.3), pm.1 (k.1, same.4))))),
     )

@@ -11,11 +11,11 @@ is_given_as (Some given) n = given == n
 
 -- the row is for the unit of this NAME
 abbrev pub fits : UnitRow → ℕ → Bool
-fits row name = is_given_as row.name name && (is_given_as row.function (fields_of name).function && is_given_as row.manufacturer (fields_of name).manufacturer)
+fits row name = is_given_as row.name name && (is_given_as row.function (fields_of name).function && (is_given_as row.industry_group (fields_of name).industry_group && (is_given_as row.vehicle_system (fields_of name).vehicle_system && is_given_as row.manufacturer (fields_of name).manufacturer)))
 
--- a NAME is more exact than function and manufacturer together, a function more than a manufacturer
+-- each is more exact than all behind it together: NAME, function, industry group, vehicle system, manufacturer
 abbrev pub exactness : UnitRow → ℕ
-exactness row = (if is_some row.name then 4 else 0) + ((if is_some row.function then 2 else 0) + (if is_some row.manufacturer then 1 else 0))
+exactness row = (if is_some row.name then 16 else 0) + ((if is_some row.function then 8 else 0) + ((if is_some row.industry_group then 4 else 0) + ((if is_some row.vehicle_system then 2 else 0) + (if is_some row.manufacturer then 1 else 0))))
 
 abbrev pub NoneFits : List UnitRow → ℕ → Type 0
 NoneFits rows name = All (λ row. fits row name ≡ false) rows

@@ -8,13 +8,13 @@ use Rattle.unit_words.specs.declared.key.UnitKey.{UnitKey}
 use Rattle.unit_words.specs.declared.row.UnitRow.{UnitRow}
 
 abbrev pub is_same : UnitKey → UnitKey → Bool
-is_same a b = option_eq nat_eq a.name b.name && (option_eq nat_eq a.function b.function && option_eq nat_eq a.manufacturer b.manufacturer)
+is_same a b = option_eq nat_eq a.name b.name && (option_eq nat_eq a.function b.function && (option_eq nat_eq a.industry_group b.industry_group && (option_eq nat_eq a.vehicle_system b.vehicle_system && option_eq nat_eq a.manufacturer b.manufacturer)))
 
 abbrev pub key_of_row : UnitRow → UnitKey
-key_of_row row = record { name = row.name; function = row.function; manufacturer = row.manufacturer }
+key_of_row row = record { name = row.name; function = row.function; industry_group = row.industry_group; vehicle_system = row.vehicle_system; manufacturer = row.manufacturer }
 
-abbrev pub exactness_of : Bool → Bool → Bool → ℕ
-exactness_of name function manufacturer = (if name then 4 else 0) + ((if function then 2 else 0) + (if manufacturer then 1 else 0))
+abbrev pub exactness_of : Bool → Bool → Bool → Bool → Bool → ℕ
+exactness_of name function group system manufacturer = (if name then 16 else 0) + ((if function then 8 else 0) + ((if group then 4 else 0) + ((if system then 2 else 0) + (if manufacturer then 1 else 0))))
 
 -- rows give this exactly where they are for the unit and so exact
 abbrev pub IsKeyOf : ℕ → ℕ → UnitKey → Type 0

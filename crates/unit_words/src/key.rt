@@ -9,6 +9,8 @@ use name_field::Name;
 pub(crate) struct UnitKey {
     name: Option<Name>,
     function: Option<u8>,
+    industry_group: Option<u8>,
+    vehicle_system: Option<u8>,
     manufacturer: Option<u16>,
 }
 
@@ -20,13 +22,15 @@ impl UnitKey {
         UnitKey {
             name: row.name,
             function: row.function,
+            industry_group: row.industry_group,
+            vehicle_system: row.vehicle_system,
             manufacturer: row.manufacturer,
         }
     }
 
     /// What the rows give that are for the unit of this NAME and are so exact.
     pub(crate) fn of_unit(name: Name, exactness: u8) -> UnitKey
-        requires { exactness < 8 }
+        requires { exactness < 32 }
         ensures { IsKeyOf name exactness result }
     {
         Given::of(exactness).key(name)
@@ -38,50 +42,37 @@ impl UnitKey {
 struct Given {
     name: bool,
     function: bool,
+    industry_group: bool,
+    vehicle_system: bool,
     manufacturer: bool,
 }
 
 impl Given {
     /// What rows give that are so exact.
     fn of(exactness: u8) -> Given
-        requires { exactness < 8 }
-        ensures { exactness_of result.name result.function result.manufacturer ≡ exactness }
+        requires { exactness < 32 }
+        ensures { exactness_of result.name result.function result.industry_group result.vehicle_system result.manufacturer ≡ exactness }
     {
-        let (name, function, manufacturer) = match exactness {
-            7 => (true, true, true),
-            6 => (true, true, false),
-            5 => (true, false, true),
-            4 => (true, false, false),
-            3 => (false, true, true),
-            2 => (false, true, false),
-            1 => (false, false, true),
-            _ => (false, false, false),
-        };
         Given {
-            name,
-            function,
-            manufacturer,
+            name: exactness / 16 == 1,
+            function: exactness / 8 % 2 == 1,
+            industry_group: exactness / 4 % 2 == 1,
+            vehicle_system: exactness / 2 % 2 == 1,
+            manufacturer: exactness % 2 == 1,
         }
     }
 
     /// The same of this unit.
-    #[tactic(auto, using(crate::proofs::Index::key_is))]
     fn key(self, name: Name) -> UnitKey
-        ensures { IsKeyOf name (exactness_of self.name self.function self.manufacturer) result }
+        ensures { IsKeyOf name (exactness_of self.name self.function self.industry_group self.vehicle_system self.manufacturer) result }
     {
         let fields = name.fields();
         UnitKey {
-            name: if self.name { Some(name) } else { None },
-            function: if self.function {
-                Some(fields.function)
-            } else {
-                None
-            },
-            manufacturer: if self.manufacturer {
-                Some(fields.manufacturer)
-            } else {
-                None
-            },
+            name: self.name.then_some(name),
+            function: self.function.then_some(fields.function),
+            industry_group: self.industry_group.then_some(fields.industry_group),
+            vehicle_system: self.vehicle_system.then_some(fields.vehicle_system),
+            manufacturer: self.manufacturer.then_some(fields.manufacturer),
         }
     }
 }

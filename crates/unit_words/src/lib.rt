@@ -10,4 +10,4 @@ mod words;
 pub use csv_rows::SheetFault as UnitsFault;
 pub use row::UnitRow;
 pub use texts::UnitTexts;
-pub use words::{FieldWords, UnitWords};
+pub use words::{FieldWords, UnitWords, unclaimed_words};

@@ -5,21 +5,32 @@ use name_field::Name;
 use std::alloc::{AllocError, Global};
 
 /// What the columns of the file may be.
-const NAMES: [&'static str; 4] = ["name", "function", "manufacturer", "text"];
+const NAMES: [&'static str; 6] = [
+    "name",
+    "function",
+    "industry_group",
+    "vehicle_system",
+    "manufacturer",
+    "text",
+];
 
 const NAME: usize = 0;
 
 const FUNCTION: usize = 1;
 
-const MANUFACTURER: usize = 2;
+const INDUSTRY_GROUP: usize = 2;
 
-const TEXT: usize = 3;
+const VEHICLE_SYSTEM: usize = 3;
+
+const MANUFACTURER: usize = 4;
+
+const TEXT: usize = 5;
 
 impl UnitTexts {
     /// The texts of a shop's file.
     ///
-    /// Its columns are `text` and one or more of `name` (16 hexadecimal digits), `function` (0 to 255) and `manufacturer` (0 to
-    /// 2047), in any order. Each line is a text for the units that have what it gives; a value that is empty gives nothing.
+    /// Its columns are `text` and one or more of `name` (16 hexadecimal digits), `function` (0 to 255), `industry_group` (0 to 7),
+    /// `vehicle_system` (0 to 127) and `manufacturer` (0 to 2047), in any order. Each line is a text for the units that have what it gives; a value that is empty gives nothing.
     ///
     /// # Errors
     /// - `Refused`: the first line names other columns; or a line has another number of values, a value that its column does not
@@ -73,6 +84,8 @@ fn read_rows(
 struct Values<'a> {
     name: Option<Name>,
     function: Option<u8>,
+    industry_group: Option<u8>,
+    vehicle_system: Option<u8>,
     manufacturer: Option<u16>,
     text: &'a str,
 }
@@ -84,6 +97,8 @@ impl Values<'_> {
         Ok(UnitRow {
             name: self.name,
             function: self.function,
+            industry_group: self.industry_group,
+            vehicle_system: self.vehicle_system,
             manufacturer: self.manufacturer,
             text,
         })
@@ -92,10 +107,13 @@ impl Values<'_> {
 
 fn values_of<'a>(sheet: &'a Sheet<'_>) -> Result<Values<'a>, Wrong<'a>> {
     let name = name_of(sheet)?;
-    let function = function_of(sheet)?;
+    let function = byte_of(sheet, FUNCTION, 255, "0 to 255")?;
+    let industry_group = byte_of(sheet, INDUSTRY_GROUP, 7, "0 to 7")?;
+    let vehicle_system = byte_of(sheet, VEHICLE_SYSTEM, 127, "0 to 127")?;
     let manufacturer = manufacturer_of(sheet)?;
     let text = sheet.word(TEXT)?;
-    if name.is_none() && function.is_none() && manufacturer.is_none() {
+    let of_system = industry_group.is_some() || vehicle_system.is_some();
+    if name.is_none() && function.is_none() && !of_system && manufacturer.is_none() {
         return Err(Wrong::NoKey(sheet.names()));
     }
     if text.is_empty() {
@@ -104,6 +122,8 @@ fn values_of<'a>(sheet: &'a Sheet<'_>) -> Result<Values<'a>, Wrong<'a>> {
     Ok(Values {
         name,
         function,
+        industry_group,
+        vehicle_system,
         manufacturer,
         text,
     })
@@ -120,9 +140,15 @@ fn name_of<'a>(sheet: &'a Sheet<'_>) -> Result<Option<Name>, Wrong<'a>> {
     }
 }
 
-fn function_of<'a>(sheet: &'a Sheet<'_>) -> Result<Option<u8>, Wrong<'a>> {
-    match sheet.number(FUNCTION, 255, "0 to 255")? {
-        Some(number) => Ok(Some(number as u8)),
+/// The number of a column that is a byte at most.
+fn byte_of<'a>(
+    sheet: &'a Sheet<'_>,
+    column: usize,
+    most: u8,
+    range: &'static str,
+) -> Result<Option<u8>, Wrong<'a>> {
+    match sheet.number(column, u32::from(most), range)? {
+        Some(number) => Ok(u8::try_from(number).ok()),
         None => Ok(None),
     }
 }

@@ -11,7 +11,7 @@ use std::marker::Model;
 
 /// A shop's texts for units, seen as their rows in the order of the file.
 ///
-/// A row is found by what it gives, in eight steps at most, however many rows there are.
+/// A row is found by what it gives, in 32 steps at most, however many rows there are.
 #[derive(Drop)]
 pub struct UnitTexts {
     rows: Vec<UnitRow>,
@@ -60,7 +60,8 @@ impl UnitTexts {
     /// The text of a unit: that of the most exact row that is for it, and of equally exact ones that of the last; none where no row
     /// is for it.
     ///
-    /// A NAME is more exact than function and manufacturer together, these more than a function, and that more than a manufacturer.
+    /// A NAME is more exact than all else together, a function more than what stands behind it, and so on: industry group, vehicle
+    /// system, manufacturer.
     #[tactic(auto, using(crate::proofs::Exact::text_found))]
     pub fn text_of(&self, name: Name) -> Option<&str>
         ensures found { IfSome result (λ text. IsTextOf self.entry.now name text.now) }
@@ -81,13 +82,13 @@ impl UnitTexts {
     }
 
     /// The place of the most exact row for a unit: rows that give more are looked for first.
-    #[tactic(auto, using(crate::proofs::Index::at_most_seven))]
+    #[tactic(auto, using(crate::proofs::Index::at_most_31))]
     fn place_of(&self, name: Name) -> Option<usize>
         ensures found { IfSome result (λ place. IsPlaceOf self.now name place) }
         ensures none { IfNone result (NoneFits self.now name) }
     {
-        for less in 0..8u8 {
-            let key = UnitKey::of_unit(name, 7 - less);
+        for less in 0..32u8 {
+            let key = UnitKey::of_unit(name, 31 - less);
             if let Some(place) = self.index.get(&key) {
                 return Some(*place);
             }

@@ -6,7 +6,7 @@ use page_text::Page;
 use picture::{DrawnUnit, Sender};
 use std::alloc::Global;
 use std::io::Write;
-use unit_words::{FieldWords, UnitTexts};
+use unit_words::{FieldWords, UnitTexts, unclaimed_words};
 
 /// The most bytes of a unit's text that are shown.
 const MOST: usize = 80;
@@ -39,13 +39,13 @@ fn write_function<W: Write>(page: &mut Page<W>, name: Name) {
 pub(crate) fn write_identity<W: Write>(page: &mut Page<W>, view: &View<'_>, unit: &DrawnUnit) {
     match unit.sender {
         Sender::Named(name) => page.made_text(Name::from_number(name).to_string(view.alloc)),
-        Sender::Unclaimed { gaps, .. } => write_no_claim(page, gaps),
+        Sender::Unclaimed { address, gaps } => write_no_claim(page, address, gaps),
     }
     write_bus(page, view.buses, unit.bus);
 }
 
-fn write_no_claim<W: Write>(page: &mut Page<W>, gaps: u64) {
-    page.markup("no claim seen");
+fn write_no_claim<W: Write>(page: &mut Page<W>, address: u8, gaps: u64) {
+    page.markup(unclaimed_words(address));
     if gaps > 0 {
         write_count(page, " since gap ", gaps, "");
     }

@@ -2,7 +2,7 @@
 
 use crate::options::ReportOptions;
 use crate::report_writer::ReportWriter;
-use crate::units::{NameWords, WhoWords, address_words, kind_word};
+use crate::units::{NameWords, SourceWords, WhoWords, address_words, kind_word};
 use bus_watch::{BusWatch, EntryRun, Watch, WatchChange, Who};
 use can_frame::{GLOBAL_ADDRESS, Pgn};
 use candump_line::Time;
@@ -95,7 +95,7 @@ fn missed_words() -> &'static str {
 
 /// The address that nobody has claimed, of which a message came.
 fn write_unowned<W: Write>(report: &mut ReportWriter<'_, W>, source: u8) {
-    let source = address_words(source);
+    let source = SourceWords(source);
     writeln!(
         report,
         " unowned DM from {source}, which nobody has claimed in what was read: not shown"

@@ -1,10 +1,11 @@
 use bus_watch::{UnitShown, Watch, Who};
+use can_frame::GLOBAL_ADDRESS;
 use dm_messages::Kind;
 use frame_words::{AddressWords, Audience};
 use name_field::Name;
 use std::fmt;
 use text_buffer::Seen;
-use unit_words::UnitTexts;
+use unit_words::{UnitTexts, unclaimed_words};
 
 /// The kinds of messages that are listed, in the order in which a report has them.
 pub const KINDS: [Kind; 3] = [Kind::Dm1, Kind::Dm2, Kind::Dm6];
@@ -21,6 +22,20 @@ pub(crate) fn kind_word(kind: Kind) -> &'static str {
 /// An address as people read it: in decimal, with its hexadecimal digits behind.
 pub(crate) fn address_words(address: u8) -> AddressWords {
     AddressWords(address, Audience::People)
+}
+
+/// An address that a message came from, for people: 255 is not `all` there.
+#[derive(Clone, Copy)]
+pub(crate) struct SourceWords(pub(crate) u8);
+
+impl fmt::Display for SourceWords {
+    fn fmt<W: fmt::Write>(&self, f: &mut fmt::Formatter<W>) -> fmt::Result {
+        if self.0 == GLOBAL_ADDRESS {
+            return write!(f, "255(FF)");
+        }
+        let words = address_words(self.0);
+        write!(f, "{words}")
+    }
 }
 
 /// A NAME for people, with the shop's text for its unit behind, where there is one: `1000000001419907 (Engine)`.
@@ -69,9 +84,9 @@ impl fmt::Display for PlainWho {
         match self.0 {
             Who::Named(name) => write!(f, "{name}"),
             Who::Unclaimed { address, gaps } => {
-                let address = address_words(address);
-                write!(f, "address {address}, no claim seen")?;
-                write_gap(f, gaps)
+                let source = SourceWords(address);
+                write!(f, "address {source}, ")?;
+                write_unclaimed(f, address, gaps)
             }
         }
     }
@@ -86,15 +101,21 @@ impl fmt::Display for WhoValue {
         match self.0 {
             Who::Named(name) => write!(f, "{name}"),
             Who::Unclaimed { address, gaps } => {
-                write!(f, "address {address}, no claim seen")?;
-                write_gap(f, gaps)
+                write!(f, "address {address}, ")?;
+                write_unclaimed(f, address, gaps)
             }
         }
     }
 }
 
-/// Since which gap nobody was seen to claim an address; nothing where there was none.
-fn write_gap<W: fmt::Write>(f: &mut fmt::Formatter<W>, gaps: u64) -> fmt::Result {
+/// That nobody was seen to claim an address, or that no unit can, and since which gap; no gap where there was none.
+fn write_unclaimed<W: fmt::Write>(
+    f: &mut fmt::Formatter<W>,
+    address: u8,
+    gaps: u64,
+) -> fmt::Result {
+    let words = unclaimed_words(address);
+    write!(f, "{words}")?;
     if gaps == 0 {
         return Ok(());
     }

@@ -63,8 +63,8 @@ EACH_BUS_CSV = """name,address,kind,first_time,last_time,entries,lamps,spn,fmi,c
 # The same of examples/logs/07-two-buses.log: other units at one address of two buses, asked by one tool at the same time.
 TWO_UNITS_AT_0 = """1792922400.050000 can0 unit 1000000001419907 (function 0 instance 0, manufacturer 10, identity 104711) at 0
 1792922400.050100 can1 unit 1000010001419907 (function 1 instance 0, manufacturer 10, identity 104711) at 0
-1792922400.080000 can0 unit 90008100255804D2 (function 129 instance 0, manufacturer 298, identity 1574098) at 249(F9)
-1792922400.080100 can1 unit 90008100255804D2 (function 129 instance 0, manufacturer 298, identity 1574098) at 249(F9)
+1792922400.080000 can0 unit 90008100255804D2 (function 129 (industry group 1, vehicle system 0) instance 0, manufacturer 298, identity 1574098) at 249(F9)
+1792922400.080100 can1 unit 90008100255804D2 (function 129 (industry group 1, vehicle system 0) instance 0, manufacturer 298, identity 1574098) at 249(F9)
 1792922401.000000 can0 dm1 1000000001419907 amber (04FF); 110/0/1 (110/0: above normal, most severe)
 1792922401.000400 can1 dm1 1000010001419907 no lamp (00FF); -
 1792922402.330500 can1 dm2 1000010001419907 no lamp (00FF); 100/1/1 101/1/1 to 249(F9) (100/1: below normal, most severe) (101/1: below normal, most severe)
@@ -73,12 +73,12 @@ TWO_UNITS_AT_0 = """1792922400.050000 can0 unit 1000000001419907 (function 0 ins
 can0 1000000001419907       0      3      1      0    1 amber (04FF); function 0 instance 0, manufacturer 10, identity 104711
 can0   ever dm1: amber 1 time, first 1792922401.000000, last 1792922403.000000; last heard 1792922403.000000
 can0   ever dm1: 110/0 1 time, first 1792922401.000000, last 1792922403.000000 (110/0: above normal, most severe)
-can0 90008100255804D2 249(F9)      0      0      0    - -; function 129 instance 0, manufacturer 298, identity 1574098
+can0 90008100255804D2 249(F9)      0      0      0    - -; function 129 (industry group 1, vehicle system 0) instance 0, manufacturer 298, identity 1574098
 can0 missed 0 unread 0
 can1 1000010001419907       0      3      1      0    1 amber (04FF); function 1 instance 0, manufacturer 10, identity 104711
 can1   ever dm1: amber 1 time, first 1792922403.000400, last 1792922403.000400; last heard 1792922403.000400
 can1   ever dm1: 101/1 1 time, first 1792922403.000400, last 1792922403.000400 (101/1: below normal, most severe)
-can1 90008100255804D2 249(F9)      0      0      0    - -; function 129 instance 0, manufacturer 298, identity 1574098
+can1 90008100255804D2 249(F9)      0      0      0    - -; function 129 (industry group 1, vehicle system 0) instance 0, manufacturer 298, identity 1574098
 can1 missed 0 unread 0
 lines 22 frames 22 bad 0; not J1939: 11-bit 0, remote 0, CAN FD 0, error 0; other bus 0; not attributed 0
 """

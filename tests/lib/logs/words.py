@@ -164,7 +164,7 @@ def first_lines():
     """The first line of either file names its columns, in any order, by any separator; a wrong one is told, and a quote that takes in the rest."""
     found = []
     kinds = (("--texts", b"spn", b"100", "spn, fmi", OIL, lambda line: line.split("(100/3: ")[1][:-1]),
-             ("--units", b"function", b"0", "name, function, manufacturer", CLAIM, lambda line: line.partition("; ")[2]))
+             ("--units", b"function", b"0", "name, function, industry_group, vehicle_system, manufacturer", CLAIM, lambda line: line.partition("; ")[2]))
     for (text, wanted), (option, key, number, keys, line, told_of) in itertools.product(FIRST_LINES, kinds):
         text = text.replace(b"KEY", key).replace(b"N", number) if b"UTF" not in text else text
         with tempfile.NamedTemporaryFile(suffix=".csv") as file:
@@ -193,28 +193,48 @@ def wrong_lines():
 
 
 def most_exact_rows():
-    """The most exact of many rows counts, the last of equally exact ones; looked up against a search of all rows."""
+    """The most exact of many rows counts, the last of equally exact ones; looked up against a search of all rows, and where its columns of industry group and
+    vehicle system are not there, as before these were."""
     chance, found = random.Random(64), []
-    names = [chance.getrandbits(64) & ~(0xFF << 40 | 0x7FF << 21) | chance.randrange(3) << 40 | chance.randrange(3) << 21 for _ in range(12)]
-    for count in (0, 1, 5, 40, 2000):
+    parts = ((40, 0xFF), (60, 7), (49, 0x7F), (21, 0x7FF))  # function, industry group, vehicle system, manufacturer: where it stands in a NAME
+    clear = sum(most << at for at, most in parts)
+    names = [chance.getrandbits(64) & ~clear | sum(chance.randrange(3) << at for at, _ in parts) for _ in range(12)]
+    for count, columns in itertools.product((0, 1, 5, 40, 2000), ((0, 1, 2, 3), (0, 3), (1, 2))):
         rows = []
         for at in range(count):
             name = chance.choice(names) if chance.random() < 0.4 else None
-            function = chance.randrange(4) if chance.random() < 0.5 else None
-            manufacturer = chance.randrange(4) if chance.random() < 0.5 or name is function is None else None
-            rows.append((name, function, manufacturer, f"row {at}"))
+            given = [chance.randrange(4) if place in columns and chance.random() < 0.5 else None for place in range(4)]
+            if name is None and given == [None] * 4:
+                given[columns[0]] = chance.randrange(4)
+            rows.append((name, given, f"row {at}"))
         with tempfile.NamedTemporaryFile("w", suffix=".csv") as file:
-            file.write("name,function,manufacturer,text\n" + "".join(f"{'' if n is None else f'{n:016X}'},{'' if f is None else f},{'' if m is None else m},{t}\n" for n, f, m, t in rows))
+            titles = ["function", "industry_group", "vehicle_system", "manufacturer"]
+            file.write(",".join(["name", *(titles[place] for place in columns), "text"]) + "\n")
+            file.writelines(",".join(["" if name is None else f"{name:016X}", *("" if given[place] is None else str(given[place]) for place in columns), text]) + "\n" for name, given, text in rows)
             file.flush()
             lines = "".join(f"(1.{at:06}) can0 18EEFF{at:02X}#{name.to_bytes(8, 'little').hex()}\n" for at, name in enumerate(names))
             out = run(["watch", "--units", file.name], lines.encode())[1].splitlines()
         told = {row[:16]: row.partition("; ")[2] for row in out if re.match("[0-9A-F]{16} ", row)}
         for name in names:
-            fields = (name >> 40 & 0xFF, name >> 21 & 0x7FF)
-            fit = [(4 * (n is not None) + 2 * (f is not None) + (m is not None), at, t) for at, (n, f, m, t) in enumerate(rows)
-                   if n in (None, name) and f in (None, fields[0]) and m in (None, fields[1])]
-            found += same(told[f"{name:016X}"] if fit else "", max(fit)[2] if fit else "", f"{count} rows: {name:016X}")
+            fields = [name >> at & most for at, most in parts]
+            fit = [([of is not None for of in (row, *given)], at, text) for at, (row, given, text) in enumerate(rows)
+                   if row in (None, name) and all(one in (None, field) for one, field in zip(given, fields))]
+            found += same(told[f"{name:016X}"] if fit else "", max(fit)[2] if fit else "", f"{count} rows of {columns}: {name:016X}")
     return found
+
+
+def functions_of_industries():
+    """A function from 128 on is another one in each industry group and vehicle system: each has a text of its own, and words that tell them apart."""
+    lines = "".join(f"(1.{at:06}) can0 18EEFF{at:02X}#{(group << 60 | system << 49 | 129 << 40 | 5).to_bytes(8, 'little').hex()}\n" for at, (group, system) in enumerate([(1, 0), (2, 0), (2, 3)]))
+    units = b"function,industry_group,vehicle_system,text\n129,1,,Tool\n129,2,,Of farms\n129,2,3,Sprayer\n"
+    with tempfile.NamedTemporaryFile(suffix=".csv") as file:
+        file.write(units)
+        file.flush()
+        out = run(["watch", "--units", file.name], lines.encode())[1].splitlines()
+    found = same([line.partition("(")[2][:-len(") at 0")] for line in out[:3]], ["Tool", "Of farms", "Sprayer"], "texts")
+    out = run(["watch"], lines.encode())[1].splitlines()
+    wanted = [f"function 129 (industry group {group}, vehicle system {system}) instance 0, manufacturer 0, identity 5" for group, system in ((1, 0), (2, 0), (2, 3))]
+    return found + same([line.partition(" (")[2][:-len(") at 0")] for line in out[:3]], wanted, "words")
 
 
 def texts_of_rows():

@@ -12,13 +12,13 @@ loop-less-preserved c =
     let rows = c.self.inside.rows.items in
     let key = c.of_unit-key.result in
     let name = c.args.name in
-    let exact = 7 - c.loop-less.less in
+    let exact = 31 - c.loop-less.less in
     let none : get is_same c.self.inside.index key ≡ None = sym c.in_default.ensures.value in
     let gone : NoneGives key rows = subst (IsLastRow rows key) none (c.self.invariant key) in
-    let more : 8 - c.loop-less.less ≡ exact + 1 = omega (arith, c.loop-less-test.true) in
+    let more : 32 - c.loop-less.less ≡ exact + 1 = omega (arith, c.loop-less-test.true) in
     let below : All (IsBelow name (exact + 1)) rows = subst (λ limit. All (IsBelow name limit) rows) more c.loop-less.invariant in
     let fewer : All (IsBelow name exact) rows = passed rows name exact key c.of_unit-key.ensures below gone in
-    let same : exact ≡ 8 - (c.loop-less.less + 1) = omega (arith, c.loop-less-test.true) in
+    let same : exact ≡ 32 - (c.loop-less.less + 1) = omega (arith, c.loop-less-test.true) in
     subst (λ limit. All (IsBelow name limit) rows) same fewer
 
 pub returns-in-Some-clause-found : goal.returns-in-Some-clause-found
@@ -26,10 +26,10 @@ returns-in-Some-clause-found c =
     let rows = c.self.inside.rows.items in
     let key = c.of_unit-key.result in
     let name = c.args.name in
-    let exact = 7 - c.loop-less.less in
+    let exact = 31 - c.loop-less.less in
     let place = c.in-Some.place.now in
     let some : get is_same c.self.inside.index key ≡ Some place = sym c.in-Some.ensures.value in
     let last : IsLastRow rows key (Some place) = subst (IsLastRow rows key) some (c.self.invariant key) in
-    let more : 8 - c.loop-less.less ≡ exact + 1 = omega (arith, c.loop-less-test.true) in
+    let more : 32 - c.loop-less.less ≡ exact + 1 = omega (arith, c.loop-less-test.true) in
     let below : All (IsBelow name (exact + 1)) rows = subst (λ limit. All (IsBelow name limit) rows) more c.loop-less.invariant in
     subst (λ (seen : List UnitRow). IsPlaceOf seen name place) c.self.view_is (found rows name exact place key c.of_unit-key.ensures below last)

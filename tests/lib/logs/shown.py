@@ -1,5 +1,7 @@
 """What of a unit is told: rows, acknowledgments, why a message is unread, of one unit and of one time, of sessions."""
 
+import csv
+import io
 import json
 import re
 
@@ -116,3 +118,18 @@ def session_given_up():
                 out = run(["watch", "--address", "249", "--silence", silence], text)[1]
                 found += [f"without {without}, silence {silence}: {out}"] if f" {kind} " in out else []
     return found
+
+
+def addresses_of_no_unit():
+    """What comes from 254, the null address, or from 255 has a row that says that no unit holds it, and is told as from that address."""
+    log = b"".join(b"(1.%06d) can0 18FECA%02X#04FF64000301FFFF\n" % (at, at) for at in (253, 254, 255))
+    lines = run(["watch"], log)[1].splitlines()
+    wanted = ["address 253(FD), no claim seen", "address 254(FE), no unit's address", "address 255(FF), no unit's address"]
+    found = same([line.partition(" dm1 ")[2].partition(":")[0] for line in lines[:3]], wanted, "changes")
+    found += same([words for words in wanted if any(line.startswith(words + " ") for line in lines[3:])], wanted, "rows")
+    rows = list(csv.DictReader(io.StringIO(run(["watch", "--format", "csv"], log)[1])))
+    found += same([row["name"] for row in rows], ["address 253, no claim seen", "address 254, no unit's address", "address 255, no unit's address"], "CSV")
+    page = run(["watch", "--format", "html"], log)[1]
+    hidden = run(["watch", "--unclaimed", "hide"], log)[1].splitlines()
+    found += same([line.split(",")[0].split()[-1] for line in hidden[:3]], ["253(FD)", "254(FE)", "255(FF)"], "without rows")
+    return found + same(("no claim seen" in page, "no unit's address" in page), (True, True), "page")

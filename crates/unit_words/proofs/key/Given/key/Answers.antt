@@ -1,4 +1,4 @@
-use Rattle.std.proofs.Common.{◌≡◌, ℕ, ap, ◌∙◌}
+use Rattle.std.proofs.Common.{ap, ◌∙◌}
 use Rattle.std.specs.Bool.{then_some}
 use Rattle.unit_words.proofs.Index.{key_is}
 use Rattle.unit_words.proofs.key.Given.key.Goals as goal

@@ -10,4 +10,3 @@ pub mod Names
 pub mod Kept
 pub mod Opening
 pub mod Ledgers
-pub mod Empty

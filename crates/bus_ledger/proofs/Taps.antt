@@ -1,10 +1,9 @@
 -- The windows of a bus, one for each station.
-use Rattle.std.proofs.Common.{ℕ, suc, zero, ◌≡◌, ◌+◌, ◌<◌, ◌≤◌, ◌^◌, List, [], ◌∷◌, map, length, set, refl, sym, ap, ◌∙◌, subst, arith}
-use Rattle.std.proofs.lemmas.List.{length-map, length-drop}
-use Rattle.bus_ledger.specs.BusValue.{BusValue, IsStation, seat_at}
+use Rattle.std.proofs.Common.{ℕ, suc, zero, ◌≡◌, ◌<◌, List, [], ◌∷◌, map, length, set, refl, sym, ap, ◌∙◌, subst, arith}
+use Rattle.std.proofs.lemmas.List.{length-map}
+use Rattle.bus_ledger.specs.BusValue.{BusValue, IsStation}
 use Rattle.bus_ledger.specs.Inside.{bus_value_of, tap_at, IsKept}
-use Rattle.bus_ledger.specs.Reception.{not_yet_read}
-use Rattle.bus_ledger.specs.Window.{AllMayMiss, pushed, WindowValue, size_of, taken_in, window_in, window_of, frame_of}
+use Rattle.bus_ledger.specs.Window.{pushed, WindowValue, size_of, taken_in, window_in, window_of}
 use Rattle.can_frame.specs.FrameValue.{FrameValue}
 use Rattle.bus_ledger.specs.declared.bus.Bus.TheInside.{Inside}
 use Rattle.bus_ledger.proofs.Windows.{taken_size}

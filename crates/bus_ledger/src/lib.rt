@@ -8,7 +8,6 @@
 
 mod bus;
 mod error;
-mod history;
 mod offers;
 mod queued;
 mod receive_window;
@@ -18,5 +17,4 @@ mod wire;
 
 pub use bus::{Bus, MOST_STATIONS, MOST_UNREAD};
 pub use error::BusError;
-pub use history::History;
 pub use traffic::{Carried, CarriedFrame, Counts, QueuedFrame, StationSeat, Tag, Which};

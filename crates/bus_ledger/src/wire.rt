@@ -1,9 +1,9 @@
 ghost use Rattle.std.specs.Prelude.{◌≡◌, ◌<◌, ◌∷◌, ◌++◌, [], length, slice_get, OnOk};
 ghost use Rattle.std.specs.Option.{option_map};
 
-use crate::history::History;
 use crate::traffic::CarriedFrame;
 use can_frame::Frame;
+use http_server::Log;
 use std::alloc::{AllocError, Global};
 use std::marker::Model;
 
@@ -12,8 +12,8 @@ use std::marker::Model;
 #[derive(Drop)]
 pub(crate) struct Wire {
     frames: Vec<Frame>,
-    // the same frames, each with its seat and its tag
-    history: History<CarriedFrame, ()>,
+    // the same frames, each with its seat and its tag: a list of which there is nothing at run time
+    history: Log<CarriedFrame, ()>,
 }
 
 impl Model for Wire {
@@ -35,7 +35,7 @@ impl Wire {
     {
         Wire {
             frames: Vec::new(alloc),
-            history: History::new(),
+            history: Log::new(),
         }
     }
 

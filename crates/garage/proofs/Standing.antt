@@ -266,6 +266,9 @@ bus_low a seat stands u = (let one = ap (λ (t : Traffic). length t.windows) sta
 pub seat_placed : (a : Inside) (v : GarageValue) (seat : ℕ) → garage_value_of a ≡ v → Stands a → IsUnit (state_of v).traffic seat → seat - a.stations < length a.places.items
 seat_placed a v seat is stands u = place_within a seat stands (unit_now a v seat is u)
 
+pub seat_few : (a : Inside) (v : GarageValue) (seat : ℕ) (x : Place) → garage_value_of a ≡ v → Stands a → IsUnit (state_of v).traffic seat → x ≡ get_or a.places.items (seat - a.stations) x → IsFewTally (length a.journal) x.tally
+seat_few a v seat x is stands u read = place_few a (seat - a.stations) x stands (seat_placed a v seat is stands u) read
+
 pub place_told : (a : Inside) (v : GarageValue) (seat : ℕ) (x : Place) → garage_value_of a ≡ v → Stands a → IsUnit (state_of v).traffic seat → x ≡ get_or a.places.items (seat - a.stations) x → x.tally.events ≡ (tally_of seat v.journal).events
 place_told a v seat x is stands u read =
     let h = seat_placed a v seat is stands u in

@@ -1,12 +1,12 @@
-use bus_ledger::History;
 use fault_memory::FaultMemory;
+use http_server::Log;
 use std::marker::Model;
 
 /// What a fault memory held at some time, known to proofs alone. At run time there is nothing of it.
 #[derive(Drop)]
 pub struct MemoryThen {
     // the memory, or nothing
-    held: History<(), FaultMemory>,
+    held: Log<(), FaultMemory>,
 }
 
 impl Model for MemoryThen {
@@ -30,7 +30,7 @@ impl MemoryThen {
     {
         let _ = memory.lamps();
         MemoryThen {
-            held: History::new().and(&(), memory),
+            held: Log::new().and(&(), memory),
         }
     }
 
@@ -39,9 +39,7 @@ impl MemoryThen {
     pub(crate) fn new() -> MemoryThen
         ensures { result ≡ new_memory }
     {
-        MemoryThen {
-            held: History::new(),
-        }
+        MemoryThen { held: Log::new() }
     }
 }
 

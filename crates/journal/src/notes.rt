@@ -6,8 +6,8 @@ ghost use Rattle.journal.specs.declared.event.Event.TheVariants as event;
 use crate::memory_then::MemoryThen;
 use crate::note::Note;
 use crate::order::Order;
-use bus_ledger::History;
 use can_frame::{Frame, Reading};
+use http_server::Log;
 use name_field::Name;
 use node_core::Answer;
 use std::marker::Model;
@@ -23,8 +23,8 @@ pub const MOST_EVENTS: u32 = 1 << 24;
 #[derive(Drop)]
 pub struct Journal {
     events: u32,
-    // each event, the oldest first, and the fault memory that it tells
-    noted: History<Note, MemoryThen>,
+    // each event, the oldest first, and the fault memory that it tells: a list of which there is nothing at run time
+    noted: Log<Note, MemoryThen>,
 }
 
 impl Model for Journal {
@@ -46,7 +46,7 @@ impl Journal {
     {
         Journal {
             events: 0,
-            noted: History::new(),
+            noted: Log::new(),
         }
     }
 

@@ -13,15 +13,12 @@ use Rattle.garage.proofs.BeginLemmas.{begins_inside}
 use Rattle.garage_steps.proofs.Traffics.{some_live, puts, keeps_refl}
 use Rattle.garage.proofs.InHand.{stations_live}
 use Rattle.garage_steps.proofs.Events.{begin_did, begin_fits, joins_begin}
-use Rattle.garage.proofs.Standing.{windows_are, state, begins_of, place_few, place_within, unit_now, bus_unit, unit_is, units_same, place_tally, stands_more, tallies_one, fresh_one}
+use Rattle.garage.proofs.Standing.{windows_are, state, begins_of, seat_few, place_within, unit_now, bus_unit, unit_is, units_same, place_tally, stands_more, tallies_one, fresh_one}
 use Rattle.garage.proofs.garage.Garage.begin_message.Goals as goal
 
 pub overflow_add-place : goal.overflow_add-place
 overflow_add-place g c =
-    let a = c.self.inside in
-    let u = unit_now a c.args.self.now c.args.seat c.self.view_is c.requires.unit in
-    let h = place_within a c.args.seat c.self.invariant u in
-    let f = place_few a (c.args.seat - a.stations) c.index_mut-place.result.now c.self.invariant h c.index_mut-place.ensures.value in
+    let f = seat_few c.self.inside c.args.self.now c.args.seat c.index_mut-place.result.now c.self.view_is c.self.invariant c.requires.unit c.index_mut-place.ensures.value in
     let w = c.self.invariant.within in let l = c.self.invariant.few in let t = f.events in omega arith
 
 pub queue_outs-requires-clause-few : goal.queue_outs-requires-clause-few

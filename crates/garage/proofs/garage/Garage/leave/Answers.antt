@@ -10,7 +10,7 @@ use Rattle.journal.specs.declared.tally.Tally.{Tally}
 use Rattle.garage_steps.proofs.Traffics.{some_live, live_left}
 use Rattle.garage.proofs.InHand.{stations_live}
 use Rattle.garage_steps.proofs.Events.{joins_leave, leave_is, left_queued}
-use Rattle.garage.proofs.Standing.{seat_low, seat_placed, windows_are, place_few, place_within, unit_now, units_same, place_tally, stands_more, tallies_one, fresh_one, bus_unit}
+use Rattle.garage.proofs.Standing.{seat_low, seat_placed, windows_are, seat_few, place_within, unit_now, units_same, place_tally, stands_more, tallies_one, fresh_one, bus_unit}
 use Rattle.garage.proofs.Lists.{lists_pushed}
 use Rattle.garage.proofs.garage.Garage.leave.Goals as goal
 
@@ -24,18 +24,12 @@ index_mut-place-requires c =
 
 pub overflow_add-place : goal.overflow_add-place
 overflow_add-place c =
-    let a = c.self.inside in
-    let u = unit_now a c.args.self.now c.args.seat c.self.view_is c.requires in
-    let h = place_within a c.args.seat c.self.invariant u in
-    let f = place_few a (c.args.seat - a.stations) c.index_mut-place.result.now c.self.invariant h c.index_mut-place.ensures.value in
+    let f = seat_few c.self.inside c.args.self.now c.args.seat c.index_mut-place.result.now c.self.view_is c.self.invariant c.requires c.index_mut-place.ensures.value in
     let w = c.self.invariant.within in let l = c.self.invariant.few in let t = f.left in omega arith
 
 pub overflow_add-place-2 : goal.overflow_add-place-2
 overflow_add-place-2 c =
-    let a = c.self.inside in
-    let u = unit_now a c.args.self.now c.args.seat c.self.view_is c.requires in
-    let h = place_within a c.args.seat c.self.invariant u in
-    let f = place_few a (c.args.seat - a.stations) c.index_mut-place.result.now c.self.invariant h c.index_mut-place.ensures.value in
+    let f = seat_few c.self.inside c.args.self.now c.args.seat c.index_mut-place.result.now c.self.view_is c.self.invariant c.requires c.index_mut-place.ensures.value in
     let w = c.self.invariant.within in let l = c.self.invariant.few in let t = f.events in omega arith
 
 pub overflow_sub-self : goal.overflow_sub-self

@@ -19,7 +19,7 @@ use Rattle.garage.specs.declared.garage.Place.{Place}
 use Rattle.garage_steps.proofs.Traffics.{some_live, puts, keeps_heard, keeps_withdrawn_by, keeps_then}
 use Rattle.garage.proofs.InHand.{stations_live}
 use Rattle.garage_steps.proofs.Events.{hear_did, begun_length, begun_few, next_within, is_answered, joins_hear}
-use Rattle.garage.proofs.Standing.{stations_are, windows_are, state, place_few, place_within, unit_now, bus_unit, unit_is, place_tally, stands_more, tallies_one, fresh_one, hears_of, still, same_place}
+use Rattle.garage.proofs.Standing.{stations_are, windows_are, state, seat_few, place_within, unit_now, bus_unit, unit_is, place_tally, stands_more, tallies_one, fresh_one, hears_of, still, same_place}
 use Rattle.garage.proofs.Lent.{on_err}
 use Rattle.garage.proofs.garage.Garage.react.Goals as goal
 
@@ -37,10 +37,7 @@ invariant_of-self-in_err-heard g c =
 
 pub overflow_add-place : goal.overflow_add-place
 overflow_add-place g c =
-    let a = c.self.inside in
-    let u = unit_now a c.args.self.now c.args.seat c.self.view_is c.requires.unit in
-    let h = place_within a c.args.seat c.self.invariant u in
-    let f = place_few a (c.args.seat - a.stations) c.index_mut-place.result.now c.self.invariant h c.index_mut-place.ensures.value in
+    let f = seat_few c.self.inside c.args.self.now c.args.seat c.index_mut-place.result.now c.self.view_is c.self.invariant c.requires.unit c.index_mut-place.ensures.value in
     let w = c.self.invariant.within in let l = c.self.invariant.few in let t = f.events in omega arith
 
 pub do_heard-requires-clause-next : goal.do_heard-requires-clause-next

@@ -4,23 +4,17 @@ use Rattle.journal.specs.Journal.{one_more}
 use Rattle.journal.specs.declared.event.Event.TheVariants.{Turned}
 use Rattle.journal.specs.declared.tally.Tally.{Tally}
 use Rattle.garage_steps.proofs.Events.{joins_turned}
-use Rattle.garage.proofs.Standing.{windows_are, place_few, place_within, unit_now, units_same, place_tally, stands_more, tallies_one, fresh_one}
+use Rattle.garage.proofs.Standing.{windows_are, seat_few, place_within, unit_now, units_same, place_tally, stands_more, tallies_one, fresh_one}
 use Rattle.garage.proofs.garage.Garage.turned.Goals as goal
 
 pub overflow_add-place : goal.overflow_add-place
 overflow_add-place c =
-    let a = c.self.inside in
-    let u = unit_now a c.args.self.now c.args.seat c.self.view_is c.requires in
-    let h = place_within a c.args.seat c.self.invariant u in
-    let f = place_few a (c.args.seat - a.stations) c.index_mut-place.result.now c.self.invariant h c.index_mut-place.ensures.value in
+    let f = seat_few c.self.inside c.args.self.now c.args.seat c.index_mut-place.result.now c.self.view_is c.self.invariant c.requires c.index_mut-place.ensures.value in
     let w = c.self.invariant.within in let l = c.self.invariant.few in let t = f.turned in omega arith
 
 pub overflow_add-place-2 : goal.overflow_add-place-2
 overflow_add-place-2 c =
-    let a = c.self.inside in
-    let u = unit_now a c.args.self.now c.args.seat c.self.view_is c.requires in
-    let h = place_within a c.args.seat c.self.invariant u in
-    let f = place_few a (c.args.seat - a.stations) c.index_mut-place.result.now c.self.invariant h c.index_mut-place.ensures.value in
+    let f = seat_few c.self.inside c.args.self.now c.args.seat c.index_mut-place.result.now c.self.view_is c.self.invariant c.requires c.index_mut-place.ensures.value in
     let w = c.self.invariant.within in let l = c.self.invariant.few in let t = f.events in omega arith
 
 pub invariant_of-self : goal.invariant_of-self

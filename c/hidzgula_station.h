@@ -1,25 +1,27 @@
-/* The proved diagnostic station and simulated control units for SAE J1939, for programs in C11 and C++: version 2.4.0.
+/* The proved diagnostic station, listener and simulated control units for SAE J1939, for programs in C11 and C++: version 3.0.0.
  *
  * A program hands over the frames that it reads of one bus, in their order, sends what the station replies, is told what each frame
- * changed, and asks for the lists by NAME. Or it has simulated units hear those frames, and writes the frames that it asks them for, each when
- * it is due. What each call does is proved of the library (crate station_c), as long as the C side does its part:
+ * changed, and asks for the lists by NAME. Or it sends nothing, and has a listener hear all that is sent between any two addresses. Or it has
+ * simulated units hear those frames, and writes the frames that it asks them for, each when it is due. What each call does is proved of the
+ * library (crate station_c), as long as the C side does its part:
  *
  *  - A station is held in a `hidzgula_station`, which begins as HIDZGULA_EMPTY (all its bytes 0). Its members are the library's:
- *    nobody else reads or writes them, and it is never copied or moved, from `hidzgula_open` or `hidzgula_open_listening` to
- *    `hidzgula_close`. A unit likewise in a `hidzgula_unit`, from `hidzgula_unit_open` to `hidzgula_unit_close`.
- *  - A station, or a unit, is given to one call at a time, from whichever thread: two calls on one are ordered by a lock, by a thread's start
- *    or join, or by an atomic of the default order. Nothing in the library is tied to a thread. Several stations and units are independent.
+ *    nobody else reads or writes them, and it is never copied or moved, from `hidzgula_open` to `hidzgula_close`. A listener likewise in a
+ *    `hidzgula_listener`, a unit in a `hidzgula_unit`, each from its open to its close.
+ *  - Each of these is given to one call at a time, from whichever thread: two calls on one are ordered by a lock, by a thread's start
+ *    or join, or by an atomic of the default order. Nothing in the library is tied to a thread. Several of them are independent.
  *  - Each pointer points to what its type says: aligned, large enough, not NULL, and no two of one call overlap. Only `change` may be
- *    NULL, and each array (`bytes`, `frames`, `changes`, `text`, `bus`, `logged`) anything aligned that is not NULL where it has no elements.
+ *    NULL, and each array (`bytes`, `frames`, `changes`, `heard`, `text`, `bus`, `logged`) anything aligned that is not NULL where it has no elements.
  *    What is written to need not have been set.
  *  - `malloc`, `realloc` and `free` are of one allocator, which aligns a block to each power of two up to 16 that divides its size, as
- *    the C library's does, and nobody else frees what it gave to a station or a unit.
+ *    the C library's does, and nobody else frees what it gave to the library.
  *  - No call comes from a signal handler, or from the forked child of a process with threads.
  *  - A call has 64 KB of stack.
  *
- * Whatever the state of its station or unit and whatever the numbers that it is given, each call then returns. It answers HIDZGULA_DONE, or
- * why it was refused; refused, it has changed nothing: neither station or unit nor what the other pointers point to. Where two reasons
- * hold, the one told is the first in the list at the call. `hidzgula_take_frames` alone may be refused midway, and says so.
+ * Whatever the state of its station, listener or unit and whatever the numbers that it is given, each call then returns. It answers
+ * HIDZGULA_DONE, or why it was refused; refused, it has changed nothing, neither those nor what the other pointers point to. Where two reasons
+ * hold, the one told is the first in the list at the call. `hidzgula_take_frames` and `hidzgula_listener_take_frames_at` alone may be refused
+ * midway, and say so.
  */
 #ifndef HIDZGULA_STATION_H
 #define HIDZGULA_STATION_H
@@ -28,8 +30,8 @@
 #include <stddef.h>
 #include <stdint.h>
 
-#define HIDZGULA_VERSION_MAJOR 2
-#define HIDZGULA_VERSION_MINOR 4
+#define HIDZGULA_VERSION_MAJOR 3
+#define HIDZGULA_VERSION_MINOR 0
 
 #ifdef __cplusplus
 extern "C" {
@@ -65,7 +67,11 @@ enum {
     HIDZGULA_HAS_UNIT = 36,      /* the handle has an open unit */
     HIDZGULA_QUEUE_FULL = 37,    /* as much waits to be written as there is room for */
     HIDZGULA_SESSION_OPEN = 38,  /* a session of that kind is open */
-    HIDZGULA_NOT_PENDING = 39    /* the code to go away is not pending */
+    HIDZGULA_NOT_PENDING = 39,   /* the code to go away is not pending */
+
+    /* of listeners alone */
+    HIDZGULA_NO_LISTENER = 40,   /* the handle is empty: not opened, or closed */
+    HIDZGULA_HAS_LISTENER = 41   /* the handle has an open listener */
 };
 
 /* The kinds of diagnostic messages, numbered as the messages are; any other number is refused, NO_KIND. */
@@ -242,6 +248,95 @@ typedef struct {
     uint64_t waiting;
 } hidzgula_unit_counts_out;
 
+/* Room for a listener; it begins as HIDZGULA_EMPTY too. */
+typedef struct {
+    void *at;
+    bool full;
+} hidzgula_listener;
+
+/* Whose a message is, for a listener: where `has_name` is 1, the NAME's that had claimed its source address last; where it is 0, that of
+ * `address`, which no NAME had claimed since the last gap, with the number of gaps before: after a gap the address may be another unit's. What
+ * `has_name` does not name is 0, and is not read. */
+typedef struct {
+    uint64_t name;
+    uint64_t gaps;
+    uint8_t has_name;
+    uint8_t address;
+} hidzgula_who;
+
+/* Why a message cannot be read, or not whole. */
+enum {
+    HIDZGULA_WHY_LENGTH = 15, /* not even its two bytes of lamps are there */
+    HIDZGULA_WHY_IN_PART = 18 /* it is listed, as far as it can be read: `hidzgula_sent_out` tells what cannot */
+};
+
+/* Of a listener alone: nothing else changed, and a message of several packets broke. It was half read, and is neither that nor whole now. */
+enum { HIDZGULA_BROKEN = 8 };
+
+/* Why it broke (SAE J1939-21, 5.10). */
+enum {
+    HIDZGULA_BROKEN_LATE = 1,    /* a frame of it came too late (5.10.3) */
+    HIDZGULA_BROKEN_PACKET = 2,  /* the packet `number` came, which is not the next one */
+    HIDZGULA_BROKEN_LENGTH = 3,  /* the next packet, `number`, has not 8 bytes */
+    HIDZGULA_BROKEN_DIFFERS = 4, /* the packet `number` came again, as it was asked for, with other bytes */
+    HIDZGULA_BROKEN_ABORT = 5,   /* the unit at `by` aborted it, for `reason`: 1 in another session, 2 resources, 3 a time ran out, .. */
+    HIDZGULA_BROKEN_ANEW = 6,    /* another message was announced between the same two */
+    HIDZGULA_BROKEN_CLAIM = 7    /* another NAME claimed the address that it came from */
+};
+
+/* What a frame or a gap changed of what a listener shows: `what` is one of HIDZGULA_NOTHING to HIDZGULA_BROKEN, which names the fields that it
+ * sets; each other field is 0, but for `broken`.
+ *  - CLAIMED: the NAME `who` has the address `source`; `displaced`, `has_displaced` and `lost` as in a `hidzgula_change`.
+ *  - GAVE_UP: the NAME `who` has no address.
+ *  - ACKNOWLEDGED: the NAME `who` acknowledged `pgn` with `control`, from `source` to `to`, to the one at `requester`; `again` as in a change.
+ *  - LISTED, UNREADABLE: a message of `who` and of `kind`, from `source` to `to` (255: to all), is the newest entry of its list, where `why` is
+ *    HIDZGULA_WHY_IN_PART if it could not be read whole, else 0; or it could not be read, for `why`.
+ *  - UNOWNED: a message of `kind` to all began at `source`, which no NAME has claimed in what was read: it is listed under that address.
+ *  - MISSED: `count` frames were missed; what was half read is let go.
+ *  - BROKEN: a message of `who` and of `kind`, from `source` to `to` (255: to all), broke for `why`, one of HIDZGULA_BROKEN_LATE to
+ *    HIDZGULA_BROKEN_CLAIM, when `read` of its `of` packets were read.
+ * `broken` is how many messages the frame broke, up to 255, whatever it changed: those that the record does not tell,
+ * `hidzgula_listener_broken` does. */
+typedef struct {
+    hidzgula_who who;
+    uint64_t displaced;
+    uint32_t pgn;
+    uint32_t count;
+    uint8_t what;
+    uint8_t kind;
+    uint8_t source;
+    uint8_t to;
+    uint8_t why;
+    uint8_t control;
+    uint8_t requester;
+    uint8_t again;
+    uint8_t has_displaced;
+    uint8_t lost;
+    uint8_t read;
+    uint8_t of;
+    uint8_t number;
+    uint8_t reason;
+    uint8_t by;
+    uint8_t broken;
+} hidzgula_heard;
+
+/* A message that a listener listed: its lamps, as in a `hidzgula_entry_out`; the address that it went to, 255 for all; and how many codes can be
+ * read. Where `in_part` is 1 and not 0 it is not as SAE J1939-73 has it, and could be read in part: `padding` groups of four bytes FF and `zeros`
+ * of 00 among several, `older` codes in an older layout of the SPN, which are not read, `bytes_behind` the last group, and `bytes_missing` to 8.
+ * These are 0 where `in_part` is, and may be where it is not: more than 445 codes. */
+typedef struct {
+    uint8_t lamps;
+    uint8_t flashes;
+    uint8_t to;
+    uint8_t in_part;
+    uint16_t padding;
+    uint16_t zeros;
+    uint16_t older;
+    uint8_t bytes_behind;
+    uint8_t bytes_missing;
+    size_t codes;
+} hidzgula_sent_out;
+
 HIDZGULA_LAYOUT(sizeof(size_t) == 8);
 HIDZGULA_LAYOUT(sizeof(bool) == 1);
 HIDZGULA_LAYOUT(sizeof(hidzgula_station) == 16);
@@ -283,6 +378,42 @@ HIDZGULA_LAYOUT(offsetof(hidzgula_read, lines) == 16);
 HIDZGULA_LAYOUT(offsetof(hidzgula_read, missed) == 24);
 HIDZGULA_LAYOUT(offsetof(hidzgula_read, what) == 28);
 HIDZGULA_LAYOUT(offsetof(hidzgula_read, why) == 29);
+HIDZGULA_LAYOUT(sizeof(hidzgula_listener) == 16);
+HIDZGULA_LAYOUT(offsetof(hidzgula_listener, full) == 8);
+HIDZGULA_LAYOUT(sizeof(hidzgula_who) == 24);
+HIDZGULA_LAYOUT(offsetof(hidzgula_who, gaps) == 8);
+HIDZGULA_LAYOUT(offsetof(hidzgula_who, has_name) == 16);
+HIDZGULA_LAYOUT(offsetof(hidzgula_who, address) == 17);
+HIDZGULA_LAYOUT(sizeof(hidzgula_heard) == 56);
+HIDZGULA_LAYOUT(offsetof(hidzgula_heard, displaced) == 24);
+HIDZGULA_LAYOUT(offsetof(hidzgula_heard, pgn) == 32);
+HIDZGULA_LAYOUT(offsetof(hidzgula_heard, count) == 36);
+HIDZGULA_LAYOUT(offsetof(hidzgula_heard, what) == 40);
+HIDZGULA_LAYOUT(offsetof(hidzgula_heard, kind) == 41);
+HIDZGULA_LAYOUT(offsetof(hidzgula_heard, source) == 42);
+HIDZGULA_LAYOUT(offsetof(hidzgula_heard, to) == 43);
+HIDZGULA_LAYOUT(offsetof(hidzgula_heard, why) == 44);
+HIDZGULA_LAYOUT(offsetof(hidzgula_heard, control) == 45);
+HIDZGULA_LAYOUT(offsetof(hidzgula_heard, requester) == 46);
+HIDZGULA_LAYOUT(offsetof(hidzgula_heard, again) == 47);
+HIDZGULA_LAYOUT(offsetof(hidzgula_heard, has_displaced) == 48);
+HIDZGULA_LAYOUT(offsetof(hidzgula_heard, lost) == 49);
+HIDZGULA_LAYOUT(offsetof(hidzgula_heard, read) == 50);
+HIDZGULA_LAYOUT(offsetof(hidzgula_heard, of) == 51);
+HIDZGULA_LAYOUT(offsetof(hidzgula_heard, number) == 52);
+HIDZGULA_LAYOUT(offsetof(hidzgula_heard, reason) == 53);
+HIDZGULA_LAYOUT(offsetof(hidzgula_heard, by) == 54);
+HIDZGULA_LAYOUT(offsetof(hidzgula_heard, broken) == 55);
+HIDZGULA_LAYOUT(sizeof(hidzgula_sent_out) == 24);
+HIDZGULA_LAYOUT(offsetof(hidzgula_sent_out, flashes) == 1);
+HIDZGULA_LAYOUT(offsetof(hidzgula_sent_out, to) == 2);
+HIDZGULA_LAYOUT(offsetof(hidzgula_sent_out, in_part) == 3);
+HIDZGULA_LAYOUT(offsetof(hidzgula_sent_out, padding) == 4);
+HIDZGULA_LAYOUT(offsetof(hidzgula_sent_out, zeros) == 6);
+HIDZGULA_LAYOUT(offsetof(hidzgula_sent_out, older) == 8);
+HIDZGULA_LAYOUT(offsetof(hidzgula_sent_out, bytes_behind) == 10);
+HIDZGULA_LAYOUT(offsetof(hidzgula_sent_out, bytes_missing) == 11);
+HIDZGULA_LAYOUT(offsetof(hidzgula_sent_out, codes) == 16);
 HIDZGULA_LAYOUT(sizeof(hidzgula_unit) == 16);
 HIDZGULA_LAYOUT(offsetof(hidzgula_unit, full) == 8);
 HIDZGULA_LAYOUT(sizeof(hidzgula_unit_settings) == 24);
@@ -301,14 +432,6 @@ HIDZGULA_LAYOUT(offsetof(hidzgula_unit_counts_out, waiting) == 24);
  * It has read nothing. A gateway that sends begins with the frame of `hidzgula_claim`.
  * BAD_SETTING, HAS_STATION, OUT_OF_MEMORY. */
 uint32_t hidzgula_open(hidzgula_station *station, uint64_t name, uint8_t address, uint8_t grant, uint32_t keep);
-
-/* Opens a station of this NAME that only listens, for a program that sends nothing: who holds `address`, 0 to 253, is somebody else, or
- * nobody, and each reply says that nothing is to be withdrawn or sent. It joins the sessions that are sent to that address. What it
- * half joined of a source ends with the next request to send from there, whatever group that announces, and with an abort by either
- * side; packets that then come without a request to send for a diagnostic message are passed over. Of each list it keeps the newest
- * `keep` messages, as above. It has read nothing.
- * BAD_SETTING, HAS_STATION, OUT_OF_MEMORY. */
-uint32_t hidzgula_open_listening(hidzgula_station *station, uint64_t name, uint8_t address, uint32_t keep);
 
 /* Closes a station and frees all its memory; does nothing where there is none. */
 void hidzgula_close(hidzgula_station *station);
@@ -333,8 +456,7 @@ static inline uint32_t hidzgula_take_frame(
 /* The station takes frames that were read of the bus, in their order, each as `hidzgula_take_frame` does: so that a log, or what a driver
  * hands over at once, is one call. `taken` is how many it took; the change of each stands at its place in `changes`, and what stands behind
  * those is as it was. It stops
- *  - behind the first frame to which the station replies, so that the reply can be sent before the next one is taken; one that only listens
- *    replies to none;
+ *  - behind the first frame to which the station replies, so that the reply can be sent before the next one is taken;
  *  - where `room`, the number of `changes`, is full;
  *  - at the first frame that is refused: those before it are taken, and what is answered is why it was refused.
  * `reply` is the reply to the last frame that was taken; where none was, it says that nothing is to be withdrawn or sent. So the
@@ -346,15 +468,15 @@ uint32_t hidzgula_take_frames(hidzgula_station *station, const hidzgula_frame *f
 
 /* Reads the whole lines of a text that candump wrote (or log2long, or cansend reads), or of a part of it, from its beginning, as the program's
  * `watch` reads them. A line ends with LF. The frames of SAE J1939 of the bus whose name `bus` has, as "can0", stand in `frames`, in their
- * order, as `hidzgula_take_frames` takes them, and in `logged` when each was seen; those of every bus where `bus_length` is 0, and those of
- * lines that name no bus in any case. What stands behind them is as it was. Other buses, frames that are none of SAE J1939 and notes are
- * passed over. It stops
+ * order, as `hidzgula_take_frames` and `hidzgula_listener_take_frames_at` take them, and in `logged` when each was seen; where `bus_length` is 0,
+ * those of every bus, and of lines that name none. What stands behind them is as it was. Other buses, frames that are none of SAE J1939 and notes
+ * are passed over. It stops
  *  - where `frames` or `logged` is full;
  *  - where no whole line is left: what is left of the text stands before what comes next, and behind the last line of a log without LF
  *    its caller puts one;
- *  - behind a line that tells that frames were missed, which is for `hidzgula_take_gap` then, and behind one that is bad, which `watch` takes
- *    for one frame missed.
- * So the caller hands `frames` to the station, looks at `read`, and goes on at `text + read->bytes`. It takes no memory, and is not refused. */
+ *  - behind a line that tells that frames were missed, which is for `hidzgula_take_gap` or `hidzgula_listener_missed_at` then, and behind one
+ *    that is bad, which `watch` takes for one frame missed.
+ * So the caller hands `frames` to the station or the listener, looks at `read`, and goes on at `text + read->bytes`. It takes no memory, and is not refused. */
 void hidzgula_read_log(const char *text, size_t length, const char *bus, size_t bus_length, hidzgula_frame *frames, size_t room,
     hidzgula_logged *logged, size_t logged_room, hidzgula_read *read);
 
@@ -415,6 +537,82 @@ uint32_t hidzgula_code(hidzgula_station *station, uint64_t name, uint8_t kind, u
 /* How many frames were missed, and how many messages ended that could not be read; each up to the greatest 64-bit number.
  * NO_STATION. */
 uint32_t hidzgula_counts(hidzgula_station *station, uint64_t *missed, uint64_t *unread);
+
+/* ---- A listener
+ *
+ * It hears the messages between any two addresses, sends nothing and has no place on the bus: no NAME, no address. It lists each message under
+ * its unit (`hidzgula_who`), as the program's `watch` does. `now` is the time at which a frame was read, in microseconds of any one clock, or
+ * HIDZGULA_NO_TIME. A packet that came too late for its message is not read, nor is one that came again as it was asked for (SAE J1939-21,
+ * 5.10.3). Where a time is not known, nothing is late, so that a loss of which nobody tells can make one message of two. */
+
+/* Opens a listener, which has heard nothing. Of each list, one by unit and kind, it keeps the newest `keep` messages and counts all; where that
+ * is 0 it keeps none, and UINT32_MAX keeps all that a program will see. So what it takes of memory is bounded by the units and by `keep`.
+ * HAS_LISTENER, OUT_OF_MEMORY. */
+uint32_t hidzgula_listener_open(hidzgula_listener *listener, uint32_t keep);
+
+/* Closes a listener and frees all its memory; does nothing where there is none. */
+void hidzgula_listener_close(hidzgula_listener *listener);
+
+/* The listener takes a frame that was read of the bus at `now`: its 29-bit identifier, and `length` bytes. Frames with 11-bit identifiers,
+ * remote frames and error frames are not handed over. `heard` is what the frame changed.
+ * ID_TOO_LARGE, TOO_LONG, NO_LISTENER, OUT_OF_MEMORY. After OUT_OF_MEMORY the frame may be handed over again, or be counted as missed. */
+uint32_t hidzgula_listener_take_at(
+    hidzgula_listener *listener, uint64_t now, uint32_t id, const uint8_t *bytes, size_t length, hidzgula_heard *heard);
+
+/* The listener takes frames that were read of the bus, in their order, each as `hidzgula_listener_take_at` does at the `time` that stands at
+ * its place in `logged`, as `hidzgula_read_log` writes it. `taken` is how many it took; what each changed stands at its place in `heard`, and
+ * what stands behind those is as it was. It stops where the times or the places, `logged_count` and `room`, are used up; behind the first frame
+ * that broke more messages than its record tells, so that `hidzgula_listener_broken` can be asked; and at the first frame that is refused: those
+ * before it are taken, and what is answered is why it was refused.
+ * NO_LISTENER, and then nothing is written; ID_TOO_LARGE, TOO_LONG, OUT_OF_MEMORY of the frame at `taken`. */
+uint32_t hidzgula_listener_take_frames_at(hidzgula_listener *listener, const hidzgula_frame *frames, size_t count, const hidzgula_logged *logged,
+    size_t logged_count, hidzgula_heard *heard, size_t room, size_t *taken);
+
+/* The listener is told at `now` that `count` frames of the bus were missed: it forgets which NAME owns which address, and all messages that are
+ * half read, whatever the time, until units claim again. `heard` says MISSED and how many.
+ * NO_LISTENER, OUT_OF_MEMORY. */
+uint32_t hidzgula_listener_missed_at(hidzgula_listener *listener, uint64_t now, uint32_t count, hidzgula_heard *heard);
+
+/* The message at a place, from 0, of those that the newest frame broke: `heard` says BROKEN. A gap breaks none, and forgets them.
+ * NO_LISTENER, NO_PLACE. */
+uint32_t hidzgula_listener_broken(hidzgula_listener *listener, size_t place, hidzgula_heard *heard);
+
+/* How many frames were missed, and how many messages ended that could not be read whole, those that are listed in part among them; each up to
+ * the greatest 64-bit number.
+ * NO_LISTENER. */
+uint32_t hidzgula_listener_counts(hidzgula_listener *listener, uint64_t *missed, uint64_t *unread);
+
+/* How many NAMEs have a row: those whose claims were read.
+ * NO_LISTENER. */
+uint32_t hidzgula_listener_rows(hidzgula_listener *listener, size_t *count);
+
+/* The row at a place, from 0, in the order of the NAMEs' first claims; its acknowledgment is its last one to whomever.
+ * NO_LISTENER, NO_PLACE. */
+uint32_t hidzgula_listener_row(hidzgula_listener *listener, size_t place, hidzgula_row_out *row);
+
+/* How many units have had messages: NAMEs, and addresses that no NAME had claimed, each from one gap to the next.
+ * NO_LISTENER. */
+uint32_t hidzgula_listener_units(hidzgula_listener *listener, size_t *count);
+
+/* The unit at a place, from 0, in the order of the units' first messages.
+ * NO_LISTENER, NO_PLACE. */
+uint32_t hidzgula_listener_unit(hidzgula_listener *listener, size_t place, hidzgula_who *who);
+
+/* How many messages of a kind a unit has had, whatever is kept of them, up to the greatest 64-bit number. The last of them, up to `keep`, are
+ * kept.
+ * NO_KIND, NO_LISTENER. */
+uint32_t hidzgula_listener_entries(hidzgula_listener *listener, const hidzgula_who *who, uint8_t kind, uint64_t *count);
+
+/* The message at a place of that list, from 0, the oldest of all that came first. A message keeps its place while others come.
+ * NO_KIND, NO_LISTENER, NOT_KEPT where it came and is none of the newest `keep`, NO_PLACE where it never came. */
+uint32_t hidzgula_listener_entry(
+    hidzgula_listener *listener, const hidzgula_who *who, uint8_t kind, uint64_t place, hidzgula_sent_out *entry);
+
+/* The trouble code at a place of the message at the place `entry`, both from 0, in the order of the message, of those that can be read.
+ * NO_KIND, NO_LISTENER, NOT_KEPT where that message came and is none of the newest `keep`, NO_PLACE where it never came, or has no such
+ * code. */
+uint32_t hidzgula_listener_code(
+    hidzgula_listener *listener, const hidzgula_who *who, uint8_t kind, uint64_t entry, size_t place, hidzgula_code_out *code);
 
 /* ---- A simulated unit
  *

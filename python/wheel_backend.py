@@ -32,7 +32,15 @@ Keywords: CAN,J1939,diagnostics,DM1
 Requires-Python: >=3.9
 Provides-Extra: can
 Requires-Dist: python-can>=4.0; extra == "can"
+Provides-Extra: fleet
+Requires-Dist: distributed>=2022.12; extra == "fleet"
+Provides-Extra: pytest
+Requires-Dist: pytest>=6.0; extra == "pytest"
 """
+
+
+# What pytest finds by itself where the wheel is installed.
+ENTRY_POINTS = "[pytest11]\nhidzgula = hidzgula.pytest_plugin\n"
 
 
 def wheel_facts():
@@ -44,11 +52,12 @@ def files():
     """The name in the wheel and the bytes of each file, but for the list of them."""
     if not LIBRARY.is_file():
         sys.exit(f"there is no {LIBRARY}: c/build shared makes it")
-    package = [*sorted((HERE / "hidzgula").glob("*.py")), HERE / "hidzgula/py.typed"]
-    found = [(f"hidzgula/{path.name}", path.read_bytes()) for path in package]
+    package = [path for ending in ("*.py", "pages/*.*", "py.typed") for path in sorted((HERE / "hidzgula").rglob(ending))]
+    found = [(str(path.relative_to(HERE)), path.read_bytes()) for path in package]
     found.append((f"hidzgula/{LIBRARY.name}", LIBRARY.read_bytes()))
     info = f"hidzgula-{version()}.dist-info"
-    return info, [*found, (f"{info}/METADATA", metadata().encode()), (f"{info}/WHEEL", wheel_facts().encode())]
+    said = (("METADATA", metadata()), ("WHEEL", wheel_facts()), ("entry_points.txt", ENTRY_POINTS))
+    return info, [*found, *((f"{info}/{name}", text.encode()) for name, text in said)]
 
 
 def line_of(name, content):

@@ -4,7 +4,7 @@ import sys
 
 import hidzgula
 
-with hidzgula.Station(name=1, address=248, listening=True) as station, open(sys.argv[1], "rb") as log:
-    hidzgula.take_log(station, log)
-    for unit in station.units():
-        print(unit, station.newest(unit.name, hidzgula.DM1), sep=" | ")
+with hidzgula.Listener() as listener, open(sys.argv[1], "rb") as log:
+    hidzgula.take_log(listener, log)
+    for unit in listener.units():
+        print(unit, listener.newest(unit.name, hidzgula.DM1), sep=" | ")

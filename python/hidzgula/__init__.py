@@ -1,34 +1,42 @@
-"""Hidzgula: a proved diagnostic station and simulated units for SAE J1939, the CAN network of trucks, buses, farm machines and boats.
+"""Hidzgula: a proved diagnostic station, a listener and simulated units for SAE J1939, the CAN network of trucks, buses, farm machines and boats.
 
-A `Station` is handed the frames that are read of a bus, and lists under each NAME the diagnostic messages that came from it. `take_log`
-hands it a log of candump, and `hidzgula.can.Listener` what python-can reads. A `SimulatedUnit` takes part in a bus. docs/PYTHON.md of the project tells what is proved of it.
+A `Listener` is handed the frames that are read of a bus, and lists under each NAME the diagnostic messages that came from it; `take_log`
+hands it a log of candump. A `Station` takes part in the bus besides, and asks units. `hidzgula.can.Listener` hands either what python-can reads. A `SimulatedUnit` takes part in a bus. docs/PYTHON.md of the project tells what is proved of it.
 """
 
 from .candump import Missed, read_log, take_log
+from .listener import Listener
 from .records import (
     Acknowledgment,
     BadLine,
+    BrokenBy,
     Change,
     Code,
     Counts,
     Frame,
+    Heard,
+    HeardFrames,
     Kind,
     Lamps,
     LogCounts,
     Logged,
     Message,
+    NotRead,
     Reply,
     Taken,
     TakenFrames,
     Unit,
     UnitCounts,
     What,
+    Who,
+    Why,
 )
 from .refusals import OutOfMemory, Refused
 from .simulated import SimulatedUnit
 from .station import KEEP_ALL, Station
+from .table import rows_of, write_csv
 
-__version__ = "2.4.0"
+__version__ = "3.0.0"
 
 DM1, DM2, DM6 = Kind.DM1, Kind.DM2, Kind.DM6
 
@@ -48,6 +56,7 @@ PGN_DM11 = 65235
 __all__ = [
     "Acknowledgment",
     "BadLine",
+    "BrokenBy",
     "Change",
     "Code",
     "Counts",
@@ -55,13 +64,17 @@ __all__ = [
     "DM2",
     "DM6",
     "Frame",
+    "Heard",
+    "HeardFrames",
     "KEEP_ALL",
     "Kind",
     "Lamps",
+    "Listener",
     "LogCounts",
     "Logged",
     "Message",
     "Missed",
+    "NotRead",
     "OutOfMemory",
     "PGN_ADDRESS_CLAIMED",
     "PGN_DM1",
@@ -78,6 +91,10 @@ __all__ = [
     "Unit",
     "UnitCounts",
     "What",
+    "Who",
+    "Why",
     "read_log",
+    "rows_of",
     "take_log",
+    "write_csv",
 ]

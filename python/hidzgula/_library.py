@@ -7,7 +7,7 @@ as the header does when it is compiled.
 import ctypes
 import os
 import pathlib
-from ctypes import POINTER, Structure, c_bool, c_char_p, c_size_t, c_uint8, c_uint32, c_uint64, c_void_p
+from ctypes import POINTER, Structure, c_bool, c_char_p, c_size_t, c_uint8, c_uint16, c_uint32, c_uint64, c_void_p
 
 
 class StationRecord(Structure):
@@ -108,6 +108,62 @@ class UnitCountsRecord(Structure):
     _fields_ = [("put", c_uint64), ("written", c_uint64), ("withdrawn", c_uint64), ("waiting", c_uint64)]
 
 
+class ListenerRecord(Structure):
+    """Room for a listener: all bytes 0 at first. It is never copied or moved, and only the library reads or writes it."""
+
+    _fields_ = [("at", c_void_p), ("full", c_bool)]
+
+
+class WhoRecord(Structure):
+    """Whose a message is: a NAME's, or that of an address with the gaps before."""
+
+    _fields_ = [("name", c_uint64), ("gaps", c_uint64), ("has_name", c_uint8), ("address", c_uint8)]
+
+
+class HeardRecord(Structure):
+    """What a frame or a gap changed of what a listener shows."""
+
+    _fields_ = [
+        ("who", WhoRecord),
+        ("displaced", c_uint64),
+        ("pgn", c_uint32),
+        ("count", c_uint32),
+        ("what", c_uint8),
+        ("kind", c_uint8),
+        ("source", c_uint8),
+        ("to", c_uint8),
+        ("why", c_uint8),
+        ("control", c_uint8),
+        ("requester", c_uint8),
+        ("again", c_uint8),
+        ("has_displaced", c_uint8),
+        ("lost", c_uint8),
+        ("read", c_uint8),
+        ("of", c_uint8),
+        ("number", c_uint8),
+        ("reason", c_uint8),
+        ("by", c_uint8),
+        ("broken", c_uint8),
+    ]
+
+
+class SentRecord(Structure):
+    """A message that a listener listed."""
+
+    _fields_ = [
+        ("lamps", c_uint8),
+        ("flashes", c_uint8),
+        ("to", c_uint8),
+        ("in_part", c_uint8),
+        ("padding", c_uint16),
+        ("zeros", c_uint16),
+        ("older", c_uint16),
+        ("bytes_behind", c_uint8),
+        ("bytes_missing", c_uint8),
+        ("codes", c_size_t),
+    ]
+
+
 # The struct, its name in the header, and its size there.
 RECORDS = (
     (StationRecord, "hidzgula_station", 16),
@@ -119,6 +175,10 @@ RECORDS = (
     (CodeRecord, "hidzgula_code_out", 8),
     (LoggedRecord, "hidzgula_logged", 16),
     (ReadRecord, "hidzgula_read", 32),
+    (ListenerRecord, "hidzgula_listener", 16),
+    (WhoRecord, "hidzgula_who", 24),
+    (HeardRecord, "hidzgula_heard", 56),
+    (SentRecord, "hidzgula_sent_out", 24),
     (UnitRecord, "hidzgula_unit", 16),
     (UnitSettingsRecord, "hidzgula_unit_settings", 24),
     (UnitCountsRecord, "hidzgula_unit_counts_out", 32),
@@ -132,11 +192,13 @@ _STATION = POINTER(StationRecord)
 _REPLY = POINTER(ReplyRecord)
 _CHANGE = POINTER(ChangeRecord)
 _UNIT = POINTER(UnitRecord)
+_LISTENER = POINTER(ListenerRecord)
+_WHO = POINTER(WhoRecord)
+_HEARD = POINTER(HeardRecord)
 
 # Each call but those of `ANSWERS_NOTHING` answers a number: 0, or why it was refused.
 CALLS = {
     "hidzgula_open": (_STATION, c_uint64, c_uint8, c_uint8, c_uint32),
-    "hidzgula_open_listening": (_STATION, c_uint64, c_uint8, c_uint32),
     "hidzgula_close": (_STATION,),
     "hidzgula_take_frame_telling": (_STATION, c_uint32, c_char_p, c_size_t, _REPLY, _CHANGE),
     "hidzgula_take_frames": (_STATION, c_void_p, c_size_t, c_void_p, c_size_t, _REPLY, POINTER(c_size_t)),
@@ -153,6 +215,20 @@ CALLS = {
     "hidzgula_code": (_STATION, c_uint64, c_uint8, c_uint64, c_size_t, POINTER(CodeRecord)),
     "hidzgula_counts": (_STATION, POINTER(c_uint64), POINTER(c_uint64)),
     "hidzgula_read_log": (c_void_p, c_size_t, c_char_p, c_size_t, c_void_p, c_size_t, c_void_p, c_size_t, POINTER(ReadRecord)),
+    "hidzgula_listener_open": (_LISTENER, c_uint32),
+    "hidzgula_listener_close": (_LISTENER,),
+    "hidzgula_listener_take_at": (_LISTENER, c_uint64, c_uint32, c_char_p, c_size_t, _HEARD),
+    "hidzgula_listener_take_frames_at": (_LISTENER, c_void_p, c_size_t, c_void_p, c_size_t, c_void_p, c_size_t, POINTER(c_size_t)),
+    "hidzgula_listener_missed_at": (_LISTENER, c_uint64, c_uint32, _HEARD),
+    "hidzgula_listener_broken": (_LISTENER, c_size_t, _HEARD),
+    "hidzgula_listener_counts": (_LISTENER, POINTER(c_uint64), POINTER(c_uint64)),
+    "hidzgula_listener_rows": (_LISTENER, POINTER(c_size_t)),
+    "hidzgula_listener_row": (_LISTENER, c_size_t, POINTER(RowRecord)),
+    "hidzgula_listener_units": (_LISTENER, POINTER(c_size_t)),
+    "hidzgula_listener_unit": (_LISTENER, c_size_t, _WHO),
+    "hidzgula_listener_entries": (_LISTENER, _WHO, c_uint8, POINTER(c_uint64)),
+    "hidzgula_listener_entry": (_LISTENER, _WHO, c_uint8, c_uint64, POINTER(SentRecord)),
+    "hidzgula_listener_code": (_LISTENER, _WHO, c_uint8, c_uint64, c_size_t, POINTER(CodeRecord)),
     "hidzgula_unit_open": (_UNIT, c_uint64, c_uint8, POINTER(UnitSettingsRecord)),
     "hidzgula_unit_close": (_UNIT,),
     "hidzgula_unit_hear": (_UNIT, c_uint32, c_char_p, c_size_t, c_uint64),
@@ -168,7 +244,7 @@ CALLS = {
     "hidzgula_unit_counts": (_UNIT, POINTER(UnitCountsRecord)),
 }
 
-ANSWERS_NOTHING = {"hidzgula_close", "hidzgula_read_log", "hidzgula_unit_close"}
+ANSWERS_NOTHING = {"hidzgula_close", "hidzgula_listener_close", "hidzgula_read_log", "hidzgula_unit_close"}
 
 # The library in the wheel, or the one that the environment names.
 PATH = os.environ.get("HIDZGULA_LIBRARY") or str(pathlib.Path(__file__).with_name("libhidzgula_station.so"))

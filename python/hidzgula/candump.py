@@ -1,12 +1,13 @@
-"""Logs of candump, read for a station."""
+"""Logs of candump, read for a listener."""
 
 import ctypes
 import itertools
 from typing import BinaryIO, Callable, Iterable, Iterator, List, NamedTuple, Optional, TextIO, Union
 
 from ._library import FrameRecord, LoggedRecord, ReadRecord, library
-from .records import BadLine, Change, Frame, LogCounts, Logged
-from .station import FRAME, Station, instance_of
+from .listener import Listener
+from .records import BadLine, Frame, Heard, LogCounts, Logged
+from .station import FRAME, instance_of
 
 _ERROR_FLAG = 0x20000000
 _CONTROLLER_ERROR = 0x00000004
@@ -56,7 +57,7 @@ def read_log(log: Log, bus: Optional[str] = None, on_bad: OnBad = None, skip_bad
 
     log: a file that is open for reading, its bytes, or its lines. A live stream is open in binary (`sys.stdin.buffer`), so that what has come
     is read at once.
-    bus: as `can0`, to pass over what another bus says. All other lines are passed over: 11-bit, remote, FD and other error frames, and notes.
+    bus: as `can0`, to pass over what another bus says, and lines that name none; else they are of one bus. All other lines are passed over: 11-bit, remote, FD and other error frames, and notes.
     on_bad: is called with each line that begins as one of a log, and is none.
     skip_bad: whether such lines are passed over; else each is one frame missed, as for `watch`.
     """
@@ -75,38 +76,41 @@ def is_overflow(id: int, data: bytes) -> bool:
 
 
 def take_log(
-    station: Station,
+    listener: Listener,
     log: Log,
     bus: Optional[str] = None,
-    on_change: Optional[Callable[[Change, Logged], None]] = None,
+    on_change: Optional[Callable[[Heard, Logged], None]] = None,
     on_bad: OnBad = None,
     skip_bad: bool = False,
+    times: bool = True,
 ) -> LogCounts:
-    """Hands a log to a station that only listens, to its end, and tells what it was read as. `read_log` says what a log is, and the rest.
+    """Hands a log to a listener, to its end, with the times of its lines, and tells what it was read as. `read_log` says what a log is, and the
+    rest. The lists are those of the program's `watch`.
 
-    on_change: is called with each change, in their order, and where in the log it was made; frames are handed over some thousand at a time,
-    so the station may have taken later ones by then.
+    on_change: is called with what was heard, in its order, and where in the log it was made; frames are handed over some thousand at a time,
+    so the listener may have taken later ones by then.
 
-    Raises ValueError for a station that answers, and what `Station.take_frames` raises.
+    times: whether a packet may be late by them; False for those of `candump -td`, each of which is the time since the line before.
+
+    Raises a TypeError for a station, whose replies nobody would send, and what `Listener.take_frames` raises.
     """
-    instance_of("station", station, Station)
-    if not station.listening:
-        raise ValueError("a log is for a station that only listens: nobody would send what this one replies")
+    instance_of("listener", listener, Listener)
     reader = LogReader(log, bus)
+    moments = reader.logged if times else (LoggedRecord * _AT_ONCE)(*[(_NO_TIME, 0)] * _AT_ONCE)
     frames = missed = 0
     while reader.read_part():
         count = reader.part.frames
         if count:
-            changes = station.take_records(reader.frames, count).changes
+            heard = listener.take_records(reader.frames, moments, count).heard
             if on_change:
-                for place, change in changes:
-                    on_change(change, reader.logged_at(place))
+                for place, told in heard:
+                    on_change(told, reader.logged_at(place))
             frames += count
         gap = reader.missed(on_bad, skip_bad)
         if gap is not None:
-            change = station.missed(gap).change
+            told = listener.missed(gap)
             if on_change:
-                on_change(change, Logged(reader.lines, None))
+                on_change(told, Logged(reader.lines, None))
             missed += gap
     return LogCounts(reader.lines, frames, missed, reader.bad)
 
@@ -123,7 +127,8 @@ class LogReader:
         """How many lines were read, those of that part too."""
         self.bad = 0
         """How many of them were bad."""
-        self._logged = (LoggedRecord * _AT_ONCE)()
+        self.logged = (LoggedRecord * _AT_ONCE)()
+        """When each of them was seen."""
         instance_of("bus", bus or "", str)
         self._bus = (bus or "").encode()
         self._chunks = _chunks_of(log)
@@ -138,7 +143,7 @@ class LogReader:
             first = ctypes.cast(self._text, ctypes.c_void_p).value + self._at if self._text else ctypes.addressof(self.frames)
             library.hidzgula_read_log(
                 first, len(self._text) - self._at, self._bus, len(self._bus),
-                self.frames, _AT_ONCE, self._logged, _AT_ONCE, self.part,
+                self.frames, _AT_ONCE, self.logged, _AT_ONCE, self.part,
             )  # fmt: skip
             if self.part.lines:
                 self._at += self.part.bytes
@@ -150,7 +155,7 @@ class LogReader:
 
     def logged_at(self, place: int) -> Logged:
         """Where the frame at a place of the part stood."""
-        logged = self._logged[place]
+        logged = self.logged[place]
         return Logged(self._before + logged.line, None if logged.time == _NO_TIME else logged.time)
 
     def missed(self, on_bad: OnBad, skip_bad: bool) -> Optional[int]:

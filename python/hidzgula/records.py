@@ -1,7 +1,7 @@
-"""What a station takes, tells and answers, as values that never change."""
+"""What a station or a listener takes, tells and answers, as values that never change."""
 
 import enum
-from typing import List, NamedTuple, Optional, Tuple
+from typing import List, NamedTuple, Optional, Tuple, Union
 
 
 class Kind(enum.IntEnum):
@@ -16,7 +16,7 @@ class Kind(enum.IntEnum):
 
 
 class What(enum.IntEnum):
-    """What a frame or a gap changed of what the station shows."""
+    """What a frame or a gap changed of what a station or a listener shows."""
 
     NOTHING = 0
     """Nothing."""
@@ -34,6 +34,8 @@ class What(enum.IntEnum):
     """A message of `kind` to all began at `address`, which no NAME has claimed in what was read: it is not listed."""
     MISSED = 7
     """`count` frames were missed: no address has an owner until NAMEs claim again."""
+    BROKEN = 8
+    """Of a listener: a message of several packets broke; it was half read, and is neither that nor whole now."""
 
 
 class Frame(NamedTuple):
@@ -83,6 +85,102 @@ class Change(NamedTuple):
     """Of ACKNOWLEDGED: whether the last acknowledgment of that NAME was the same."""
     count: int = 0
     """Of MISSED: how many frames, 32 bits."""
+
+
+class Why(enum.IntEnum):
+    """Why a message cannot be read, or not whole."""
+
+    LENGTH = 15
+    """Not even its two bytes of lamps are there."""
+    IN_PART = 18
+    """It is listed, as far as it can be read: `Message.not_read` tells what cannot."""
+
+
+class BrokenBy(enum.IntEnum):
+    """Why a message of several packets broke (SAE J1939-21, 5.10)."""
+
+    LATE = 1
+    """A frame of it came too late."""
+    PACKET = 2
+    """The packet `number` came, which is not the next one."""
+    LENGTH = 3
+    """The next packet, `number`, has not 8 bytes."""
+    DIFFERS = 4
+    """The packet `number` came again, as it was asked for, with other bytes."""
+    ABORT = 5
+    """The unit at `by` aborted it, for `reason`."""
+    ANEW = 6
+    """Another message was announced between the same two."""
+    CLAIM = 7
+    """Another NAME claimed the address that it came from."""
+
+
+class Who(NamedTuple):
+    """Whose a message is, for a listener: a NAME's, or that of an address which no NAME had claimed since the last gap."""
+
+    name: Optional[int]
+    """The NAME that had claimed its source address last, 64 bits."""
+    address: Optional[int] = None
+    """The source address, where `name` is None."""
+    gaps: int = 0
+    """How many gaps came before, where `name` is None: after a gap the address may be another unit's."""
+
+    def __str__(self) -> str:
+        if self.name is not None:
+            return f"{self.name:016X}"
+        return f"address {self.address}, no claim seen{f' since gap {self.gaps}' if self.gaps else ''}"
+
+
+class Heard(NamedTuple):
+    """What a frame or a gap changed of what a listener shows; a field that `what` does not name is None, False or 0."""
+
+    what: What
+    who: Optional[Who] = None
+    """Whose address or row it is, or whose message: of all but UNOWNED and MISSED."""
+    source: Optional[int] = None
+    """The address that was claimed, or from which it came."""
+    to: Optional[int] = None
+    """The address that a message or an acknowledgment went to, 255 for all."""
+    kind: Optional[Kind] = None
+    """Of LISTED, UNREADABLE, UNOWNED and BROKEN."""
+    why: Optional[Union[Why, BrokenBy]] = None
+    """Of UNREADABLE a `Why`, of LISTED `Why.IN_PART` where it could not be read whole, of BROKEN a `BrokenBy`."""
+    displaced: Optional[int] = None
+    """Of CLAIMED: the NAME that claimed this address before, if another one did."""
+    lost: bool = False
+    """Of CLAIMED: whether it was the address of `displaced` until now, so that it has none any more."""
+    control: Optional[int] = None
+    """Of ACKNOWLEDGED: 0 positive, 1 negative, 2 access denied, 3 cannot respond now, or another number up to 255."""
+    requester: Optional[int] = None
+    """Of ACKNOWLEDGED: the address that it names as the one that asked."""
+    pgn: Optional[int] = None
+    """Of ACKNOWLEDGED: the parameter group, 24 bits."""
+    again: bool = False
+    """Of ACKNOWLEDGED: whether the last acknowledgment of that NAME was the same."""
+    count: int = 0
+    """Of MISSED: how many frames, 32 bits."""
+    read: int = 0
+    """Of BROKEN: how many of its packets were read."""
+    of: int = 0
+    """Of BROKEN: how many packets it has."""
+    number: int = 0
+    """Of BROKEN by PACKET, LENGTH and DIFFERS: the number of the packet."""
+    reason: int = 0
+    """Of BROKEN by ABORT: its reason (SAE J1939-21, 5.10)."""
+    by: Optional[int] = None
+    """Of BROKEN by ABORT: the address that sent it."""
+    broken: int = 0
+    """How many messages the frame broke, up to 255; `Listener.broken` has each."""
+
+
+class HeardFrames(NamedTuple):
+    """What a row of frames came to at a listener."""
+
+    count: int
+    """How many were taken."""
+    heard: List[Tuple[int, Heard]]
+    """The place of each frame that changed or broke something, in the row that was handed over, and what it changed; and then, with the same
+    place, each message that it broke and that is not told yet."""
 
 
 class Taken(NamedTuple):
@@ -150,6 +248,21 @@ class Lamps(NamedTuple):
         return ", ".join(on) or "no lamp"
 
 
+class NotRead(NamedTuple):
+    """What of a message could not be read that is not as SAE J1939-73 has it. All may be 0: more than 445 codes."""
+
+    padding: int
+    """Groups of four bytes FF, among several."""
+    zeros: int
+    """Groups of four bytes 00, among several."""
+    older: int
+    """Codes in an older layout of the SPN."""
+    bytes_behind: int
+    """Bytes behind the last group."""
+    bytes_missing: int
+    """Bytes missing to 8, the least that a message has."""
+
+
 class Message(NamedTuple):
     """A diagnostic message that stands in a list."""
 
@@ -157,9 +270,13 @@ class Message(NamedTuple):
     """Its place among all messages of its list that came, from 0."""
     lamps: Lamps
     codes: Tuple[Code, ...]
+    to: Optional[int] = None
+    """Of a listener: the address that it went to, 255 for all."""
+    not_read: Optional[NotRead] = None
+    """Of a listener: what of it could not be read, where it was read in part; `codes` are those that could."""
 
     def __str__(self) -> str:
-        return f"{self.lamps}; {' '.join(map(str, self.codes)) or '-'}"
+        return f"{self.lamps}; {' '.join(map(str, self.codes)) or '-'}{' in part' if self.not_read else ''}"
 
 
 class Acknowledgment(NamedTuple):
@@ -186,12 +303,12 @@ class Unit(NamedTuple):
 
 
 class Counts(NamedTuple):
-    """What a station could not read; each count stops at 2^64 - 1."""
+    """What a station or a listener could not read; each count stops at 2^64 - 1."""
 
     missed: int
     """Frames that it was told of as missed."""
     unread: int
-    """Messages that ended and could not be read."""
+    """Messages that ended and could not be read whole, those that a listener lists in part among them."""
 
 
 class UnitCounts(NamedTuple):
@@ -230,7 +347,7 @@ class LogCounts(NamedTuple):
 
     lines: int
     frames: int
-    """Frames that the station took."""
+    """Frames that the listener took."""
     missed: int
     """Frames that it was told of as missed, one for each bad line among them, unless bad lines were passed over."""
     bad: int

@@ -1,10 +1,12 @@
-"""Why a station refuses, or a simulated unit."""
+"""Why a station refuses, a listener or a simulated unit."""
 
-from typing import Dict, NoReturn, Optional, Tuple
+from typing import Dict, NoReturn, Optional, Tuple, Union
 
-from .records import TakenFrames
+from .records import HeardFrames, TakenFrames
 
 OUT_OF_MEMORY = 33
+
+Row = Union[TakenFrames, HeardFrames]
 
 # The number that the library answers, its name in the header, and why.
 REFUSALS: Dict[int, Tuple[str, str]] = {
@@ -30,20 +32,22 @@ REFUSALS: Dict[int, Tuple[str, str]] = {
     37: ("QUEUE_FULL", "as much waits to be written as there is room for"),
     38: ("SESSION_OPEN", "a session of that kind is open"),
     39: ("NOT_PENDING", "the code to go away is not pending"),
+    40: ("NO_LISTENER", "the listener is closed"),
+    41: ("HAS_LISTENER", "the handle has an open listener"),
 }
 
 
 class Refused(ValueError):
-    """A call that a station or a unit refused: it changed nothing, but that `Station.take_frames` has taken the frames before the one refused."""
+    """A call that was refused: it changed nothing, but that `take_frames` has taken the frames before the one refused."""
 
     number: int
     """The number of the refusal, as C has it."""
     name: str
     """Its name in the header, without HIDZGULA_, as `NO_ADDRESS`."""
-    taken: Optional[TakenFrames]
-    """What `Station.take_frames` took before the frame that was refused; None at every other call."""
+    taken: Optional[Row]
+    """What `take_frames` took before the frame that was refused; None at every other call."""
 
-    def __init__(self, number: int, taken: Optional[TakenFrames] = None) -> None:
+    def __init__(self, number: int, taken: Optional[Row] = None) -> None:
         self.number = number
         self.name, why = REFUSALS.get(number, ("UNKNOWN", "a refusal that this version does not know"))
         self.taken = taken
@@ -51,17 +55,17 @@ class Refused(ValueError):
 
 
 class OutOfMemory(MemoryError):
-    """Memory was refused, and the call changed nothing, but that `Station.take_frames` has taken the frames before."""
+    """Memory was refused, and the call changed nothing, but that `take_frames` has taken the frames before."""
 
-    taken: Optional[TakenFrames]
-    """What `Station.take_frames` took before memory was refused; None at every other call."""
+    taken: Optional[Row]
+    """What `take_frames` took before memory was refused; None at every other call."""
 
-    def __init__(self, taken: Optional[TakenFrames] = None) -> None:
+    def __init__(self, taken: Optional[Row] = None) -> None:
         self.taken = taken
         super().__init__("memory was refused")
 
 
-def refuse(number: int, taken: Optional[TakenFrames] = None) -> NoReturn:
+def refuse(number: int, taken: Optional[Row] = None) -> NoReturn:
     """Raises what stands for the number of a refusal."""
     if number == OUT_OF_MEMORY:
         raise OutOfMemory(taken)

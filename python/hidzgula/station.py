@@ -39,8 +39,8 @@ Octets = Union[bytes, bytearray, memoryview]
 
 KEEP_ALL = 2**32 - 1
 
-# How many frames the library is handed at once: a change takes 32 bytes.
-_AT_ONCE = 4096
+# How many frames the library is handed at once: what each changed takes 32 bytes, or 56.
+AT_ONCE = 4096
 # A frame in the library's layout.
 FRAME = struct.Struct("<IB8s3x")
 _CHANGE = struct.Struct("<QQIIBBBBBBBx")
@@ -52,41 +52,41 @@ _KINDS: Dict[int, Optional[Kind]] = {0: None, **{kind.value: kind for kind in Ki
 
 
 class Station:
-    """A diagnostic station for SAE J1939, before one bus: it is handed the frames that are read of that bus, and lists what they tell by NAME.
+    """A diagnostic station for SAE J1939 on one bus: it is handed the frames that are read of that bus, says what is to be sent, and lists what
+    they tell by NAME. Who only listens is a `Listener`.
 
     Each call may be made from any thread: a lock lets in one at a time. A refused call raises `Refused`, one that was refused memory
     `MemoryError`, and has then changed nothing. A number that no C type of the library holds, as a NAME of 65 bits, is a ValueError; what is
     no whole number, or no bytes, is a TypeError that tells what was wanted.
 
-        with Station(name=1, address=248, listening=True) as station:
+        with Station(name=1, address=248) as station:
             station.take(0x18EEFF00, bytes.fromhex("A000000000000000"))
             station.take(0x18FECA00, bytes.fromhex("04FFB8040301FFFF"))
             print(*station.messages(0xA0, DM1))
     """
 
-    def __init__(self, name: int, address: int, *, grant: int = 255, keep: Optional[int] = None, listening: bool = False) -> None:
+    def __init__(self, name: int, address: int, *, grant: int = 255, keep: Optional[int] = None, **more: Any) -> None:
         """Opens a station that has read nothing.
 
         name: its NAME, 64 bits (SAE J1939-81).
-        address: which it holds, 0 to 253; of one that only listens, whose sessions it joins.
-        grant: how many packets it lets a sender send at once, 1 to 255 (SAE J1939-21); of no use to one that only listens.
+        address: which it holds, 0 to 253.
+        grant: how many packets it lets a sender send at once, 1 to 255 (SAE J1939-21).
         keep: of each list the newest so many messages are kept, 0 to 2^32 - 1, and all are counted; None for all.
-        listening: whether it only listens: it replies nothing, and passes over packets of a session that was given up.
 
         Raises Refused BAD_SETTING for an address above 253 or a grant of 0, and MemoryError.
         """
+        if "listening" in more:
+            raise TypeError("a station takes part in the bus; for one who only listens there is hidzgula.Listener()")
+        if more:
+            raise TypeError(f"a station has no {', '.join(more)}")
         self._station = StationRecord()
         self._lock = threading.Lock()
         self._reply = ReplyRecord()
         self._change = ChangeRecord()
-        self._listening = bool(listening)
         self._name = name = number_of("name", name, 2**64 - 1)
         address = number_of("address", address, 255, most_is_refused=True)
         kept = number_of("keep", KEEP_ALL if keep is None else keep, KEEP_ALL)
-        if listening:
-            done(library.hidzgula_open_listening(self._station, name, address, kept))
-        else:
-            done(library.hidzgula_open(self._station, name, address, number_of("grant", grant, 255), kept))
+        done(library.hidzgula_open(self._station, name, address, number_of("grant", grant, 255), kept))
         self._keep = kept
 
     def close(self) -> None:
@@ -109,7 +109,7 @@ class Station:
 
     def __repr__(self) -> str:
         """Its NAME, its address, and counts; or that it is closed, or in a call of another thread."""
-        return f"<hidzgula.Station {self._name:016X}{' listening' * self._listening}{said_by(self._lock, self._said)}>"
+        return f"<hidzgula.Station {self._name:016X}{said_by(self._lock, self._said)}>"
 
     def _said(self) -> str:
         rows, missed, unread, has, address = ctypes.c_size_t(), ctypes.c_uint64(), ctypes.c_uint64(), ctypes.c_uint8(), ctypes.c_uint8()
@@ -117,11 +117,6 @@ class Station:
         done(library.hidzgula_rows(self._station, rows))
         done(library.hidzgula_counts(self._station, missed, unread))
         return f"{at_address(has, address)}, units {rows.value}, missed {missed.value}, unread {unread.value}"
-
-    @property
-    def listening(self) -> bool:
-        """Whether it only listens."""
-        return self._listening
 
     # ---- what was read of the bus
 
@@ -142,14 +137,13 @@ class Station:
     def take_frames(self, frames: Sequence[Tuple[int, Octets]], start: int = 0) -> TakenFrames:
         """Takes frames, each an identifier and its bytes, from the place `start` on, as `take` does one after the other.
 
-        It stops behind the first one that the station replies to, so that the reply can be sent before the next is taken; a station that
-        only listens replies to none. `count` tells how many were taken: `start + count` is the next place.
+        It stops behind the first one that the station replies to, so that the reply can be sent before the next is taken. `count` tells how many were taken: `start + count` is the next place.
 
         Raises Refused ID_TOO_LARGE, TOO_LONG, NO_STATION, and MemoryError, at the first frame that is refused: those before it are taken,
         and the error's `taken` tells of them, so `start + taken.count` is the place of the one that was refused. Where a frame is no
         pair of a number and bytes, a TypeError or ValueError is raised before any is taken.
         """
-        packed = _packed(frames, start)
+        packed = packed_frames(frames, start)
         held = (FrameRecord * (len(packed) // FRAME.size)).from_buffer(packed)
         return self.take_records(held, len(held), start)
 
@@ -161,7 +155,7 @@ class Station:
         """
         first = ctypes.addressof(frames)
         changes: List[Tuple[int, Change]] = []
-        records = (ChangeRecord * min(_AT_ONCE, max(count, 1)))()
+        records = (ChangeRecord * min(AT_ONCE, max(count, 1)))()
         taken = 0
         with self._lock:
             while True:
@@ -179,8 +173,7 @@ class Station:
 
     def missed(self, count: int) -> Taken:
         """Tells the station that `count` frames of the bus were missed, 0 to 2^32 - 1: it forgets which NAME owns which address, and all
-        messages that are half read, until units claim again. It replies with its claim and a request for the claims of all; nothing,
-        where it only listens.
+        messages that are half read, until units claim again. It replies with its claim and a request for the claims of all.
 
         Raises Refused NO_STATION, and MemoryError.
         """
@@ -255,7 +248,7 @@ class Station:
             done(library.hidzgula_rows(self._station, count))
             for place in range(count.value):
                 done(library.hidzgula_row(self._station, place, row))
-                units.append(_unit_of(row))
+                units.append(unit_of(row))
         return units
 
     def count(self, name: int, kind: int) -> int:
@@ -380,14 +373,14 @@ def octets_of(data: Octets) -> bytes:
         raise TypeError(f"data is bytes, and not {data!r}") from None
 
 
-def _packed(frames: Sequence[Tuple[int, Octets]], start: int) -> bytearray:
+def packed_frames(frames: Sequence[Tuple[int, Octets]], start: int) -> bytearray:
     """The frames from a place on, in the library's layout."""
     if not hasattr(frames, "__len__") or not hasattr(frames, "__getitem__"):
         raise TypeError(f"frames is a sequence of pairs of an identifier and bytes, and not {frames!r}")
     start = number_of("start", start, len(frames))
     packed = bytearray()
-    for at in range(start, len(frames), _AT_ONCE):
-        part = frames[at : at + _AT_ONCE]
+    for at in range(start, len(frames), AT_ONCE):
+        part = frames[at : at + AT_ONCE]
         try:
             packed += _packed_part(part)
         except (struct.error, TypeError, ValueError):
@@ -459,6 +452,6 @@ def frame_of(record: FrameRecord) -> Frame:
     return Frame(record.id, bytes(record.bytes[: record.length]))
 
 
-def _unit_of(row: RowRecord) -> Unit:
+def unit_of(row: RowRecord) -> Unit:
     address = row.address if row.has_address else None
     return Unit(row.name, address, Acknowledgment(row.ack_control, row.ack_pgn) if row.has_ack else None)

@@ -100,7 +100,7 @@ int main(int argc, char **argv)
 {
     const uint32_t seconds = argc > 1 ? (uint32_t)strtoul(argv[1], NULL, 10) : 86400, keep = argc > 2 ? (uint32_t)strtoul(argv[2], NULL, 10) : 16;
     const uint32_t units = argc > 3 ? (uint32_t)strtoul(argv[3], NULL, 10) : 10;
-    if (hidzgula_open_listening(&station, 1, 248, keep) != HIDZGULA_DONE) return 1;
+    if (hidzgula_open(&station, 1, 248, 255, keep) != HIDZGULA_DONE) return 1;
     units_claim(units);
     for (uint32_t second = 0; second < seconds; second++)
         for (uint32_t unit = 0; unit < units; unit++) dm1(unit, second);

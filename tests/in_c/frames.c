@@ -1,5 +1,4 @@
-/* Frames that are taken in rows. Of the log on standard input, by a station that answers and by one that only listens: whatever the room,
- * each frame comes to what hidzgula_take_frame came to for it, a row ends behind the first reply and nowhere else, and at the end the station
+/* Frames that are taken in rows. Of the log on standard input, by a station: whatever the room, each frame comes to what hidzgula_take_frame came to for it, a row ends behind the first reply and nowhere else, and at the end the station
  * tells the same. Each refusal in the midst of a row: what was before it is taken, the rest is as it was, and the caller goes on. And
  * each request for memory is refused in turn: the row ends there, the frame is taken by the next one, and the end is the same.
  * Writes a line for each that is otherwise, and then the sums.
@@ -43,8 +42,6 @@ void __wrap_free(void *block)
     __real_free(block);
 }
 
-static bool listens;
-
 /* what each frame came to, one by one, and what the station told at the end */
 static hidzgula_change changes_wanted[MOST];
 static hidzgula_reply replies_wanted[MOST];
@@ -75,8 +72,7 @@ static bool same_change(const hidzgula_change *one, const hidzgula_change *other
 
 static void open_one(hidzgula_station *station)
 {
-    uint32_t answer = listens ? hidzgula_open_listening(station, 1, 248, 40) : hidzgula_open(station, 1, 248, 255, 40);
-    if (answer != HIDZGULA_DONE) abort();
+    if (hidzgula_open(station, 1, 248, 255, 40) != HIDZGULA_DONE) abort();
 }
 
 static void one_by_one(void)
@@ -196,20 +192,17 @@ static void refuse_each(void)
 int main(void)
 {
     read_frames();
-    for (int turn = 0; turn < 2; turn++) {
-        listens = turn;
-        one_by_one();
-        for (size_t room = 1; room < 5; room++) in_rows(room);
-        in_rows(64);
-        in_rows(MOST);
-        for (size_t place = 0; place < 9; place += 4) {
-            refused_at(place, 1u << 29, 8, HIDZGULA_ID_TOO_LARGE);
-            refused_at(place, 0xFFFFFFFF, 9, HIDZGULA_ID_TOO_LARGE);
-            refused_at(place, (1u << 29) - 1, 9, HIDZGULA_TOO_LONG);
-            refused_at(place, 0, 255, HIDZGULA_TOO_LONG);
-        }
-        without_frames();
-        refuse_each();
+    one_by_one();
+    for (size_t room = 1; room < 5; room++) in_rows(room);
+    in_rows(64);
+    in_rows(MOST);
+    for (size_t place = 0; place < 9; place += 4) {
+        refused_at(place, 1u << 29, 8, HIDZGULA_ID_TOO_LARGE);
+        refused_at(place, 0xFFFFFFFF, 9, HIDZGULA_ID_TOO_LARGE);
+        refused_at(place, (1u << 29) - 1, 9, HIDZGULA_TOO_LONG);
+        refused_at(place, 0, 255, HIDZGULA_TOO_LONG);
     }
+    without_frames();
+    refuse_each();
     return sums();
 }

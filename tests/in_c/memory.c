@@ -1,4 +1,4 @@
-/* Refuses each request for memory in turn, of a station that answers and keeps all entries, of one that only listens and keeps the
+/* Refuses each request for memory in turn, of a station that answers and keeps all entries, of one that keeps the
  * newest three of each list, and of one that keeps none. The calls are: open, the frames of the candump log on standard input with a gap
  * after every 1000 and the three orders after every 200, close. In run N the Nth request is refused: the call that made it must answer
  * OUT_OF_MEMORY and write nothing, and what the station tells after it, lists and all, must be what a station tells that did the calls
@@ -105,12 +105,11 @@ static void add_change(const hidzgula_change *change)
     for (size_t i = 0; i < sizeof fields / sizeof fields[0]; i++) changes = (changes ^ fields[i]) * 0x100000001B3u;
 }
 
-static bool listens;
 static uint32_t keep = UINT32_MAX;
 
 static uint32_t opened_of(hidzgula_station *station)
 {
-    return listens ? hidzgula_open_listening(station, 1, 248, keep) : hidzgula_open(station, 1, 248, 255, keep);
+    return hidzgula_open(station, 1, 248, 255, keep);
 }
 
 /* what a station tells that did the first calls, and was refused nothing */
@@ -222,10 +221,8 @@ int main(void)
 {
     read_log();
     refuse_each();
-    listens = true;
     keep = 3;
     refuse_each();
-    listens = false;
     keep = 0;
     refuse_each();
     printf("%zu passed, %zu failed\n", passed, failed);

@@ -73,8 +73,6 @@ static void refused_by_arguments(void)
     is("opened twice", hidzgula_open(&station, 2, 1, 1, 1), HIDZGULA_HAS_STATION);
     is("address 254", hidzgula_open(&station, 2, 254, 1, 1), HIDZGULA_BAD_SETTING);
     is("grant 0", hidzgula_open(&station, 2, 1, 0, 1), HIDZGULA_BAD_SETTING);
-    is("opened twice, listening", hidzgula_open_listening(&station, 2, 1, 1), HIDZGULA_HAS_STATION);
-    is("address 255, listening", hidzgula_open_listening(&station, 2, 255, 1), HIDZGULA_BAD_SETTING);
     is("identifier 2^29", hidzgula_take_frame(&station, 1u << 29, bytes, 8, &out.reply, &out.change), HIDZGULA_ID_TOO_LARGE);
     is("identifier 2^32 - 1", hidzgula_take_frame(&station, 0xFFFFFFFF, bytes, 9, &out.reply, &out.change), HIDZGULA_ID_TOO_LARGE);
     is("nine bytes", hidzgula_take_frame(&station, (1u << 29) - 1, bytes, 9, &out.reply, &out.change), HIDZGULA_TOO_LONG);
@@ -187,49 +185,6 @@ static void orders(void)
     is("commands none", hidzgula_command(&station, 0xA0, 9, &out.reply), HIDZGULA_NOT_HELD);
 }
 
-/* a frame from 7 to 248, or from 248 to 7, at a station that only listens: it replies nothing */
-static void hears(uint32_t id, const uint8_t data[8])
-{
-    memset(&out.reply, 0xA5, sizeof out.reply);
-    is("is heard", hidzgula_take_frame(&station, id, data, 8, &out.reply, &out.change), HIDZGULA_DONE);
-    is("is not answered", out.reply.count * 256u + out.reply.withdraw, 0);
-}
-
-/* a session of DM2 from 7 to 248: announced, given up so, and packets without another announcement; then a whole one */
-static void gives_up(uint32_t id, const uint8_t data[8], size_t wanted)
-{
-    static const uint8_t dm2[8] = { 16, 10, 0, 2, 0xFF, 0xCB, 0xFE, 0 };
-    static const uint8_t first[8] = { 1, 0x04, 0xFF, 0xB8, 0x04, 0x03, 0x01, 0x64 }, last[8] = { 2, 0, 1, 1, 0xFF, 0xFF, 0xFF, 0xFF };
-    hears(0x1CECF807, dm2);
-    hears(id, data);
-    hears(0x1CEBF807, first);
-    hears(0x1CEBF807, last);
-    is("packets after it", hidzgula_entries(&station, 0xA0, HIDZGULA_DM2, &out.entries), HIDZGULA_DONE);
-    is("packets after it", out.entries, wanted);
-    hears(0x1CECF807, dm2);
-    hears(0x1CEBF807, first);
-    hears(0x1CEBF807, last);
-    is("a whole session", hidzgula_entries(&station, 0xA0, HIDZGULA_DM2, &out.entries), HIDZGULA_DONE);
-    is("a whole session", out.entries, wanted + 1);
-}
-
-static void listens(void)
-{
-    static const uint8_t other[8] = { 16, 10, 0, 2, 0xFF, 0xEB, 0xFE, 0 }, abort_of_dm2[8] = { 255, 2, 0xFF, 0xFF, 0xFF, 0xCB, 0xFE, 0 };
-    static const uint8_t abort_of_other[8] = { 255, 2, 0xFF, 0xFF, 0xFF, 0xEB, 0xFE, 0 }, grant[8] = { 17, 2, 1, 0xFF, 0xFF, 0xCB, 0xFE, 0 };
-    is("opens, listening", hidzgula_open_listening(&station, 1, 248, all), HIDZGULA_DONE);
-    hears(0x18EEFF07, bytes);
-    gives_up(0x1CECF807, other, 0);
-    gives_up(0x1CECF807, abort_of_dm2, 1);
-    gives_up(0x1CECF807, abort_of_other, 2);
-    gives_up(0x1CEC07F8, abort_of_dm2, 3);
-    gives_up(0x1CEC07F8, grant, 5); /* which gives nothing up, nor does an abort between others */
-    gives_up(0x1CEC08F8, abort_of_dm2, 7);
-    is("misses frames", hidzgula_take_gap(&station, 1, &out.reply, &out.change), HIDZGULA_DONE);
-    is("is not answered", out.reply.count * 256u + out.reply.withdraw, 0);
-    hidzgula_close(&station);
-}
-
 int main(void)
 {
     on_empty("empty");
@@ -251,9 +206,5 @@ int main(void)
     is("has read nothing", hidzgula_rows(&station, &out.count), HIDZGULA_DONE);
     is("has read nothing", out.count, 0);
     hidzgula_close(&station);
-    is("address 254, listening", hidzgula_open_listening(&station, 1, 254, all), HIDZGULA_BAD_SETTING);
-    on_empty("refused, listening");
-    listens();
-    on_empty("closed again");
     return sums();
 }

@@ -69,11 +69,11 @@ static void list(uint64_t name, uint8_t kind, uint64_t count, uint32_t spn, uint
     refused(name, kind, UINT64_MAX, HIDZGULA_NO_PLACE);
 }
 
-static void keeps(uint32_t keep, bool listens)
+static void keeps(uint32_t keep)
 {
     static const uint8_t a0[8] = { 0xA0, 0, 0, 0, 0, 0, 0, 0 }, b0[8] = { 0xB0, 0, 0, 0, 0, 0, 0, 0 };
     hidzgula_reply reply;
-    is("opens", listens ? hidzgula_open_listening(&station, 1, 248, keep) : hidzgula_open(&station, 1, 248, 255, keep), HIDZGULA_DONE);
+    is("opens", hidzgula_open(&station, 1, 248, 255, keep), HIDZGULA_DONE);
     is("a claim", hidzgula_take_frame(&station, 0x18EEFF07, a0, 8, &reply, NULL), HIDZGULA_DONE);
     is("a claim", hidzgula_take_frame(&station, 0x18EEFF09, b0, 8, &reply, NULL), HIDZGULA_DONE);
     for (uint32_t i = 0; i < 40; i++) {
@@ -101,6 +101,6 @@ static void keeps(uint32_t keep, bool listens)
 int main(void)
 {
     static const uint32_t numbers[] = { 0, 1, 2, 16, 39, 40, 41, UINT32_MAX };
-    for (size_t i = 0; i < sizeof numbers / sizeof numbers[0]; i++) keeps(numbers[i], i % 2);
+    for (size_t i = 0; i < sizeof numbers / sizeof numbers[0]; i++) keeps(numbers[i]);
     return sums();
 }

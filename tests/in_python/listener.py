@@ -12,7 +12,8 @@ import hidzgula
 import hidzgula.can
 from hidzgula import DM1, DM2, What
 from hidzgula.can import BROADCAST_GAP, Listener
-from tries import LOGS, lines_of, lists_of, lists_wanted, raised, same, sums
+from hidzgula.candump import LogReader
+from tries import LOGS, lines_of, lists_of, raised, same, sums, with_times
 
 # (behind all others: `can` may be python-can itself)
 sys.path.append(str(pathlib.Path(__file__).with_name("fake")))
@@ -78,6 +79,7 @@ def session():
         begun = time.monotonic()
         listener.command(ENGINE, 9)
         same("it takes its time", time.monotonic() - begun >= 2 * BROADCAST_GAP, True)
+        same("as the standard has it (J1939-21)", 0.05 <= BROADCAST_GAP <= 0.2, True)
         same("it commands", [text[:8] for text in texts(truck)], ["1CECFFF9", "1CEBFFF9", "1CEBFFF9"])
         listener.ask_all(hidzgula.PGN_DM1)
         same("it asks all", texts(truck), ["18EAFFF9#CAFE00"])
@@ -87,7 +89,7 @@ def session():
 
 
 def passed_over():
-    with hidzgula.Station(1, 249, listening=True) as station:
+    with hidzgula.Listener() as station:
         changes = []
         listener = Listener(station, on_change=lambda change, msg: changes.append(change.what))
         claim = "18EEFF00#0799410100000010"
@@ -107,12 +109,16 @@ def passed_over():
         listener.stop()
         same("it is open", station.count(ENGINE, DM1), 0)
     with hidzgula.Station(1, 249) as station:
-        same("one that answers needs a bus", type(raised(Listener, station)), ValueError)
-    same("what is refused is raised", raised(listener.on_message_received, message(claim)).name, "NO_STATION")
+        same("a station needs a bus", type(raised(Listener, station)), ValueError)
+    same("what is refused is raised", raised(listener.on_message_received, message(claim)).name, "NO_LISTENER")
+    for call, words in ((listener.ask, (ENGINE, 1)), (listener.ask_all, (1,)), (listener.command, (ENGINE, 9))):
+        same("one who only listens asks nobody", type(raised(call, *words)), TypeError)
+    with can.Bus("silent", interface="virtual") as bus, hidzgula.Listener() as hears:
+        same("nor has it a bus to send on", type(raised(Listener, hears, bus)), ValueError)
     for words, wanted in (((5,), "station"), ((station, 5), "bus"), ((station, None, 5), "on_change")):
         error = raised(Listener, *words)
         same(f"a wrong {wanted}", (type(error), str(error).startswith(f"{wanted} is a ")), (TypeError, True))
-    same("in words", repr(listener), "<hidzgula.can.Listener of <hidzgula.Station 0000000000000001 listening, closed>>")
+    same("in words", repr(listener), "<hidzgula.can.Listener of <hidzgula.Listener, closed>>")
 
 
 def notified():
@@ -221,14 +227,17 @@ def two_listeners():
 def sent_in_a_log():
     """A log of which the program that wrote it sent each frame, as `Tx` of an ASC log says."""
     for log in LOGS:
-        with hidzgula.Station(1, 248, listening=True) as station:
-            listener = Listener(station)
-            for read in hidzgula.read_log(lines_of(log)):
-                if isinstance(read, hidzgula.Missed):
-                    listener.missed(read.count)
-                else:
-                    listener.on_message_received(can.Message(arbitration_id=read.id, data=read.data, is_extended_id=True, is_rx=False))
-            same(f"the lists of {log}", lists_of(station), lists_wanted(log))
+        with hidzgula.Listener() as station:
+            listener, reader = Listener(station), LogReader(lines_of(log))
+            while reader.read_part():
+                for place in range(reader.part.frames):
+                    frame, at = reader.frames[place], reader.logged_at(place)
+                    data = bytes(frame.bytes[: frame.length])
+                    listener.on_message_received(can.Message(arbitration_id=frame.id, data=data, is_extended_id=True, is_rx=False, timestamp=at.time / 1e6))
+                missed = reader.missed(None, False)
+                if missed is not None:
+                    listener.missed(missed)
+            same(f"the lists of {log}", lists_of(station), with_times(log))
 
 
 takeover()

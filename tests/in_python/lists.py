@@ -1,35 +1,160 @@
-"""The lists of the logs, by a log that is read, frame by frame and by many frames at once, by a station that answers too; each kind of change
+"""The lists of the logs, by a listener and a log that is read, as `watch` has them; many frames at once, by a station too; each kind of change
 with its fields; which messages are kept; that structs lie as the header says; and that types and texts are as they are told."""
 
 import ctypes
+import json
 import re
 import typing
 
 import hidzgula
-from hidzgula import DM1, DM2, DM6, Change, Code, Frame, Kind, Lamps, Message, Missed, Reply, Station, What, _library, candump
-from tries import LOGS, TOP, all_told, lists_of, lists_wanted, lines_of, raised, same, sums
+from hidzgula import DM1, DM2, DM6, BrokenBy, Change, Code, Frame, Heard, Kind, Lamps, Listener, Message, Missed, NotRead, Reply, Station, What, Who, Why, _library, candump
+from tries import LOGS, TOP, all_told, entry_of, lists_of, lists_wanted, lines_of, raised, same, sums, with_times
 
 HEADER = (TOP / "c/hidzgula_station.h").read_text()
 
 
 def read_logs():
     for log in LOGS:
-        with Station(1, 248, listening=True) as station:
+        with Listener() as listener:
             told = []
-            hidzgula.take_log(station, lines_of(log), on_change=lambda change, at: told.append(change))
-            same(f"the lists of {log}", lists_of(station), lists_wanted(log))
+            hidzgula.take_log(listener, lines_of(log), on_change=lambda heard, at: told.append(heard))
+            same(f"the lists of {log}", lists_of(listener), with_times(log))
             same(f"the lists of {log}, of another bus", [*hidzgula.read_log(lines_of(log), bus="can9")], [])
-            at_end = all_told(station)
-        with Station(1, 248, listening=True) as station:
-            changes = []
-            for read in hidzgula.read_log(lines_of(log), bus="can0"):
-                taken = station.missed(read.count) if isinstance(read, Missed) else station.take(*read)
-                same("a station that only listens replies nothing", taken.reply, Reply(False, ()))
-                changes.append(taken.change)
-            same(f"{log}, frame by frame", all_told(station), at_end)
-            same(f"the changes of {log}", told, [change for change in changes if change.what])
-    answering = Station(1, 248)
-    same("a log for a station that answers", type(raised(hidzgula.take_log, answering, [])), ValueError)
+        with Listener() as listener:
+            for it in hidzgula.read_log(lines_of(log)):
+                listener.missed(it.count) if isinstance(it, Missed) else listener.take(*it)
+            same(f"the lists of {log}, without times", lists_of(listener), lists_wanted(log))
+        with Listener() as listener:
+            hidzgula.take_log(listener, lines_of(log), times=False)
+            same(f"the lists of {log}, times aside", lists_of(listener), lists_wanted(log))
+    same("a log for a station", type(raised(hidzgula.take_log, Station(1, 248), [])), TypeError)
+
+
+def as_watch():
+    """By a listener, the lists of `watch` in each log of the repository: of NAMEs and of addresses that nobody had claimed, each with where it went."""
+    folder = TOP / "tests/data/logs"
+    for lists in sorted((folder / "listener").glob("*.lists.json")):
+        wanted, name = json.loads(lists.read_text()), lists.name.removesuffix(".lists.json")
+        log = folder / "listener" / f"{name}.log"
+        log = log if log.exists() else TOP / "examples/logs" / log.name
+        with Listener() as listener, open(log, "rb") as file:
+            hidzgula.take_log(listener, file, times=name != "relative-times")
+            found, rows = {}, {unit.name: unit.address for unit in listener.units()}
+            for who in dict.fromkeys([*(Who(unit) for unit in rows), *listener.senders()]):
+                runs = {called: runs_of(listener.messages(who, kind)) for kind, called in ((1, "dm1"), (2, "dm2"), (6, "dm6"))}
+                key = f"{who.name:016X}" if who.name is not None else f"address {who.address}"
+                found.setdefault(key, []).append((rows[who.name] if who.name is not None else who.address, runs))
+            units = {}
+            for unit in wanted["units"]:
+                runs = {kind: [(run["times"], run["to"], run["entry"]) for run in unit[kind]] for kind in ("dm1", "dm2", "dm6")}
+                units.setdefault(unit["name"] or f"address {unit['address']}", []).append((unit["address"], runs))
+            same(f"{name}: the lists of watch", found, units)
+            same(f"{name}: counts", tuple(listener.counts()), (wanted["missed"], wanted["unread"] + wanted.get("partly", 0)))
+
+
+def runs_of(messages):
+    """Equal messages in a row, as the files of tests/data/logs/listener have them."""
+    runs = []
+    for message in messages:
+        entry, to = entry_of(message), None if message.to == 255 else message.to
+        if runs and runs[-1][1:] == (to, entry):
+            runs[-1] = (runs[-1][0] + 1, to, entry)
+        else:
+            runs.append((1, to, entry))
+    return runs
+
+
+def heard():
+    """Each kind of what a listener hears, and sessions to a tool whose address others claim in their midst."""
+    dm1, a, b = bytes.fromhex("04FFB8040301FFFF"), bytes([0xA0] + 7 * [0]), bytes([0xB0] + 7 * [0])
+    rts, first, last = (bytes.fromhex(it) for it in ("100A0002FFCBFE00", "0104FFB804030164", "02000101FFFFFFFF"))
+    with Listener() as listener:
+        for id, data, wanted in (
+            (0x18EEFF07, a, Heard(What.CLAIMED, Who(0xA0), 7)),
+            (0x18EEFF07, a, Heard(What.NOTHING)),
+            (0x18FECA07, bytearray(dm1), Heard(What.LISTED, Who(0xA0), 7, 255, DM1)),
+            (0x18FECB07, b"", Heard(What.UNREADABLE, Who(0xA0), 7, 255, DM2, Why.LENGTH)),
+            (0x18FECA63, dm1, Heard(What.LISTED, Who(None, 0x63, 0), 0x63, 255, DM1)),
+            (0x18E8FF07, bytes.fromhex("01FFFFFFF8CCFE00"), Heard(What.ACKNOWLEDGED, Who(0xA0), 7, 255, control=1, requester=248, pgn=hidzgula.PGN_DM3)),
+            (0x1CECF907, rts, Heard(What.NOTHING)),
+            (0x1CEBF907, first, Heard(What.NOTHING)),
+            (0x18EEFFF9, b, Heard(What.CLAIMED, Who(0xB0), 249)),
+            (0x18EEFFF9, bytes(8), Heard(What.CLAIMED, Who(0), 249, displaced=0xB0, lost=True)),
+            (0x1CEBF907, last, Heard(What.LISTED, Who(0xA0), 7, 249, DM2)),
+            (0x18EEFFFE, b, Heard(What.NOTHING)),
+            (0x18EEFFFE, bytes(8), Heard(What.GAVE_UP, Who(0))),
+            (0x18FECF63, dm1[:6], Heard(What.LISTED, Who(None, 0x63, 0), 0x63, 255, DM6, Why.IN_PART)),
+            (0x1CECFF4D, bytes.fromhex("200A0002FFCBFE00"), Heard(What.UNOWNED, source=77, kind=DM2)),
+        ):
+            same(f"{id:08X}", listener.take(id, data), wanted)
+        same("missed", listener.missed(5, 10), Heard(What.MISSED, count=5))
+        same("units", listener.units(), [(0xA0, None, (1, hidzgula.PGN_DM3)), (0xB0, None, None), (0, None, None)])
+        same("senders", listener.senders(), [Who(0xA0), Who(None, 0x63, 0)])
+        same("in words", [str(who) for who in listener.senders()], ["00000000000000A0", "address 99, no claim seen"])
+        same("in words", str(Who(None, 9, 3)), "address 9, no claim seen since gap 3")
+        same("a DM2", listener.messages(0xA0, DM2), [Message(0, Lamps(0x04, 0xFF), (Code(1208, 3, 1), Code(100, 1, 1)), 249)])
+        same("by Who", listener.messages(Who(None, 0x63, 0), DM1), [Message(0, Lamps(0x04, 0xFF), (Code(1208, 3, 1),), 255)])
+        same("in part", listener.messages(Who(None, 0x63, 0), DM6), [Message(0, Lamps(0x04, 0xFF), (Code(1208, 3, 1),), 255, NotRead(0, 0, 0, 0, 2))])
+        same("in words", str(listener.newest(Who(None, 0x63, 0), DM6)), "amber; 1208/3/1 in part")
+        same("of another gap", (listener.messages(Who(None, 0x63, 1), DM1), listener.newest(Who(None, 0x63, 1), DM1)), ([], None))
+        same("it", repr(listener), "<hidzgula.Listener, units 3, missed 5, unread 2>")
+        with listener._lock:
+            same("in a call", repr(listener), "<hidzgula.Listener, in a call>")
+    same("closed", repr(listener), "<hidzgula.Listener, closed>")
+    with Listener(keep=2) as listener:
+        same("no frames", listener.take_frames([]), (0, []))
+        many = [(0x18EEFF00, a), *[(0x18FECA00, memoryview(dm1))] * 9999]
+        taken = listener.take_frames(many, range(10000))
+        same("ten thousand", (taken.count, [place for place, _ in taken.heard]), (10000, [*range(10000)]))
+        same("the first one", taken.heard[0][1], Heard(What.CLAIMED, Who(0xA0), 0))
+        same("are counted", listener.count(0xA0, DM1), 9999)
+        same("the newest are kept", [message.place for message in listener.messages(0xA0, DM1)], [9997, 9998])
+        same("kept no longer", raised(listener.message, 0xA0, DM1, 9996).name, "NOT_KEPT")
+        same("without times, from a place on", listener.take_frames(many, start=9990).count, 10)
+
+
+def broken():
+    """Messages that break, each for its reason, one by one and in a row; and a claim that breaks two."""
+    bam, rts, other, first, cts = (bytes.fromhex(it) for it in ("200A0002FFCBFE00", "100A0002FFCBFE00", "0104FFB804030165", "0104FFB804030164", "110201FFFFCBFE00"))
+    a, b = bytes([0xA0] + 7 * [0]), bytes([0xB0] + 7 * [0])
+    of = (What.BROKEN, Who(0xA0), 7)
+    steps = [
+        (0x18EEFF07, a, 0, Heard(What.CLAIMED, Who(0xA0), 7)),
+        (0x1CECFF07, bam, 1000, Heard(What.NOTHING)),
+        (0x1CEBFF07, first, 751_001, Heard(*of, 255, DM2, BrokenBy.LATE, read=0, of=2, broken=1)),
+        (0x1CECFF07, bam, 800_000, Heard(What.NOTHING)),
+        (0x1CEBFF07, first, 1_550_000, Heard(What.NOTHING)),
+        (0x1CEBFF07, first, 1_550_001, Heard(*of, 255, DM2, BrokenBy.PACKET, read=1, of=2, number=1, broken=1)),
+        (0x1CECF907, rts, 1_600_000, Heard(What.NOTHING)),
+        (0x1CEC07F9, cts, 1_600_001, Heard(What.NOTHING)),
+        (0x1CEBF907, first, 1_600_002, Heard(What.NOTHING)),
+        (0x1CEC07F9, cts, 1_600_003, Heard(What.NOTHING)),
+        (0x1CEBF907, first, 1_600_004, Heard(What.NOTHING)),
+        (0x1CEBF907, other, 1_600_005, Heard(*of, 249, DM2, BrokenBy.DIFFERS, read=1, of=2, number=1, broken=1)),
+        (0x1CECF907, rts, 1_700_000, Heard(What.NOTHING)),
+        (0x1CECF907, rts, 1_700_001, Heard(*of, 249, DM2, BrokenBy.ANEW, of=2, broken=1)),
+        (0x1CEBF907, first[:7], 1_700_002, Heard(*of, 249, DM2, BrokenBy.LENGTH, of=2, number=1, broken=1)),
+        (0x1CECF907, rts, 1_800_000, Heard(What.NOTHING)),
+        (0x1CEC07F9, bytes.fromhex("FF02FFFFFFCBFE00"), 1_800_001, Heard(*of, 249, DM2, BrokenBy.ABORT, of=2, reason=2, by=249, broken=1)),
+        (0x1CECF907, rts, 1_900_000, Heard(What.NOTHING)),
+        (0x1CECFF07, bam, 1_900_001, Heard(What.NOTHING)),
+        (0x18EEFF07, b, 1_900_002, Heard(What.CLAIMED, Who(0xB0), 7, displaced=0xA0, lost=True, broken=2)),
+    ]
+    two = [Heard(*of, to, DM2, BrokenBy.CLAIM, of=2, broken=2) for to in (249, 255)]
+    with Listener() as listener:
+        same("none yet", listener.broken(), [])
+        for at, (id, data, time, wanted) in enumerate(steps):
+            same(f"step {at}", listener.take(id, data, time), wanted)
+            if wanted.what is What.BROKEN:
+                same(f"step {at}", listener.broken(), [wanted])
+        same("both", listener.broken(), two)
+        listener.missed(1, 1_900_003)
+        same("a gap breaks none", listener.broken(), [])
+    with Listener() as listener:
+        row = [(id, data) for id, data, _, _ in steps] + [(0x18FECA07, bytes.fromhex("04FFB8040301FFFF"))]
+        taken = listener.take_frames(row, [time for _, _, time, _ in steps] + [None])
+        told = [(at, wanted) for at, (_, _, _, wanted) in enumerate(steps) if wanted.what]
+        same("in a row", taken, (len(row), [*told, *((len(steps) - 1, one) for one in two), (len(steps), Heard(What.LISTED, Who(0xB0), 7, 255, DM1))]))
 
 
 def in_rows():
@@ -48,7 +173,7 @@ def in_rows():
                 same(f"{log}: the changes", taken.changes, [(at + place, it.change) for place, it in enumerate(part) if it.change.what])
                 at, turns = at + taken.count, turns + 1
             same(f"{log}: the end", all_told(rows), all_told(one))
-    with Station(1, 248, listening=True) as station:
+    with Station(1, 248) as station:
         same("no frames", station.take_frames([]), (0, [], (False, ())))
         same("none from the end", station.take_frames([Frame(0, b"")], 1), (0, [], (False, ())))
         many = [(0x18EEFF00, bytes([0xA0, 0, 0, 0, 0, 0, 0, 0])), *[(0x18FECA00, memoryview(b"\x04\xff\xb8\x04\x03\x01\xff\xff"))] * 9999]
@@ -98,8 +223,6 @@ def changes():
         station.take(0x18EEFFF8, bytes(8))
         same("without address", repr(station), "<hidzgula.Station 0000000000000001 without address, units 3, missed 5, unread 1>")
     same("closed", repr(station), "<hidzgula.Station 0000000000000001, closed>")
-    with Station(2**64 - 1, 248, listening=True) as station:
-        same("one that listens", repr(station), "<hidzgula.Station FFFFFFFFFFFFFFFF listening at 248, units 0, missed 0, unread 0>")
     lamps = Lamps(0b01010101, 0)
     same("all lamps", (lamps.mil, lamps.stop, lamps.amber, lamps.protect, str(lamps)), (True, True, True, True, "mil, stop, amber, protect"))
     same("none", [str(Lamps(states, 0xFF)) for states in (0, 0xFF, 0xAA)], 3 * ["no lamp"])
@@ -134,6 +257,8 @@ def layouts():
     numbers = {name: int(number) for name, number in re.findall(r"HIDZGULA_(\w+) = (\d+)", HEADER)}
     same("the kinds", {kind.name: kind.value for kind in Kind}, {name: numbers[name] for name in ("DM1", "DM2", "DM6")})
     same("the changes", {what.name: what.value for what in What}, {what.name: numbers[what.name] for what in What})
+    same("why", {f"WHY_{why.name}": why.value for why in Why}, {name: number for name, number in numbers.items() if name.startswith("WHY_")})
+    same("broken", {f"BROKEN_{why.name}": why.value for why in BrokenBy}, {name: number for name, number in numbers.items() if name.startswith("BROKEN_")})
     same("the groups", {name: getattr(hidzgula, name) for name in numbers if name.startswith("PGN_") and name != "PGN_TOO_LARGE"},
          {name: number for name, number in numbers.items() if name.startswith("PGN_") and name != "PGN_TOO_LARGE"})
     reasons = {int(number): name for name, number in re.findall(r"HIDZGULA_BAD_(\w+) = (\d+)", HEADER)}
@@ -149,7 +274,7 @@ def told():
         it = getattr(hidzgula, called)
         if isinstance(it, type) or callable(it):
             same(f"{called} has a text", bool(it.__doc__) and not it.__doc__.startswith(f"{called}("), True)
-    for of in (Station,):
+    for of in (Station, Listener):
         for called, it in vars(of).items():
             it = it.fget if isinstance(it, property) else it
             if callable(it) and not called.startswith("_"):
@@ -158,6 +283,9 @@ def told():
 
 
 read_logs()
+as_watch()
+heard()
+broken()
 in_rows()
 changes()
 kept()

@@ -6,8 +6,8 @@ import os
 import threading
 
 import hidzgula
-from hidzgula import BadLine, Change, Frame, LogCounts, Logged, Missed, Station, What, candump
-from tries import LOGS, TOP, all_told, lines_of, raised, same, sums
+from hidzgula import DM1, BadLine, Frame, Heard, Listener, LogCounts, Logged, Missed, What, Who, candump
+from tries import LOGS, TOP, all_heard, lines_of, raised, same, sums
 
 FRAME = "18FECA00#04FF6E000001FFFF"
 MIXED = f"""# a note
@@ -26,11 +26,11 @@ BAD = [BadLine(4, "no time (SECONDS.MICROSECONDS)"), BadLine(11, "no hexadecimal
 
 
 def taken(log, **more):
-    """What a log comes to: what it was read as, the changes with their places, the bad lines, and what the station tells."""
+    """What a log comes to: what it was read as, the changes with their places, the bad lines, and what the listener tells."""
     changes, bad = [], []
-    with Station(1, 248, listening=True) as station:
-        counts = hidzgula.take_log(station, log, on_change=lambda change, at: changes.append((change, at)), on_bad=bad.append, **more)
-        return counts, changes, bad, all_told(station)
+    with Listener() as listener:
+        counts = hidzgula.take_log(listener, log, on_change=lambda change, at: changes.append((change, at)), on_bad=bad.append, **more)
+        return counts, changes, bad, all_heard(listener)
 
 
 def forms_of(text):
@@ -83,19 +83,20 @@ def what_is_told():
     same("in words", str(bad[0]), "line 4: no time (SECONDS.MICROSECONDS)")
     name = 0x1000000001419907
     same("the changes", changes, [
-        (Change(What.CLAIMED, name, 0), Logged(2, 1000002)),
-        (Change(What.LISTED, name, 0, hidzgula.DM1), Logged(3, 1000003)),
-        (Change(What.MISSED, count=1), Logged(4, None)),
-        (Change(What.UNOWNED, address=0, kind=hidzgula.DM1), Logged(5, 2500000)),
-        (Change(What.MISSED, count=7), Logged(6, None)),
-        (Change(What.CLAIMED, name, 0), Logged(8, None)),
-        (Change(What.MISSED, count=1), Logged(10, None)),
-        (Change(What.MISSED, count=1), Logged(11, None)),
-        (Change(What.UNOWNED, address=0, kind=hidzgula.DM1), Logged(12, None)),
+        (Heard(What.CLAIMED, Who(name), 0), Logged(2, 1000002)),
+        (Heard(What.LISTED, Who(name), 0, 255, DM1), Logged(3, 1000003)),
+        (Heard(What.MISSED, count=1), Logged(4, None)),
+        (Heard(What.LISTED, Who(None, 0, 1), 0, 255, DM1), Logged(5, 2500000)),
+        (Heard(What.MISSED, count=7), Logged(6, None)),
+        (Heard(What.CLAIMED, Who(name), 0), Logged(8, None)),
+        (Heard(What.MISSED, count=1), Logged(10, None)),
+        (Heard(What.MISSED, count=1), Logged(11, None)),
+        (Heard(What.LISTED, Who(None, 0, 4), 0, 255, DM1), Logged(12, None)),
     ])  # fmt: skip
     same("bad lines passed over", taken(MIXED.encode(), skip_bad=True)[0], LogCounts(12, 5, 8, 2))
-    same("of one bus", taken(MIXED.encode(), bus="can0", skip_bad=True)[0], LogCounts(12, 4, 8, 2))
-    same("of another one", taken(MIXED.encode(), bus="can1", skip_bad=True)[0], LogCounts(12, 2, 0, 2))
+    same("of one bus", taken(MIXED.encode(), bus="can0", skip_bad=True)[0], LogCounts(12, 3, 8, 2))
+    same("of another one", taken(MIXED.encode(), bus="can1", skip_bad=True)[0], LogCounts(12, 1, 0, 2))
+    same("a drop of whatever bus", taken(b"DROPCOUNT: dropp\n20000004#0001\n", bus="can0")[0], LogCounts(2, 0, 1, 0))
     read = [*hidzgula.read_log(MIXED.encode())]
     same("what is read", [type(it) for it in read], [Frame, Frame, Missed, Frame, Missed, Frame, Missed, Missed, Frame])
     same("the frames", [str(it) for it in read if isinstance(it, Frame)], ["18EEFF00#0799410100000010", FRAME, FRAME, "18EEFF00#0799410100000010", FRAME])
@@ -111,15 +112,15 @@ def by_pipe():
     """What has come is taken before more comes."""
     there, here = os.pipe()
     listed = threading.Semaphore(0)
-    with Station(1, 248, listening=True) as station, open(there, "rb") as log, open(here, "wb", buffering=0) as bus:
-        reader = threading.Thread(target=hidzgula.take_log, args=(station, log), kwargs={"on_change": lambda change, at: listed.release()})
+    with Listener() as listener, open(there, "rb") as log, open(here, "wb", buffering=0) as bus:
+        reader = threading.Thread(target=hidzgula.take_log, args=(listener, log), kwargs={"on_change": lambda heard, at: listed.release()})
         reader.start()
         for turn in range(20):
             bus.write(b"(1.000000) can0 18EEFF00#A0000000000000" + b"%02X\n" % turn)
             same("is taken", listed.acquire(timeout=20), True)
         bus.close()
         reader.join(20)
-        same("it ends with the pipe", (reader.is_alive(), len(station.units())), (False, 20))
+        same("it ends with the pipe", (reader.is_alive(), len(listener.units())), (False, 20))
 
 
 each_form()

@@ -5,9 +5,9 @@ import pickle
 import re
 
 import hidzgula
-from hidzgula import DM1, Frame, Refused, SimulatedUnit, Station
+from hidzgula import DM1, Frame, Listener, Refused, SimulatedUnit, Station, Who
 from hidzgula.refusals import OUT_OF_MEMORY, REFUSALS
-from tries import TOP, all_told, raised, same, sums
+from tries import TOP, all_heard, all_told, raised, same, sums
 
 A0 = bytes([0xA0] + 7 * [0])
 DATA = bytes.fromhex("04FFB8040301FFFF")
@@ -50,7 +50,6 @@ def by_arguments(station):
     for address in (254, 255, 256, 2**70):
         refused(f"to address {address}", "NOT_AN_ADDRESS", station.command, 0xA0, address)
         refused(f"at address {address}", "BAD_SETTING", Station, 1, address)
-        refused(f"at address {address}, listening", "BAD_SETTING", Station, 1, address, listening=True)
     refused("grant 0", "BAD_SETTING", Station, 1, 1, grant=0)
     for kind in (0, 3, 4, 5, 7, 255, 256, 2**70):
         refused(f"kind {kind}", "NO_KIND", station.messages, 0xA0, kind)
@@ -93,7 +92,11 @@ def beyond_types(station):
         mistyped(f"{call.__name__} {words}", f"{what} is a whole number, and not ", call, *words)
     mistyped("grant", "grant is a whole number, and not ", Station, 1, 1, grant="9")
     mistyped("keep", "keep is a whole number, and not ", Station, 1, 1, keep="9")
-    mistyped("a log for no station", "station is a Station, and not ", hidzgula.take_log, 5, b"")
+    mistyped("a log for no listener", "listener is a Listener, and not ", hidzgula.take_log, 5, b"")
+    mistyped("a log for a station", "listener is a Listener, and not ", hidzgula.take_log, station, b"")
+    for listening in (True, False):
+        mistyped("a station that only listens", "a station takes part in the bus; for one who only listens there is hidzgula.Listener()", Station, 1, 2, listening=listening)
+    mistyped("another setting", "a station has no grants", Station, 1, 2, grants=3)
     mistyped("a log that is none", "a log is a file, its bytes or its lines, and not 5", hidzgula.read_log(5).__next__)
     mistyped("a bus that is none", "bus is a str, and not b'can0'", hidzgula.read_log(b"", b"can0").__next__)
     for bad in (5, (1,), (1, b"", 2)):
@@ -156,6 +159,41 @@ def closed():
     refused("left", "NO_STATION", left.counts)
 
 
+def of_listeners():
+    """What a listener refuses."""
+    with Listener(keep=1) as listener:
+        listener.take(0x18EEFF07, A0)
+        for _ in range(3):
+            listener.take(0x18FECA07, DATA)
+        before = all_heard(listener)
+        refused("an identifier", "ID_TOO_LARGE", listener.take, 2**29, DATA)
+        refused("nine bytes", "TOO_LONG", listener.take, 0x18FECA07, bytes(9), 5)
+        for kind in (0, 3, 255, 2**70):
+            for call in (listener.messages, listener.count, listener.newest):
+                refused(f"kind {kind}", "NO_KIND", call, 0xA0, kind)
+            refused(f"kind {kind}", "NO_KIND", listener.message, 0xA0, kind, 0)
+        refused("a place", "NO_PLACE", listener.message, 0xA0, DM1, 3)
+        refused("kept no longer", "NOT_KEPT", listener.message, 0xA0, DM1, 1)
+        for call, words in ((listener.take, (-1, DATA)), (listener.take, (1, DATA, -1)), (listener.take, (1, DATA, 2**64 - 1)), (listener.missed, (-1,)), (listener.missed, (1, -1)),
+                            (listener.count, (2**64, DM1)), (listener.count, (Who(None, 256, 0), DM1)), (listener.count, (Who(None, 1, -1), DM1)),
+                            (listener.take_frames, ([(1, DATA)], [])), (listener.take_frames, ([], None, 1))):
+            wrong(f"{call} {words}", call, *words)
+        for what, call, words in (("id", listener.take, ("1", DATA)), ("time", listener.take, (1, DATA, 0.5)), ("count", listener.missed, (1.0,)), ("who", listener.count, ("A0", DM1)),
+                                  ("kind", listener.count, (0xA0, "DM1")), ("place", listener.message, (0xA0, DM1, 0.5)), ("name", listener.count, (Who("A0"), DM1)),
+                                  ("time", listener.take_frames, ([(1, DATA)], ["0"]))):
+            mistyped(f"{call} {words}", f"{what} is a whole number, and not ", call, *words)
+        mistyped("keep", "keep is a whole number, and not ", Listener, keep="9")
+        mistyped("data", "data is bytes, and not ", listener.take, 1, "00")
+        error = refused("in a row", "TOO_LONG", listener.take_frames, [(0x18FECA07, DATA), (1, bytes(9))])
+        same("what is before it is taken", (error.taken.count, len(error.taken.heard)), (1, 1))
+        same("and nothing else", listener.count(0xA0, DM1), before[1][0][2] + 1)
+        same("no copy", [type(raised(call, listener)) for call in (copy.copy, copy.deepcopy, pickle.dumps)], 3 * [TypeError])
+    for call, words in ((listener.take, (0, b"")), (listener.take_frames, ([],)), (listener.take_frames, ([(2**29, b"")],)), (listener.missed, (1,)), (listener.units, ()),
+                        (listener.senders, ()), (listener.count, (1, 1)), (listener.messages, (1, 1)), (listener.newest, (1, 1)), (listener.message, (1, 1, 0)), (listener.counts, ())):
+        refused(f"closed {call}", "NO_LISTENER", call, *words)
+    listener.close()
+
+
 def of_units():
     """What a simulated unit refuses."""
     for words in ({"address": 254}, {"address": 2**70}, {"address": 0, "gap": 9_999}, {"address": 0, "gap": 2**70}, {"address": 0, "settle": 1_000_001}):
@@ -201,8 +239,8 @@ def numbers():
     answers = header[header.index("HIDZGULA_DONE = 0") : header.index("/* The kinds of diagnostic messages")]
     wanted = {int(number): name for name, number in re.findall(r"HIDZGULA_(\w+) = (\d+)", answers) if name != "DONE"}
     same("the numbers", {number: name for number, (name, _) in REFUSALS.items()}, wanted)
-    # HAS_STATION would be an open of a handle that a Station has open already, which no call does; HAS_UNIT likewise
-    same("each is seen", seen, set(wanted.values()) - {"OUT_OF_MEMORY", "HAS_STATION", "HAS_UNIT"})
+    # HAS_STATION would be an open of a handle that a Station has open already, which no call does; the others likewise
+    same("each is seen", seen, set(wanted.values()) - {"OUT_OF_MEMORY", "HAS_STATION", "HAS_UNIT", "HAS_LISTENER"})
     same("of memory", (REFUSALS[OUT_OF_MEMORY][0], issubclass(hidzgula.OutOfMemory, MemoryError)), ("OUT_OF_MEMORY", True))
     same("an unknown one", Refused(99).name, "UNKNOWN")
 
@@ -216,6 +254,7 @@ with Station(1, 248, keep=3) as station:
 in_a_row()
 without_address()
 closed()
+of_listeners()
 of_units()
 numbers()
 sums()

@@ -64,4 +64,30 @@ with SimulatedUnit(2, 5, settle=0, always=True) as one, SimulatedUnit(1, 5, sett
     same("a DM1 without codes", [str(one.next(0)), str(one.next(0)), one.next(0)], ["18EEFF05#0200000000000000", "18FECA05#00FF00000000FFFF", None])
     one.hear(*other.next(0), 0)
     same("the lower NAME has the address", (one.address, other.address), (None, 5))
+
+
+def told_when(unit, until):
+    """Asks only when it says so, from 0 on: the times of its frames, and each time that it says."""
+    frames, said, now = [], [], 0
+    while now <= until:
+        while unit.next(now):
+            frames.append(now)
+        said.append(unit.when(now))
+        if said[-1] is None or said[-1] <= now:
+            break
+        now = said[-1]
+    return frames, said
+
+
+# A claim; behind the pause a broadcast of an announcement and two packets, a gap apart; and again a second after its beginning.
+for words in ({}, {"gap": 10_000}, {"gap": 200_000, "settle": 0}, {"settle": 1_000_000}, {"gap": 60_000, "settle": 100_000}):
+    gap, settle = words.get("gap", 50_000), words.get("settle", 250_000)
+    with SimulatedUnit(NAME, 128, **words) as unit:
+        unit.set(110, 0)
+        unit.set(190, 2)
+        times = [second + settle + place * gap for second in (0, 1_000_000) for place in range(3)]
+        same(f"when frames go, {words}", told_when(unit, settle + 1_900_000), ([0, *times], [*([settle] if settle else []), *times[1 if settle else 1:], settle + 2_000_000]))
+with SimulatedUnit(NAME, 128) as unit:
+    unit.next(0)
+    same("when nothing waits for its time", [unit.when(at) for at in (0, 10**6, 2**64 - 2)], [None, None, None])
 sums()

@@ -4,7 +4,8 @@
     from harness import TOP, Tally, called
 
 The programs are those of programs.txt, as crates/NAME/out/NAME, or what the environment's J1939BENCH names. A runner tells a tally of each try, and ends with
-`sys.exit(tally.end())`, which prints the last line `NAME: N passed, M failed`. tests/lib/sums.sh reads that line.
+`sys.exit(tally.end())`, which prints the last line `NAME: N passed, M failed`. tests/lib/sums.sh reads that line. With WITHOUT_PROOF in
+the environment, as tests/measure/mutants has it, it ends at the first failure, and what a program with checks has no memory for is not tried.
 """
 
 import functools
@@ -51,6 +52,11 @@ def called(*words):
     return [program(words[0] if words else ""), *words]
 
 
+def is_without_proof():
+    """Whether the program that is tried was built without proof, with checks, which take memory; and the first failure is enough."""
+    return "WITHOUT_PROOF" in os.environ
+
+
 class Tally:
     """How many tries passed, and how many failed."""
 
@@ -62,6 +68,8 @@ class Tally:
         self.add(not faults, bool(faults))
         for text in [faults] if isinstance(faults, str) and faults else faults or []:
             print(f"{what}: {text}", flush=True)
+        if faults and is_without_proof():
+            os._exit(self.end())
         return not faults
 
     def holds(self, what, fact, told="it does not hold"):

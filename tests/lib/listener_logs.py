@@ -1,7 +1,7 @@
 """The logs of tests/data/logs/listener: where a station that takes part would have answered, and one who only reads has to hear it otherwise.
 
 NAME.log, here or in examples/logs, is the log, NAME.lists.json what is to be listed, made by hand: for each unit, or address that nobody claimed
-(`"name": null`), its runs of equal entries, each with the address that it went to (`"to"`, null for all). `needs` says what a program must have to read the log
+(`"name": null`), its runs of equal entries, each with the address that it went to (`"to"`, null for all) and behind a semicolon what of it is not read. `needs` says what a program must have to read the log
 so: `listener`, `unclaimed rows` (a row for an address that nobody claimed), `forms` (of times), `relative times`.
 
 What the program has not yet is not tried with it, and the model alone is; for
@@ -41,7 +41,8 @@ def listed(units):
 
 def entry_of(run):
     codes = [f"{code['spn']}/{code['fmi']}/{127 if code['count'] is None else code['count']}" for code in run["codes"]]
-    return " ".join([run["lamps"], *(codes or ["-"])])
+    amiss = [f"{count} {key}" for key, count in run.get("not_read", {}).items() if count]
+    return " ".join([run["lamps"], *(codes or ["-"])]) + ("; " + ", ".join(amiss) if amiss else "")
 
 
 def differences(name, report, same):
@@ -50,7 +51,7 @@ def differences(name, report, same):
     rows = [row | {kind: [{"times": run["times"], "to": run.get("to"), "entry": entry_of(run)} for run in row[kind]] for kind in KINDS} for row in report["rows"]]
     contested = sum(run["contested"] for row in report["rows"] for kind in KINDS for run in row[kind])
     found = same(listed(rows), listed(lists["units"]), "lists") + same([report["missed"], report["unread"]], [lists["missed"], lists["unread"]], "missed and unread")
-    for what, count in (("contested", contested), ("withheld", report["lines"]["withheld"])):
+    for what, count in (("contested", contested), ("partly", report.get("partly", 0)), ("withheld", report["lines"]["withheld"])):
         found += same(count, lists.get(what, count), what)
     return found
 

@@ -5,8 +5,8 @@
 
 from model.frames import (ABORT, ACKNOWLEDGMENT, BAM, GLOBAL, NULL, PACKET, RTS, TITLES, claimed_name, control_of, control_pgn, control_size, number)
 from model.listener import Unclaimed
-from model.memory import read_message
-from model.words import fault_of
+from model.memory import Part, read_at_all
+from model.words import UNREAD
 
 
 class Table:
@@ -14,7 +14,7 @@ class Table:
 
     def __init__(self):
         self.owners, self.half, self.addresses, self.acknowledged = {}, {}, {}, {}
-        self.gaps = self.missed = self.unread = 0
+        self.gaps = self.missed = self.unread = self.partly = 0
 
     def who(self, source):
         return self.owners[source] if source in self.owners else Unclaimed(source, self.gaps)
@@ -92,8 +92,9 @@ class Table:
         return self.ended(half[0], half[1], *pair, half[3][: half[2]], "broadcast" if pair[1] == GLOBAL else "session")
 
     def ended(self, who, kind, source, dest, payload, how):
-        shown = read_message(payload)
+        shown = read_at_all(payload)
+        self.partly += isinstance(shown, Part)
         if shown is None:
             self.unread += 1
-            return [("unread", self.unread, who, kind, source, dest, fault_of(payload), how)]
+            return [("unread", self.unread, who, kind, source, dest, UNREAD, how)]
         return [("entry", who, kind, source, dest, shown, how)]

@@ -3,7 +3,7 @@ jump ahead or back."""
 
 import random
 
-from log_writer import Frames
+from log_writer import NAMES, Frames
 
 LARGEST = 9_999_999_999_999_999  # microseconds: ten digits of seconds
 # what each line of an error frame has as identifier and data: those that tell of a lost frame, and those that tell of something else
@@ -102,14 +102,14 @@ class Lines:
         else:
             for frame in self.buses[at].some():
                 if frame is None:
-                    self.now += chance.choice([740_000, 749_000, 751_000, 760_000, 2_000_000])
+                    self.now += chance.choice([500_000, 740_000, 749_000, 751_000, 760_000, 1_040_000, 1_060_000, 1_240_000, 1_260_000, 2_000_000, 2_290_000, 2_310_000, 2_490_000, 2_510_000])
                 else:
                     self.put(at, frame)
 
     def pass_time(self):
         chance, way = self.chance, self.chance.random()
         if way < self.leaps:
-            self.now += chance.choice([-1, -200_000, -3_600_000_000, 249_999, 250_000, 250_001, 749_999, 750_001, 3_600_000_001, 86_400_000_000])
+            self.now += chance.choice([-1, -200_000, -3_600_000_000, 249_999, 250_000, 250_001, 749_999, 750_000, 750_001, 1_050_000, 1_050_001, 1_250_000, 1_250_001, 2_300_000, 2_300_001, 2_500_000, 2_500_001, 3_600_000_001, 86_400_000_000])
         elif way < 0.9:
             self.now += chance.choice([0, 100, 540, 1_000, 5_000, 10_000, 20_000])
         else:
@@ -249,6 +249,9 @@ def words_of_watch(chance):
     if chance.random() < 0.25:
         for _ in range(chance.randint(1, 3)):
             words += ["--assume", f"{chance.choice([0, 3, 249, 253])}={chance.choice([0xA0, 0x1000000001419907]):016X}"]
+    if chance.random() < 0.3:
+        for _ in range(chance.randint(1, 3)):
+            words += ["--conversion", f"{chance.choice(NAMES):016X}={chance.randint(1, 3)}"]
     if chance.random() < 0.3:
         words += ["--bad", chance.choice(["skip", "skip", "missed"])]
     if chance.random() < 0.4:

@@ -91,8 +91,11 @@ class Frames:
         chance = self.chance
         spn = chance.choice([100, 110, 1208, 3361, 65535, 524287, chance.getrandbits(19)])
         fmi, count = chance.choice([0, 3, 31, chance.getrandbits(5)]), chance.choice([1, 2, 9, 126, 127])
-        if chance.random() < 0.03:
-            return chance.choice([bytes(4), b"\xff" * 4, self.bytes(4)])
+        way = chance.random()
+        if way < 0.05:
+            return chance.choice([bytes(4), b"\xff" * 4, b"\xff" * 4, self.bytes(4)])
+        if way < 0.08:  # of an older conversion method, now and then of zeros
+            return chance.choice([bytes(3), self.bytes(3), self.bytes(3)]) + bytes([chance.choice([128, 133, 255, chance.randint(128, 254)])])
         return bytes([spn & 255, spn >> 8 & 255, spn >> 16 << 5 | fmi, count])
 
     def lamps(self):
@@ -188,14 +191,31 @@ class Frames:
                 yield from self.session((source, dest))
             return
         if way < 0.5:
+            while chance.random() < 0.15:
+                yield self.control(CTS, dest, source, 9, pgn, granted=0, following=255)
+                yield None
             yield self.control(CTS, dest, source, 9, pgn, granted=packets_of(len(payload)) & 255)
+            if chance.random() < 0.05:
+                yield None
+        sent = []
         for frame in self.packets(payload, source, dest):
             yield frame
+            sent.append(frame)
+            if chance.random() < 0.06:
+                yield from self.again(sent, source, dest, pgn)
             yield from self.disturbed(source, dest, pgn, how_often)
             if chance.random() < 0.01:
                 return
         if chance.random() < 0.5:
             yield self.control(END_OF_MESSAGE, dest, source, len(payload), pgn)
+
+    def again(self, sent, source, dest, pgn):
+        """Packets that come again, mostly as they were asked for, and mostly the same."""
+        chance, first = self.chance, self.chance.randint(1, len(sent))
+        if chance.random() < 0.8:
+            yield self.control(CTS, dest, source, 9, pgn, granted=min(len(sent) - first + chance.randint(1, 3), 255), following=first)
+        for frame in (it for it in sent[first - 1 :] if it is not None):
+            yield frame if chance.random() < 0.9 else to_one(7, PACKET, dest, source, frame.data[:1] + self.bytes(7))
 
     def disturbed(self, source, dest, pgn, how_often):
         """What comes in mid-message."""

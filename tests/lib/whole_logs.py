@@ -1,7 +1,7 @@
 """The logs of tests/data/logs/whole: of each all that `watch` and `decode` write of it is stored, made by hand from the rules.
 
 NAME.log is the log, NAME.words are the words behind `watch`; NAME.watch.txt, .watch.json, .watch.csv, .decode.txt and .decode.json are what is
-written, NAME.errors is what both tell of bad lines, and NAME.decode.errors what `decode` tells
+written, NAME.errors is what both tell of bad lines, and NAME.decode.errors what `decode` tells, or NAME.listening.errors and so on,
 where that differs. Where a listener stands behind `watch`, it is NAME.listening.txt and so on with `--unclaimed hide`, and
 NAME.unclaimed.txt and so on without it. `every-event` has each event, each count and each form of a line, with numbers that differ, so that no two
 of them can be taken for each other. `times` has times that jump back, repeat, and pass 2^63 nanoseconds; of `more-than-is-kept` more is heard than is kept at once.
@@ -35,8 +35,8 @@ WAYS = [(False, [], "watch"), (True, ["--unclaimed", "hide"], "listening"), (Tru
 def wanted(name, more, file):
     """The command, its words, and the status, output and standard error that it is to give."""
     for command, forms in FORMS.items():
-        own = f"{command}.errors"
-        errors = stored(name, own if (FOLDER / f"{name}.{own}").exists() else "errors")
+        own = [f"{way}.errors" for way in (file if command == "watch" else command, command) if (FOLDER / f"{name}.{way}.errors").exists()]
+        errors = stored(name, own[0] if own else "errors")
         for form, ending in forms.items():
             words = [command, *(words_of(name) + more if command == "watch" else []), "--format", form]
             yield words, (3 if errors else 0, stored(name, f"{file if command == 'watch' else command}.{ending}").decode(), errors.decode())

@@ -4,11 +4,12 @@ whole has a line behind that of its last packet."""
 import csv
 import io
 
-from .frames import ABORT, BAM, END_OF_MESSAGE, GLOBAL, PACKET, RTS, TITLES, claimed_name, control_of, control_pgn, control_size, packets_of
+from .frames import ABORT, BAM, CTS, GLOBAL, PACKET, RTS, TITLES, claimed_name, control_of, control_pgn, control_size, packets_of
 from .log_cases import reach
-from .memory import read_message
+from .memory import read_at_all
 from .notices import Absence, BadLines, without_frames
-from .words import DATA_GROUPS, address_words, code_object, dumped, meaning_words, message_words, name_fields, name_text, payload_words, seen, seen_json, time_text
+from .pacing import Pacing
+from .words import DATA_GROUPS, address_words, code_object, dumped, meaning_words, message_words, name_fields, name_text, payload_words, seen, seen_json, time_text, trouble_object
 
 MOST_BUSES = 16  # of which packets are joined
 
@@ -42,7 +43,7 @@ def words_of(line):
 
 def shown_by(frame):
     """Lamps and codes of a DM1, DM2 or DM6 in one frame, where it can be read."""
-    return read_message(frame.data) if frame.pgn in TITLES else None
+    return read_at_all(frame.data) if frame.pgn in TITLES else None
 
 
 def place_words(line):
@@ -79,14 +80,14 @@ def in_json(number, line, texts):
     if frame.pgn in DATA_GROUPS:
         told["group"] = DATA_GROUPS[frame.pgn]
     if shown:
-        told |= {"lamps": shown[0].hex().upper(), "codes": [code_object(code, texts.of(code)) for code in shown[1]]}
+        told |= {"lamps": shown[0].hex().upper(), "codes": [code_object(code, texts.of(code)) for code in shown[1]]} | trouble_object(shown)
     if name is not None:
         told |= {"name": name_text(name), "fields": name_fields(name)}
     return told
 
 
 class Joining:
-    """What came of each bus since the last line that may stand for a lost frame; a message is found by going back from its last packet (J1939-21, 5.10)."""
+    """What was read of each bus since the last line that may stand for a lost frame; a message is found by going back from its last packet (J1939-21, 5.10)."""
 
     def __init__(self):
         self.buses = {}
@@ -100,46 +101,69 @@ class Joining:
         if line.bus not in self.buses and len(self.buses) == MOST_BUSES:
             reach("decode: a bus too many")
             return None
-        frames = self.buses.setdefault(line.bus, [])
-        frames.append(line.what)
-        return self.whole(frames) if line.what.pgn == PACKET else None
+        frames, pacing = self.buses.setdefault(line.bus, ([], Pacing(None)))
+        return self.take_frame(frames, pacing, line.what, line.time)
+
+    def take_frame(self, frames, pacing, frame, time):
+        """A packet that comes too late, or again as it was asked for, is no part of a message."""
+        ends, what = (frame.source, frame.dest), control_of(frame)
+        if frame.pgn == PACKET:
+            half = self.half(frames, *ends)
+            if pacing.packet(ends, frame.data, time, half[1] if half else []) != "read":
+                return None
+            frames.append(frame)
+            return self.whole(half, frame)
+        frames.append(frame)
+        if what == (BAM if frame.dest == GLOBAL else RTS):
+            pacing.announce(ends, frame.dest == GLOBAL, time)
+        elif what == CTS and frame.source != GLOBAL:
+            pacing.clear_to_send(ends[::-1], frame.data[1], frame.data[2], time)
+        return None
 
     @staticmethod
-    def whole(frames):
-        source, dest, packets = frames[-1].source, frames[-1].dest, []
+    def half(frames, source, dest):
+        """The announcement of what is half joined from a source to a destination, and its packets so far."""
+        packets = []
         for frame in reversed(frames):
             what, ends = control_of(frame), (frame.source, frame.dest)
             if frame.pgn == PACKET:
                 packets += [frame.data] if ends == (source, dest) else []
-            elif what == ABORT and ends in ((source, dest), (dest, source)) or what == END_OF_MESSAGE and ends == (dest, source):
+            elif what == ABORT and dest != GLOBAL and ends in ((source, dest), (dest, source)):
                 reach("decode: packets of a message that was ended")
                 return None
             elif ends == (source, dest) and what == (BAM if dest == GLOBAL else RTS):
-                count = packets_of(control_size(frame))
-                if [len(data) for data in packets] != [8] * len(packets) or [data[0] for data in reversed(packets)] != [*range(1, len(packets) + 1)] or len(packets) > count:
+                packets.reverse()
+                if [len(data) for data in packets] != [8] * len(packets) or [data[0] for data in packets] != [*range(1, len(packets) + 1)] or len(packets) >= packets_of(control_size(frame)):
                     reach("decode: packets out of order")
                     return None
-                if len(packets) < count:
-                    return None
-                reach("decode: a broadcast is joined" if dest == GLOBAL else "decode: a session is joined")
-                return source, dest, control_pgn(frame), b"".join(data[1:] for data in reversed(packets))[: control_size(frame)]
+                return frame, packets
         reach("decode: packets of nothing")
         return None
+
+    @staticmethod
+    def whole(half, packet):
+        if half is None:
+            return None
+        frame, packets = half
+        if len(packet.data) != 8 or packet.data[0] != len(packets) + 1 or packet.data[0] < packets_of(control_size(frame)):
+            return None
+        reach("decode: a broadcast is joined" if frame.dest == GLOBAL else "decode: a session is joined")
+        return frame.source, frame.dest, control_pgn(frame), b"".join(data[1:] for data in [*packets, packet.data])[: control_size(frame)]
 
 
 def joined_words(line, joined, texts):
     source, dest, pgn, payload = joined
-    shown = read_message(payload) if pgn in TITLES else None
+    shown = read_at_all(payload) if pgn in TITLES else None
     return f"{place_words(line)}joined {address_words(source, True)}>{address_words(dest, True)} {pgn} {payload_words(pgn, payload, True)}" + texts_behind(shown, texts)
 
 
 def joined_object(number, line, joined, texts):
     source, dest, pgn, payload = joined
-    shown = read_message(payload) if pgn in TITLES else None
+    shown = read_at_all(payload) if pgn in TITLES else None
     told = {"line": number, "joined": True} | place_object(line)
     told |= {"source": source, "destination": dest, "pgn": pgn, "data": payload.hex().upper(), "says": payload_words(pgn, payload, False)}
     if shown:
-        told |= {"lamps": shown[0].hex().upper(), "codes": [code_object(code, texts.of(code)) for code in shown[1]]}
+        told |= {"lamps": shown[0].hex().upper(), "codes": [code_object(code, texts.of(code)) for code in shown[1]]} | trouble_object(shown)
     if pgn in DATA_GROUPS:
         reach("decode: a joined message has a group's name")
         told["group"] = DATA_GROUPS[pgn]

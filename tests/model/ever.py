@@ -11,10 +11,10 @@ WORST = ["stop", "amber", "mil", "protect"]  # lamps, from the worst on
 
 
 class Told:
-    """A message: the time of its line in microseconds, its two bytes of lamps, and its codes as pairs of SPN and FMI."""
+    """A message: the time of its line in microseconds, its two bytes of lamps, its codes as pairs of SPN and FMI, and whether it was read in part."""
 
-    def __init__(self, time, lamps, codes):
-        self.time, self.lamps, self.codes = time, lamps, list(codes)
+    def __init__(self, time, lamps, codes, in_part=False):
+        self.time, self.lamps, self.codes, self.in_part = time, lamps, list(codes), in_part
 
     def lit(self):
         """The words of the lamps that are on: 01 of the two bits of each (J1939-73, 5.7.1)."""

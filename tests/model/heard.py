@@ -8,8 +8,8 @@ the bus and would answer, though nobody hears it; `listener` has one that takes 
 from .frames import (ABORT, ACKNOWLEDGMENT, BAM, CLAIM, CONTROL, GLOBAL, LAST_ADDRESS, NULL, PACKET, RTS, TITLES, claimed_name, control_of, control_pgn,
                      control_size, in_order, joined, number, requested)
 from .log_cases import reach
-from .memory import read_message
-from .words import fault_of
+from .memory import Part, read_message
+from .words import UNREAD
 
 
 class Claim:
@@ -28,7 +28,7 @@ class Heard:
 
     def __init__(self):
         self.place = self.last_gap = 0
-        self.missed = self.unread = 0
+        self.missed = self.unread = self.partly = 0
         self.of_name, self.of_source = {}, {}  # the last claim of each NAME and from each source
         self.read = {}  # of each source what was read since the last gap, each with its place
         self.aborts = {}  # of each source and destination the place of the last abort
@@ -189,6 +189,10 @@ class Heard:
         reach("an acknowledgment that " + ("was" if again else "is") + " told")
         return [] if again else [("ack", owner, *told, frame.source, frame.data[4], frame.dest)]
 
+    def shown_of(self, payload):
+        """A station lists what is as the standard has it."""
+        return read_message(payload)
+
     def whose(self, source, place=None):
         """Under which NAME a message is listed that began at a place; None where it is not."""
         return self.owner(source, place)
@@ -199,11 +203,15 @@ class Heard:
         if who is None:
             reach(f"a {how} from an address without owner")
             return [("unowned", source)]
-        shown = read_message(payload)
+        shown = self.shown_of(payload)
         if shown is None:
             reach(f"a {how} cannot be read")
             self.unread += 1
-            return [("unread", self.unread, who, kind, source, dest, fault_of(payload), how)]
+            return [("unread", self.unread, who, kind, source, dest, UNREAD, how)]
+        if isinstance(shown, Part):
+            reach(f"a {how} is read in part")
+            self.partly += 1
+            return [("entry", who, kind, source, dest, shown, how)]
         reach(f"a {how} is listed")
         return [("entry", who, kind, source, dest, shown, how)]
 

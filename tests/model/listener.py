@@ -10,6 +10,7 @@ import collections
 from .frames import GLOBAL
 from .heard import Heard
 from .log_cases import reach
+from .memory import read_at_all
 
 # Whose a message is that began at an address without owner: the address's, between two gaps. After a gap it may be another unit's.
 Unclaimed = collections.namedtuple("Unclaimed", "address gaps")
@@ -47,6 +48,10 @@ class Listener(Heard):
     def is_to_me(self, frame):
         """It hears every acknowledgment."""
         return True
+
+    def shown_of(self, payload):
+        """It lists what can be read, too, of what is not as the standard has it."""
+        return read_at_all(payload)
 
     def take_message(self, source, dest, place, kind, payload, how):
         if dest != GLOBAL:

@@ -44,8 +44,11 @@ says: DM1
 says: DM2
 says: DM6
 says: cannot be read, bad length
-says: cannot be read, old conversion
-says: cannot be read, a code of zeros
+says: read in part
+says: groups of padding
+says: groups of zeros
+says: an older code
+says: bytes too many or too few
 says: RTS
 says: CTS
 says: the end
@@ -94,7 +97,6 @@ a broadcast of another group is announced
 a broadcast begins from an address without owner
 a broadcast goes on
 a broadcast is listed
-a broadcast cannot be read
 a broadcast is broken by a packet that is not the next
 a broadcast packet of nothing that is joined
 a session begins
@@ -102,7 +104,6 @@ a session of another group is announced
 a session is asked for from an address without owner
 a session goes on
 a session is listed
-a session cannot be read
 a session is broken by a packet that is not the next
 a session packet of nothing that is joined
 a session ended by a request to send of another group
@@ -121,8 +122,11 @@ an entry of an address that was taken over by a line without a time
 told of an address without owner
 not told again of an address without owner
 a late packet
-a packet behind a late one
-a packet of a message that was announced without a time
+a late clear to send
+a frame behind a late one
+a session is held
+a packet comes again as it was asked for
+a packet comes again as it was asked for, with other bytes
 a packet without a time
 """
 
@@ -144,6 +148,11 @@ an acknowledgment for another
 """
 
 LISTENER = """
+a single frame is read in part
+a broadcast is read in part
+a session is read in part
+an older code is read by its unit's method
+a unit's method reads no code
 a message from an address that nobody claimed
 a message from an address that nobody claimed since a gap
 a session to an address that is claimed
@@ -162,6 +171,8 @@ missed frames of each bus
 one more of several buses
 """
 NEVER_LISTENING = """
+a broadcast cannot be read
+a session cannot be read
 a single frame from an address without owner
 """
 
@@ -213,7 +224,7 @@ frames of no group alone
 dropped frames alone
 """
 
-COUNTS = {case: 0 for part in (LINES, WORDS, HEARD, STATION, LISTENER, WATCH, NOTICES) for case in part.strip().splitlines()}
+COUNTS = {case: 0 for part in (LINES, WORDS, HEARD, STATION, NEVER_LISTENING, LISTENER, WATCH, NOTICES) for case in part.strip().splitlines()}
 
 
 def wanted(listens):

@@ -147,6 +147,63 @@ def read_message(payload):
     return payload[:2], [Code(g[0] | g[1] << 8 | g[2] >> 5 << 16, g[2] & 31, g[3]) for g in groups]
 
 
+class Part(tuple):
+    """What can be read of a payload that is not as the standard has it: the lamps, and the readable codes. `groups` has each whole group of four
+    bytes behind the lamps, `behind` how many bytes are left, `method` by which conversion method older codes are read, if that is known."""
+
+    groups, behind, method = (), 0, None
+
+    def by(self, method):
+        """The same, with older codes read by a method."""
+        part = Part((self[0], [code for group in self.groups if (code := code_of_group(group, method)) is not None]))
+        part.groups, part.behind, part.method = self.groups, self.behind, method
+        return part
+
+    def trouble(self):
+        """How much of each sort is amiss. A lone group may be of padding or of zeros, and has two bytes behind it."""
+        lone = len(self.groups) == 1
+        older = [group for group in self.groups if is_older(group)]
+        converted = sum(code_of_group(group, self.method) is not None for group in older)
+        return {"padding": 0 if lone else sum(group == b"\xff" * 4 for group in self.groups), "zeros": 0 if lone else sum(group == bytes(4) for group in self.groups),
+                "older": len(older) - converted, "converted": converted, "bytes_behind": max(0, self.behind - 2) if lone else self.behind,
+                "bytes_missing": max(0, 8 - 2 - 4 * len(self.groups) - self.behind)}
+
+
+def is_older(group):
+    """A code in an older layout: the top bit of its last byte is 1, and it is not padding."""
+    return group[3] > 127 and group != b"\xff" * 4
+
+
+def code_of_group(group, method):
+    """Methods 1 and 2 have the SPN's highest 16 bits in the first two bytes, the highest byte first or second, and its lowest 3 bits beside the FMI;
+    method 3 is today's (J1939-73, from memory). None where nothing can be read."""
+    if group in (bytes(4), b"\xff" * 4):
+        return None
+    if not is_older(group):
+        return Code(group[0] | group[1] << 8 | group[2] >> 5 << 16, group[2] & 31, group[3])
+    if method is None:
+        return None
+    high = {1: group[0] << 8 | group[1], 2: group[1] << 8 | group[0]}.get(method)
+    spn = group[0] | group[1] << 8 | group[2] >> 5 << 16 if high is None else high << 3 | group[2] >> 5
+    return Code(spn, group[2] & 31, group[3] & 127) if spn or group[2] & 31 or group[3] & 127 else None
+
+
+def read_in_part(payload):
+    """What can be read of a payload, group by group; None where its lamps are not whole."""
+    if len(payload) < 2:
+        return None
+    whole = len(payload) - (len(payload) - 2) % 4
+    part = Part((payload[:2], []))
+    part.groups, part.behind = [payload[at : at + 4] for at in range(2, whole, 4)], len(payload) - whole
+    return part.by(None)
+
+
+def read_at_all(payload):
+    """What a payload shows, or else what can be read of it."""
+    shown = read_message(payload)
+    return read_in_part(payload) if shown is None else shown
+
+
 def entry_text(shown):
     lamps, codes = shown
     return lamps.hex().upper() + "".join(" " + code.text() for code in codes) + ("" if codes else " -")

@@ -7,19 +7,20 @@ Equal entries that come one after the other under a NAME are a run.
 
 from .ever_reported import HEADER as EVER_HEADER
 from .ever_reported import EverInLog
-from .frames import BAM, GLOBAL, KINDS, NULL, PACKET, RTS, claim, control_of
+from .frames import ABORT, BAM, CONTROL, CTS, GLOBAL, KINDS, NULL, PACKET, RTS, claim, claimed_name, control_of, control_pgn
 from .heard import Station
 from .listener import Listener, Unclaimed
 from .log_cases import reach
+from .memory import Part
 from .log_line import ERROR, FD, REMOTE, SHORT
+from .pacing import Pacing
 from .notices import Absence, BadLines, Clock, without_frames
 from .clocks import Clocks
-from .words import ANSWERS, FAILURE_MODES, NOT_AVAILABLE, address_words, dumped, group_words, lamp_words, meaning_words, name_fields, name_text, seen, seen_json, shown_object, shown_words, time_text
+from .words import ABORTS, ANSWERS, FAILURE_MODES, NOT_AVAILABLE, address_words, dumped, group_words, lamp_words, meaning_words, name_fields, name_text, seen, seen_json, shown_object, shown_words, time_text, trouble_object, trouble_words
 
 # What the program has. To be switched on with it: all tests of lines of a log then try the program as one that listens.
 PROGRAM_LISTENS = True  # whether a listener stands behind `watch`, or still a station
 
-T1 = 750  # milliseconds: how late a packet may come (J1939-21, 5.10.3)
 MOST_PAIRS = 4096  # between which messages may be half joined
 CONTEST = 250_000  # microseconds: as long as a unit waits for a contender before it sends (J1939-81, 4.4)
 WORD_OF = {kind: word for word, kind in KINDS.items()}
@@ -31,7 +32,7 @@ UNITS_CLAIM = "cansend can0 18EAFFFE#00EE00"
 
 
 class Options:
-    """How a bus is watched. The silence is in milliseconds; 0 lets a packet come at any time. Behind the watch stands a station, or a listener:
+    """How a bus is watched. The silence is in milliseconds, or the standard's; 0 lets a packet come at any time. Behind the watch stands a station, or a listener:
     then the address says whose sessions are shown, and without one all are; and an address that nobody claimed has a row, or it is told
     of it as a station tells."""
 
@@ -39,8 +40,9 @@ class Options:
         self.listens = listens
         self.lists_unclaimed = listens
         self.bus, self.address, self.name, self.assumed = None, None if listens else 248, 1, []
+        self.methods = {}  # of the units whose older codes are read
         self.each, self.unit, self.first, self.last, self.clock = False, None, None, None, Clocks.of("log")
-        self.skips_bad, self.silence, self.strict = False, T1, False
+        self.skips_bad, self.silence, self.strict = False, None, False
         self.most, self.keep = 65_536, 1_000_000  # of how many NAMEs is known at once, and how many runs are kept
 
     @staticmethod
@@ -70,6 +72,9 @@ class Options:
             elif word == "--assume":
                 address, _, name = value.partition("=")
                 given.assumed.append((int(address), int(name, 16)))
+            elif word == "--conversion":
+                name, _, method = value.partition("=")
+                given.methods.setdefault(int(name, 16), int(method))  # of two the first counts
             elif word == "--bad":
                 given.skips_bad = value == "skip"
             elif word == "--silence":
@@ -150,7 +155,8 @@ class Run:
     def words(self, listens):
         """A listener says to whom it went, where that is not to all."""
         to = f" to {address_words(self.to, True)}" if listens and self.to != GLOBAL else ""
-        return shown_words(self.shown, True) + (" contested" if self.contested else "") + to + "".join(meaning_words(code.spn, code.fmi) for code in self.shown[1])
+        return shown_words(self.shown, True) + (" contested" if self.contested else "") + to + "".join(meaning_words(code.spn, code.fmi) for code in self.shown[1]) + (
+            f"; {trouble_words(self.shown.trouble())}" if isinstance(self.shown, Part) else "")
 
     def object(self, listens):
         to = {"to": self.to} if listens and self.to != GLOBAL else {}
@@ -158,40 +164,7 @@ class Run:
 
 
 def is_same(one, other):
-    return one[0] == other[0] and [code.data() for code in one[1]] == [code.data() for code in other[1]]
-
-
-class Packets:
-    """When the last frame of each message came that was announced with a time; None once a packet of it came too late."""
-
-    def __init__(self, silence):
-        self.most, self.last = silence * 1000, {}
-
-    def is_late(self, message, time):
-        """A packet is late that comes more than that after the frame before it, and so is each behind it, until a message is announced."""
-        if not self.most:
-            return False
-        if message not in self.last:
-            reach("a packet of a message that was announced without a time")
-            return False
-        last = self.last[message]
-        if last is None:
-            reach("a packet behind a late one")
-            return True
-        if time is None:
-            reach("a packet without a time")
-            return False
-        if time - last > self.most:
-            reach("a late packet")
-            self.last[message] = None
-            return True
-        self.last[message] = time
-        return False
-
-    def announce(self, message, time):
-        self.last.pop(message, None)
-        if time is not None:
-            self.last[message] = time
+    return one[0] == other[0] and [code.data() for code in one[1]] == [code.data() for code in other[1]] and trouble_object(one) == trouble_object(other)
 
 
 class Watch:
@@ -202,13 +175,13 @@ class Watch:
         `starts` has the time of the first line that has one."""
         self.ever, self.starts = ever or EverInLog(), starts
         self.options, self.bus, self.name, self.heard = options, name or options.bus, name, options.heard()
-        self.packets = Packets(options.silence)
+        self.pacing, self.broken = Pacing(options.silence), 0
         self.counts = dict.fromkeys([*COUNTS, "not_attributed"], 0)
         self.now = None  # the time of the newest line of the bus that has one
         self.runs = {}  # of each NAME and kind
         self.taken_over = {}  # of each address the time at which a claim last took it from another NAME
         self.told_unowned = set()
-        self.kept, self.pairs, self.missed_before, self.unread_before = 0, set(), 0, 0
+        self.kept, self.pairs, self.missed_before, self.unread_before, self.partly_before = 0, set(), 0, 0, 0
         self.text, self.objects = told or ([], [])
         for address, name in options.assumed:
             reach("an owner is assumed")
@@ -226,8 +199,8 @@ class Watch:
         """All that was heard is let go, but for who holds which address; and what is contested."""
         reach("more is heard than is kept at once")
         owners = [(name, self.heard.address_of(name)) for name in self.heard.names()]
-        self.missed_before, self.unread_before = self.missed(), self.unread()
-        self.heard, self.packets, self.now = self.options.heard(), Packets(self.options.silence), None
+        self.missed_before, self.unread_before, self.partly_before = self.missed(), self.unread(), self.partly()
+        self.heard, self.pacing, self.now = self.options.heard(), Pacing(self.options.silence), None
         self.runs, self.told_unowned, self.kept, self.pairs = {}, set(), 0, set()
         for name, address in owners:
             if address is not None:
@@ -238,6 +211,13 @@ class Watch:
 
     def unread(self):
         return self.unread_before + self.heard.unread
+
+    def partly(self):
+        """How many messages were read in part."""
+        return self.partly_before + self.heard.partly
+
+    def partly_object(self):
+        return {"partly": self.partly()} if self.partly() else {}
 
     # ---- what a line is to the bus
 
@@ -298,16 +278,80 @@ class Watch:
             self.tell(number, self.heard.take_gap(1))
 
     def hear_frame(self, number, frame, time):
-        """What is announced to all, or to one whose sessions are joined, has its times looked at (T1)."""
-        is_followed = frame.dest == GLOBAL or self.heard.joins_sessions_to(frame.dest)
-        if frame.pgn == PACKET and is_followed and self.packets.is_late(self.heard.message_of(frame.source, frame.dest), time):
-            self.counts["withheld"] += 1
-            return
-        self.tell(number, self.heard.take(frame))
-        if control_of(frame) in (BAM, RTS):
+        """A packet that comes too late is withheld, and one that comes again, as it was asked for, is passed over."""
+        before = {pair: found for pair in self.touched(frame) if (found := self.half_joined(*pair))}
+        key, fate = self.heard.message_of(frame.source, frame.dest), "read"
+        if frame.pgn == PACKET and self.is_followed(frame.dest):
+            fate = self.pacing.packet(key, frame.data, time, before[frame.source, frame.dest][2] if (frame.source, frame.dest) in before else [])
+        changes = self.heard.take(frame) if fate == "read" else []
+        self.counts["withheld"] += fate == "late"
+        what = control_of(frame)
+        if what in (BAM, RTS):
             self.pairs.add((frame.source, frame.dest))
-        if is_followed and control_of(frame) == (BAM if frame.dest == GLOBAL else RTS):
-            self.packets.announce(self.heard.message_of(frame.source, frame.dest), time)
+        if what == (BAM if frame.dest == GLOBAL else RTS) and self.is_followed(frame.dest):
+            self.pacing.announce(key, frame.dest == GLOBAL, time)
+        elif what == CTS and frame.source != GLOBAL and self.is_followed(frame.source):
+            self.pacing.clear_to_send(self.heard.message_of(frame.dest, frame.source), frame.data[1], frame.data[2], time)
+        self.tell(number, changes)
+        if self.options.listens and not any(what in ("entry", "unread") for what, *_ in changes):
+            self.tell_broken(number, frame, fate, before)
+
+    def is_followed(self, dest):
+        return dest == GLOBAL or self.heard.joins_sessions_to(dest)
+
+    # ---- what is half joined
+
+    def touched(self, frame):
+        """Between which addresses a frame may end a message: of packets and of connection management the two, of a claim all from its source."""
+        if claimed_name(frame) is not None and frame.source != NULL:
+            return dict.fromkeys((frame.source, other.dest) for _, other in self.heard.read.get(frame.source, ()) if other.pgn == CONTROL)
+        if frame.pgn == PACKET:
+            return [(frame.source, frame.dest)]
+        return [] if control_of(frame) is None else dict.fromkeys([(frame.source, frame.dest), (frame.dest, frame.source)])
+
+    def half_joined(self, source, dest):
+        if not self.is_followed(dest) or self.pacing.is_over(self.heard.message_of(source, dest)):
+            return None
+        return self.heard.under_way(source, dest)
+
+    def open(self):
+        """How many messages are half joined; a station does not tell that."""
+        if not self.options.listens:
+            return 0
+        pairs = {(source, frame.dest) for source, read in self.heard.read.items() for _, frame in read if frame.pgn == CONTROL}
+        return sum(self.half_joined(*pair) is not None for pair in pairs)
+
+    def tell_broken(self, number, frame, fate, before):
+        """What was half joined before a frame and is not behind it, or is another message, was broken by it."""
+        for (source, dest), (at, start, packets) in sorted(before.items(), key=lambda item: item[0][1] if claimed_name(frame) is not None else 0):
+            after = self.half_joined(source, dest)
+            if after is not None and after[0] == at:
+                continue
+            self.broken += 1
+            who, kind, of = self.heard.whose(source, at), control_pgn(start), start.data[3]
+            shown = self.options.lists_unclaimed or not isinstance(who, Unclaimed)
+            if not shown or not self.options.shows(dest) or not self.is_told((who, source)):
+                continue
+            why, by = self.why_broken(frame, fate, packets)
+            to, word = f" to {address_words(dest, True)}" if dest != GLOBAL else "", WORD_OF[kind]
+            self.write(number, "broken", f"broken {self.broken}: {word} of {self.who_words(who)}{to}, {len(packets)} of {of} packets: {why}", count=self.broken, **self.who_object(who),
+                       kind=word, **({"to": dest} if to else {}), read=len(packets), of=of, why=why, **({} if by is None else {"by": by}))
+
+    def why_broken(self, frame, fate, packets):
+        """In words, and who aborted it."""
+        if claimed_name(frame) is not None:
+            return "claimed by another", None
+        if control_of(frame) == ABORT:
+            reason = f"{frame.data[1]} ({ABORTS[frame.data[1]]})" if frame.data[1] in ABORTS else f"{frame.data[1]}"
+            return f"abort {reason} by {address_words(frame.source, True)}", frame.source
+        if control_of(frame) in (BAM, RTS):
+            return "announced anew", None
+        if fate == "late" or control_of(frame) == CTS:
+            return "late", None
+        found, wanted = frame.data[0] if frame.data else 0, len(packets) + 1
+        if 1 <= found < wanted and self.pacing.asks_for(self.heard.message_of(frame.source, frame.dest), found):
+            return f"packet {found} came again with other bytes", None
+        return f"packet {found} not of 8 bytes" if found == wanted else f"packet {found} for {wanted}", None
 
     # ---- what is told
 
@@ -321,15 +365,15 @@ class Watch:
         """A time by the clock that is asked for."""
         return self.options.clock.text(micros, self.starts[0] if self.starts else micros)
 
-    def write(self, number, event, words, unit=None, **told):
-        """A change, and behind all else what the NAME says of a unit that claims or loses an address."""
+    def write(self, number, event, words, unit=None, behind={}, **told):
+        """A change, and behind all else what the NAME says of a unit that claims or loses an address, or what of an entry is not read."""
         if self.now is None:
             reach("an event before any time")
         time = None if self.now is None else time_text(self.now)
         shown = "-" if self.now is None else self.time_told(self.now)
         self.text.append(f"{shown} {self.place()}{words}\n")
         self.objects.append(seen_json(dumped({"line": number, "time": time, "event": event, **told, **self.bus_object(),
-                                              **({} if unit is None else unit_keys(unit))})) + "\n")
+                                              **({} if unit is None else unit_keys(unit)), **behind})) + "\n")
 
     def place(self):
         """A line says its bus where each is watched."""
@@ -437,6 +481,9 @@ class Watch:
             return
         if not self.is_told((who, source)):
             return
+        if isinstance(shown, Part) and who in self.options.methods:
+            shown = shown.by(self.options.methods[who])
+            reach("an older code is read by its unit's method" if shown.trouble()["converted"] else "a unit's method reads no code")
         runs, contested = self.runs.setdefault((who, kind), []), self.is_contested(source)
         begins = not (runs and is_same(runs[-1].shown, shown) and runs[-1].contested == contested and (runs[-1].to == to or not self.options.listens))
         self.ever.hear((self.name, who), kind, shown, self.now, begins)
@@ -456,7 +503,7 @@ class Watch:
         word, listens = WORD_OF[kind], self.options.listens
         unit = self.who_words(who) + (":" if isinstance(who, Unclaimed) else "")
         self.write(number, word, f"{word} {unit} {runs[-1].words(listens)}", **self.who_object(who), **runs[-1].object(listens),
-                   entry=self.entries(who, kind))
+                   entry=self.entries(who, kind), behind=trouble_object(shown))
 
     # ---- whose a message is
 
@@ -519,7 +566,7 @@ class Watch:
         if self.is_assumed(who):
             reach("a row of a NAME that was assumed")
         entries = " ".join(f"{self.entries(who, kind):6}" for kind in KINDS.values())
-        last = f"{len(newest[0].shown[1]):4} {lamp_words(newest[0].shown[0])} ({newest[0].shown[0].hex().upper()})" if newest else "   - -"
+        last = f"{len(newest[0].shown[1]):4} {lamp_words(newest[0].shown[0])} ({newest[0].shown[0].hex().upper()})" + (" in part" if isinstance(newest[0].shown, Part) else "") if newest else "   - -"
         if isinstance(who, Unclaimed):
             return f"{self.who_words(who)} {entries} {last}"
         held = "none" if address is None else address_words(address, True)
@@ -528,7 +575,9 @@ class Watch:
     def rows_text(self):
         """Units whose red stop lamp was on at any time stand before the others."""
         rows = [[self.text_row(who), *self.ever.text((self.name, who), self.time_told)] for who in sorted(self.rows(), key=lambda who: not self.ever.was_red((self.name, who)))]
-        return "".join(f"{self.place()}{line}\n" for lines in rows for line in lines) + f"{self.place()}missed {self.missed()} unread {self.unread()}\n"
+        return "".join(f"{self.place()}{line}\n" for lines in rows for line in lines) + f"{self.place()}missed {self.missed()} unread {self.unread()}" + (
+            f" partly {self.partly()}" if self.partly() else "") + "\n" + (
+            f"{self.place()}broken {self.broken} open {self.open()}\n" if self.broken or self.open() else "")
 
     @staticmethod
     def report_text(watches, counts):
@@ -541,22 +590,24 @@ class Watch:
     def row_object(self, who):
         row, listens = self.who_object(who) | ({"assumed": True} if self.is_assumed(who) else {}), self.options.listens
         for word, kind in KINDS.items():
-            row[word] = [{"times": run.times, "first": self.time(run.first), "last": self.time(run.last), **run.object(listens)}
+            row[word] = [{"times": run.times, "first": self.time(run.first), "last": self.time(run.last), **run.object(listens), **trouble_object(run.shown)}
                          for run in self.runs_of(who, kind)]
         return row | self.bus_object() | ({} if isinstance(who, Unclaimed) else unit_keys(who)) | self.ever.object((self.name, who))
 
     @staticmethod
     def report_object(watches, counts, options, head={"event": "report"}):
-        buses = [watch.bus_object() | {"missed": watch.missed(), "unread": watch.unread()} for watch in watches]
+        buses = [watch.bus_object() | {"missed": watch.missed(), "unread": watch.unread()} | watch.partly_object() for watch in watches]
+        partly = sum(watch.partly() for watch in watches)
         return seen_json(dumped(head | {"rows": [watch.row_object(who) for watch in watches for who in watch.rows()],
                        "missed": sum(bus["missed"] for bus in buses), "unread": sum(bus["unread"] for bus in buses),
                        "lines": {key: counts[key] for key in COUNTS}, "not_attributed": counts["not_attributed"],
                        "not_sent": sum(watch.heard.not_sent for watch in watches)}
-                      | ({"buses": buses} if options.each else {}) | ({"ever_left_out": watches[0].ever.left_out} if watches and watches[0].ever.left_out else {}))) + "\n"
+                      | ({"buses": buses} if options.each else {}) | ({"ever_left_out": watches[0].ever.left_out} if watches and watches[0].ever.left_out else {}) | ({"partly": partly} if partly else {})
+                      | ({"broken": sum(watch.broken for watch in watches), "open": sum(watch.open() for watch in watches)} if options.listens else {}))) + "\n"
 
     @staticmethod
     def header(options):
-        return HEADER + (",to" if options.listens else "") + (",bus" if options.each else "") + ",function,instance,manufacturer,identity,unit_text,code_text,name_hex" + EVER_HEADER + ",fmi_text\n"
+        return HEADER + (",to" if options.listens else "") + (",bus" if options.each else "") + ",function,instance,manufacturer,identity,unit_text,code_text,name_hex" + EVER_HEADER + ",fmi_text,not_read\n"
 
     @staticmethod
     def report_rows(watches, options):
@@ -577,10 +628,10 @@ class Watch:
                 to = ["" if run.to == GLOBAL else str(run.to)] if self.options.listens else []
                 for code in run.shown[1] or [None]:
                     yield [*before, word, *times, str(run.times), run.shown[0].hex().upper(), *self.code_values(code), "true" if run.contested else "false", *to], self.ever.values(
-                        (self.name, who), kind, code) + [csv_text(FAILURE_MODES[code.fmi]) if code else ""]
+                        (self.name, who), kind, code) + [csv_text(FAILURE_MODES[code.fmi]) if code else "", f'"{trouble_words(run.shown.trouble())}"' if isinstance(run.shown, Part) else ""]
         if not found:
             reach("a row without entries")
-            yield before + [""] * (10 if self.options.listens else 9), [""] * 10
+            yield before + [""] * (10 if self.options.listens else 9), [""] * 11
 
     @staticmethod
     def code_values(code):

@@ -6,8 +6,9 @@ import re
 from .frames import (ABORT, ACKNOWLEDGMENT, BAM, CLAIM, COMMANDED_ADDRESS, CONTROL, CTS, DM3, DM11, END_OF_MESSAGE, GLOBAL, NULL, PACKET, REQUEST, RTS,
                      TITLES, claimed_name, control_of, control_pgn, control_size, number, requested)
 from .log_cases import reach
-from .memory import read_message
+from .memory import Part, code_of_group, is_older, read_at_all
 
+UNREAD = "bad length"  # why a message cannot be read at all: not even its lamps are whole
 NOT_AVAILABLE = 127  # the occurrence count that says so
 LAMPS = [("mil", 6), ("stop", 4), ("amber", 2), ("protect", 0)]  # where the two bits of each stand, in the lamps' byte and in that of flashes
 FLASHES = {0: " flashing slowly", 1: " flashing fast"}
@@ -96,12 +97,52 @@ def shown_object(shown):
     return {"lamps": lamps.hex().upper(), "codes": [code_object(code) for code in codes]}
 
 
-def fault_of(payload):
-    """Why a DM1, DM2 or DM6 can't be read: its length, or what the first group at fault has."""
-    if len(payload) != 8 and (len(payload) < 10 or len(payload) > 1782 or len(payload) % 4 != 2):
-        return "bad length"
-    groups = [payload[2:6]] if len(payload) == 8 else [payload[at : at + 4] for at in range(2, len(payload), 4)]
-    return next("old conversion" if group[3] > 127 else "a code of zeros" for group in groups if group[3] > 127 or group == bytes(4))
+def trouble_object(shown):
+    """What of a message is not read, where it was read in part."""
+    return {"not_read": shown.trouble()} if isinstance(shown, Part) else {}
+
+
+def counted(count, word):
+    return f"{count} {word}" + ("" if count == 1 else "s")
+
+
+def trouble_words(trouble):
+    """What of a message is not read, and what is read by an older conversion method."""
+    of = {"padding": ("group", "of padding"), "zeros": ("group", "of zeros"), "older": ("code", "of an older conversion method"),
+          "bytes_behind": ("byte", "behind the last code")}
+    unread = ", ".join(f"{counted(trouble[key], word)} {rest}" for key, (word, rest) in of.items() if trouble[key])
+    converted = f"{counted(trouble['converted'], 'code')} by an older conversion method" if trouble["converted"] else ""
+    return "; ".join(words for words in (f"not read: {unread}" if unread else "", missing_words(trouble), converted) if words)
+
+
+def missing_words(trouble):
+    return f"{trouble['bytes_missing']} of 8 bytes missing" if trouble["bytes_missing"] else ""
+
+
+def part_words(part, people):
+    """Each group in order, what is no code in parentheses; and how many bytes are too many or too few."""
+    told, groups = [], list(part.groups)
+    while groups:
+        group = groups.pop(0)
+        if group in (bytes(4), b"\xff" * 4):
+            count = 1
+            while groups and groups[0] == group:
+                count += 1
+                groups.pop(0)
+            reach("says: groups of " + ("zeros" if group == bytes(4) else "padding"))
+            told.append(f"({counted(count, 'group')} of {'zeros' if group == bytes(4) else 'padding'})")
+        elif is_older(group):
+            reach("says: an older code")
+            told.append(f"(4 bytes of an older conversion method: FMI {group[2] & 31}, count {group[3] & 127})")
+        else:
+            told.append(code_of_group(group, None).text())
+    trouble = part.trouble()
+    amiss = [counted(trouble["bytes_behind"], "byte") + " behind the last code"] if trouble["bytes_behind"] else []
+    amiss += [missing_words(trouble)] if trouble["bytes_missing"] else []
+    if amiss:
+        reach("says: bytes too many or too few")
+    return (lamp_words(part[0]) + (f" ({part[0].hex().upper()})" if people else "") + "; " + (" ".join(told) or "-")
+            + "".join(f"; {words}" for words in amiss))
 
 
 def name_text(name):
@@ -182,12 +223,15 @@ def payload_words(pgn, data, people):
     if pgn not in TITLES:
         reach("says: data of a group with" + ("" if pgn in GROUPS else "out") + " a name")
         return f"{group_name(pgn, people) or '-'}: data{byte_words(data)}"
-    shown = read_message(data)
-    if shown:
-        reach("says: " + TITLES[pgn])
-        return f"{TITLES[pgn]}: {shown_words(shown, people)}"
-    reach("says: cannot be read, " + fault_of(data))
-    return f"{TITLES[pgn]}: cannot be read: {fault_of(data)}"
+    shown = read_at_all(data)
+    if shown is None:
+        reach("says: cannot be read, " + UNREAD)
+        return f"{TITLES[pgn]}: cannot be read: {UNREAD}"
+    if isinstance(shown, Part):
+        reach("says: read in part")
+        return f"{TITLES[pgn]}: {part_words(shown, people)}"
+    reach("says: " + TITLES[pgn])
+    return f"{TITLES[pgn]}: {shown_words(shown, people)}"
 
 
 def message_words(frame, people):

@@ -4,20 +4,24 @@ use Rattle.address_claim.specs.Claiming.{is_held}
 use Rattle.can_frame.specs.declared.address.TheConstants.{GLOBAL_ADDRESS}
 use Rattle.can_frame.specs.declared.reading.Reading.{Reading}
 use Rattle.can_frame.specs.declared.reading.Reading.TheVariants.{Frame, Gap, Empty}
+use Rattle.dm_messages.specs.Tolerant.{message_read, tolerant}
 use Rattle.dm_messages.specs.View.{decoding, same_kind}
 use Rattle.dm_messages.specs.declared.kind.Kind.{Kind}
 use Rattle.dm_messages.specs.declared.shown.Shown.{Shown}
+use Rattle.dm_messages.specs.declared.tolerant.MessageRead.{MessageRead}
+use Rattle.dm_messages.specs.declared.tolerant.MessageRead.TheVariants.{Whole, InPart}
+use Rattle.dm_messages.specs.declared.tolerant.Tolerant.{Tolerant}
 use Rattle.parameter_group.specs.Group.{Group, AddressClaimed, CannotClaim, Request, Acknowledgment, Diagnostic, ConnectionManagement, DataTransfer, Other, group_of}
 use Rattle.transport.specs.declared.control.Control.{Control}
 use Rattle.transport.specs.declared.control.Control.TheVariants.{Bam}
 use Rattle.bus_model.specs.Changed.{displaced_by, is_lost}
 use Rattle.bus_model.specs.Heard.{RowHeard, StationSettings, ack_in_row, address_heard, address_in_row, addressless, counted, is_answer, kind_of, missed_count, names_after, names_heard, owner_heard, row_after, row_heard, row_with_ack, with_name, without_address}
 use Rattle.bus_model.specs.Overheard.{EntrySent, MessageSent, address_overheard, entries_overheard, gaps_heard, is_lost_on, put_sent, row_overheard, row_with_group, same_who, sent_by, unread_overheard}
-use Rattle.bus_model.specs.OverheardChanged.{ack_overheard, announcement_change, change_overheard, gave_up, group_overheard, has_still, sent_change, why_unread}
+use Rattle.bus_model.specs.OverheardChanged.{ack_overheard, announcement_change, change_overheard, gave_up, group_overheard, has_still, change_of_read, sent_change}
 use Rattle.bus_model.specs.OverheardFollows.{AreSentWith, HasSent, gaps_with, missed_with, names_with, row_with, unread_with}
 use Rattle.bus_model.specs.declared.change.Displaced.{Displaced}
 use Rattle.bus_model.specs.declared.overheard.Overheard.{Overheard}
-use Rattle.bus_model.specs.declared.overheard.Overheard.TheVariants.{Nothing, Claimed, GaveUp, Listed, Unreadable}
+use Rattle.bus_model.specs.declared.overheard.Overheard.TheVariants.{Nothing, Claimed, GaveUp}
 use Rattle.bus_model.specs.declared.who.Who.{Who}
 use Rattle.bus_model.proofs.Changes.{claims_again, keeps_address, loses_address, owner_known}
 use Rattle.bus_model.proofs.Clear.{false_test}
@@ -172,11 +176,12 @@ ack_row (Some w) c q p d s n h o = refl
 
 sent_row : (a n : ℕ) (m : Option MessageSent) (o : Option RowHeard) → o ≡ row_with (sent_change a m) n o
 sent_row a n None o = refl
-sent_row a n (Some m) o = go (is_some (decoding m.bytes))
+sent_row a n (Some m) o = go (message_read m.bytes)
   where
-    go : (b : Bool) → o ≡ row_with (if b then Listed m.who m.kind a m.to else Unreadable m.who m.kind a m.to (why_unread m.bytes)) n o
-    go true = refl
-    go false = refl
+    go : (r : Option MessageRead) → o ≡ row_with (change_of_read a m r) n o
+    go None = refl
+    go (Some (Whole v)) = refl
+    go (Some (InPart t)) = refl
 
 announced_row : (k : Option Kind) (a n : ℕ) (own : Option ℕ) (o : Option RowHeard) (b : Bool) → o ≡ row_with (if b then announcement_change k a own else Nothing) n o
 announced_row k a n own o false = refl
@@ -231,11 +236,12 @@ ack_names (Some w) c q p d s h ns = refl
 
 sent_names : (a : ℕ) (m : Option MessageSent) (ns : List ℕ) → ns ≡ names_with (sent_change a m) ns
 sent_names a None ns = refl
-sent_names a (Some m) ns = go (is_some (decoding m.bytes))
+sent_names a (Some m) ns = go (message_read m.bytes)
   where
-    go : (b : Bool) → ns ≡ names_with (if b then Listed m.who m.kind a m.to else Unreadable m.who m.kind a m.to (why_unread m.bytes)) ns
-    go true = refl
-    go false = refl
+    go : (r : Option MessageRead) → ns ≡ names_with (change_of_read a m r) ns
+    go None = refl
+    go (Some (Whole v)) = refl
+    go (Some (InPart t)) = refl
 
 announced_names : (k : Option Kind) (a : ℕ) (own : Option ℕ) (ns : List ℕ) (b : Bool) → ns ≡ names_with (if b then announcement_change k a own else Nothing) ns
 announced_names k a own ns false = refl
@@ -273,20 +279,26 @@ pub record FitsSent (m : Option MessageSent) (c : Overheard) : Type 0 where
 
 sent_fits : (a : ℕ) (m : Option MessageSent) → FitsSent m (sent_change a m)
 sent_fits a None = record { lists = λ w k es. refl; unread = λ u. refl; missed = λ n. refl; gaps = λ n. refl }
-sent_fits a (Some m) = go (decoding m.bytes) refl
+sent_fits a (Some m) = go (decoding m.bytes) refl (tolerant m.bytes) refl
   where
-    go : (v : Option Shown) → decoding m.bytes ≡ v → FitsSent (Some m) (sent_change a (Some m))
-    go None i = record {
-      lists = λ w k es. rw i (by (same_who m.who w && same_kind m.kind k) es);
-      unread = λ u. rw i refl;
-      missed = λ n. rw i refl;
-      gaps = λ n. rw i refl;
+    same : (b : Bool) (es : List EntrySent) → (if b then es else es) ≡ es
+    same true es = refl
+    same false es = refl
+
+    go : (v : Option Shown) → decoding m.bytes ≡ v → (t : Option Tolerant) → tolerant m.bytes ≡ t → FitsSent (Some m) (sent_change a (Some m))
+    go None i None j = record {
+      lists = λ w k es. rw (i, j) (same (same_who m.who w && same_kind m.kind k) es);
+      unread = λ u. rw (i, j) refl;
+      missed = λ n. rw (i, j) refl;
+      gaps = λ n. rw (i, j) refl;
     }
-      where
-        by : (b : Bool) (es : List EntrySent) → (if b then es else es) ≡ es
-        by true es = refl
-        by false es = refl
-    go (Some v) i = record {
+    go None i (Some t) j = record {
+      lists = λ w k es. rw (i, j) (same (same_who m.who w && same_kind m.kind k) es);
+      unread = λ u. rw (i, j) refl;
+      missed = λ n. rw (i, j) refl;
+      gaps = λ n. rw (i, j) refl;
+    }
+    go (Some v) i t j = record {
       lists = λ w k es. rw i (by (same_who m.who w && same_kind m.kind k) es);
       unread = λ u. rw i refl;
       missed = λ n. rw i refl;

@@ -9,8 +9,9 @@ use Rattle.dm_messages.specs.declared.kind.Kind.{Kind}
 use Rattle.dm_messages.specs.declared.shown.Shown.{Shown}
 use Rattle.parameter_group.specs.Group.{Group, AddressClaimed, CannotClaim, Acknowledgment, Diagnostic, ConnectionManagement, DataTransfer, group_of}
 use Rattle.transport.specs.Pieces.{joined}
-use Rattle.transport.specs.declared.control.Control.TheVariants.{Rts, Bam, Abort}
-use Rattle.reassembly.specs.Partials.{PartialValue, begun, with_packet, is_whole, after_packet}
+pub use Rattle.reassembly.specs.Between.{is_pair}
+use Rattle.reassembly.specs.Between.{managed, packeted}
+use Rattle.reassembly.specs.Partials.{PartialValue, begun, with_packet, is_whole}
 use Rattle.bus_model.specs.Heard.{RowHeard, ack_in_row, address_in_row, addressless, counted, kind_of, owner_heard, row_with_ack, without_address}
 use Rattle.bus_model.specs.declared.who.Who.{Who}
 use Rattle.bus_model.specs.declared.who.Who.TheVariants.{Named, Unclaimed}
@@ -53,20 +54,11 @@ abbrev pub kept_by_name : ℕ → Option HalfSent → Option HalfSent
 kept_by_name n None = None
 kept_by_name n (Some j) = if is_named n j.tag.who then Some j else None
 
--- what goes from s to e goes from a to d
-abbrev pub is_pair : ℕ → ℕ → ℕ → ℕ → Bool
-is_pair a d s e = s == a && e == d
-
--- what is half sent from a to d, after one more group: a Bam announces a message to all, an Rts one to a single address, and each takes the
--- place of what there was; an abort by either of the two ends a session
+-- what is half sent from a to d, after one more group: by what is read between the two, an announcement begins a message of whoever owns its
+-- source; and a claim of the source keeps what is of its NAME
 abbrev pub between_after : ℕ → ℕ → Group → Who → Option HalfSent → Option HalfSent
-between_after a d (ConnectionManagement s e (Bam size packets pgn)) who before =
-    if is_pair a d s e && d == GLOBAL_ADDRESS then newly_sent (kind_of pgn) size who else before
-between_after a d (ConnectionManagement s e (Rts size packets most pgn)) who before =
-    if is_pair a d s e && not (d == GLOBAL_ADDRESS) then newly_sent (kind_of pgn) size who else before
-between_after a d (ConnectionManagement s e (Abort reason pgn)) who before =
-    if (is_pair a d s e || is_pair d a s e) && not (d == GLOBAL_ADDRESS) then None else before
-between_after a d (DataTransfer s e bytes) who before = if is_pair a d s e then after_packet bytes before else before
+between_after a d (ConnectionManagement s e message) who before = managed (λ size pgn. newly_sent (kind_of pgn) size who) a d s e message before
+between_after a d (DataTransfer s e bytes) who before = packeted a d s e bytes before
 between_after a d (AddressClaimed s n) who before = if s == a then kept_by_name n before else before
 between_after a d _ who before = before
 

@@ -5,10 +5,12 @@ use Rattle.can_frame.specs.declared.address.TheConstants.{GLOBAL_ADDRESS}
 use Rattle.can_frame.specs.declared.reading.Reading.{Reading}
 use Rattle.can_frame.specs.declared.reading.Reading.TheVariants.{Frame, Gap, Empty}
 use Rattle.dm_messages.specs.Refusals.{refusal}
-use Rattle.dm_messages.specs.View.{decoding}
+use Rattle.dm_messages.specs.Tolerant.{message_read}
 use Rattle.dm_messages.specs.declared.error.ReadError.{ReadError}
 use Rattle.dm_messages.specs.declared.error.ReadError.TheVariants.{BadLength}
 use Rattle.dm_messages.specs.declared.kind.Kind.{Kind}
+use Rattle.dm_messages.specs.declared.tolerant.MessageRead.{MessageRead}
+use Rattle.dm_messages.specs.declared.tolerant.MessageRead.TheVariants.{Whole, InPart}
 use Rattle.parameter_group.specs.Group.{Group, AddressClaimed, CannotClaim, Acknowledgment, Diagnostic, ConnectionManagement, DataTransfer, group_of}
 use Rattle.transport.specs.declared.control.Control.TheVariants.{Bam}
 use Rattle.bus_model.specs.Changed.{displaced_by, is_again}
@@ -16,7 +18,7 @@ use Rattle.bus_model.specs.Heard.{RowHeard, ack_in_row, kind_of, owner_heard}
 use Rattle.bus_model.specs.Overheard.{MessageSent, address_overheard, row_overheard, sent_by}
 use Rattle.bus_model.specs.declared.change.Displaced.{Displaced}
 use Rattle.bus_model.specs.declared.overheard.Overheard.{Overheard}
-use Rattle.bus_model.specs.declared.overheard.Overheard.TheVariants.{Nothing, Claimed, GaveUp, Acknowledged, Listed, Unreadable, Unowned, Missed}
+use Rattle.bus_model.specs.declared.overheard.Overheard.TheVariants.{Nothing, Claimed, GaveUp, Acknowledged, Listed, ListedInPart, Unreadable, Unowned, Missed}
 
 -- a claim of the address that the NAME has changes nothing
 abbrev pub claim_overheard : ℕ → ℕ → Bool → Option Displaced → Overheard
@@ -45,10 +47,16 @@ or_bad_length (Some why) = why
 abbrev pub why_unread : List ℕ → ReadError
 why_unread bytes = or_bad_length (refusal bytes)
 
--- a message from the address that ended, if one did, is listed, or cannot be read
+-- a message from the address is listed, or listed as far as it can be read, or cannot be read
+abbrev pub change_of_read : ℕ → MessageSent → Option MessageRead → Overheard
+change_of_read a m (Some (Whole shown)) = Listed m.who m.kind a m.to
+change_of_read a m (Some (InPart part)) = ListedInPart m.who m.kind a m.to
+change_of_read a m None = Unreadable m.who m.kind a m.to (why_unread m.bytes)
+
+-- so is one that ended, if one did
 abbrev pub sent_change : ℕ → Option MessageSent → Overheard
 sent_change a None = Nothing
-sent_change a (Some m) = if is_some (decoding m.bytes) then Listed m.who m.kind a m.to else Unreadable m.who m.kind a m.to (why_unread m.bytes)
+sent_change a (Some m) = change_of_read a m (message_read m.bytes)
 
 -- a broadcast is announced
 abbrev pub announcement_change : Option Kind → ℕ → Option ℕ → Overheard

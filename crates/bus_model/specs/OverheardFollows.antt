@@ -7,7 +7,7 @@ use Rattle.bus_model.specs.Changed.{is_lost}
 use Rattle.bus_model.specs.Heard.{RowHeard, ack_in_row, addressless, counted, row_with_ack, with_name}
 use Rattle.bus_model.specs.Overheard.{EntrySent, same_who}
 use Rattle.bus_model.specs.declared.overheard.Overheard.{Overheard}
-use Rattle.bus_model.specs.declared.overheard.Overheard.TheVariants.{Claimed, GaveUp, Acknowledged, Listed, Unreadable, Missed}
+use Rattle.bus_model.specs.declared.overheard.Overheard.TheVariants.{Claimed, GaveUp, Acknowledged, Listed, ListedInPart, Unreadable, Missed}
 use Rattle.bus_model.specs.declared.who.Who.{Who}
 
 -- a NAME's row
@@ -36,7 +36,7 @@ abbrev pub AreSentWith : Overheard → Who → Kind → List EntrySent → List 
 AreSentWith (Listed v l a to) w k before after = HasSent (same_who v w && same_kind l k) to before after
 AreSentWith _ w k before after = after ≡ before
 
--- how many frames were missed, how many gaps there were, and how many messages could not be read
+-- how many frames were missed, how many gaps there were, and how many messages could not be read whole
 abbrev pub missed_with : Overheard → ℕ → ℕ
 missed_with (Missed count) missed = counted (missed + count)
 missed_with _ missed = missed
@@ -46,5 +46,6 @@ gaps_with (Missed count) gaps = counted (gaps + 1)
 gaps_with _ gaps = gaps
 
 abbrev pub unread_with : Overheard → ℕ → ℕ
+unread_with (ListedInPart w k a to) unread = counted (unread + 1)
 unread_with (Unreadable w k a to why) unread = counted (unread + 1)
 unread_with _ unread = unread

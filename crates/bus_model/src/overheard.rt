@@ -42,7 +42,15 @@ pub enum Overheard {
         /// The address that it went to, 255 for all.
         to: u8,
     },
-    /// A message from this address could not be read.
+    /// The same of a message that is not as the standard has it, as far as it can be read: its lamps, and each readable code.
+    ListedInPart {
+        who: Who,
+        kind: Kind,
+        source: u8,
+        /// The address that it went to, 255 for all.
+        to: u8,
+    },
+    /// A message from this address could not be read: not even its lamps are whole.
     Unreadable {
         who: Who,
         kind: Kind,

@@ -5,13 +5,22 @@ use Rattle.bus_model.specs.Overheard.{EntrySent, MessageSent, entries_overheard,
 use Rattle.bus_model.specs.declared.who.Who.{Who}
 use Rattle.can_frame.specs.declared.reading.Reading.{Reading}
 use Rattle.can_frame.specs.declared.reading.Reading.TheVariants.{Frame, Gap, Empty}
+use Rattle.dm_messages.specs.Tolerant.{shown_by_method, tolerant, trouble_of, whole_or_part}
 use Rattle.dm_messages.specs.View.{decoding, same_kind}
 use Rattle.dm_messages.specs.declared.kind.Kind.{Kind}
+use Rattle.dm_messages.specs.declared.method.ConversionMethod.{ConversionMethod}
 use Rattle.dm_messages.specs.declared.shown.Shown.{Shown}
+use Rattle.dm_messages.specs.declared.tolerant.MessageRead.{MessageRead}
+use Rattle.dm_messages.specs.declared.tolerant.MessageRead.TheVariants.{Whole, InPart}
+use Rattle.dm_messages.specs.declared.tolerant.Tolerant.{Tolerant}
+use Rattle.dm_messages.specs.declared.trouble.Trouble.{Trouble}
 use Rattle.parameter_group.specs.Group.{Acknowledgment, AddressClaimed, CannotClaim, ConnectionManagement, DataTransfer, Diagnostic, Group, Other, Request, group_of}
-use Rattle.listener.specs.SentEntries.{entry_if_sent, entry_sent, entry_shown, group_sent, with_entry_sent}
+use Rattle.listener.specs.SentEntries.{entry_if_sent, entry_read, entry_sent, group_sent, put_whole, with_entry_sent}
 use Rattle.listener.specs.declared.entry.SentEntry.{SentEntry}
 use Rattle.bus_watch.specs.AsOverheard.{AsksForAll, entries_shown, is_shown_between, overheard_shown}
+use Rattle.bus_watch.specs.Methods.{entry_by_method, method_of, put_if_whole, read_whole, shown_entry, with_entry_shown}
+use Rattle.bus_watch.specs.declared.methods.UnitMethod.{UnitMethod}
+use Rattle.bus_watch.specs.declared.shown_entry.ShownEntry.{ShownEntry}
 use Rattle.bus_watch.specs.Runs.{Moment, if_shown, is_shown, is_shown_at, lists_shown, readings_in}
 use Rattle.bus_watch.specs.declared.selection.Selection.{Selection}
 use Rattle.bus_watch.proofs.Units.{same_who_is}
@@ -49,7 +58,7 @@ own_unshown s u w c to none = go (same_who u w) c refl
 
 -- a list with an entry at its end, where it is its own and is shown
 abbrev with_one : Selection → SentEntry → List EntrySent → Who → Kind → List EntrySent
-with_one s e list w k = if (same_who e.who w && same_kind e.kind k) && is_shown_between s w e.to then list ++ record { to = e.to; shown = e.shown } ∷ [] else list
+with_one s e list w k = if (same_who e.who w && same_kind e.kind k) && is_shown_between s w e.to then put_whole e.to e.read list else list
 
 abbrev with_one_if : Selection → Option SentEntry → List EntrySent → Who → Kind → List EntrySent
 with_one_if s None list w k = list
@@ -61,8 +70,8 @@ one_more s time None lists w k all = refl
 one_more s time (Some e) lists w k all = ap (λ (b : Bool). with_entry_sent (if b then Some e else None) lists w k) (shown_between s time e all) ∙ go (is_shown_between s e.who e.to) refl
   where
     go : (b : Bool) → is_shown_between s e.who e.to ≡ b → with_entry_sent (if b then Some e else None) lists w k ≡ with_one s e (lists w k) w k
-    go true is = sym (ap (λ (b : Bool). if b then lists w k ++ record { to = e.to; shown = e.shown } ∷ [] else lists w k) (own_shown s e.who w (same_kind e.kind k) e.to is))
-    go false is = sym (ap (λ (b : Bool). if b then lists w k ++ record { to = e.to; shown = e.shown } ∷ [] else lists w k) (own_unshown s e.who w (same_kind e.kind k) e.to is))
+    go true is = sym (ap (λ (b : Bool). if b then put_whole e.to e.read (lists w k) else lists w k) (own_shown s e.who w (same_kind e.kind k) e.to is))
+    go false is = sym (ap (λ (b : Bool). if b then put_whole e.to e.read (lists w k) else lists w k) (own_unshown s e.who w (same_kind e.kind k) e.to is))
 
 turned : (es : List EntrySent) (v : EntrySent) (b : Bool) → (if b then reverse es ++ v ∷ [] else reverse es) ≡ reverse (if b then v ∷ es else es)
 turned es v true = sym (reverse_onto es v [])
@@ -80,7 +89,7 @@ back s h w k = reverse (entries_shown s w (entries_overheard w k h))
 ended_after : (s : Selection) (h : List Reading) (source : ℕ) (w : Who) (k : Kind) (o : Option MessageSent)
     → with_one_if s (entry_if_sent source o) (back s h w k) w k ≡ reverse (entries_shown s w (put_sent w k o (entries_overheard w k h)))
 ended_after s h source w k None = refl
-ended_after s h source w k (Some m) = go (decoding m.bytes)
+ended_after s h source w k (Some m) = go (decoding m.bytes) (tolerant m.bytes)
   where
     es : List EntrySent
     es = entries_overheard w k h
@@ -93,10 +102,17 @@ ended_after s h source w k (Some m) = go (decoding m.bytes)
     one true v = turned (entries_shown s w es) (v_of v) (is_shown_between s w m.to)
     one false v = refl
 
-    go : (v : Option Shown) → with_one_if s (entry_shown source m.to (record { who = m.who; kind = m.kind }) v) (back s h w k) w k
+    kept : (b : Bool) (x : List EntrySent) → (if b then x else x) ≡ x
+    kept true x = refl
+    kept false x = refl
+
+    go : (v : Option Shown) (t : Option Tolerant) → with_one_if s (entry_read source m.to (record { who = m.who; kind = m.kind }) (whole_or_part v t)) (back s h w k) w k
         ≡ reverse (entries_shown s w (if same_who m.who w && same_kind m.kind k then put_shown m.to v es else es))
-    go None = ap (λ (l : List EntrySent). reverse (entries_shown s w l)) (if_same (same_who m.who w && same_kind m.kind k) es)
-    go (Some v) = one (same_who m.who w && same_kind m.kind k) v
+    go None None = ap (λ (l : List EntrySent). reverse (entries_shown s w l)) (if_same (same_who m.who w && same_kind m.kind k) es)
+    go None (Some t) =
+        kept ((same_who m.who w && same_kind m.kind k) && is_shown_between s w m.to) (reverse (entries_shown s w es))
+        ∙ ap (λ (l : List EntrySent). reverse (entries_shown s w l)) (if_same (same_who m.who w && same_kind m.kind k) es)
+    go (Some v) t = one (same_who m.who w && same_kind m.kind k) v
 
 group_after : (s : Selection) (h : List Reading) (w : Who) (k : Kind) (g : Group)
     → with_one_if s (group_sent g h) (back s h w k) w k ≡ reverse (entries_shown s w (put_sent w k (sent_by g h) (entries_overheard w k h)))
@@ -114,9 +130,40 @@ after s Empty h w k = refl
 after s (Gap m) h w k = refl
 after s (Frame f) h w k = group_after s h w k (group_of f)
 
-pub shown_as_overheard : (s : Selection) → AsksForAll s → (h : List Moment) (w : Who) (k : Kind) → lists_shown s h w k ≡ overheard_shown s h w k
+-- ---- what was read whole
+
+-- an entry that was read whole stands behind the others
+whole_behind : (es : List ShownEntry) (to : ℕ) (v : Shown) → read_whole (es ++ record { to = to; shown = v; trouble = None } ∷ []) ≡ read_whole es ++ record { to = to; shown = v } ∷ []
+whole_behind [] to v = refl
+whole_behind (e ∷ es) to v = ap (put_if_whole e.to e.shown e.trouble) (whole_behind es to v) ∙ go e.trouble
+  where
+    go : (t : Option Trouble) → put_if_whole e.to e.shown t (read_whole es ++ record { to = to; shown = v } ∷ []) ≡ put_if_whole e.to e.shown t (read_whole es) ++ record { to = to; shown = v } ∷ []
+    go None = refl
+    go (Some t) = refl
+
+-- and one that was read in part is none of them
+part_behind : (es : List ShownEntry) (to : ℕ) (v : Shown) (t : Trouble) → read_whole (es ++ record { to = to; shown = v; trouble = Some t } ∷ []) ≡ read_whole es
+part_behind [] to v t = refl
+part_behind (e ∷ es) to v t = ap (put_if_whole e.to e.shown e.trouble) (part_behind es to v t)
+
+read_behind : (method : Option ConversionMethod) (es : List ShownEntry) (to : ℕ) (r : MessageRead) → read_whole (es ++ shown_entry method to r ∷ []) ≡ put_whole to r (read_whole es)
+read_behind method es to (Whole v) = whole_behind es to v
+read_behind method es to (InPart t) = part_behind es to (shown_by_method method t) (trouble_of method t)
+
+-- lists with one more entry
+whole_more : (methods : List (Option UnitMethod)) (o : Option SentEntry) (lists : Who → Kind → List ShownEntry) (w : Who) (k : Kind)
+    → read_whole (with_entry_shown methods o lists w k) ≡ with_entry_sent o (λ u l. read_whole (lists u l)) w k
+whole_more methods None lists w k = refl
+whole_more methods (Some e) lists w k = go (same_who e.who w && same_kind e.kind k)
+  where
+    go : (b : Bool) → read_whole (if b then lists w k ++ entry_by_method methods e ∷ [] else lists w k) ≡ (if b then put_whole e.to e.read (read_whole (lists w k)) else read_whole (lists w k))
+    go true = read_behind (method_of methods e.who) (lists w k) e.to e.read
+    go false = refl
+
+pub shown_as_overheard : (s : Selection) → AsksForAll s → (h : List Moment) (w : Who) (k : Kind) → read_whole (lists_shown s h w k) ≡ overheard_shown s h w k
 shown_as_overheard s all [] w k = refl
 shown_as_overheard s all (m ∷ older) w k =
-    one_more s m.time (entry_sent m.reading (readings_in older)) (lists_shown s older) w k all
+    whole_more s.methods (if_shown s m.time (entry_sent m.reading (readings_in older))) (lists_shown s older) w k
+    ∙ (one_more s m.time (entry_sent m.reading (readings_in older)) (λ u l. read_whole (lists_shown s older u l)) w k all
     ∙ (ap (λ (l : List EntrySent). with_one_if s (entry_sent m.reading (readings_in older)) l w k) (shown_as_overheard s all older w k)
-    ∙ after s m.reading (readings_in older) w k)
+    ∙ after s m.reading (readings_in older) w k))

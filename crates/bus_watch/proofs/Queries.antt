@@ -4,18 +4,19 @@ use Rattle.std.specs.Prelude.{slice_get}
 use Rattle.std.specs.Option.{option_map}
 use Rattle.std.proofs.lemmas.List.{length-map}
 use Rattle.dm_messages.specs.declared.kind.Kind.{Kind}
-use Rattle.bus_model.specs.Overheard.{EntrySent, row_overheard, unread_overheard}
+use Rattle.bus_model.specs.Overheard.{row_overheard, unread_overheard}
 use Rattle.bus_model.specs.Heard.{counted, missed_count, names_heard}
 use Rattle.bus_model.specs.declared.who.Who.{Who}
-use Rattle.station_table.specs.declared.row.Row.{Row}
-use Rattle.station_table.specs.KeptValue.{kept_under}
-use Rattle.station_table.specs.StandsFor.{row_heard_as, row_of}
-use Rattle.station_table.proofs.Queries.{row_words}
-use Rattle.station_table.proofs.RowLemmas.{named}
-use Rattle.bus_watch.specs.Runs.{entries_in, lists_shown, newest_time, runs_under, units_in, units_shown, unrolled, who_of}
+use Rattle.entry_lists.specs.declared.row.Row.{Row}
+use Rattle.entry_lists.specs.KeptValue.{kept_under}
+use Rattle.entry_lists.specs.KnownRows.{row_heard_as, row_of}
+use Rattle.entry_lists.proofs.RowClaims.{row_words}
+use Rattle.entry_lists.proofs.RowLemmas.{named}
+use Rattle.bus_watch.specs.Runs.{entries_came, entries_in, runs_by, lists_shown, newest_time, runs_under, units_in, units_shown, unrolled, who_of}
 use Rattle.bus_watch.specs.Told.{Beginning, StandsForAll, Told, all_said, readings_said}
 use Rattle.bus_watch.specs.WatchValue.{WatchValue}
 use Rattle.bus_watch.specs.declared.run.EntryRun.{EntryRun}
+use Rattle.bus_watch.specs.declared.shown_entry.ShownEntry.{ShownEntry}
 
 pub names_as_heard : (w : WatchValue) (b : Beginning) (ts : List Told) (n : ℕ) → n ≡ length w.listener.rows → StandsForAll b ts w → n ≡ length (names_heard (readings_said b ts))
 names_as_heard w b ts n e s = e ∙ (sym (length-map w.listener.rows named) ∙ ap (λ (l : List ℕ). length l) s.heard.listener.names)
@@ -40,9 +41,13 @@ pub runs_as_heard : (w : WatchValue) (b : Beginning) (ts : List Told) (who : Who
     → unrolled l ≡ lists_shown b.selection (all_said b ts).moments who kind
 runs_as_heard w b ts who kind l e s = ap unrolled e ∙ s.heard.lists who kind
 
+pub runs_as_came : (w : WatchValue) (b : Beginning) (ts : List Told) (who : Who) (kind : Kind) (l : List EntryRun) → l ≡ runs_under w.lists who kind → StandsForAll b ts w
+    → l ≡ runs_by (entries_came b.selection b.contests (all_said b ts).moments who kind)
+runs_as_came w b ts who kind l e s = e ∙ s.heard.runs who kind
+
 pub entries_as_heard : (w : WatchValue) (b : Beginning) (ts : List Told) (who : Who) (kind : Kind) (n : ℕ) → n ≡ counted (length (entries_in w.lists who kind)) → StandsForAll b ts w
     → n ≡ counted (length (lists_shown b.selection (all_said b ts).moments who kind))
-entries_as_heard w b ts who kind n e s = e ∙ ap (λ (l : List EntrySent). counted (length l)) (s.heard.lists who kind)
+entries_as_heard w b ts who kind n e s = e ∙ ap (λ (l : List ShownEntry). counted (length l)) (s.heard.lists who kind)
 
 pub missed_as_heard : (w : WatchValue) (b : Beginning) (ts : List Told) (n : ℕ) → n ≡ w.listener.missed → StandsForAll b ts w → n ≡ missed_count (readings_said b ts)
 missed_as_heard w b ts n e s = e ∙ s.heard.listener.missed

@@ -4,9 +4,9 @@ use Rattle.bus_model.specs.Overheard.{same_who}
 use Rattle.bus_model.specs.declared.who.Who.{Who}
 use Rattle.dm_messages.specs.View.{same_kind}
 use Rattle.dm_messages.specs.declared.kind.Kind.{Kind}
-use Rattle.listener.specs.SentEntries.{with_entry_sent}
+use Rattle.bus_watch.specs.Methods.{entry_by_method, with_entry_shown}
 use Rattle.listener.specs.declared.entry.SentEntry.{SentEntry}
-use Rattle.bus_watch.specs.Runs.{HasRuns, ListsValue, entries_in, has_begun, is_shown, runs_under, units_in, with_unit, with_unit_of}
+use Rattle.bus_watch.specs.Runs.{HasRuns, ListsValue, entries_in, has_begun, is_shown, runs_under, units_in, came_at, with_came, with_run_at, with_unit, with_unit_of}
 use Rattle.bus_watch.specs.declared.run.EntryRun.{EntryRun}
 
 -- no run has begun where they are as they were
@@ -16,25 +16,30 @@ none_begun runs = grind arith
 
 -- an entry that is kept
 pub kept_in_runs : (before mid : ListsValue) (began : Bool) (e : SentEntry) → is_shown before.selection before.time e ≡ true
-    → ((w : Who) (k : Kind) → entries_in mid w k ≡ (if same_who e.who w && same_kind e.kind k then entries_in before w k ++ record { to = e.to; shown = e.shown } ∷ [] else entries_in before w k))
+    → ((w : Who) (k : Kind) → entries_in mid w k ≡ (if same_who e.who w && same_kind e.kind k then entries_in before w k ++ entry_by_method before.selection.methods e ∷ [] else entries_in before w k))
+    → ((w : Who) (k : Kind) → runs_under mid w k ≡ (if same_who e.who w && same_kind e.kind k then with_came (runs_under before w k) (came_at before.selection before.contests before.time e) else runs_under before w k))
     → units_in mid ≡ with_unit e.who (units_in before)
-    → began ≡ has_begun (runs_under before e.who e.kind) (runs_under mid e.who e.kind) → mid.selection ≡ before.selection → mid.time ≡ before.time
+    → began ≡ has_begun (runs_under before e.who e.kind) (runs_under mid e.who e.kind) → mid.selection ≡ before.selection → mid.time ≡ before.time → mid.contests ≡ before.contests
     → HasRuns before e (record mid { began = began })
-kept_in_runs before mid began e shown entries units begun same at = record {
-  entries = λ w k. entries w k ∙ sym (ap (λ (b : Bool). with_entry_sent (if b then Some e else None) (entries_in before) w k) shown);
+kept_in_runs before mid began e shown entries runs units begun same at contests = record {
+  entries = λ w k. entries w k ∙ sym (ap (λ (b : Bool). with_entry_shown before.selection.methods (if b then Some e else None) (entries_in before) w k) shown);
   units = units ∙ sym (ap (λ (b : Bool). with_unit_of (if b then Some e else None) (units_in before)) shown);
+  runs = λ w k. runs w k ∙ sym (ap (λ (b : Bool). with_run_at before.selection before.contests before.time (if b then Some e else None) w k (runs_under before w k)) shown);
   selection = same;
   time = at;
+  contests = contests;
   began = begun;
 }
 
 -- one that is passed over
 pub unshown : (before : ListsValue) (e : SentEntry) → is_shown before.selection before.time e ≡ false → HasRuns before e (record before { began = false })
 unshown before e none = record {
-  entries = λ w k. sym (ap (λ (b : Bool). with_entry_sent (if b then Some e else None) (entries_in before) w k) none);
+  entries = λ w k. sym (ap (λ (b : Bool). with_entry_shown before.selection.methods (if b then Some e else None) (entries_in before) w k) none);
   units = sym (ap (λ (b : Bool). with_unit_of (if b then Some e else None) (units_in before)) none);
+  runs = λ w k. sym (ap (λ (b : Bool). with_run_at before.selection before.contests before.time (if b then Some e else None) w k (runs_under before w k)) none);
   selection = refl;
   time = refl;
+  contests = refl;
   began = sym (none_begun (runs_under before e.who e.kind));
 }
 

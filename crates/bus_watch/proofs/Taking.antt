@@ -1,24 +1,32 @@
 -- A watch after a reading: its listener has taken it, and each list has the entry that it lists.
-use Rattle.std.proofs.Common.{◌≡◌, ℕ, Bool, List, ◌∷◌, Option, Some, None, refl, sym, ap, ◌∙◌, subst, if◌then◌else◌, true, false}
-use Rattle.bus_model.specs.Overheard.{EntrySent}
+use Rattle.std.proofs.Common.{◌≡◌, ◌&&◌, ℕ, Bool, List, ◌∷◌, [], Option, Some, None, refl, sym, ap, ◌∙◌, subst, if◌then◌else◌, true, false}
 use Rattle.bus_model.specs.OverheardChanged.{change_overheard}
 use Rattle.bus_model.specs.declared.overheard.Overheard.{Overheard}
-use Rattle.bus_model.specs.declared.overheard.Overheard.TheVariants.{Nothing, Claimed, GaveUp, Acknowledged, Listed, Unreadable, Unowned, Missed}
+use Rattle.bus_model.specs.declared.overheard.Overheard.TheVariants.{Nothing, Claimed, GaveUp, Acknowledged, Listed, ListedInPart, Unreadable, Unowned, Missed}
 use Rattle.bus_model.specs.declared.who.Who.{Who}
 use Rattle.can_frame.specs.FrameValue.{FrameValue}
 use Rattle.can_frame.specs.declared.reading.Reading.{Reading}
 use Rattle.can_frame.specs.declared.reading.Reading.TheVariants.{Frame}
 use Rattle.dm_messages.specs.declared.kind.Kind.{Kind}
-use Rattle.parameter_group.specs.Group.{Other, group_of}
+use Rattle.parameter_group.specs.Group.{Group, Other, group_of}
 use Rattle.listener.specs.ListenerValue.{HasOverheard, ListenerValue}
-use Rattle.listener.specs.SentEntries.{HasTaken, SaysSent, entry_sent, with_entry_sent}
+use Rattle.listener.specs.SentEntries.{HasTaken, SaysSent, entry_sent}
 use Rattle.listener.specs.declared.entry.SentEntry.{SentEntry}
 use Rattle.listener.proofs.Entering.{listed_by_group}
 use Rattle.listener.proofs.Stands.{stands_by_group}
 use Rattle.listener.proofs.Told.{heard_by_group}
-use Rattle.bus_watch.specs.Runs.{HasRuns, ListsValue, Moment, entries_in, if_shown, lists_shown, newest_time, readings_in, run_begun_by, time_after, units_in, with_moment, with_unit_of}
+use Rattle.listener.specs.Paced.{fate_by, half_in, reading_if}
+use Rattle.bus_watch.specs.Followed.{Followed, followed_with, frame_reading}
+use Rattle.bus_watch.specs.Methods.{with_entry_shown}
+use Rattle.bus_watch.specs.declared.methods.UnitMethod.{UnitMethod}
+use Rattle.bus_watch.specs.declared.shown_entry.ShownEntry.{ShownEntry}
+use Rattle.bus_watch.specs.Contested.{contests_after}
+use Rattle.bus_watch.specs.declared.run.EntryRun.{EntryRun}
+use Rattle.bus_model.specs.Overheard.{same_who}
+use Rattle.dm_messages.specs.View.{same_kind}
+use Rattle.bus_watch.specs.Runs.{Came, HasRuns, ListsValue, Moment, came_at, contests_heard, entries_came, entries_in, runs_by, runs_under, with_came, with_came_at, with_run_at, if_shown, lists_shown, newest_time, readings_in, run_begun_by, time_after, units_in, with_moment, with_unit_of}
 use Rattle.bus_watch.specs.Tellings.{is_news, is_told, news_by, nothing_told, told_after, told_heard, told_of}
-use Rattle.bus_watch.specs.WatchValue.{StandsInRuns, Takes, Tells, WatchValue}
+use Rattle.bus_watch.specs.WatchValue.{StandsInRuns, Takes, Tells, WatchValue, noted_in}
 use Rattle.bus_watch.specs.declared.change.Changes.{Changes}
 use Rattle.bus_watch.specs.declared.selection.Selection.{Selection}
 
@@ -28,7 +36,7 @@ at_time time lists = record lists { time = time_after time lists.time }
 
 -- the runs of each list once an entry was put, if one was
 put_in_runs : (before after : ListsValue) (o : Option SentEntry) → HasTaken HasRuns before o after → (w : Who) (k : Kind)
-    → entries_in after w k ≡ with_entry_sent (if_shown before.selection before.time o) (entries_in before) w k
+    → entries_in after w k ≡ with_entry_shown before.selection.methods (if_shown before.selection before.time o) (entries_in before) w k
 put_in_runs before after None same w k = ap (λ (l : ListsValue). entries_in l w k) same
 put_in_runs before after (Some e) put w k = put.entries w k
 
@@ -36,6 +44,26 @@ put_in_runs before after (Some e) put w k = put.entries w k
 put_in_units : (before after : ListsValue) (o : Option SentEntry) → HasTaken HasRuns before o after → units_in after ≡ with_unit_of (if_shown before.selection before.time o) (units_in before)
 put_in_units before after None same = ap units_in same
 put_in_units before after (Some e) put = put.units
+
+-- the runs
+put_as_came : (before after : ListsValue) (o : Option SentEntry) → HasTaken HasRuns before o after → (w : Who) (k : Kind)
+    → runs_under after w k ≡ with_run_at before.selection before.contests before.time (if_shown before.selection before.time o) w k (runs_under before w k)
+put_as_came before after None same w k = ap (λ (l : ListsValue). runs_under l w k) same
+put_as_came before after (Some e) put w k = put.runs w k
+
+-- the runs of the entries with one more
+came_more : (s : Selection) (contests : List (Option ℕ)) (time : Option ℕ) (o : Option SentEntry) (w : Who) (k : Kind) (came : List Came)
+    → with_run_at s contests time o w k (runs_by came) ≡ runs_by (with_came_at s contests time o w k came)
+came_more s contests time None w k came = refl
+came_more s contests time (Some e) w k came = go (same_who e.who w && same_kind e.kind k)
+  where
+    go : (b : Bool) → (if b then with_came (runs_by came) (came_at s contests time e) else runs_by came) ≡ runs_by (if b then came_at s contests time e ∷ came else came)
+    go true = refl
+    go false = refl
+
+contests_stay : (before after : ListsValue) (o : Option SentEntry) → HasTaken HasRuns before o after → after.contests ≡ before.contests
+contests_stay before after None same = ap (λ (l : ListsValue). l.contests) same
+contests_stay before after (Some e) put = put.contests
 
 selection_stays : (before after : ListsValue) (o : Option SentEntry) → HasTaken HasRuns before o after → after.selection ≡ before.selection
 selection_stays before after None same = ap (λ (l : ListsValue). l.selection) same
@@ -46,9 +74,9 @@ time_stays before after None same = ap (λ (l : ListsValue). l.time) same
 time_stays before after (Some e) put = put.time
 
 -- the same of two lists that are the same
-listed_same : (one other : Who → Kind → List EntrySent) (o : Option SentEntry) (w : Who) (k : Kind) → one w k ≡ other w k → with_entry_sent o one w k ≡ with_entry_sent o other w k
-listed_same one other None w k same = same
-listed_same one other (Some e) w k same = rw (same) refl
+listed_same : (methods : List (Option UnitMethod)) (one other : Who → Kind → List ShownEntry) (o : Option SentEntry) (w : Who) (k : Kind) → one w k ≡ other w k → with_entry_shown methods o one w k ≡ with_entry_shown methods o other w k
+listed_same methods one other None w k same = same
+listed_same methods one other (Some e) w k same = rw (same) refl
 
 -- a list that gets an entry, and whether a run of it has begun
 run_begun : (before after : ListsValue) (entry : Option SentEntry) (who : Who) (kind : Kind) (e : SentEntry) → entry ≡ Some e → e.who ≡ who → e.kind ≡ kind → HasTaken HasRuns before entry after
@@ -65,6 +93,8 @@ news_same told lists after time entry c says put = ap (λ (s : Selection). news_
     go : (c : Overheard) → SaysSent c entry → news_by told lists.selection after.time after.began c ≡ is_news told lists after c
     go (Listed who kind source to) says =
         ap (λ (b : Bool). news_by told lists.selection after.time b (Listed who kind source to)) (run_begun (at_time time lists) after entry who kind says.0 says.1 says.2 says.3 put)
+    go (ListedInPart who kind source to) says =
+        ap (λ (b : Bool). news_by told lists.selection after.time b (ListedInPart who kind source to)) (run_begun (at_time time lists) after entry who kind says.0 says.1 says.2 says.3 put)
     go (Acknowledged m c p a q d again) says = refl
     go Nothing says = refl
     go (Claimed m a d) says = refl
@@ -79,20 +109,20 @@ pub record IsRead (s t : ListenerValue) (before after : ListsValue) (x : Reading
   pub heard : (h : List Reading) → HasOverheard s h → c ≡ change_overheard x h
   pub listed : (h : List Reading) → HasOverheard s h → HasTaken HasRuns before (entry_sent x h) after
 
--- a watch once its listener has taken a reading, and it is noted what that told
-abbrev pub noted : ListenerValue → ListsValue → Overheard → WatchValue → WatchValue
-noted listener lists c w = record w { listener = listener; lists = lists; told = told_after (is_told lists.selection lists.time c) c w.told }
+-- a watch once its listener has taken a reading, and it is noted what that told, and known of the bus
+abbrev pub noted : ListenerValue → ListsValue → Overheard → Followed → WatchValue → WatchValue
+noted listener lists c f w = record w { listener = listener; lists = noted_in c lists; followed = f; told = told_after (is_told lists.selection lists.time c) c w.told }
 
 -- a reading is taken
-takes : (start old new : WatchValue) (t : ListenerValue) (after : ListsValue) (x : Reading) (time : Option ℕ) (c : Overheard) → start ≡ old
-    → IsRead start.listener t (at_time time start.lists) after x c → new ≡ noted t after c start → Takes old new x time old.followed
-takes start old new t after x time c same read e = subst (λ (w : WatchValue). Takes w new x time w.followed) same (subst (λ (w : WatchValue). Takes start w x time start.followed) (sym e) (record {
-  stands = λ v h s. taken v h s;
+takes : (start old new : WatchValue) (t : ListenerValue) (after : ListsValue) (x : Reading) (time : Option ℕ) (c : Overheard) (f : Followed) → start ≡ old
+    → IsRead start.listener t (at_time time start.lists) after x c → new ≡ noted t after c f start → Takes old new x time f
+takes start old new t after x time c f same read e = subst (λ (w : WatchValue). Takes w new x time f) same (subst (λ (w : WatchValue). Takes start w x time f) (sym e) (record {
+  stands = λ v d h s. taken v d h s;
   followed = refl;
 }))
   where
-    taken : (v : Selection) (h : List Moment) → StandsInRuns v start h → StandsInRuns v (noted t after c start) (with_moment x time h)
-    taken v h s =
+    taken : (v : Selection) (d : List (Option ℕ)) (h : List Moment) → StandsInRuns v d start h → StandsInRuns v d (noted t after c f start) (with_moment x time h)
+    taken v d h s =
         let older = readings_in h in
         let put : HasTaken HasRuns (at_time time start.lists) (entry_sent x older) after = read.listed older s.listener in
         let at : time_after time start.lists.time ≡ time_after time (newest_time h) = ap (time_after time) s.time in
@@ -104,9 +134,20 @@ takes start old new t after x time c same read e = subst (λ (w : WatchValue). T
           listener = read.stands older s.listener;
           shows = shows;
           time = now;
+          contests = ap (λ (n : Option ℕ). contests_after n c after.contests) now
+              ∙ (ap (λ (l : List (Option ℕ)). contests_after (time_after time (newest_time h)) c l) (contests_stay (at_time time start.lists) after (entry_sent x older) put ∙ s.contests)
+              ∙ ap (λ (o : Overheard). contests_after (time_after time (newest_time h)) o (contests_heard d h)) (read.heard older s.listener));
+          runs = λ n k. put_as_came (at_time time start.lists) after (entry_sent x older) put n k
+              ∙ (ap (λ (e : Option SentEntry). with_run_at start.lists.selection start.lists.contests (time_after time start.lists.time) e n k (runs_under start.lists n k)) o
+              ∙ (ap (λ (a : Selection). with_run_at a start.lists.contests (time_after time start.lists.time) (if_shown v (time_after time (newest_time h)) (entry_sent x older)) n k (runs_under start.lists n k)) s.shows
+              ∙ (ap (λ (l : List (Option ℕ)). with_run_at v l (time_after time start.lists.time) (if_shown v (time_after time (newest_time h)) (entry_sent x older)) n k (runs_under start.lists n k)) s.contests
+              ∙ (ap (λ (m : Option ℕ). with_run_at v (contests_heard d h) m (if_shown v (time_after time (newest_time h)) (entry_sent x older)) n k (runs_under start.lists n k)) at
+              ∙ (ap (λ (l : List EntryRun). with_run_at v (contests_heard d h) (time_after time (newest_time h)) (if_shown v (time_after time (newest_time h)) (entry_sent x older)) n k l) (s.runs n k)
+              ∙ came_more v (contests_heard d h) (time_after time (newest_time h)) (if_shown v (time_after time (newest_time h)) (entry_sent x older)) n k (entries_came v d h n k))))));
           lists = λ n k. put_in_runs (at_time time start.lists) after (entry_sent x older) put n k
-              ∙ (ap (λ (e : Option SentEntry). with_entry_sent e (entries_in start.lists) n k) o
-              ∙ listed_same (entries_in start.lists) (lists_shown v h) (if_shown v (time_after time (newest_time h)) (entry_sent x older)) n k (s.lists n k));
+              ∙ (ap (λ (e : Option SentEntry). with_entry_shown start.lists.selection.methods e (entries_in start.lists) n k) o
+              ∙ (ap (λ (a : Selection). with_entry_shown a.methods (if_shown v (time_after time (newest_time h)) (entry_sent x older)) (entries_in start.lists) n k) s.shows
+              ∙ listed_same v.methods (entries_in start.lists) (lists_shown v h) (if_shown v (time_after time (newest_time h)) (entry_sent x older)) n k (s.lists n k)));
           units = put_in_units (at_time time start.lists) after (entry_sent x older) put
               ∙ (ap (λ (e : Option SentEntry). with_unit_of e (units_in start.lists)) o
               ∙ ap (λ (l : List Who). with_unit_of (if_shown v (time_after time (newest_time h)) (entry_sent x older)) l) s.units);
@@ -117,10 +158,10 @@ takes start old new t after x time c same read e = subst (λ (w : WatchValue). T
         }
 
 -- and what is told is of what it changed
-tells : (start old new : WatchValue) (t : ListenerValue) (after : ListsValue) (x : Reading) (time : Option ℕ) (c : Overheard) (entry : Option SentEntry) (told : Changes) → start ≡ old
+tells : (start old new : WatchValue) (t : ListenerValue) (after : ListsValue) (x : Reading) (time : Option ℕ) (c : Overheard) (f : Followed) (entry : Option SentEntry) (told : Changes) → start ≡ old
     → IsRead start.listener t (at_time time start.lists) after x c → SaysSent c entry → HasTaken HasRuns (at_time time start.lists) entry after
-    → new ≡ noted t after c start → told ≡ told_of after.selection.unclaimed (news_by start.told after.selection after.time after.began c) c → Tells old new x told
-tells start old new t after x time c entry told same read says put e is = subst (λ (w : WatchValue). Tells w new x told) same (λ v h s.
+    → new ≡ noted t after c f start → told ≡ told_of after.selection.unclaimed (news_by start.told after.selection after.time after.began c) c → Tells old new x told
+tells start old new t after x time c f entry told same read says put e is = subst (λ (w : WatchValue). Tells w new x told) same (λ v d h s.
     is
     ∙ (ap (λ (a : Selection). told_of a.unclaimed (news_by start.told after.selection after.time after.began c) c) (selection_stays (at_time time start.lists) after entry put ∙ s.shows)
     ∙ (ap (λ (b : Bool). told_of v.unclaimed b c) (news_same start.told start.lists after time entry c says put)
@@ -128,16 +169,48 @@ tells start old new t after x time c entry told same read says put e is = subst 
     ∙ ap (λ (w : WatchValue). told_of v.unclaimed (is_news start.told start.lists w.lists (change_overheard x (readings_in h))) (change_overheard x (readings_in h))) (sym e)))))
 
 -- the same where the lists were at that time before
-pub takes_from : (start old new : WatchValue) (t : ListenerValue) (mid after : ListsValue) (x : Reading) (time : Option ℕ) (c : Overheard) → start ≡ old → mid ≡ at_time time start.lists
-    → IsRead start.listener t mid after x c → new ≡ noted t after c start → Takes old new x time old.followed
-takes_from start old new t mid after x time c same at read e = takes start old new t after x time c same (subst (λ (l : ListsValue). IsRead start.listener t l after x c) at read) e
+pub takes_from : (start old new : WatchValue) (t : ListenerValue) (mid after : ListsValue) (x : Reading) (time : Option ℕ) (c : Overheard) (f : Followed) → start ≡ old → mid ≡ at_time time start.lists
+    → IsRead start.listener t mid after x c → new ≡ noted t after c f start → f ≡ start.followed → Takes old new x time old.followed
+takes_from start old new t mid after x time c f same at read e known =
+    subst (λ (k : Followed). Takes old new x time k) (known ∙ ap (λ (w : WatchValue). w.followed) same)
+    (takes start old new t after x time c f same (subst (λ (l : ListsValue). IsRead start.listener t l after x c) at read) e)
 
-pub tells_from : (start old new : WatchValue) (t : ListenerValue) (mid after : ListsValue) (x : Reading) (time : Option ℕ) (c : Overheard) (entry : Option SentEntry) (told : Changes) → start ≡ old
+pub tells_from : (start old new : WatchValue) (t : ListenerValue) (mid after : ListsValue) (x : Reading) (time : Option ℕ) (c : Overheard) (f : Followed) (entry : Option SentEntry) (told : Changes) → start ≡ old
     → mid ≡ at_time time start.lists → IsRead start.listener t mid after x c → SaysSent c entry → HasTaken HasRuns mid entry after
-    → new ≡ noted t after c start → told ≡ told_of after.selection.unclaimed (news_by start.told after.selection after.time after.began c) c → Tells old new x told
-tells_from start old new t mid after x time c entry told same at read says put e is =
-    tells start old new t after x time c entry told same (subst (λ (l : ListsValue). IsRead start.listener t l after x c) at read) says
+    → new ≡ noted t after c f start → told ≡ told_of after.selection.unclaimed (news_by start.told after.selection after.time after.began c) c → Tells old new x told
+tells_from start old new t mid after x time c f entry told same at read says put e is =
+    tells start old new t after x time c f entry told same (subst (λ (l : ListsValue). IsRead start.listener t l after x c) at read) says
     (subst (λ (l : ListsValue). HasTaken HasRuns l entry after) at put) e is
+
+-- ---- a frame, which is read or not
+
+-- the reading that it is, by what it says
+reading_said : (w : WatchValue) (time : Option ℕ) (f : FrameValue) (g : Group) → group_of f ≡ g
+    → reading_if (fate_by w.followed.silence time w.followed.packets (half_in w.listener) g) f ≡ frame_reading time (half_in w.listener) w.followed f
+reading_said w time f g is = ap (λ (v : Group). reading_if (fate_by w.followed.silence time w.followed.packets (half_in w.listener) v) f) (sym is)
+
+pub takes_frame : (start old new : WatchValue) (t : ListenerValue) (mid after : ListsValue) (f : FrameValue) (g : Group) (time : Option ℕ) (c : Overheard) (known : Followed) → start ≡ old
+    → mid ≡ at_time time start.lists → group_of f ≡ g
+    → IsRead start.listener t mid after (reading_if (fate_by start.followed.silence time start.followed.packets (half_in start.listener) g) f) c
+    → new ≡ noted t after c known start → known ≡ followed_with time g start.followed
+    → Takes old new (frame_reading time (half_in old.listener) old.followed f) time (followed_with time g old.followed)
+takes_frame start old new t mid after f g time c known same at is read e known_is =
+    subst (λ (w : WatchValue). Takes w new (frame_reading time (half_in w.listener) w.followed f) time (followed_with time g w.followed)) same
+    (subst (λ (k : Followed). Takes start new (frame_reading time (half_in start.listener) start.followed f) time k) known_is
+    (subst (λ (x : Reading). Takes start new x time known) (reading_said start time f g is)
+    (takes start start new t after (reading_if (fate_by start.followed.silence time start.followed.packets (half_in start.listener) g) f) time c known refl (subst (λ (l : ListsValue). IsRead start.listener t l after (reading_if (fate_by start.followed.silence time start.followed.packets (half_in start.listener) g) f) c) at read) e)))
+
+pub tells_frame : (start old new : WatchValue) (t : ListenerValue) (mid after : ListsValue) (f : FrameValue) (g : Group) (time : Option ℕ) (c : Overheard) (known : Followed) (entry : Option SentEntry) (told : Changes)
+    → start ≡ old → mid ≡ at_time time start.lists → group_of f ≡ g
+    → IsRead start.listener t mid after (reading_if (fate_by start.followed.silence time start.followed.packets (half_in start.listener) g) f) c
+    → SaysSent c entry → HasTaken HasRuns mid entry after
+    → new ≡ noted t after c known start → told ≡ told_of after.selection.unclaimed (news_by start.told after.selection after.time after.began c) c
+    → Tells old new (frame_reading time (half_in old.listener) old.followed f) told
+tells_frame start old new t mid after f g time c known entry told same at is read says put e told_is =
+    subst (λ (w : WatchValue). Tells w new (frame_reading time (half_in w.listener) w.followed f) told) same
+    (subst (λ (x : Reading). Tells start new x told) (reading_said start time f g is)
+    (tells start start new t after (reading_if (fate_by start.followed.silence time start.followed.packets (half_in start.listener) g) f) time c known entry told refl (subst (λ (l : ListsValue). IsRead start.listener t l after (reading_if (fate_by start.followed.silence time start.followed.packets (half_in start.listener) g) f) c) at read) says
+    (subst (λ (l : ListsValue). HasTaken HasRuns l entry after) at put) e told_is))
 
 -- a frame that says nothing to a listener
 other_read : (s : ListenerValue) (lists : ListsValue) (f : FrameValue) → group_of f ≡ Other → IsRead s s lists lists (Frame f) Nothing
@@ -147,20 +220,26 @@ other_read s lists f is = record {
   listed = λ h st. listed_by_group HasRuns lists lists s h f Other is refl st;
 }
 
-pub takes_other : (w new : WatchValue) (f : FrameValue) (time : Option ℕ) → group_of f ≡ Other → new ≡ record w { lists = at_time time w.lists } → Takes w new (Frame f) time w.followed
-takes_other w new f time is e = takes w w new w.listener (at_time time w.lists) (Frame f) time Nothing refl (other_read w.listener (at_time time w.lists) f is) (e ∙ unnoted)
+pub takes_other : (w new : WatchValue) (f : FrameValue) (g : Group) (time : Option ℕ) → group_of f ≡ g → g ≡ Other → new ≡ record w { lists = at_time time w.lists }
+    → Takes w new (frame_reading time (half_in w.listener) w.followed f) time (followed_with time g w.followed)
+takes_other w new f g time is other e =
+    subst (λ (k : Group). Takes w new (frame_reading time (half_in w.listener) w.followed f) time (followed_with time k w.followed)) (sym other)
+    (subst (λ (x : Reading). Takes w new x time w.followed) (reading_said w time f Other (is ∙ other))
+    (takes w w new w.listener (at_time time w.lists) (Frame f) time Nothing w.followed refl (other_read w.listener (at_time time w.lists) f (is ∙ other)) (e ∙ unnoted)))
   where
     kept : (b : Bool) → (if b then w.told else w.told) ≡ w.told
     kept true = refl
     kept false = refl
 
-    unnoted : record w { lists = at_time time w.lists } ≡ noted w.listener (at_time time w.lists) Nothing w
+    unnoted : record w { lists = at_time time w.lists } ≡ noted w.listener (at_time time w.lists) Nothing w.followed w
     unnoted = ap (λ (l : List Bool). record w { lists = at_time time w.lists; told = l }) (sym (kept (is_told w.lists.selection (time_after time w.lists.time) Nothing)))
 
-pub tells_other : (w new : WatchValue) (f : FrameValue) (told : Changes) → group_of f ≡ Other → told ≡ nothing_told → Tells w new (Frame f) told
-tells_other w new f told is none v h s = none ∙ (sym (none_told (is_news w.told w.lists new.lists Nothing))
-    ∙ ap (λ (o : Overheard). told_of v.unclaimed (is_news w.told w.lists new.lists o) o) ((other_read w.listener w.lists f is).heard (readings_in h) s.listener))
+pub tells_other : (w new : WatchValue) (f : FrameValue) (g : Group) (time : Option ℕ) (told : Changes) → group_of f ≡ g → g ≡ Other → told ≡ nothing_told
+    → Tells w new (frame_reading time (half_in w.listener) w.followed f) told
+tells_other w new f g time told is other none = subst (λ (x : Reading). Tells w new x told) (reading_said w time f Other (is ∙ other)) (λ v d h s.
+    none ∙ (sym (none_told v.unclaimed (is_news w.told w.lists new.lists Nothing))
+    ∙ ap (λ (o : Overheard). told_of v.unclaimed (is_news w.told w.lists new.lists o) o) ((other_read w.listener w.lists f (is ∙ other)).heard (readings_in h) s.listener)))
   where
-    none_told : (b : Bool) → told_of v.unclaimed b Nothing ≡ nothing_told
-    none_told true = refl
-    none_told false = refl
+    none_told : (u b : Bool) → told_of u b Nothing ≡ nothing_told
+    none_told u true = refl
+    none_told u false = refl

@@ -12,7 +12,7 @@ use Rattle.std.proofs.lemmas.Bool.{eq-eqb, eqb-true, ne_eqb}
 use Rattle.std.proofs.lemmas.Cmp.{eq_by_cmp_equiv, ranked}
 use Rattle.std.proofs.lemmas.List.{map-append}
 use Rattle.std.proofs.lemmas.Map.{lookup-set_value}
-use Rattle.bus_model.specs.Overheard.{EntrySent, same_who}
+use Rattle.bus_model.specs.Overheard.{same_who}
 use Rattle.bus_model.specs.declared.who.Who.{Who}
 use Rattle.bus_model.specs.declared.who.Who.TheVariants as who
 use Rattle.dm_messages.specs.View.{same_kind}
@@ -22,6 +22,7 @@ use Rattle.bus_watch.specs.Runs.{HasOrder, UnitsValue, UnitValue, has_begun, key
 use Rattle.bus_watch.specs.contracts.key.KeyOrd.TheImpl.Laws as key_laws
 use Rattle.bus_watch.specs.declared.key.Key.{Key}
 use Rattle.bus_watch.specs.declared.run.EntryRun.{EntryRun}
+use Rattle.bus_watch.specs.declared.shown_entry.ShownEntry.{ShownEntry}
 use Rattle.bus_watch.specs.declared.key.Key.TheVariants as key
 
 key_equiv : IsEquivalence same_key
@@ -76,26 +77,27 @@ none_of Dm1 = refl
 none_of Dm2 = refl
 none_of Dm6 = refl
 
--- ---- the list of each unit and kind
+-- ---- the list of each unit and kind: what is seen of its runs, and what becomes of that by one entry more
 
-module _ (before after : UnitsValue) (u : Who) (kind : Kind) (new : UnitValue) (v : EntrySent) where
-  abbrev found : Option UnitValue → Kind → List EntrySent
-  found o k = unrolled (option_map_or (λ (x : UnitValue). runs_of x k) o [])
+module _ {X : Type 0} (see : List EntryRun → X) (more : X → X) where
+  abbrev found : Option UnitValue → Kind → X
+  found o k = see (option_map_or (λ (x : UnitValue). runs_of x k) o [])
 
   -- after a change of the runs under one key
-  changed : (was : Kind → List EntrySent) → ((k : Kind) → found (lookup (same_key (key_of u)) before.runs) k ≡ was k)
-      → ((k : Kind) → unrolled (runs_of new k) ≡ (if same_kind kind k then was k ++ v ∷ [] else was k))
+  changed : (before after : UnitsValue) (u : Who) (kind : Kind) (new : UnitValue) (was : Kind → X)
+      → ((k : Kind) → found (lookup (same_key (key_of u)) before.runs) k ≡ was k)
+      → ((k : Kind) → see (runs_of new k) ≡ (if same_kind kind k then more (was k) else was k))
       → ((q : Key) → lookup (same_key q) after.runs ≡ cond (same_key (key_of u) q) (Some new) (lookup (same_key q) before.runs))
-      → (w : Who) (k : Kind) → unrolled (runs_in after w k) ≡ (if same_who u w && same_kind kind k then unrolled (runs_in before w k) ++ v ∷ [] else unrolled (runs_in before w k))
-  changed was there one looked w k =
+      → (w : Who) (k : Kind) → see (runs_in after w k) ≡ (if same_who u w && same_kind kind k then more (see (runs_in before w k)) else see (runs_in before w k))
+  changed before after u kind new was there one looked w k =
       ap (λ (o : Option UnitValue). found o k) (looked (key_of w)) ∙ (ap (λ (b : Bool). found (cond b (Some new) (lookup (same_key (key_of w)) before.runs)) k) (same_key_of u w) ∙ go (same_who u w) refl)
     where
       go : (b : Bool) → same_who u w ≡ b → found (cond b (Some new) (lookup (same_key (key_of w)) before.runs)) k
-          ≡ (if b && same_kind kind k then unrolled (runs_in before w k) ++ v ∷ [] else unrolled (runs_in before w k))
+          ≡ (if b && same_kind kind k then more (see (runs_in before w k)) else see (runs_in before w k))
       go false e = refl
       go true e =
-          let here : unrolled (runs_in before w k) ≡ was k = subst (λ (x : Who). unrolled (runs_in before x k) ≡ was k) (same_who_is u w e) (there k) in
-          one k ∙ ap (λ (l : List EntrySent). if same_kind kind k then l ++ v ∷ [] else l) (sym here)
+          let here : see (runs_in before w k) ≡ was k = subst (λ (x : Who). see (runs_in before x k) ≡ was k) (same_who_is u w e) (there k) in
+          one k ∙ ap (λ (l : X). if same_kind kind k then more l else l) (sym here)
 
 -- what is found once the runs of a unit that has some are others
 found_set : (runs : List (Key × UnitValue)) (q : Key) (unit new : UnitValue) → lookup (same_key q) runs ≡ Some unit
@@ -103,25 +105,26 @@ found_set : (runs : List (Key × UnitValue)) (q : Key) (unit new : UnitValue) �
 found_set runs q unit new there p =
     lookup-set_value key_equiv (same_key q) (λ x y h. key_equiv.congr q x y h) p new runs (rw (there) refl)
 
--- one more entry of a unit that has some
-pub lengthened : (before after : UnitsValue) (u : Who) (kind : Kind) (unit new : UnitValue) (v : EntrySent)
-    → lookup (same_key (key_of u)) before.runs ≡ Some unit → after.runs ≡ set_value (same_key (key_of u)) before.runs new
-    → ((k : Kind) → unrolled (runs_of new k) ≡ (if same_kind kind k then unrolled (runs_of unit k) ++ v ∷ [] else unrolled (runs_of unit k)))
-    → (w : Who) (k : Kind) → unrolled (runs_in after w k) ≡ (if same_who u w && same_kind kind k then unrolled (runs_in before w k) ++ v ∷ [] else unrolled (runs_in before w k))
-lengthened before after u kind unit new v there set one w k =
-    changed before after u kind new v (λ k. unrolled (runs_of unit k)) (λ k. ap (λ (o : Option UnitValue). unrolled (option_map_or (λ (x : UnitValue). runs_of x k) o [])) there) one
-    (λ q. ap (λ (l : List (Key × UnitValue)). lookup (same_key q) l) set ∙ found_set before.runs (key_of u) unit new there q)
-    w k
+module _ {X : Type 0} (see : List EntryRun → X) (more : X → X) where
+  -- one more entry of a unit that has some
+  pub lengthened : (before after : UnitsValue) (u : Who) (kind : Kind) (unit new : UnitValue)
+      → lookup (same_key (key_of u)) before.runs ≡ Some unit → after.runs ≡ set_value (same_key (key_of u)) before.runs new
+      → ((k : Kind) → see (runs_of new k) ≡ (if same_kind kind k then more (see (runs_of unit k)) else see (runs_of unit k)))
+      → (w : Who) (k : Kind) → see (runs_in after w k) ≡ (if same_who u w && same_kind kind k then more (see (runs_in before w k)) else see (runs_in before w k))
+  lengthened before after u kind unit new there set one w k =
+      changed see more before after u kind new (λ k. see (runs_of unit k)) (λ k. ap (λ (o : Option UnitValue). see (option_map_or (λ (x : UnitValue). runs_of x k) o [])) there) one
+      (λ q. ap (λ (l : List (Key × UnitValue)). lookup (same_key q) l) set ∙ found_set before.runs (key_of u) unit new there q)
+      w k
 
--- the first entry of a unit
-pub begun : (before after : UnitsValue) (u : Who) (kind : Kind) (new : UnitValue) (v : EntrySent)
-    → lookup (same_key (key_of u)) before.runs ≡ None
-    → ((q : Key) → lookup (same_key q) after.runs ≡ cond (same_key (key_of u) q) (Some new) (lookup (same_key q) before.runs))
-    → ((k : Kind) → unrolled (runs_of new k) ≡ (if same_kind kind k then unrolled (runs_of no_runs k) ++ v ∷ [] else unrolled (runs_of no_runs k)))
-    → (w : Who) (k : Kind) → unrolled (runs_in after w k) ≡ (if same_who u w && same_kind kind k then unrolled (runs_in before w k) ++ v ∷ [] else unrolled (runs_in before w k))
-begun before after u kind new v none looked one w k =
-    changed before after u kind new v (λ k. unrolled (runs_of no_runs k))
-    (λ k. ap (λ (o : Option UnitValue). unrolled (option_map_or (λ (x : UnitValue). runs_of x k) o [])) none ∙ ap unrolled (sym (none_of k))) one looked w k
+  -- the first entry of a unit
+  pub begun : (before after : UnitsValue) (u : Who) (kind : Kind) (new : UnitValue)
+      → lookup (same_key (key_of u)) before.runs ≡ None
+      → ((q : Key) → lookup (same_key q) after.runs ≡ cond (same_key (key_of u) q) (Some new) (lookup (same_key q) before.runs))
+      → ((k : Kind) → see (runs_of new k) ≡ (if same_kind kind k then more (see (runs_of no_runs k)) else see (runs_of no_runs k)))
+      → (w : Who) (k : Kind) → see (runs_in after w k) ≡ (if same_who u w && same_kind kind k then more (see (runs_in before w k)) else see (runs_in before w k))
+  begun before after u kind new none looked one w k =
+      changed see more before after u kind new (λ k. see (runs_of no_runs k))
+      (λ k. ap (λ (o : Option UnitValue). see (option_map_or (λ (x : UnitValue). runs_of x k) o [])) none ∙ ap see (sym (none_of k))) one looked w k
 
 -- ---- the units that have entries
 

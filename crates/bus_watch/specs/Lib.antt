@@ -1,4 +1,3 @@
-pub mod Transfers
 pub mod Followed
 pub mod Over
 pub mod Runs
@@ -9,3 +8,4 @@ pub mod AsOverheard
 pub mod Contested
 pub mod Counted
 pub mod Hearing
+pub mod Methods

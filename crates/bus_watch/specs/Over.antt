@@ -1,13 +1,13 @@
 -- A watch that starts over: it is told of the owners of addresses alone.
 use Rattle.std.specs.Prelude.{◌≡◌, ℕ, List, [], ◌∷◌, Some, IsSomeAnd}
-use Rattle.station_table.specs.KeptValue.{kept_under}
-use Rattle.station_table.specs.StandsFor.{row_of}
+use Rattle.entry_lists.specs.KeptValue.{kept_under}
+use Rattle.entry_lists.specs.KnownRows.{row_of}
 use Rattle.bus_watch.specs.Told.{Assumed, Beginning, Read, StandsForAll, Told}
 use Rattle.bus_watch.specs.WatchValue.{WatchValue}
 
 -- how a watch begins that goes on with what another one knows of the bus and shows of it
 abbrev pub beginning_of : WatchValue → Beginning
-beginning_of w = record { selection = w.lists.selection; skips_bad = w.followed.skips_bad; silence = w.followed.silence; bus = w.followed.bus }
+beginning_of w = record { selection = w.lists.selection; skips_bad = w.followed.skips_bad; silence = w.followed.silence; bus = w.followed.bus; contests = w.lists.contests }
 
 -- a NAME holds an address
 abbrev pub HoldsAddress : WatchValue → ℕ → ℕ → Type 0

@@ -37,6 +37,7 @@ telling_of unclaimed (heard.Claimed name address displaced) = record { lost = wh
 telling_of unclaimed (heard.GaveUp name) = one_told (NoAddress name)
 telling_of unclaimed (heard.Acknowledged name control pgn source requester to again) = one_told (Ack name control pgn requester)
 telling_of unclaimed (heard.Listed who kind source to) = one_told (entry_of_who unclaimed who kind source)
+telling_of unclaimed (heard.ListedInPart who kind source to) = one_told (entry_of_who unclaimed who kind source)
 telling_of unclaimed (heard.Unreadable who kind source to why) = one_told (Unread who kind to why)
 telling_of unclaimed (heard.Unowned kind source) = one_told (Unowned source)
 telling_of unclaimed (heard.Missed count) = one_told (Missed count)
@@ -69,6 +70,7 @@ is_change_of u (heard.Claimed name address displaced) = is_of_unit u (Named name
 is_change_of u (heard.GaveUp name) = is_of_giver u name
 is_change_of u (heard.Acknowledged name control pgn source requester to again) = is_of_unit u (Named name) source
 is_change_of u (heard.Listed who kind source to) = is_of_unit u who source
+is_change_of u (heard.ListedInPart who kind source to) = is_of_unit u who source
 is_change_of u (heard.Unreadable who kind source to why) = is_of_unit u who source
 is_change_of u (heard.Unowned kind source) = is_of_source u source
 is_change_of u _ = true
@@ -89,6 +91,7 @@ told_of_source (Unclaimed a gaps) source told = slice_set told source true
 abbrev pub told_with : Overheard → List Bool → List Bool
 told_with (heard.Unowned kind source) told = slice_set told source true
 told_with (heard.Listed who kind source to) told = told_of_source who source told
+told_with (heard.ListedInPart who kind source to) told = told_of_source who source told
 told_with _ told = told
 
 -- after a change of which it is told or not
@@ -117,6 +120,7 @@ is_entry_news told unclaimed began who source = if is_shown_of unclaimed who the
 -- from an address without owner of which that was not told, where it will not be shown; all else is
 abbrev pub is_new : List Bool → Selection → Bool → Overheard → Bool
 is_new told s began (heard.Listed who kind source to) = is_entry_news told s.unclaimed began who source
+is_new told s began (heard.ListedInPart who kind source to) = is_entry_news told s.unclaimed began who source
 is_new told s began (heard.Acknowledged name control pgn source requester to again) = not again && is_ack_shown s.address requester to
 is_new told s began (heard.Unowned kind source) = not s.unclaimed && not (slice_index_or told source false)
 is_new told s began _ = true
@@ -127,6 +131,7 @@ news_by told s time began c = is_told s time c && is_new told s began c
 -- whether a run of the list of which a change tells has begun
 abbrev pub has_run_begun : ListsValue → ListsValue → Overheard → Bool
 has_run_begun before after (heard.Listed who kind source to) = run_begun_by before after who kind
+has_run_begun before after (heard.ListedInPart who kind source to) = run_begun_by before after who kind
 has_run_begun before after _ = false
 
 abbrev pub is_news : List Bool → ListsValue → ListsValue → Overheard → Bool

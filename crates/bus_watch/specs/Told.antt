@@ -6,7 +6,9 @@ use Rattle.bus_model.specs.declared.overheard.Overheard.{Overheard}
 use Rattle.can_frame.specs.declared.reading.Reading.{Reading}
 use Rattle.can_frame.specs.declared.reading.Reading.TheVariants.{Frame}
 use Rattle.candump_line.specs.declared.line.Line.{Line}
+use Rattle.listener.specs.Paced.{half_heard}
 use Rattle.reassembly.specs.Pairs.{no_pairs}
+use Rattle.reassembly.specs.declared.pacing.Silence.{Silence}
 use Rattle.bus_watch.specs.Followed.{Followed, followed_after, reading_by, time_by}
 use Rattle.bus_watch.specs.Runs.{Moment, readings_in, with_moment}
 use Rattle.bus_watch.specs.Tellings.{is_news, told_of}
@@ -19,12 +21,14 @@ pub data Told : Type 0 where
   Read : Line → Told
   Assumed : (name address : ℕ) → Told
 
--- how a watch begins: which messages are shown, whether bad lines are passed over, how late a packet may come, and the bus, if it is named
+-- how a watch begins: which messages are shown, whether bad lines are passed over, how long a message may be silent, the bus, if it is named,
+-- and when a claim of each address last displaced another NAME
 pub record Beginning : Type 0 where
   pub selection : Selection
   pub skips_bad : Bool
-  pub silence : Option ℕ
+  pub silence : Silence
   pub bus : Option (List ℕ)
+  pub contests : List (Option ℕ)
 
 -- the readings of what was told with their times, newest first, and what is known of the bus by it
 pub record Said : Type 0 where
@@ -40,7 +44,7 @@ nothing_said b = record {
 -- a line is its reading; what is assumed is read as a claim
 abbrev pub said_with : Told → Said → Said
 said_with (Read l) before = record {
-  moments = with_moment (reading_by before.followed l) (time_by before.followed l) before.moments;
+  moments = with_moment (reading_by (half_heard (readings_in before.moments)) before.followed l) (time_by before.followed l) before.moments;
   followed = followed_after before.followed l;
 }
 said_with (Assumed name address) before = record before { moments = with_moment (Frame (claim_frame_value name (Some address))) None before.moments }
@@ -55,12 +59,12 @@ readings_said b ts = readings_in (all_said b ts).moments
 
 -- what the next one changes, with those before it
 abbrev pub change_said : Beginning → Told → List Told → Overheard
-change_said b (Read l) older = change_overheard (reading_by (all_said b older).followed l) (readings_said b older)
+change_said b (Read l) older = change_overheard (reading_by (half_heard (readings_said b older)) (all_said b older).followed l) (readings_said b older)
 change_said b (Assumed name address) older = change_overheard (Frame (claim_frame_value name (Some address))) (readings_said b older)
 
 -- a watch that began so, and was told this
 pub record StandsForAll (b : Beginning) (told : List Told) (w : WatchValue) : Type 0 where
-  pub heard : StandsInRuns b.selection w (all_said b told).moments
+  pub heard : StandsInRuns b.selection b.contests w (all_said b told).moments
   pub followed : w.followed ≡ (all_said b told).followed
 
 -- what is told of one more line, or of what is assumed: of what it changed, where that is news

@@ -97,6 +97,12 @@ impl Changes {
                 kind,
                 source,
                 ..
+            }
+            | Overheard::ListedInPart {
+                who,
+                kind,
+                source,
+                ..
             } => one(entry_of(selection, who, kind, source)),
             Overheard::Unreadable {
                 who,

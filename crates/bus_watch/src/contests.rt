@@ -1,5 +1,5 @@
-ghost use Rattle.std.specs.Prelude.{◌≡◌, None, replicate, slice_index_or, slice_set};
-ghost use Rattle.bus_watch.specs.Contested.{is_contested};
+ghost use Rattle.std.specs.Prelude.{◌≡◌, None, slice_index_or, slice_set};
+ghost use Rattle.bus_watch.specs.Contested.{is_contested, no_contests};
 
 use candump_line::Time;
 
@@ -16,7 +16,7 @@ pub(crate) struct Contests {
 impl Contests {
     /// No address is contested.
     pub(crate) fn new() -> Contests
-        ensures { result.table ≡ replicate 256 None }
+        ensures { result.table ≡ no_contests }
     {
         Contests { table: none() }
     }
@@ -30,16 +30,16 @@ impl Contests {
 
     /// Frames were missed.
     pub(crate) fn forget(&mut self)
-        ensures { self.new.table ≡ replicate 256 None }
+        ensures { self.new.table ≡ no_contests }
     {
         self.table = none();
     }
 
     /// Goes on with the contests of another table.
-    pub(crate) fn go_on_with(&mut self, other: &Contests) {
-        for address in 0..256usize {
-            self.table[address] = other.table[address];
-        }
+    pub(crate) fn go_on_with(&mut self, other: &Contests)
+        ensures { self.new.table ≡ other.now.table }
+    {
+        self.table.copy_from_slice(&other.table);
     }
 
     /// Whether what comes from the address at this time is contested.
@@ -56,8 +56,9 @@ impl Contests {
 }
 
 /// A table in which no address is contested.
+#[tactic(auto, unfolding(crate::specs::Contested::no_contests))]
 fn none() -> [Option<Time>; 256]
-    ensures { result ≡ replicate 256 None }
+    ensures { result ≡ no_contests }
 {
     [None; 256]
 }

@@ -30,6 +30,8 @@ pub struct WatchCounts {
     pub withheld: u64,
     /// Diagnostic messages from an address that nobody has claimed in what was read.
     pub not_attributed: u64,
+    /// Diagnostic messages that were read in part.
+    pub partly: u64,
 }
 
 impl WatchCounts {
@@ -71,6 +73,7 @@ impl WatchCounts {
         WatchCounts {
             withheld: self.withheld.saturating_add(watch.withheld),
             not_attributed: self.not_attributed.saturating_add(watch.not_attributed),
+            partly: self.partly.saturating_add(watch.partly),
             ..self
         }
     }

@@ -5,6 +5,7 @@
 //! After every line each list is what was heard of the readings of the lines so far.
 #![tactic(auto)]
 
+mod broken;
 mod buses;
 mod change;
 mod contests;
@@ -12,21 +13,24 @@ mod counts;
 mod key;
 mod laws;
 mod lists;
-mod packets;
+mod methods;
 mod pairs;
 mod run;
 mod run_list;
 mod run_table;
 mod selection;
+mod shown_entry;
 mod unit_runs;
 mod unowned;
 mod watch;
 
+pub use broken::{BrokenBy, BrokenMessage};
 pub use buses::{BusShown, BusWatch, Buses, Hearers, MOST_BUSES};
 pub use change::{Changes, WatchChange};
 pub use counts::WatchCounts;
 pub use laws::{shown_lists_are_exact, shown_lists_are_what_was_overheard};
-pub use listener::Who;
+pub use listener::{Silence, Who};
+pub use methods::{MOST_METHODS, UnitMethod, UnitMethods};
 pub use run::EntryRun;
 pub use selection::{Selection, UnitShown};
 pub use watch::{Limits, Watch, WatchSettings};

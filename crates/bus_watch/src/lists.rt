@@ -1,13 +1,16 @@
-ghost use Rattle.std.specs.Prelude.{◌≡◌, true, length, slice_get, OnOk, OnErr};
+ghost use Rattle.std.specs.Prelude.{◌≡◌, true, length, slice_get, slice_set, OnOk, OnErr};
 ghost use Rattle.bus_model.specs.Heard.{counted};
 ghost use Rattle.bus_watch.specs.Runs.{HasRuns, entries_in, none_listed, runs_under, time_after, units_in};
+ghost use Rattle.bus_watch.specs.Contested.{no_contests};
 ghost use Rattle.bus_watch.specs.Runs as runs;
 ghost use Rattle.bus_watch.specs.Tellings.{is_told};
 
+use crate::broken::BrokenMessage;
 use crate::contests::Contests;
 use crate::run::EntryRun;
 use crate::run_table::RunTable;
 use crate::selection::Selection;
+use crate::shown_entry::UnitEntry;
 use candump_line::Time;
 use dm_messages::Kind;
 use listener::{Overheard, SentEntry, SentLists, Who};
@@ -26,13 +29,13 @@ pub(crate) struct WatchLists {
     contests: Contests,
 }
 
-/// Seen as the runs by unit, whether the newest entry began a run, what is shown, and the time.
+/// Seen as the runs by unit, whether the newest entry began a run, what is shown, the time, and which addresses are contested.
 impl Model for WatchLists {
     ghost use Rattle.bus_watch.specs.Runs.{ListsValue};
 
     ghost Value = { ListsValue };
 
-    ghost view = { λ l. record { units = l.units; began = l.began; selection = l.selection; time = l.newest } };
+    ghost view = { λ l. record { units = l.units; began = l.began; selection = l.selection; time = l.newest; contests = l.contests.table } };
 }
 
 impl WatchLists {
@@ -109,21 +112,21 @@ impl WatchLists {
 
     /// A claim of the address displaced another NAME.
     pub(crate) fn contest(&mut self, address: u8)
-        ensures { self.new ≡ self.old }
+        ensures { self.new ≡ record self.old { contests = slice_set self.old.contests address self.old.time } }
     {
         self.contests.begin(address, self.newest);
     }
 
     /// Frames were missed.
     pub(crate) fn forget_contests(&mut self)
-        ensures { self.new ≡ self.old }
+        ensures { self.new ≡ record self.old { contests = no_contests } }
     {
         self.contests.forget();
     }
 
     /// Goes on with the contests that other lists know.
     pub(crate) fn keep_contests(&mut self, other: &WatchLists)
-        ensures { self.new ≡ self.old }
+        ensures { self.new ≡ record self.old { contests = other.now.contests } }
     {
         self.contests.go_on_with(&other.contests);
     }
@@ -142,6 +145,11 @@ impl WatchLists {
         self.selection.tells(heard, self.newest)
     }
 
+    /// Whether it is told of a message that was broken now.
+    pub(crate) fn tells_broken(&self, broken: &BrokenMessage) -> bool {
+        self.selection.tells_broken(broken, self.newest)
+    }
+
     /// Keeps an entry that is shown, and whether it begins a run. Where memory is refused, nothing changes.
     #[tactic(auto, using(crate::proofs::Shown::kept_in_runs))]
     fn keep(&mut self, alloc: Global, entry: SentEntry) -> Result<(), AllocError>
@@ -150,6 +158,7 @@ impl WatchLists {
         ensures err { OnErr result (self.new ≡ self.old) }
     {
         let contested = self.contests.is_contested(entry.source, self.newest);
+        let entry = UnitEntry::of(alloc, entry, &self.selection.methods)?;
         self.began = self.units.add(alloc, entry, self.newest, contested)?;
         Ok(())
     }

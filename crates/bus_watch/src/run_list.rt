@@ -1,10 +1,10 @@
 ghost use Rattle.std.specs.Prelude.{◌≡◌, ◌∷◌, [], ◌++◌, length, IfOk, OnOk, OnErr};
-ghost use Rattle.bus_watch.specs.Runs.{has_begun, unrolled};
+ghost use Rattle.bus_watch.specs.Runs.{has_begun, unrolled, with_came};
 ghost use Rattle.bus_model.specs.Heard.{counted};
 
 use crate::run::{EntryRun, add_to};
+use crate::shown_entry::ShownEntry;
 use candump_line::Time;
-use dm_messages::Shown;
 use std::alloc::{AllocError, Global};
 use std::marker::Model;
 
@@ -57,16 +57,16 @@ impl RunList {
     #[tactic(auto, using(crate::proofs::Runs::counted_more))]
     pub(crate) fn add(
         &mut self,
-        shown: Shown,
-        to: u8,
+        what: ShownEntry,
         time: Option<Time>,
         contested: bool,
     ) -> Result<bool, AllocError>
-        ensures ok { OnOk result (unrolled self.new ≡ unrolled self.old ++ record { to = to; shown = shown } ∷ []) }
+        ensures ok { OnOk result (unrolled self.new ≡ unrolled self.old ++ what ∷ []) }
+        ensures came { OnOk result (self.new ≡ with_came self.old (record { what = what; time = time; contested = contested })) }
         ensures begins { IfOk result (λ b. b ≡ has_begun self.old self.new) }
         ensures err { OnErr result (self.new ≡ self.old) }
     {
-        let begins = add_to(&mut self.runs, shown, to, time, contested)?;
+        let begins = add_to(&mut self.runs, what, time, contested)?;
         self.entries = self.entries.saturating_add(1);
         Ok(begins)
     }

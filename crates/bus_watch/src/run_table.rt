@@ -3,17 +3,18 @@ ghost use Rattle.std.specs.Map.{lookup};
 ghost use Rattle.bus_model.specs.Heard.{counted};
 ghost use Rattle.bus_model.specs.Overheard.{same_who};
 ghost use Rattle.bus_model.specs.declared.who.Who.{Who as AnyWho};
-ghost use Rattle.bus_watch.specs.Runs.{has_begun, key_of, no_units, runs_in, same_key, units_of, unrolled, who_of, with_unit};
+ghost use Rattle.bus_watch.specs.Runs.{has_begun, key_of, no_units, runs_in, same_key, units_of, unrolled, who_of, with_came, with_unit};
 ghost use Rattle.bus_watch.specs.declared.key.Key.{Key as AnyKey};
 ghost use Rattle.dm_messages.specs.View.{same_kind};
 ghost use Rattle.dm_messages.specs.declared.kind.Kind.{Kind as AnyKind};
 
 use crate::key::Key;
 use crate::run::EntryRun;
+use crate::shown_entry::UnitEntry;
 use crate::unit_runs::UnitRuns;
 use candump_line::Time;
 use dm_messages::Kind;
-use listener::{SentEntry, Who};
+use listener::Who;
 use std::alloc::{AllocError, Global};
 use std::collections::BTreeMap;
 use std::marker::Model;
@@ -98,12 +99,14 @@ impl RunTable {
     pub(crate) fn add(
         &mut self,
         alloc: Global,
-        entry: SentEntry,
+        entry: UnitEntry,
         time: Option<Time>,
         contested: bool,
     ) -> Result<bool, AllocError>
         ensures entries { OnOk result ((w : AnyWho) (k : AnyKind) → unrolled (runs_in self.new w k)
-            ≡ (if same_who entry.who w && same_kind entry.kind k then unrolled (runs_in self.old w k) ++ record { to = entry.to; shown = entry.shown } ∷ [] else unrolled (runs_in self.old w k))) }
+            ≡ (if same_who entry.who w && same_kind entry.kind k then unrolled (runs_in self.old w k) ++ entry.what ∷ [] else unrolled (runs_in self.old w k))) }
+        ensures came { OnOk result ((w : AnyWho) (k : AnyKind) → runs_in self.new w k
+            ≡ (if same_who entry.who w && same_kind entry.kind k then with_came (runs_in self.old w k) (record { what = entry.what; time = time; contested = contested }) else runs_in self.old w k)) }
         ensures units { OnOk result (units_of self.new ≡ with_unit entry.who (units_of self.old)) }
         ensures begins { IfOk result
             (λ b. b ≡ has_begun (runs_in self.old entry.who entry.kind) (runs_in self.new entry.who entry.kind)) }
@@ -119,13 +122,15 @@ impl RunTable {
     fn begin(
         &mut self,
         alloc: Global,
-        entry: SentEntry,
+        entry: UnitEntry,
         time: Option<Time>,
         contested: bool,
     ) -> Result<bool, AllocError>
         requires { lookup (same_key (key_of entry.who)) self.old.runs ≡ None }
         ensures entries { OnOk result ((w : AnyWho) (k : AnyKind) → unrolled (runs_in self.new w k)
-            ≡ (if same_who entry.who w && same_kind entry.kind k then unrolled (runs_in self.old w k) ++ record { to = entry.to; shown = entry.shown } ∷ [] else unrolled (runs_in self.old w k))) }
+            ≡ (if same_who entry.who w && same_kind entry.kind k then unrolled (runs_in self.old w k) ++ entry.what ∷ [] else unrolled (runs_in self.old w k))) }
+        ensures came { OnOk result ((w : AnyWho) (k : AnyKind) → runs_in self.new w k
+            ≡ (if same_who entry.who w && same_kind entry.kind k then with_came (runs_in self.old w k) (record { what = entry.what; time = time; contested = contested }) else runs_in self.old w k)) }
         ensures units { OnOk result (units_of self.new ≡ with_unit entry.who (units_of self.old)) }
         ensures begins { IfOk result
             (λ b. b ≡ has_begun (runs_in self.old entry.who entry.kind) (runs_in self.new entry.who entry.kind)) }

@@ -2,6 +2,8 @@ ghost use Rattle.std.specs.Prelude.{◌≡◌};
 ghost use Rattle.bus_watch.specs.Runs as runs;
 ghost use Rattle.bus_watch.specs.Tellings as tellings;
 
+use crate::broken::BrokenMessage;
+use crate::methods::UnitMethods;
 use can_frame::GLOBAL_ADDRESS;
 use candump_line::Time;
 use listener::{Displaced, Overheard, SentEntry, Who};
@@ -29,6 +31,8 @@ pub struct Selection {
     pub from: Option<Time>,
     /// The last time of which it is told; none: to the end. A line before any time is told of in any case.
     pub to: Option<Time>,
+    /// By which methods older codes are read.
+    pub methods: UnitMethods,
 }
 
 impl Selection {
@@ -39,6 +43,14 @@ impl Selection {
         self.shows_of(&entry.who)
             && self.shows_to(entry.to)
             && self.shows_unit(&entry.who, entry.source)
+            && self.shows_at(time)
+    }
+
+    /// Whether it is told of a message that was broken at this time: where its entry would be shown.
+    pub(crate) fn tells_broken(&self, broken: &BrokenMessage, time: Option<Time>) -> bool {
+        self.shows_of(&broken.who)
+            && self.shows_to(broken.to)
+            && self.shows_unit(&broken.who, broken.source)
             && self.shows_at(time)
     }
 
@@ -118,9 +130,9 @@ impl Selection {
             Overheard::Acknowledged { name, source, .. } => {
                 self.shows_unit(&Who::Named(*name), *source)
             }
-            Overheard::Listed { who, source, .. } | Overheard::Unreadable { who, source, .. } => {
-                self.shows_unit(who, *source)
-            }
+            Overheard::Listed { who, source, .. }
+            | Overheard::ListedInPart { who, source, .. }
+            | Overheard::Unreadable { who, source, .. } => { self.shows_unit(who, *source) }
             Overheard::Unowned { source, .. } => self.shows_source(*source),
         }
     }

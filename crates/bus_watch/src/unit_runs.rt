@@ -1,14 +1,14 @@
 ghost use Rattle.std.specs.Prelude.{◌≡◌, ◌∷◌, [], ◌++◌, length, if◌then◌else◌, IfOk, OnOk, OnErr};
 ghost use Rattle.bus_model.specs.Heard.{counted};
-ghost use Rattle.bus_watch.specs.Runs.{has_begun, no_runs, runs_of, unrolled};
+ghost use Rattle.bus_watch.specs.Runs.{has_begun, no_runs, runs_of, unrolled, with_came};
 ghost use Rattle.dm_messages.specs.View.{same_kind};
 ghost use Rattle.dm_messages.specs.declared.kind.Kind.{Kind as AnyKind};
 
 use crate::run::EntryRun;
 use crate::run_list::RunList;
+use crate::shown_entry::UnitEntry;
 use candump_line::Time;
 use dm_messages::Kind;
-use listener::SentEntry;
 use std::alloc::{AllocError, Global};
 use std::marker::Model;
 
@@ -65,25 +65,22 @@ impl UnitRuns {
     /// Adds an entry to the list of its kind. Tells whether it begins a run. Where memory is refused, nothing changes.
     pub(crate) fn add(
         &mut self,
-        entry: SentEntry,
+        entry: UnitEntry,
         time: Option<Time>,
         contested: bool,
     ) -> Result<bool, AllocError>
         ensures entries { OnOk result ((k : AnyKind) → unrolled (runs_of self.new k)
-            ≡ (if same_kind entry.kind k then unrolled (runs_of self.old k) ++ record { to = entry.to; shown = entry.shown } ∷ [] else unrolled (runs_of self.old k))) }
+            ≡ (if same_kind entry.kind k then unrolled (runs_of self.old k) ++ entry.what ∷ [] else unrolled (runs_of self.old k))) }
+        ensures came { OnOk result ((k : AnyKind) → runs_of self.new k
+            ≡ (if same_kind entry.kind k then with_came (runs_of self.old k) (record { what = entry.what; time = time; contested = contested }) else runs_of self.old k)) }
         ensures begins { IfOk result (λ b. b ≡ has_begun (runs_of self.old entry.kind) (runs_of self.new entry.kind)) }
         ensures err { OnErr result (self.new ≡ self.old) }
     {
-        let SentEntry {
-            kind,
-            to,
-            shown,
-            ..
-        } = entry;
+        let UnitEntry { kind, what, .. } = entry;
         match kind {
-            Kind::Dm1 => self.dm1.add(shown, to, time, contested),
-            Kind::Dm2 => self.dm2.add(shown, to, time, contested),
-            Kind::Dm6 => self.dm6.add(shown, to, time, contested),
+            Kind::Dm1 => self.dm1.add(what, time, contested),
+            Kind::Dm2 => self.dm2.add(what, time, contested),
+            Kind::Dm6 => self.dm6.add(what, time, contested),
         }
     }
 }

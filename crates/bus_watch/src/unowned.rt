@@ -52,7 +52,8 @@ impl Unowned {
     {
         match *heard {
             Overheard::Unowned { source, .. } => self.told[usize::from(source)] = true,
-            Overheard::Listed { who, source, .. } => self.follow_entry(who, source),
+            Overheard::Listed { who, source, .. } | Overheard::ListedInPart { who, source, .. } =>
+                self.follow_entry(who, source),
             _ => {}
         }
     }

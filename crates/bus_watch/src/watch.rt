@@ -1,28 +1,31 @@
 ghost use Rattle.std.specs.Prelude.{◌≡◌, [], List, length, slice_get, IfOk, option_map};
 ghost use Rattle.bus_model.specs.Heard.{counted, missed_count, names_heard};
 ghost use Rattle.bus_model.specs.Overheard.{row_overheard, unread_overheard};
-ghost use Rattle.bus_watch.specs.Runs.{lists_shown, newest_time, units_shown, unrolled};
+ghost use Rattle.bus_watch.specs.Contested.{no_contests};
+ghost use Rattle.bus_watch.specs.Runs.{entries_came, lists_shown, newest_time, runs_by, units_shown, unrolled};
 ghost use Rattle.bus_watch.specs.Told.{Beginning, StandsForAll, Told, all_said, readings_said};
-ghost use Rattle.station_table.specs.StandsFor.{row_heard_as};
+ghost use Rattle.entry_lists.specs.KnownRows.{row_heard_as};
 
 use self::over::Before;
+use crate::broken::{Broken, BrokenMessage};
 use crate::counts::WatchCounts;
 use crate::lists::WatchLists;
-use crate::packets::Packets;
 use crate::pairs::Pairs;
 use crate::run::EntryRun;
 use crate::selection::Selection;
 use crate::unowned::Unowned;
+use can_frame::GLOBAL_ADDRESS;
 use candump_line::Time;
 use dm_messages::Kind;
-use listener::{Listener, Who};
+use entry_lists::Row;
+use listener::{PacedListener, Silence, Who};
 use name_field::Name;
-use station_table::Row;
 use std::alloc::{AllocError, Global};
 use std::marker::Model;
 
 mod changes;
 mod over;
+mod parts;
 mod readings;
 
 pub use over::Limits;
@@ -34,23 +37,23 @@ pub struct WatchSettings {
     pub selection: Selection,
     /// Whether a bad line is passed over; else it is a frame that was missed.
     pub skips_bad: bool,
-    /// How many microseconds a packet may come after the frame before it; none: any.
-    pub silence: Option<u64>,
+    /// How long a message under way may be silent.
+    pub silence: Silence,
 }
 
 /// A listener that reads the lines of a log or of a live bus. What it lists is kept as runs of equal entries.
 #[derive(Drop)]
 pub struct Watch {
     settings: WatchSettings,
-    listener: Listener,
+    ear: PacedListener,
     bus: Option<String>,
     unowned: Unowned,
-    packets: Packets,
     lists: WatchLists,
     counts: WatchCounts,
     /// How many runs were begun; one of several codes counts as many.
     kept: u64,
     pairs: Pairs,
+    broken: Broken,
     before: Before,
 }
 
@@ -62,13 +65,13 @@ impl Model for Watch {
     ghost Value = { WatchValue };
 
     ghost view = { λ w. record {
-      listener = w.listener;
+      listener = w.ear.listener;
       lists = w.lists;
       followed = record {
         skips_bad = w.settings.skips_bad;
-        silence = w.settings.silence;
+        silence = w.ear.silence;
         bus = option_map string_bytes w.bus;
-        packets = w.packets;
+        packets = w.ear.paces;
       };
       told = w.unowned;
     } };
@@ -87,25 +90,25 @@ impl Watch {
           skips_bad = settings.skips_bad;
           silence = settings.silence;
           bus = option_map (λ name. name.now) bus.entry;
+          contests = no_contests;
         }) [] w) }
     {
         let bus = match bus {
             Some(bus) => Some(String::from_str(alloc, bus)?),
             None => None,
         };
-        let packets = Packets::new(alloc)?;
         let pairs = Pairs::new(alloc)?;
-        let listener = Listener::new(alloc)?;
+        let ear = PacedListener::new(alloc, settings.silence)?;
         Ok(Watch {
             settings,
-            listener,
+            ear,
             bus,
             unowned: Unowned::new(),
-            packets,
             lists: WatchLists::new(alloc, settings.selection),
             counts: WatchCounts::default(),
             kept: 0,
             pairs,
+            broken: Broken::new(alloc, 0),
             before: Before::default(),
         })
     }
@@ -137,7 +140,7 @@ impl Watch {
         ensures heard { (b : Beginning) (ts : List Told) → StandsForAll b ts self.entry.now
             → result ≡ length (names_heard (readings_said b ts)) }
     {
-        self.listener.names()
+        self.ear.listener().names()
     }
 
     /// The NAME of the row at this place, from 0, in the order of the NAMEs' first claims.
@@ -146,7 +149,7 @@ impl Watch {
         ensures heard { (b : Beginning) (ts : List Told) → StandsForAll b ts self.entry.now
             → result ≡ slice_get (names_heard (readings_said b ts)) place }
     {
-        self.listener.name_at(place)
+        self.ear.listener().name_at(place)
     }
 
     /// What is known of a NAME; none before its first claim.
@@ -155,7 +158,7 @@ impl Watch {
         ensures heard { (b : Beginning) (ts : List Told) → StandsForAll b ts self.entry.now
             → option_map row_heard_as result ≡ row_overheard name (readings_said b ts) }
     {
-        self.listener.row(name)
+        self.ear.listener().row(name)
     }
 
     /// How many units have entries that are shown: NAMEs, and addresses that nobody has claimed.
@@ -180,11 +183,14 @@ impl Watch {
 
     /// The entries of a unit and kind as runs of equal ones, oldest first.
     ///
-    /// One after the other, their entries are the list that was heard, of what is shown.
-    #[tactic(auto, using(crate::proofs::Queries::runs_as_heard))]
+    /// One after the other, their entries are the list that was heard, of what is shown. An entry goes on with the newest run where it
+    /// shows the same, went to the same address, and is contested or not as that is. A run has the times of its first and its last one.
+    #[tactic(auto, using(crate::proofs::Queries::runs_as_heard, crate::proofs::Queries::runs_as_came))]
     pub fn runs(&self, who: Who, kind: Kind) -> &[EntryRun]
         ensures heard { (b : Beginning) (ts : List Told) → StandsForAll b ts self.entry.now
             → unrolled result.now ≡ lists_shown b.selection (all_said b ts).moments who kind }
+        ensures runs { (b : Beginning) (ts : List Told) → StandsForAll b ts self.entry.now
+            → result.now ≡ runs_by (entries_came b.selection b.contests (all_said b ts).moments who kind) }
     {
         self.lists.runs(who, kind)
     }
@@ -204,15 +210,38 @@ impl Watch {
         ensures heard { (b : Beginning) (ts : List Told) → StandsForAll b ts self.entry.now
             → result ≡ missed_count (readings_said b ts) }
     {
-        self.listener.missed()
+        self.ear.listener().missed()
     }
 
-    /// How many messages could not be read, up to the greatest 64-bit number.
+    /// How many messages could not be read whole, up to the greatest 64-bit number.
     #[tactic(auto, using(crate::proofs::Queries::unread_as_heard))]
     pub fn unread(&self) -> u64
         ensures heard { (b : Beginning) (ts : List Told) → StandsForAll b ts self.entry.now
             → result ≡ unread_overheard (readings_said b ts) }
     {
-        self.listener.unread()
+        self.ear.listener().unread()
+    }
+
+    /// The messages that the newest line broke and of which it is told: half joined before, and neither half joined nor whole after.
+    pub fn broken(&self) -> &[BrokenMessage] {
+        self.broken.newest()
+    }
+
+    /// How many messages were broken, also before it started over, up to the greatest 64-bit number.
+    pub fn broken_in_all(&self) -> u64 {
+        self.broken.count()
+    }
+
+    /// How many messages are half joined now.
+    pub fn half_joined(&self) -> u64 {
+        let mut count = 0u64;
+        for source in 0..=GLOBAL_ADDRESS {
+            for dest in 0..=GLOBAL_ADDRESS {
+                if self.ear.half_sent(source, dest).is_some() {
+                    count = count.saturating_add(1);
+                }
+            }
+        }
+        count
     }
 }

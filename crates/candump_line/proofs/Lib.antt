@@ -1,3 +1,11 @@
 pub mod DigitLemmas
 pub mod TimeLemmas
+pub mod DateLemmas
 pub mod LineLemmas
+pub mod WordLemmas
+pub mod BytesLemmas
+pub mod LoggedLemmas
+pub mod DroppedLemmas
+pub mod FormLemmas
+pub mod FrontLemmas
+pub mod ChoiceLemmas

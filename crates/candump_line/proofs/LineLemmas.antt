@@ -109,10 +109,10 @@ line_is_timed time bus f = ap (λ t. 40 ∷ tail1 t bus f) (ticks_of_micros time
 abbrev pub IsOfTime : ℕ → Type 0
 IsOfTime c = (46 ≤ c) × (c ≤ 57)
 
-of_numeral : (ds : List ℕ) → IsNumeral 10 ds → All IsOfTime ds
+pub of_numeral : (ds : List ℕ) → IsNumeral 10 ds → All IsOfTime ds
 of_numeral ds h = All-from_get_or IsOfTime ds 0 (λ i l. let r = digit_at ds i h.1 l in (omega arith, omega arith))
 
-of_time : (digits ticks : ℕ) → HasParts digits ticks → All IsOfTime (ticks_text digits ticks)
+pub of_time : (digits ticks : ℕ) → HasParts digits ticks → All IsOfTime (ticks_text digits ticks)
 unfolding ticks_text
 of_time digits ticks parts =
     let fraction = decimal_digits digits (ticks % 10 ^ digits) [] in
@@ -169,7 +169,7 @@ length-time digits ticks parts =
     let low = length-digits digits (ticks % 10 ^ digits) in
     omega (arith, high, low, parts.most, length-append (decimal (ticks / 10 ^ digits)) (46 ∷ decimal_digits digits (ticks % 10 ^ digits) []))
 
-length-id : (n : ℕ) → length (id_text n) ≡ 8
+pub length-id : (n : ℕ) → length (id_text n) ≡ 8
 unfolding id_text
 length-id n = (IsHexText-hex_digits 8 n).len
 

@@ -111,3 +111,29 @@ of_six digits ticks e small = let below : ticks < 10 ^ 6 = rw e at small in rw e
 
 pub of_nine : (digits ticks : ℕ) → digits ≡ 9 → ticks < 10 ^ digits → (ticks / 1000 < 10 ^ 6) × (ticks / 1000 ≡ micros_of_ticks digits ticks)
 of_nine digits ticks e small = let below : ticks < 10 ^ 9 = rw e at small in rw e (omega arith, omega arith)
+
+-- a number in so many digits
+pub number_at : (text rest : List ℕ) (digits n : ℕ) (r : Option (ℕ × Bor (List ℕ))) → ReadsNumber text r → 0 < digits → digits ≤ 10 → n < 10 ^ digits → BeginsWithNoDigit rest
+    → text ≡ decimal_digits digits n [] ++ rest → MatchOption r ⊥ (λ found. (found.0 ≡ n) × (found.1.now ≡ rest))
+number_at text rest digits n r h some most small ends e =
+    at_number text (decimal_digits digits n []) rest r n h (IsNumeral-digits digits n some) (value-fixed_digits 10 false decimal_digit decimal_glyphs digits n small)
+    (omega (arith, length-digits digits n, most)) ends e
+
+pub fraction_bounds : (digits : ℕ) → IsFraction digits → (0 < digits) × (digits ≤ 10)
+fraction_bounds digits (inl e) = (omega (arith, e), omega (arith, e))
+fraction_bounds digits (inr (inl e)) = (omega (arith, e), omega (arith, e))
+fraction_bounds digits (inr (inr e)) = (omega (arith, e), omega (arith, e))
+
+pub fraction_direct : (found count digits ticks : ℕ) (r : Option ℕ) → (IsFraction count → found < 10 ^ count → r ≡ Some (micros_of_ticks count found)) → IsFraction digits → ticks < 10 ^ digits
+    → count ≡ digits → found ≡ ticks → r ≡ Some (micros_of_ticks digits ticks)
+fraction_direct found count digits ticks r h three small same is =
+    let told = rw (same, is) at h in
+    told three small
+
+pub value_of_digits : (k n : ℕ) → n < 10 ^ k → digits_value 10 (decimal_digits k n []) ≡ n
+value_of_digits k n small = value-fixed_digits 10 false decimal_digit decimal_glyphs k n small
+
+pub below_second : (digits ticks : ℕ) → IsFraction digits → ticks < 10 ^ digits → micros_of_ticks digits ticks < 10 ^ 6
+below_second digits ticks (inl e) small = let below : ticks < 10 ^ 3 = rw e at small in rw e (omega arith)
+below_second digits ticks (inr (inl e)) small = let below : ticks < 10 ^ 6 = rw e at small in rw e (omega arith)
+below_second digits ticks (inr (inr e)) small = let below : ticks < 10 ^ 9 = rw e at small in rw e (omega arith)

@@ -1,4 +1,7 @@
 pub mod LineText
+pub mod Calendar
+pub mod Words
+pub mod Forms
 pub mod Places
 pub mod PlainText
 pub mod OtherLogs
@@ -6,4 +9,7 @@ pub mod TimeForms
 pub mod Times
 pub mod Content
 pub mod Logged
+pub mod LoggedParts
+pub mod Told
+pub mod LineForms
 pub mod LostFrames

@@ -1,5 +1,7 @@
 ghost use Rattle.std.specs.Prelude.{◌≡◌, ℕ, ◌<◌, ◌≤◌, ◌^◌, length, if◌then◌else◌};
-ghost use Rattle.can_frame.specs.FrameValue.{frame};
+ghost use Rattle.can_frame.specs.FrameValue.{FrameValue, frame};
+ghost use Rattle.candump_line.specs.Forms.{IsLongFrame};
+ghost use Rattle.candump_line.specs.Told.{content_told, id_told};
 ghost use Rattle.candump_line.specs.LostFrames.{tells_of_lost_frames};
 
 use crate::line::Foreign;
@@ -27,6 +29,7 @@ pub(crate) fn content_of(id: IdWord, bytes: &[u8]) -> Content
     ensures short { id ≡ IdWord.StandardId → result ≡ Content.Foreign Foreign.StandardId }
     ensures frame { (number : ℕ) → id ≡ IdWord.Long number → number < 2 ^ 29 → length bytes.now ≤ 8
         → result ≡ Content.Frame (frame number bytes.now) }
+    ensures told { (f : FrameValue) → IsLongFrame f → id ≡ id_told f.id → bytes.now ≡ f.bytes → result ≡ content_told f }
     ensures error { (class : ℕ) → id ≡ IdWord.Error class
         → result ≡ (if tells_of_lost_frames class bytes.now then Content.Overflow else Content.Foreign Foreign.Error) }
 {

@@ -1,9 +1,9 @@
 //! What stands at the front of a text: one character, a decimal number; and hexadecimal digits in pairs.
-ghost use Rattle.std.specs.Prelude.{◌≡◌, ℕ, ◌+◌, ◌*◌, ◌<◌, ◌≤◌, ◌^◌, ◌++◌, ◌∷◌, ◌≢◌, List, Some, None, true, drop, length, All, IfSome, MatchOption};
-ghost use Rattle.std.specs.Char.{digit_value};
+ghost use Rattle.std.specs.Prelude.{◌≡◌, ℕ, ◌+◌, ◌*◌, ◌<◌, ◌≤◌, ◌^◌, ◌++◌, ◌∷◌, ◌≢◌, List, Some, None, true, drop, take, length, All, IfSome, MatchOption};
+ghost use Rattle.std.specs.Char.{digit_value, IsAsciiHexdigit};
 ghost use Rattle.std.specs.List.{flat_map};
 ghost use Rattle.std.specs.Option.{SomeIff};
-ghost use Rattle.std.specs.Str.Parse.{IsNumeral, digits_value};
+ghost use Rattle.std.specs.Str.Parse.{AllDigits, IsNumeral, digits_value};
 ghost use Rattle.can_frame.specs.FrameText.{id_text};
 ghost use Rattle.candump_line.specs.LineText.{byte_digits, BeginsWithElevenDigits, BeginsWithNoDigit};
 ghost use Rattle.candump_line.specs.Places.{digit_is_at, is_at};
@@ -52,6 +52,7 @@ pub(crate) fn leading_number(text: &[u8]) -> Option<(u64, &[u8])>
     ensures reads_back { (word rest : List ℕ) → IsNumeral 10 word → length word ≤ 10 → BeginsWithNoDigit rest → text.now ≡ word ++ rest
         → MatchOption result ⊥ (λ found. (found.0 ≡ digits_value 10 word) × (found.1.now ≡ rest)) }
     ensures too_long { BeginsWithElevenDigits text.now → result ≡ None }
+    ensures front { IfSome result (λ found. (n : ℕ) × AllDigits 10 (take n text.now) × (found.1.now ≡ drop n text.now)) }
 {
     let mut value = 0u64;
     for (place, byte) in text.iter().enumerate() {
@@ -97,6 +98,7 @@ pub(crate) fn is_digit_at(text: &[u8], place: usize) -> bool
 #[inline(always)]
 pub(crate) fn read_number(digits: &[u8]) -> Option<u32>
     ensures reads_back { (n : ℕ) → n < 2 ^ 32 → digits.now ≡ id_text n → result ≡ Some n }
+    ensures digits { IfSome result (λ n. All IsAsciiHexdigit digits.now) }
 {
     let mut bytes = [0; 4];
     if !read_pairs(digits, &mut bytes) {
@@ -110,6 +112,7 @@ pub(crate) fn read_number(digits: &[u8]) -> Option<u32>
 pub(crate) fn read_pairs(digits: &[u8], bytes: &mut [u8]) -> bool
     ensures reads_back { (bs : List ℕ) → All (λ b. b < 256) bs → length bytes.old ≡ length bs → digits.now ≡ flat_map byte_digits bs
         → (result ≡ true) × (bytes.new ≡ bs) }
+    ensures digits { result ≡ true → All IsAsciiHexdigit digits.now }
 {
     if digits.len() % 2 != 0 {
         return false;

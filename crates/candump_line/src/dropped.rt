@@ -1,27 +1,33 @@
 //! What candump tells of frames that were dropped.
-ghost use Rattle.std.specs.Prelude.{◌≡◌, ◌<◌, ◌≤◌, ◌^◌, ◌-◌};
+ghost use Rattle.std.specs.Prelude.{◌≡◌, ℕ, ◌<◌, ◌≤◌, ◌^◌, ◌-◌, ◌∷◌, [], ◌++◌, List, Some, MatchOption, codes};
 ghost use Rattle.std.specs.Str.Parse.{IsNumeral, digits_value};
+ghost use Rattle.candump_line.specs.Forms.{TellsDropped};
+ghost use Rattle.candump_line.specs.Logged.{dropped_told};
+ghost use Rattle.candump_line.specs.Words.{words_of};
 
 use crate::line::Line;
+use crate::words::{next_word, word_or_empty};
 
 /// `dropped COUNT CAN frames on 'BUS' socket ..`, as candump tells; where it is cut, one frame of any bus.
-pub(crate) fn read_dropped(rest: &str) -> Line<'_> {
+pub(crate) fn read_dropped(rest: &str) -> Line<'_>
+    ensures { (bus : List ℕ) (count : ℕ) → TellsDropped (codes "DROPCOUNT:" ∷ words_of rest.now) bus count → count < 2 ^ 32
+        → dropped_told result ≡ Some (Some bus, count) }
+{
     let mut words = rest.split_ascii_whitespace();
-    let _dropped = words.next();
-    let count = match words.next() {
-        Some(word) => count_of(word.as_bytes()),
-        None => 1,
-    };
-    let _can = words.next();
-    let _frames = words.next();
-    let _on = words.next();
-    let bus = match words.next() {
-        Some(word) => word
-            .strip_prefix('\'')
-            .and_then(|word| word.strip_suffix('\'')),
-        None => None,
-    };
+    let _dropped = next_word(&mut words);
+    let count = count_of(word_or_empty(&mut words).as_bytes());
+    let _can = next_word(&mut words);
+    let _frames = next_word(&mut words);
+    let _on = next_word(&mut words);
+    let bus = unquoted(word_or_empty(&mut words));
     Line::Dropped { bus, count }
+}
+
+/// What stands between apostrophes.
+fn unquoted(word: &str) -> Option<&str>
+    ensures { (name : List ℕ) → word.now ≡ 39 ∷ (name ++ 39 ∷ []) → MatchOption result ⊥ (λ inner. inner.now ≡ name) }
+{
+    word.strip_prefix('\'')?.strip_suffix('\'')
 }
 
 /// How many frames a word tells of, which candump writes in decimal digits alone: one where it is no such word. It counts in 32

@@ -6,6 +6,7 @@
 //! count `Times`, and what an input looks like in which no frame was recognised `OtherLog`.
 #![tactic(auto)]
 
+mod bytes;
 mod content;
 mod date;
 mod digits;
@@ -21,6 +22,7 @@ mod time;
 mod time_form;
 mod times;
 mod word;
+mod words;
 
 pub use line::{Foreign, Line};
 pub use logged::write_line;

@@ -1,7 +1,9 @@
 ghost use Rattle.std.specs.Prelude.{◌≡◌, ℕ, ◌+◌, ◌<◌, ◌^◌, ◌≤◌, ◌∷◌, [], ◌++◌, All, IfSome, List, MatchOption, Some, length, OnOk, option_map};
+ghost use Rattle.std.specs.Char.{IsAsciiHexdigit};
 ghost use Rattle.std.specs.Io.KnownBytes.{Appends};
 ghost use Rattle.std.specs.List.{flat_map};
 ghost use Rattle.can_frame.specs.FrameText.{id_text};
+ghost use Rattle.candump_line.specs.LoggedParts.{IsLogged};
 ghost use Rattle.candump_line.specs.LineText.{byte_digits, line_text, micros_of_ticks, ticks_text, timed_line, IsBusName, IsDataFrame, IsFraction};
 ghost use Rattle.candump_line.specs.Logged.{logged_value};
 ghost use Rattle.can_frame.specs.FrameValue.{FrameValue, frame};
@@ -30,6 +32,7 @@ pub(crate) fn read_logged(line: &[u8]) -> Option<Logged<'_>>
         → IsBusName bus → IsDataFrame f → line.now ≡ timed_line (ticks_text digits ticks) bus f
         → option_map logged_value result ≡ Some (micros_of_ticks digits ticks, bus, f) }
     ensures bus { IfSome result (λ logged. All (λ c. 32 < c) logged.bus.now) }
+    ensures parts { IfSome result (λ logged. IsLogged line.now logged.bus.now) }
 {
     let rest = behind(line, b'(')?;
     let (micros, rest) = leading_micros(rest)?;
@@ -52,6 +55,7 @@ fn cut_at_space(text: &[u8]) -> Option<(&[u8], &[u8])>
     ensures reads_back { (word rest : List ℕ) → All (λ c. 32 < c) word → text.now ≡ word ++ 32 ∷ rest
         → MatchOption result ⊥ (λ cut. (cut.0.now ≡ word) × (cut.1.now ≡ rest)) }
     ensures word { IfSome result (λ cut. All (λ c. 32 < c) cut.0.now) }
+    ensures parts { IfSome result (λ cut. text.now ≡ cut.0.now ++ 32 ∷ cut.1.now) }
 {
     for (place, byte) in text.iter().enumerate() {
         if *byte == b' ' {
@@ -68,7 +72,7 @@ fn cut_at_space(text: &[u8]) -> Option<(&[u8], &[u8])>
 #[inline(always)]
 fn bus_name(word: &[u8]) -> Option<&str>
     ensures reads_back { IsBusName word.now → MatchOption result ⊥ (λ bus. bus.now ≡ word.now) }
-    ensures same { IfSome result (λ bus. bus.now ≡ word.now) }
+    ensures same { IfSome result (λ bus. (bus.now ≡ word.now) × (0 < length bus.now)) }
 {
     if word.is_empty() {
         return None;
@@ -83,6 +87,8 @@ fn bus_name(word: &[u8]) -> Option<&str>
 fn read_frame(text: &[u8]) -> Option<Frame>
     ensures reads_back { (f : FrameValue) → IsDataFrame f → text.now ≡ id_text f.id ++ 35 ∷ flat_map byte_digits f.bytes
         → result ≡ Some f }
+    ensures id { IfSome result (λ f. (n : ℕ) (rest : List ℕ) → n < 2 ^ 32 → text.now ≡ id_text n ++ rest → n < 2 ^ 29) }
+    ensures seen { IfSome result (λ f. (0 < length text.now) × All (λ c. 32 < c) text.now) }
 {
     let (id, rest) = text.split_at_checked(ID_DIGITS)?;
     let number = read_number(id)?;
@@ -95,6 +101,8 @@ fn read_frame(text: &[u8]) -> Option<Frame>
 fn read_data(number: u32, digits: &[u8]) -> Option<Frame>
     ensures reads_back { (f : FrameValue) → IsDataFrame f → number ≡ f.id → digits.now ≡ flat_map byte_digits f.bytes
         → result ≡ Some f }
+    ensures id { IfSome result (λ f. number < 2 ^ 29) }
+    ensures digits { IfSome result (λ f. All IsAsciiHexdigit digits.now) }
 {
     let len = digits.len() / 2;
     if len > 8 {
@@ -109,7 +117,8 @@ fn read_data(number: u32, digits: &[u8]) -> Option<Frame>
 
 /// The frame of this identifier and these bytes, where it is one.
 fn data_frame(number: u32, bytes: &[u8]) -> Option<Frame>
-    ensures { number < 2 ^ 29 → length bytes.now ≤ 8 → result ≡ Some (frame number bytes.now) }
+    ensures frame { number < 2 ^ 29 → length bytes.now ≤ 8 → result ≡ Some (frame number bytes.now) }
+    ensures id { IfSome result (λ f. number < 2 ^ 29) }
 {
     Frame::new(number, bytes).ok()
 }

@@ -1,16 +1,26 @@
-ghost use Rattle.std.specs.Prelude.{◌≡◌, ℕ, ◌+◌, ◌<◌, ◌≤◌};
+ghost use Rattle.std.specs.Prelude.{◌≡◌, ◌≢◌, ◌⊎◌, ℕ, ◌+◌, ◌-◌, ◌<◌, ◌≤◌, ◌==◌, [], ◌∷◌, ◌++◌, List, Option, Some, None, true, false, MatchOption, option_map, length, map, slice_index, All};
+ghost use Rattle.can_frame.specs.FrameText.{id_text};
+ghost use Rattle.can_frame.specs.FrameValue.{FrameValue};
+ghost use Rattle.candump_line.specs.Forms.{apart, count_word, AreFlags, IsCountedFrame, IsJoinedFrame, IsLongFrame, IsRemark, IsSide, SpellsData};
+ghost use Rattle.candump_line.specs.LineText.{byte_digits, IsDataFrame};
 ghost use Rattle.candump_line.specs.PlainText.{is_count, is_fd_count};
+ghost use Rattle.candump_line.specs.Told.{bytes_read, content_told, id_told, Says};
+ghost use Rattle.candump_line.specs.Words.{front_word, words_left, words_of};
 
+use crate::bytes::Bytes;
 use crate::content::{Content, content_of};
 use crate::digits::{is_at, is_digit_at};
 use crate::line::{Foreign, Line};
 use crate::reason::Reason;
 use crate::time::Time;
-use crate::word::{Bytes, IdWord, read_bytes, read_id};
+use crate::word::{IdWord, read_bytes, read_id};
+use crate::words::{next_word, word_or_empty};
 use std::str::SplitAsciiWhitespace;
 
 /// What a line says of a frame that was seen at this time on this bus, as far as it tells.
-fn line_of<'a>(time: Option<Time>, bus: Option<&'a str>, content: Content) -> Line<'a> {
+fn line_of<'a>(time: Option<Time>, bus: Option<&'a str>, content: Content) -> Line<'a>
+    ensures { Says time (option_map (λ name. name.now) bus.entry) content result }
+{
     match content {
         Content::Frame(frame) => Line::Frame { time, bus, frame },
         Content::Overflow => Line::Overflow { time, bus },
@@ -21,9 +31,12 @@ fn line_of<'a>(time: Option<Time>, bus: Option<&'a str>, content: Content) -> Li
 }
 
 /// Reads a line behind its time: the bus, and the frame in the form of a log or of plain candump.
-pub(crate) fn read_seen(time: Time, rest: &str) -> Line<'_> {
+pub(crate) fn read_seen(time: Time, rest: &str) -> Line<'_>
+    ensures { (bus : List ℕ) (words : List (List ℕ)) (f : FrameValue) → IsLongFrame f → words_of rest.now ≡ bus ∷ words
+        → IsCountedFrame words f ⊎ IsJoinedFrame words f → Says (Some time) (Some bus) (content_told f) result }
+{
     let mut words = rest.split_ascii_whitespace();
-    let Some(bus) = words.next() else {
+    let Some(bus) = next_word(&mut words) else {
         return Line::Bad(Reason::NoBus);
     };
     let Some(first) = next_behind_direction(&mut words) else {
@@ -33,18 +46,29 @@ pub(crate) fn read_seen(time: Time, rest: &str) -> Line<'_> {
 }
 
 /// The next word, or where that is `RX` or `TX` the one behind it and its two flags, as `candump -x` writes them before a frame.
-fn next_behind_direction<'a>(words: &mut SplitAsciiWhitespace<'a>) -> Option<&'a str> {
-    let word = words.next()?;
+fn next_behind_direction<'a>(words: &mut SplitAsciiWhitespace<'a>) -> Option<&'a str>
+    ensures reads { (flags rest : List (List ℕ)) (word : List ℕ) → AreFlags flags → slice_index word 1 ≢ 88
+        → words_left words.old ≡ flags ++ word ∷ rest → MatchOption result ⊥ (λ found. (found.now ≡ word) × (words_left words.new ≡ rest)) }
+    ensures fewer { length (words_left words.new) ≤ length (words_left words.old) - 1 }
+{
+    let word = next_word(words)?;
     if word != "RX" && word != "TX" {
         return Some(word);
     }
-    words.nth(2)
+    let _first = next_word(words)?;
+    let _second = next_word(words)?;
+    next_word(words)
 }
 
 /// Reads a line without a time: plain candump, what cansend takes, a frame that this program answers; else a note.
-pub(crate) fn read_untimed(text: &str) -> Line<'_> {
+pub(crate) fn read_untimed(text: &str) -> Line<'_>
+    ensures counted { (bus : List ℕ) (words : List (List ℕ)) (f : FrameValue) → IsLongFrame f → All (λ c. c ≢ 35) bus
+        → words_of text.now ≡ bus ∷ words → IsCountedFrame words f → Says None (Some bus) (content_told f) result }
+    ensures joined { (f : FrameValue) → IsLongFrame f → IsJoinedFrame (words_of text.now) f → Says None None (content_told f) result }
+    ensures apart { (f : FrameValue) → IsDataFrame f → words_of text.now ≡ apart f → Says None None (content_told f) result }
+{
     let mut words = text.split_ascii_whitespace();
-    let Some(first) = words.next() else {
+    let Some(first) = next_word(&mut words) else {
         return Line::Note;
     };
     if first.contains('#') {
@@ -57,53 +81,67 @@ pub(crate) fn read_untimed(text: &str) -> Line<'_> {
 }
 
 /// Whether the word behind the identifier begins with a bracket, as in plain candump.
-fn has_length(text: &str) -> bool {
+fn has_length(text: &str) -> bool
+    ensures counted { (bus id count : List ℕ) (flags rest : List (List ℕ)) → AreFlags flags → slice_index id 1 ≢ 88
+        → words_of text.now ≡ bus ∷ (flags ++ id ∷ count ∷ rest) → result ≡ (slice_index count 0 == 91) }
+    ensures short { length (words_of text.now) ≤ 2 → result ≡ false }
+{
     let mut words = text.split_ascii_whitespace();
-    let _bus = words.next();
+    let _bus = next_word(&mut words);
     let _id = next_behind_direction(&mut words);
-    match words.next() {
+    match next_word(&mut words) {
         Some(length) => length.starts_with('['),
         None => false,
     }
 }
 
 /// A line that begins as none of a log says nothing where it is bad.
-fn nothing_if_bad(content: Content) -> Content {
+fn nothing_if_bad(content: Content) -> Content
+    ensures { (f : FrameValue) → content ≡ content_told f → result ≡ content }
+{
     match content {
         Content::Bad(_) => Content::Nothing,
         content => content,
     }
 }
 
-fn read_frame_words(first: &str, mut words: SplitAsciiWhitespace<'_>) -> Content {
+fn read_frame_words(first: &str, mut words: SplitAsciiWhitespace<'_>) -> Content
+    ensures counted { (f : FrameValue) (remarks : List (List ℕ)) → IsLongFrame f → IsRemark (front_word remarks) → first.now ≡ id_text f.id
+        → words_left words.entry ≡ count_word (length f.bytes) ∷ (map byte_digits f.bytes ++ remarks) → result ≡ content_told f }
+    ensures joined { (f : FrameValue) (bytes : List ℕ) → IsLongFrame f → SpellsData bytes f.bytes → first.now ≡ id_text f.id ++ 35 ∷ bytes
+        → IsSide (words_left words.entry) → result ≡ content_told f }
+{
     if first.contains('#') {
         return read_joined(first, words);
     }
-    match words.next() {
-        Some(length) if length.starts_with('[') => read_counted(first, length, words),
+    match next_word(&mut words) {
+        Some(count) if count.starts_with('[') => read_counted(first, count, words),
         _ => Content::Bad(Reason::NoHash),
     }
 }
 
-fn read_counted_words(mut words: SplitAsciiWhitespace<'_>) -> Content {
+fn read_counted_words(mut words: SplitAsciiWhitespace<'_>) -> Content
+    ensures { (f : FrameValue) → IsLongFrame f → IsCountedFrame (words_left words.entry) f → result ≡ content_told f }
+{
     let Some(id) = next_behind_direction(&mut words) else {
         return Content::Nothing;
     };
-    let Some(length) = words.next() else {
+    let Some(count) = next_word(&mut words) else {
         return Content::Nothing;
     };
-    read_counted(id, length, words)
+    read_counted(id, count, words)
 }
 
 /// `ID#BYTES`, and `R` or `T` behind it where the direction is told.
-fn read_joined(word: &str, mut words: SplitAsciiWhitespace<'_>) -> Content {
+fn read_joined(word: &str, words: SplitAsciiWhitespace<'_>) -> Content
+    ensures { (f : FrameValue) (bytes : List ℕ) → IsLongFrame f → SpellsData bytes f.bytes → word.now ≡ id_text f.id ++ 35 ∷ bytes
+        → IsSide (words_left words.entry) → result ≡ content_told f }
+{
     let Some((id, rest)) = word.split_once('#') else {
         return Content::Bad(Reason::NoHash);
     };
-    if let Some(direction) = words.next() {
-        if (direction != "R" && direction != "T") || words.next().is_some() {
-            return Content::Bad(Reason::WordsBehind);
-        }
+    if !is_side(words) {
+        return Content::Bad(Reason::WordsBehind);
     }
     let id = match read_id(id) {
         Ok(id) => id,
@@ -121,18 +159,31 @@ fn read_joined(word: &str, mut words: SplitAsciiWhitespace<'_>) -> Content {
     }
 }
 
+/// Whether these words are `R` or `T` alone, or none.
+fn is_side(mut words: SplitAsciiWhitespace<'_>) -> bool
+    ensures { IsSide (words_left words.entry) → result ≡ true }
+{
+    match next_word(&mut words) {
+        Some(side) => (side == "R" || side == "T") && next_word(&mut words).is_none(),
+        None => true,
+    }
+}
+
 /// `ID [COUNT] BYTE BYTE ..`, and candump's remarks behind.
-fn read_counted(id: &str, length: &str, words: SplitAsciiWhitespace<'_>) -> Content {
+fn read_counted(id: &str, count: &str, words: SplitAsciiWhitespace<'_>) -> Content
+    ensures { (f : FrameValue) (remarks : List (List ℕ)) → IsLongFrame f → IsRemark (front_word remarks) → id.now ≡ id_text f.id
+        → count.now ≡ count_word (length f.bytes) → words_left words.entry ≡ map byte_digits f.bytes ++ remarks → result ≡ content_told f }
+{
     let id = match read_id(id) {
         Ok(id) => id,
         Err(reason) => return Content::Bad(reason),
     };
-    let length = length.as_bytes();
-    if is_fd_count(length) {
+    let count = count.as_bytes();
+    if is_fd_count(count) {
         return Content::Foreign(Foreign::Fd);
     }
-    if is_count(length) {
-        return read_counted_bytes(id, length[1] - b'0', words);
+    if is_count(count) {
+        return read_counted_bytes(id, count[1] - b'0', words);
     }
     Content::Bad(Reason::NoHash)
 }
@@ -160,37 +211,52 @@ fn is_fd_count(word: &[u8]) -> bool
 }
 
 /// So many bytes of two digits, and candump's remarks behind.
-fn read_counted_bytes(id: IdWord, length: u8, mut words: SplitAsciiWhitespace<'_>) -> Content {
+fn read_counted_bytes(id: IdWord, count: u8, mut words: SplitAsciiWhitespace<'_>) -> Content
+    ensures { (f : FrameValue) (remarks : List (List ℕ)) → IsLongFrame f → IsRemark (front_word remarks) → id ≡ id_told f.id → count ≡ length f.bytes
+        → words_left words.entry ≡ map byte_digits f.bytes ++ remarks → result ≡ content_told f }
+{
     let mut bytes = Bytes::new();
-    for found in 0..length {
-        let word = words.next().unwrap_or("");
+    for found in 0..count {
+        let word = word_or_empty(&mut words);
         if word == "remote" {
             return Content::Foreign(Foreign::Remote);
         }
         if word.len() != 2 {
-            return Content::Bad(Reason::ByteCount { length, found });
+            return Content::Bad(Reason::ByteCount {
+                length: count,
+                found,
+            });
         }
         if let Err(reason) = bytes.add(word) {
             return Content::Bad(reason);
         }
     }
-    let behind = words.next().unwrap_or("");
+    let behind = word_or_empty(&mut words);
     if behind == "remote" {
         return Content::Foreign(Foreign::Remote);
     }
-    if behind.is_empty() || behind == "ERRORFRAME" || behind.starts_with('\'') {
-        return content_of(id, bytes.as_slice());
+    if !is_remark(behind) {
+        return Content::Bad(Reason::WordsBehind);
     }
-    Content::Bad(Reason::WordsBehind)
+    content_of(id, bytes.as_slice())
+}
+
+/// Whether candump writes this word behind the bytes, or none.
+fn is_remark(word: &str) -> bool
+    ensures { IsRemark word.now → result ≡ true }
+{
+    word.is_empty() || word == "ERRORFRAME" || word.starts_with('\'')
 }
 
 /// `ID BYTE BYTE ..` with eight digits of identifier.
-fn read_apart(id: &str, words: SplitAsciiWhitespace<'_>) -> Content {
+fn read_apart(id: &str, mut words: SplitAsciiWhitespace<'_>) -> Content
+    ensures { (f : FrameValue) → IsDataFrame f → id.now ≡ id_text f.id → words_left words.entry ≡ map byte_digits f.bytes → result ≡ content_told f }
+{
     let Ok(IdWord::Long { number }) = read_id(id) else {
         return Content::Nothing;
     };
     let mut bytes = Bytes::new();
-    for word in words {
+    while let Some(word) = next_word(&mut words) {
         if word.len() != 2 || bytes.add(word).is_err() {
             return Content::Nothing;
         }

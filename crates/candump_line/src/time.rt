@@ -1,6 +1,8 @@
-ghost use Rattle.std.specs.Prelude.{◌≡◌, ℕ, ◌<◌, ◌^◌, ◌+◌, ◌++◌, List, IfSome, MatchOption, Some, None, length};
+ghost use Rattle.std.specs.Prelude.{◌≡◌, ◌≢◌, ◌∷◌, [], ◌*◌, ◌≤◌, slice_index, ℕ, ◌<◌, ◌^◌, ◌+◌, ◌++◌, List, IfSome, MatchOption, Some, None, length, All};
 ghost use Rattle.std.specs.Option.{SomeIff};
-ghost use Rattle.candump_line.specs.LineText.{micros_of_ticks, ticks_text, time_text, BeginsWithElevenDigits, BeginsWithNoDigit, IsFraction};
+ghost use Rattle.std.specs.Str.Parse.{IsNumeral, digits_value};
+ghost use Rattle.candump_line.specs.Calendar.{SpellsDate};
+ghost use Rattle.candump_line.specs.LineText.{decimal_digits, micros_of_ticks, ticks_text, time_text, BeginsWithElevenDigits, BeginsWithNoDigit, IsFraction};
 
 use crate::date::leading_date_micros;
 use crate::digits::{behind, leading_number};
@@ -66,6 +68,7 @@ impl Time {
         ensures reads { (digits ticks : ℕ) → IsFraction digits → ticks < 10 ^ (10 + digits) → text.now ≡ ticks_text digits ticks
             → result ≡ Some (micros_of_ticks digits ticks) }
         ensures reads_back { (n : ℕ) → n < 10 ^ 16 → text.now ≡ time_text n → result ≡ Some n }
+        ensures dated { (n : ℕ) → SpellsDate text.now n → result ≡ Some n }
         ensures too_long { BeginsWithElevenDigits text.now → result ≡ None }
     {
         let text = text.as_bytes();
@@ -97,6 +100,11 @@ pub(crate) fn leading_micros(text: &[u8]) -> Option<(u64, &[u8])>
     ensures reads { (digits ticks : ℕ) (rest : List ℕ) → IsFraction digits → ticks < 10 ^ (10 + digits) → BeginsWithNoDigit rest → text.now ≡ ticks_text digits ticks ++ rest
         → MatchOption result ⊥ (λ found. (found.0 ≡ micros_of_ticks digits ticks) × (found.1.now ≡ rest)) }
     ensures too_long { BeginsWithElevenDigits text.now → result ≡ None }
+    ensures numeral { (word rest : List ℕ) (digits ticks : ℕ) → IsNumeral 10 word → length word ≤ 10 → IsFraction digits → ticks < 10 ^ digits → BeginsWithNoDigit rest
+        → text.now ≡ word ++ 46 ∷ (decimal_digits digits ticks [] ++ rest)
+        → MatchOption result ⊥ (λ found. (found.0 ≡ digits_value 10 word * 10 ^ 6 + micros_of_ticks digits ticks) × (found.1.now ≡ rest)) }
+    ensures no_point { (word rest : List ℕ) → IsNumeral 10 word → length word ≤ 10 → BeginsWithNoDigit rest → slice_index rest 0 ≢ 46 → text.now ≡ word ++ rest → result ≡ None }
+    ensures front { IfSome result (λ found. (front : List ℕ) × All (λ c. c ≢ 41) front × (text.now ≡ front ++ found.1.now)) }
 {
     let (seconds, rest) = leading_number(text)?;
     let fraction = behind(rest, b'.')?;

@@ -1,6 +1,11 @@
-ghost use Rattle.std.specs.Prelude.{◌≡◌, ℕ, ◌<◌, ◌≤◌, ◌^◌, Ok, IfOk, length};
+ghost use Rattle.std.specs.Prelude.{◌≡◌, ℕ, ◌+◌, ◌<◌, ◌≤◌, ◌^◌, List, Ok, IfOk, None, MatchResult, length, All};
+ghost use Rattle.std.specs.Char.{IsAsciiHexdigit};
+ghost use Rattle.can_frame.specs.FrameText.{id_text};
+ghost use Rattle.candump_line.specs.Forms.{SpellsData};
+ghost use Rattle.candump_line.specs.Told.{bytes_read, id_told};
 
-use crate::digits::{read_number, read_pairs};
+use crate::bytes::Bytes;
+use crate::digits::read_number;
 use crate::reason::Reason;
 
 /// What the word of an identifier says.
@@ -28,6 +33,7 @@ pub(crate) fn read_id(word: &str) -> Result<IdWord, Reason>
     ensures short { result ≡ Ok IdWord.StandardId → length word.now ≡ 3 }
     ensures long { IfOk result (λ id. (number : ℕ) → id ≡ IdWord.Long number → number < 2 ^ 29) }
     ensures error { IfOk result (λ id. (class : ℕ) → id ≡ IdWord.Error class → (2 ^ 29 ≤ class) × (class < 2 ^ 30)) }
+    ensures reads { (n : ℕ) → n < 2 ^ 30 → word.now ≡ id_text n → result ≡ Ok (id_told n) }
 {
     if let Some(reason) = bad_digit(word) {
         return Err(reason);
@@ -44,7 +50,9 @@ pub(crate) fn read_id(word: &str) -> Result<IdWord, Reason>
 }
 
 /// The reason why a word is none of hexadecimal digits, where it is not.
-pub(crate) fn bad_digit(word: &str) -> Option<Reason> {
+pub(crate) fn bad_digit(word: &str) -> Option<Reason>
+    ensures { All IsAsciiHexdigit word.now → result ≡ None }
+{
     let other = word.chars().find(|c| !c.is_ascii_hexdigit())?;
     if other.is_ascii_control() {
         return Some(Reason::ControlCharacter(other as u32));
@@ -52,59 +60,16 @@ pub(crate) fn bad_digit(word: &str) -> Option<Reason> {
     Some(Reason::NoDigit(other))
 }
 
-/// The data of a frame, as far as it is read.
-#[derive(Clone, Copy)]
-pub(crate) struct Bytes {
-    room: [u8; 8],
-    len: usize,
-    ghost fits: { len ≤ 8 },
-}
-
-impl Bytes {
-    /// No bytes.
-    pub(crate) fn new() -> Bytes {
-        Bytes {
-            room: [0; 8],
-            len: 0,
-        }
-    }
-
-    /// The bytes that have been read.
-    pub(crate) fn as_slice(&self) -> &[u8] {
-        &self.room[..self.len]
-    }
-
-    /// Adds the bytes of a word of digits, two for each.
-    ///
-    /// # Errors
-    /// `NoDigit`, `ControlCharacter`: another character stands there. `OddDigits`: the last byte has one digit.
-    /// `TooManyBytes`: there are more than eight with these.
-    pub(crate) fn add(&mut self, digits: &str) -> Result<(), Reason> {
-        if let Some(reason) = bad_digit(digits) {
-            return Err(reason);
-        }
-        if digits.len() % 2 == 1 {
-            return Err(Reason::OddDigits);
-        }
-        let count = digits.len() / 2;
-        if count > 8 - self.len {
-            return Err(Reason::TooManyBytes);
-        }
-        let start = self.len;
-        let end = start + count;
-        if !read_pairs(digits.as_bytes(), &mut self.room[start..end]) {
-            return Err(Reason::OddDigits);
-        }
-        self.len = end;
-        Ok(())
-    }
-}
-
 /// The data that a word spells, with points between bytes or not.
-pub(crate) fn read_bytes(word: &str) -> Result<Bytes, Reason> {
+pub(crate) fn read_bytes(word: &str) -> Result<Bytes, Reason>
+    ensures { (bs : List ℕ) → All (λ b. b < 256) bs → length bs ≤ 8 → SpellsData word.now bs → MatchResult result (λ bytes. bytes_read bytes ≡ bs) (λ e. ⊥) }
+{
     let mut bytes = Bytes::new();
-    for part in word.split('.') {
+    let mut rest = word;
+    while let Some((part, behind)) = rest.split_once('.') {
         bytes.add(part)?;
+        rest = behind;
     }
+    bytes.add(rest)?;
     Ok(bytes)
 }

@@ -6,8 +6,8 @@ use Rattle.clap.specs.Kinds.{Kinds, IsAmong}
 use Rattle.clap.specs.Walk.{Rule, Text}
 use Rattle.clap.specs.declared.builder.action.ArgAction.TheVariants.{Append, Set, SetTrue}
 use Rattle.clap.specs.declared.error.kind.ErrorKind.TheVariants.{DisplayHelp, DisplayVersion}
-use Rattle.command_words.specs.declared.Job.{Job}
-use Rattle.command_words.specs.declared.Job.TheVariants.{Threads}
+use Rattle.program_io.specs.declared.job.Job.{Job}
+use Rattle.program_io.specs.declared.job.Job.TheVariants.{Threads}
 use Rattle.command_line.specs.declared.fault.LineFault.{LineFault}
 use Rattle.command_line.specs.declared.fault.LineFault.TheVariants.{Help, Refused}
 use Rattle.command_line.specs.declared.options.CommandOption.{CommandOption}
@@ -59,7 +59,7 @@ threads_shape = subcommand_shape (codes "threads")
 abbrev pub watch_shape : Shape
 watch_shape = subcommand_shape (codes "watch")
     (value_rule (codes "bus") ∷ value_rule (codes "address") ∷ value_rule (codes "name")
-    ∷ list_rule (codes "assume") ∷ value_rule (codes "bad") ∷ value_rule (codes "silence")
+    ∷ list_rule (codes "assume") ∷ list_rule (codes "conversion") ∷ value_rule (codes "bad") ∷ value_rule (codes "silence")
     ∷ value_rule (codes "unclaimed") ∷ value_rule (codes "most") ∷ value_rule (codes "keep") ∷ value_rule (codes "unit") ∷ value_rule (codes "from") ∷ value_rule (codes "to")
     ∷ value_rule (codes "format") ∷ value_rule (codes "units") ∷ value_rule (codes "texts") ∷ value_rule (codes "clock") ∷ flag_rule (codes "strict") ∷ place_rule (codes "file") ∷ [])
 

@@ -5,7 +5,7 @@ ghost use Rattle.command_line.specs.CommandLine.{decode_shape};
 
 use crate::options::{CommandOption, Given, subcommand};
 use clap::{ArgMatches, Command};
-use command_words::DecodeArguments;
+use program_io::DecodeArguments;
 use std::alloc::{AllocError, Global};
 
 /// What a texts file holds.

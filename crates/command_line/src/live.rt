@@ -5,7 +5,7 @@ ghost use Rattle.command_line.specs.CommandLine.{live_shape};
 
 use crate::options::{CommandOption, Given, subcommand};
 use clap::{ArgMatches, Command};
-use command_words::LiveArguments;
+use program_io::LiveArguments;
 use std::alloc::{AllocError, Global};
 
 /// How a bus is joined.

@@ -7,7 +7,7 @@ ghost use Rattle.command_line.specs.CommandLine.{AsksForHelp, AsksForScript, Has
 use crate::fault::{LineFault, fault_of};
 use crate::{decode, live, script, threads, watch};
 use clap::{ArgMatches, Command};
-use command_words::Job;
+use program_io::Job;
 use std::alloc::{AllocError, Global};
 
 /// The program's name.
@@ -116,7 +116,7 @@ fn named<'a>(alloc: Global) -> Result<Command<'a>, AllocError>
     ensures { IfOk result (λ c. app_of c ≡ named_app) }
 {
     Command::new(alloc, PROGRAM)
-        .version("2.4.0")
+        .version("3.0.0")
         .about("A diagnostic station for SAE J1939 with simulated control units")
         .after_help(threads::vehicle())
         .subcommand_required(true)

@@ -5,7 +5,7 @@ ghost use Rattle.command_line.specs.CommandLine.{check_shape, log_shape, script_
 
 use crate::options::{CommandOption, Given, subcommand};
 use clap::{ArgMatches, Command};
-use command_words::LogArguments;
+use program_io::LogArguments;
 use std::alloc::{AllocError, Global};
 
 /// What a script's lines may be.

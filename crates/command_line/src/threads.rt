@@ -6,7 +6,7 @@ ghost use Rattle.command_line.specs.CommandLine.{IsCount, IsThreads, threads_sha
 use crate::fault::LineFault;
 use crate::options::{CommandOption, Given, subcommand};
 use clap::{ArgMatches, Command};
-use command_words::Job;
+use program_io::Job;
 use std::alloc::{AllocError, Global};
 
 /// The most turns and the most readings that can be asked for.

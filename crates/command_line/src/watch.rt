@@ -6,7 +6,7 @@ ghost use Rattle.command_line.specs.CommandLine.{HasCounts, watch_shape};
 use crate::fault::LineFault;
 use crate::options::{CommandOption, Given, subcommand};
 use clap::{ArgMatches, Command};
-use command_words::{Job, WatchArguments};
+use program_io::{Job, WatchArguments};
 use std::alloc::{AllocError, Global};
 
 /// What is written, and how it is to be read.
@@ -44,7 +44,7 @@ or it is told of none (what was there is told, and what converts it), or more wa
 }
 
 /// Its options.
-const OPTIONS: [CommandOption<'static>; 18] = [
+const OPTIONS: [CommandOption<'static>; 19] = [
     CommandOption {
         name: "bus",
         value: "BUS",
@@ -70,6 +70,12 @@ const OPTIONS: [CommandOption<'static>; 18] = [
         given: Given::Often,
     },
     CommandOption {
+        name: "conversion",
+        value: "NAME=1|2|3",
+        help: "By which conversion method a unit's older codes are read; for up to 16 units",
+        given: Given::Often,
+    },
+    CommandOption {
         name: "bad",
         value: "missed|skip",
         help: "Whether a bad line is a frame that was missed [missed]",
@@ -78,7 +84,7 @@ const OPTIONS: [CommandOption<'static>; 18] = [
     CommandOption {
         name: "silence",
         value: "MS",
-        help: "How late a packet may come, 1 to 3600000 milliseconds [750]; 0: any",
+        help: "How long a message may be silent, 1 to 3600000 milliseconds [the standard's times]; 0: any",
         given: Given::Once,
     },
     CommandOption {
@@ -175,16 +181,20 @@ pub(crate) fn job<'a>(alloc: Global, found: &ArgMatches<'a>) -> Result<Job<'a>, 
     ensures watching { result ≡ Ok Job.Script → ⊥ }
     ensures memory { IfErr result (λ fault. fault ≡ LineFault.Memory) }
 {
-    match assumed(alloc, found) {
-        Ok(assumed) => Ok(Job::Watch {
+    match (
+        listed(alloc, found, "assume"),
+        listed(alloc, found, "conversion"),
+    ) {
+        (Ok(assumed), Ok(conversions)) => Ok(Job::Watch {
             words: words(found),
             assumed,
+            conversions,
         }),
-        Err(_) => Err(LineFault::Memory),
+        _ => Err(LineFault::Memory),
     }
 }
 
-/// The words behind `watch`, but for the units that it assumes.
+/// The words behind `watch` that are given once.
 fn words<'a>(found: &ArgMatches<'a>) -> WatchArguments<'a> {
     WatchArguments {
         bus: found.get_str("bus"),
@@ -207,11 +217,15 @@ fn words<'a>(found: &ArgMatches<'a>) -> WatchArguments<'a> {
     }
 }
 
-/// The units that it assumes.
-fn assumed<'a>(alloc: Global, found: &ArgMatches<'a>) -> Result<Vec<&'a str>, AllocError> {
-    let mut assumed = Vec::new(alloc);
-    if let Some(words) = found.get_strs("assume") {
-        assumed.extend_from_slice(words)?;
+/// The words of an option that may be given again.
+fn listed<'a>(
+    alloc: Global,
+    found: &ArgMatches<'a>,
+    option: &str,
+) -> Result<Vec<&'a str>, AllocError> {
+    let mut listed = Vec::new(alloc);
+    if let Some(words) = found.get_strs(option) {
+        listed.extend_from_slice(words)?;
     }
-    Ok(assumed)
+    Ok(listed)
 }

@@ -2,10 +2,12 @@
 //! packets, behind the line of their last one.
 #![tactic(auto)]
 
+mod halves;
+mod joined;
 mod joining;
 mod object_writer;
 mod objects;
 mod run;
 
-pub use code_texts::{Texts, TextsFault};
 pub use run::{DecodeForm, DecodeOptions, decode};
+pub use shop_texts::{SheetFault, Texts};

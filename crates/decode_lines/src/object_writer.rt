@@ -1,7 +1,8 @@
 //! A writer of an object that keeps in mind whether memory was refused, so that this is asked once at the end, and not after each
 //! value.
 
-use dm_words::{put_code, put_lamps, put_number};
+use dm_messages::Trouble;
+use dm_words::{put_code, put_lamps, put_number, put_trouble};
 use json::Writer;
 use log_lines::LogFault;
 use std::alloc::{AllocError, Global};
@@ -54,6 +55,13 @@ impl ObjectWriter {
     pub(crate) fn lamps(&mut self, alloc: Global, lamps: Lamps) {
         if !self.is_refused {
             self.is_refused = put_lamps(&mut self.json, alloc, lamps).is_err();
+        }
+    }
+
+    /// Writes what of a message is not read.
+    pub(crate) fn trouble(&mut self, trouble: Trouble) {
+        if !self.is_refused {
+            self.is_refused = put_trouble(&mut self.json, trouble).is_err();
         }
     }
 

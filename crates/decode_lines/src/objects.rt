@@ -1,14 +1,14 @@
+use crate::joined::Joined;
 use crate::object_writer::ObjectWriter;
-use crate::run::{place_of, shown_by, shown_in};
+use crate::run::{ShownPart, place_of, shown_by, shown_in};
 use can_frame::{Frame, GLOBAL_ADDRESS, Id, Pgn};
 use candump_line::Line;
-use code_texts::Texts;
 use dm_messages::Shown;
 use frame_words::{Audience, data_group_name, write_line_words, write_message, write_payload};
 use log_lines::LogFault;
 use name_field::Name;
-use pair_joining::Joined;
 use parameter_group::ParameterGroup;
+use shop_texts::Texts;
 use std::alloc::{AllocError, Global};
 use trouble_code::Dtc;
 
@@ -168,10 +168,15 @@ fn put_shown(
     object: &mut ObjectWriter,
     alloc: Global,
     texts: &Texts,
-    shown: Result<Option<Shown>, LogFault>,
+    shown: Result<Option<ShownPart>, LogFault>,
 ) {
     match shown {
-        Ok(Some(shown)) => put_lamps_and_codes(object, alloc, texts, &shown),
+        Ok(Some(part)) => {
+            put_lamps_and_codes(object, alloc, texts, &part.shown);
+            if let Some(trouble) = part.trouble {
+                object.trouble(trouble);
+            }
+        }
         Ok(None) => {}
         Err(_) => object.refuse(),
     }

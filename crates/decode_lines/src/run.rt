@@ -1,18 +1,17 @@
+use crate::joined::Joined;
 use crate::joining::Joining;
 use crate::objects::{joined_object, line_object};
 use can_frame::{Frame, Pgn};
 use candump_line::{Line, Time, read_line};
-use code_texts::{TextWords, Texts};
-use dm_messages::{Shown, read};
+use dm_messages::{MessageRead, Shown, Trouble, read, read_message};
 use frame_words::{write_joined_words, write_line_words};
 use log_lines::{Absence, FrameFate, LinesEnd, LogFault, Notices, ROOM, Wanted, next_line};
-use pair_joining::Joined;
 use parameter_group::ParameterGroup;
+use safe_text::Seen;
+use shop_texts::{TextWords, Texts, UnitTexts};
 use std::alloc::Global;
 use std::io::{BufReader, BufWriter, Read, Write};
-use text_buffer::Seen;
 use trouble_code::Dtc;
-use unit_words::UnitTexts;
 
 /// How a line is answered.
 #[derive(Clone, Copy, PartialEq, Eq)]
@@ -185,8 +184,8 @@ fn write_words_of_joined<W: Write>(
     if let Err(error) = write_joined_words(writer, alloc, place, ends, joined.pgn, bytes) {
         return Err(LogFault::of_write(error));
     }
-    if let Some(shown) = shown_in(alloc, joined.pgn, bytes)? {
-        write_texts(writer, texts, &shown)?;
+    if let Some(part) = shown_in(alloc, joined.pgn, bytes)? {
+        write_texts(writer, texts, &part.shown)?;
     }
     match writeln!(writer) {
         Ok(()) => Ok(()),
@@ -259,7 +258,7 @@ fn write_texts_of<W: Write>(
     frame: &Frame,
 ) -> Result<(), LogFault> {
     match shown_by(alloc, frame)? {
-        Some(shown) => write_texts(writer, texts, &shown),
+        Some(part) => write_texts(writer, texts, &part.shown),
         None => Ok(()),
     }
 }
@@ -276,27 +275,44 @@ fn write_texts<W: Write>(writer: &mut W, texts: &Texts, shown: &Shown) -> Result
     }
 }
 
-/// What a frame shows, where it is a diagnostic message that can be read.
-pub(crate) fn shown_by(alloc: Global, frame: &Frame) -> Result<Option<Shown>, LogFault> {
+/// What a diagnostic message shows, and what of it is not read, where anything is not.
+#[derive(Drop)]
+pub(crate) struct ShownPart {
+    pub shown: Shown,
+    pub trouble: Option<Trouble>,
+}
+
+/// What a frame shows, where it is a diagnostic message of which anything can be read.
+pub(crate) fn shown_by(alloc: Global, frame: &Frame) -> Result<Option<ShownPart>, LogFault> {
     match ParameterGroup::read(frame) {
         ParameterGroup::Diagnostic { bytes, .. } => read_shown(alloc, bytes),
         _ => Ok(None),
     }
 }
 
-/// What a payload of a group shows, where it is a diagnostic message that can be read.
-pub(crate) fn shown_in(alloc: Global, pgn: Pgn, bytes: &[u8]) -> Result<Option<Shown>, LogFault> {
+/// What a payload of a group shows, where it is a diagnostic message of which anything can be read.
+pub(crate) fn shown_in(
+    alloc: Global,
+    pgn: Pgn,
+    bytes: &[u8],
+) -> Result<Option<ShownPart>, LogFault> {
     match pgn {
         Pgn::DM1 | Pgn::DM2 | Pgn::DM6 => read_shown(alloc, bytes),
         _ => Ok(None),
     }
 }
 
-/// What the bytes of a diagnostic message show, where they can be read.
-fn read_shown(alloc: Global, bytes: &[u8]) -> Result<Option<Shown>, LogFault> {
-    match read(alloc, bytes) {
-        Ok(shown) => Ok(Some(shown)),
-        Err(dm_messages::ReadError::OutOfMemory) => Err(LogFault::Memory),
-        Err(_) => Ok(None),
+/// What the bytes of a diagnostic message show, as far as they can be read.
+fn read_shown(alloc: Global, bytes: &[u8]) -> Result<Option<ShownPart>, LogFault> {
+    match read_message(alloc, bytes)? {
+        Some(MessageRead::Whole(shown)) => Ok(Some(ShownPart {
+            shown,
+            trouble: None,
+        })),
+        Some(MessageRead::InPart(part)) => Ok(Some(ShownPart {
+            shown: part.shown(alloc, None)?,
+            trouble: Some(part.trouble(None)),
+        })),
+        None => Ok(None),
     }
 }

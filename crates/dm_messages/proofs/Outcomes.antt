@@ -15,7 +15,7 @@ use Rattle.dm_messages.specs.View.{view, encoding, Encodes, code_of_bytes, codes
 
 -- ---- what is read has no fault
 
-no_fault_from_code : (a b c d : ℕ) (x : Code) → code_of_bytes a b c d ≡ Some x → fault_of_group a b c d ≡ None
+pub no_fault_from_code : (a b c d : ℕ) (x : Code) → code_of_bytes a b c d ≡ Some x → fault_of_group a b c d ≡ None
 no_fault_from_code a b c d x h =
     let w = some_if _ _ _ h in
     let parts = and_parts _ _ w.0 in

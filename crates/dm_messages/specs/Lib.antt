@@ -1,3 +1,4 @@
 pub mod View
 pub mod Laws
 pub mod Refusals
+pub mod Tolerant

@@ -64,7 +64,7 @@ fn is_no_code(group: &[u8]) -> bool
 }
 
 /// Whether each byte has this value.
-fn all_are(bytes: &[u8], value: u8) -> bool
+pub(crate) fn all_are(bytes: &[u8], value: u8) -> bool
     ensures { result ≡ list_all (λ b. b == value) bytes.now }
 {
     bytes.iter().all(|byte| *byte == value)
@@ -116,7 +116,7 @@ fn first_fault(groups: &[u8]) -> Option<ReadError>
 }
 
 /// The code of one group, or its fault.
-fn read_code(group: [u8; 4]) -> Result<Dtc, ReadError>
+pub(crate) fn read_code(group: [u8; 4]) -> Result<Dtc, ReadError>
     ensures ok { IfOk result
         (λ d. code_of_bytes (slice_index group 0) (slice_index group 1) (slice_index group 2) (slice_index group 3) ≡ Some d) }
     ensures no_fault { IfOk result

@@ -5,8 +5,10 @@ mod codes;
 mod failure_modes;
 mod lamps;
 mod objects;
+mod parts;
 
 pub use codes::CodeWords;
 pub use failure_modes::failure_mode_words;
 pub use lamps::{LampBytes, LampWords};
-pub use objects::{NO_COUNT, put_code, put_lamps, put_number};
+pub use objects::{NO_COUNT, put_code, put_lamps, put_number, put_trouble, trouble_keys};
+pub use parts::{BytesAmiss, PartWords, TroubleWords, unread_parts};

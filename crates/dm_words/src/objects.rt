@@ -1,5 +1,6 @@
 use crate::failure_modes::failure_mode_words;
 use crate::lamps::LampBytes;
+use dm_messages::Trouble;
 use json::Writer;
 use std::alloc::{AllocError, Global};
 use trouble_code::{Dtc, Lamps};
@@ -48,4 +49,29 @@ pub fn put_code(json: &mut Writer, code: Dtc, text: Option<&str>) -> Result<(), 
     json.key("fmi_text")?;
     json.string(failure_mode_words(code.fmi()))?;
     json.end_object()
+}
+
+/// Writes the key `not_read` and what of a message that was read in part is not read, each sort with its number.
+///
+/// # Errors
+/// Memory was refused.
+pub fn put_trouble(json: &mut Writer, trouble: Trouble) -> Result<(), AllocError> {
+    json.key("not_read")?;
+    json.begin_object()?;
+    for (key, count) in trouble_keys(trouble) {
+        put_number(json, key, count)?;
+    }
+    json.end_object()
+}
+
+/// What is amiss with a message that was read in part, each sort with its key.
+pub fn trouble_keys(trouble: Trouble) -> [(&'static str, u64); 6] {
+    [
+        ("padding", u64::from(trouble.padding)),
+        ("zeros", u64::from(trouble.no_code)),
+        ("older", u64::from(trouble.older)),
+        ("converted", u64::from(trouble.converted)),
+        ("bytes_behind", u64::from(trouble.behind)),
+        ("bytes_missing", u64::from(trouble.missing)),
+    ]
 }

@@ -1,2 +1,4 @@
 pub mod Newer
-pub mod Rows
+pub mod UnderNames
+pub mod RowClaims
+pub mod RowLemmas

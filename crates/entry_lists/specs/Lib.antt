@@ -1,2 +1,4 @@
 pub mod Entries
 pub mod Newest
+pub mod KeptValue
+pub mod KnownRows

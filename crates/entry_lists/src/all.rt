@@ -48,7 +48,7 @@ impl AllEntries {
     }
 
     /// Begins the lists of a NAME that has none, with this entry. Where memory is refused, nothing changes.
-    #[tactic(auto, using(crate::proofs::Rows::begun))]
+    #[tactic(auto, using(crate::proofs::UnderNames::begun))]
     fn begin(&mut self, alloc: Global, entry: NewEntry) -> Result<(), AllocError>
         requires { lookup (nat_eq entry.name) self.old ≡ None }
         ensures ok { OnOk result (self.new ≡ put_under entry self.old) }

@@ -1,5 +1,7 @@
 ghost use Rattle.std.specs.Prelude.{◌≡◌, OnOk, OnErr};
+ghost use Rattle.bus_model.specs.Heard as heard;
 
+use can_frame::Pgn;
 use dm_messages::{Kind, Shown};
 use std::alloc::{AllocError, Global};
 use std::marker::Model;
@@ -56,5 +58,17 @@ impl KindEntries {
             Kind::Dm2 => self.dm2.as_slice(),
             Kind::Dm6 => self.dm6.as_slice(),
         }
+    }
+}
+
+/// The kind of diagnostic message that a parameter group stands for.
+pub fn kind_of(pgn: Pgn) -> Option<Kind>
+    ensures { result ≡ heard.kind_of pgn }
+{
+    match pgn {
+        Pgn::DM1 => Some(Kind::Dm1),
+        Pgn::DM2 => Some(Kind::Dm2),
+        Pgn::DM6 => Some(Kind::Dm6),
+        _ => None,
     }
 }

@@ -18,7 +18,7 @@ use std::marker::Model;
 #[derive(Drop)]
 pub struct NewestEntries {
     keep: u32,
-    rows: NameMap<NewestOfKinds>,
+    rows: NameMap<NewestOfKinds<Shown>>,
 }
 
 impl Model for NewestEntries {
@@ -91,6 +91,7 @@ impl NewestEntries {
         self.rows.push(entry.name, kinds)?;
         Ok(())
     }
+
     /// Puts the entry. Where memory is refused, nothing changes.
     #[tactic(auto, using(std::proofs::lemmas::Map::Steps::set_value_same))]
     fn add(&mut self, alloc: Global, entry: NewEntry) -> Result<(), AllocError>

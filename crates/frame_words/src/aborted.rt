@@ -5,7 +5,7 @@ use std::fmt;
 
 /// Why a session was aborted, by its number, and in words where these are known.
 #[derive(Clone, Copy)]
-pub(crate) struct AbortWords(pub u8);
+pub struct AbortWords(pub u8);
 
 impl fmt::Display for AbortWords {
     fn fmt<W: fmt::Write>(&self, f: &mut fmt::Formatter<W>) -> fmt::Result {

@@ -9,6 +9,7 @@ mod line;
 mod message;
 mod names;
 
+pub use aborted::AbortWords;
 pub use audience::Audience;
 pub use group::{AddressWords, ControlWords, GroupWords, UnreadWords};
 pub use line::{write_joined_words, write_line_words};

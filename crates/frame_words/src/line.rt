@@ -6,10 +6,10 @@ use crate::group::AddressWords;
 use crate::message::{write_message, write_payload};
 use can_frame::{Frame, GLOBAL_ADDRESS, Pgn};
 use candump_line::{Foreign, Line, Reason, Time};
+use safe_text::{Seen, SeenCharacter};
 use std::alloc::Global;
 use std::io;
 use std::io::Write;
-use text_buffer::{Seen, SeenCharacter};
 
 /// Writes what a line says for people, without a line end: `(TIME) BUS pPRIORITY SOURCE>DESTINATION GROUP WORDS`.
 ///

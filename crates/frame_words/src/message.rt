@@ -1,15 +1,14 @@
-ghost use Rattle.std.specs.Prelude.{◌≡◌, IfErr, IfOk, OnOk, Some};
+ghost use Rattle.std.specs.Prelude.{◌≡◌, IfOk, OnOk};
 ghost use Rattle.std.specs.Io.KnownBytes.{Appends};
-ghost use Rattle.dm_messages.specs.Refusals.{refusal};
-ghost use Rattle.dm_messages.specs.View.{decoding};
+ghost use Rattle.dm_messages.specs.Tolerant.{message_read};
 ghost use Rattle.frame_words.specs.Words.{function_text, kind_text};
 
 use crate::aborted::AbortWords;
 use crate::audience::Audience;
 use crate::group::{AddressWords, ByteWords, ControlWords, GroupWords, UnreadWords, group_name};
 use can_frame::{Frame, Pgn};
-use dm_messages::{Kind, ReadError, Shown, read};
-use dm_words::{CodeWords, LampBytes, LampWords};
+use dm_messages::{Kind, MessageRead, ReadError, Shown, Tolerant, read_message};
+use dm_words::{BytesAmiss, CodeWords, LampBytes, LampWords, PartWords};
 use name_field::{Name, NameFields};
 use parameter_group::ParameterGroup;
 use requests::Ack;
@@ -135,26 +134,46 @@ fn write_diagnostic<W: Write>(
 ) -> io::Result<()> {
     let word = kind_word(kind);
     match read_payload(alloc, bytes)? {
-        Ok(shown) => write_shown(writer, word, &shown, audience),
-        Err(error) => {
-            let reason = UnreadWords(error);
+        Some(MessageRead::Whole(shown)) => write_shown(writer, word, &shown, audience),
+        Some(MessageRead::InPart(part)) => write_part(writer, word, &part, audience),
+        None => {
+            let reason = UnreadWords(ReadError::BadLength);
             write!(writer, "{word}: cannot be read: {reason}")
         }
     }
 }
 
-/// What the payload of a diagnostic message shows, or why it cannot be read.
+/// What can be read of the payload of a diagnostic message; none where not even its lamps are whole.
 ///
 /// # Errors
 /// Memory was refused. That says nothing of the payload, so it is no reason why that cannot be read.
-fn read_payload(alloc: Global, bytes: &[u8]) -> io::Result<Result<Shown, ReadError>>
-    ensures shown { IfOk result (λ told. IfOk told (λ shown. decoding bytes.now ≡ Some shown)) }
-    ensures unread { IfOk result (λ told. IfErr told (λ error. refusal bytes.now ≡ Some error)) }
+fn read_payload(alloc: Global, bytes: &[u8]) -> io::Result<Option<MessageRead>>
+    ensures { IfOk result (λ told. told ≡ message_read bytes.now) }
 {
-    match read(alloc, bytes) {
-        Err(ReadError::OutOfMemory) => Err(io::Error::from(io::ErrorKind::OutOfMemory)),
-        told => Ok(told),
+    match read_message(alloc, bytes) {
+        Ok(told) => Ok(told),
+        Err(_) => Err(io::Error::from(io::ErrorKind::OutOfMemory)),
     }
+}
+
+/// The lamps and each group of a message that is not as the standard has it, and how many bytes are too many or too few.
+fn write_part<W: Write>(
+    writer: &mut W,
+    word: &str,
+    part: &Tolerant,
+    audience: Audience,
+) -> io::Result<()> {
+    let lamps = LampWords(part.lamps);
+    let groups = PartWords(part.groups.as_slice());
+    match audience {
+        Audience::People => {
+            let bytes = LampBytes(part.lamps);
+            write!(writer, "{word}: {lamps} ({bytes}); {groups}")?;
+        }
+        Audience::Programs => write!(writer, "{word}: {lamps}; {groups}")?,
+    }
+    let amiss = BytesAmiss(part.trouble(None));
+    write!(writer, "{amiss}")
 }
 
 fn write_shown<W: Write>(

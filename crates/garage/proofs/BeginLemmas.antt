@@ -15,12 +15,12 @@ use Rattle.node_core.specs.declared.out.Out.{Out}
 use Rattle.node_core.specs.declared.session.OpenSession.{OpenSession}
 use Rattle.journal.specs.State.{UnitState, unit_at}
 use Rattle.journal.specs.Journal.{GarageValue, state_of}
-use Rattle.garage_steps.specs.Calls.{BeginsFull}
-use Rattle.garage_steps.specs.Causes.{BeginsWith}
-use Rattle.garage_steps.specs.Room.{IsFull}
-use Rattle.garage_steps.specs.declared.error.GarageError.{GarageError}
-use Rattle.garage_steps.specs.declared.error.GarageError.TheVariants.{BookFull}
-use Rattle.garage_steps.specs.declared.answers.Begin.{Begin}
+use Rattle.garage.specs.Calls.{BeginsFull}
+use Rattle.garage.specs.Causes.{BeginsWith}
+use Rattle.garage.specs.Room.{IsFull}
+use Rattle.garage.specs.declared.error.GarageError.{GarageError}
+use Rattle.garage.specs.declared.error.GarageError.TheVariants.{BookFull}
+use Rattle.garage.specs.declared.answers.Begin.{Begin}
 use Rattle.garage.specs.Inside.{garage_value_of, Stands}
 use Rattle.garage.specs.declared.garage.Place.{Place}
 use Rattle.garage.specs.declared.garage.Garage.TheInside.{Inside}

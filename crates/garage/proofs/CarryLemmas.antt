@@ -4,9 +4,9 @@ use Rattle.std.specs.Prelude.{◌↔◌}
 use Rattle.bus_ledger.specs.Newcomers.{live_units}
 use Rattle.journal.specs.Journal.{GarageValue}
 use Rattle.garage.specs.Inside.{garage_value_of, Stands}
-use Rattle.garage_steps.specs.Room.{IsFull}
-use Rattle.garage_steps.specs.declared.error.GarageError.{GarageError}
-use Rattle.garage_steps.specs.declared.error.GarageError.TheVariants.{BookFull}
+use Rattle.garage.specs.Room.{IsFull}
+use Rattle.garage.specs.declared.error.GarageError.{GarageError}
+use Rattle.garage.specs.declared.error.GarageError.TheVariants.{BookFull}
 use Rattle.garage.specs.declared.garage.Garage.TheInside.{Inside}
 
 -- what a garage without room for its next event is to its callers

@@ -11,11 +11,12 @@ use Rattle.bus_model.specs.LawfulTraffic.{IsLawfulTraffic}
 use Rattle.bus_model.specs.Messages.{Message, IsAmong}
 use Rattle.bus_model.specs.Whole.{received_whole}
 use Rattle.entry_lists.specs.Entries.{entries_under}
-use Rattle.station_table.specs.KeptValue.{kept_under}
+use Rattle.entry_lists.specs.KeptValue.{kept_under}
 use Rattle.station_table.specs.Listing.{lists_heard}
-use Rattle.station_table.specs.StandsFor.{StandsFor, row_of, row_heard_as}
+use Rattle.station_table.specs.StandsFor.{StandsFor}
+use Rattle.entry_lists.specs.KnownRows.{row_of, row_heard_as}
 use Rattle.station_table.specs.StationValue.{StationValue}
-use Rattle.station_table.specs.declared.row.Row.{Row}
+use Rattle.entry_lists.specs.declared.row.Row.{Row}
 use Rattle.station_table.proofs.Queries.{row_as_heard}
 use Rattle.journal.specs.Journal.{GarageValue, injected_of, listed_at, readings_at, shown_at, state_of}
 use Rattle.journal.specs.Promises.{IsFromOwner, wire_of}

@@ -6,7 +6,7 @@ use Rattle.journal.specs.Journal.{GarageValue}
 use Rattle.garage.specs.Inside.{garage_value_of, settings_of, Stands}
 use Rattle.garage.specs.declared.garage.Garage.TheInside.{Inside}
 use Rattle.garage.proofs.Standing.{settings_are, station_below, windows_are}
-use Rattle.garage_steps.proofs.Traffics.{station_live}
+use Rattle.garage.proofs.Traffics.{station_live}
 
 -- the bus has a window for each station in every garage
 pub bus_windows : (a : Inside) → Stands a → length a.bus.traffic.windows ≡ a.stations

@@ -18,17 +18,17 @@ use Rattle.journal.specs.Journal.{GarageValue, IsSeated, one_more, state_of, tal
 use Rattle.journal.specs.State.{Settings, unit_at}
 use Rattle.journal.specs.Steps.{next_for}
 use Rattle.journal.specs.declared.event.Event.TheVariants.{Hear}
-use Rattle.garage_steps.specs.Answers.{Passes}
-use Rattle.garage_steps.specs.Crew.{AreSeated, Sitting}
-use Rattle.garage_steps.specs.Hearing.{HearsFrame, HearsOut, IsLast}
+use Rattle.garage.specs.Answers.{Passes}
+use Rattle.garage.specs.Crew.{AreSeated, Sitting}
+use Rattle.garage.specs.Hearing.{HearsFrame, HearsOut, IsLast}
 use Rattle.garage.specs.Inside.{no_tally, place_at, settings_of, garage_value_of, unit_of, Stands}
-use Rattle.garage_steps.specs.Rounds.{HearOnward, HearsAt}
+use Rattle.garage.specs.Rounds.{HearOnward, HearsAt}
 use Rattle.garage.specs.declared.garage.Garage.TheInside.{Inside}
 use Rattle.garage.specs.declared.garage.Place.{Place}
-use Rattle.garage_steps.proofs.HearLemmas.{out_none, out_one}
-use Rattle.garage_steps.proofs.LastFrames.{next_is_last}
+use Rattle.garage.proofs.HearLemmas.{out_none, out_one}
+use Rattle.garage.proofs.LastFrames.{next_is_last}
 use Rattle.garage.proofs.Passing.{SamePosts, quiet_passes, quiet_stands}
-use Rattle.garage_steps.proofs.RoundLemmas.{last_after, moved_some, set_itself, units_more}
+use Rattle.garage.proofs.RoundLemmas.{last_after, moved_some, set_itself, units_more}
 use Rattle.garage.proofs.Standing.{place_told, state}
 
 -- how far they have come: all stands, those before this number have heard all, and there is room for so many more

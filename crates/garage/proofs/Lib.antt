@@ -13,3 +13,12 @@ mod BeginLemmas
 mod Lines
 pub mod Lent
 mod Listed
+pub mod Events
+pub mod Traffics
+pub mod Pieces
+pub mod SeatKept
+pub mod Crew
+pub mod LastFrames
+pub mod HearLemmas
+pub mod ReadLemmas
+pub mod RoundLemmas

@@ -5,8 +5,8 @@ use Rattle.std.proofs.lemmas.Option.{slice_get-get_or, slice_get_within}
 use Rattle.std.specs.Prelude.{slice_get}
 use Rattle.std.specs.Option.{option_map}
 use Rattle.bus_model.specs.Heard.{RowHeard, names_heard, address_in_row}
-use Rattle.station_table.specs.StandsFor.{row_heard_as}
-use Rattle.station_table.specs.declared.row.Row.{Row}
+use Rattle.entry_lists.specs.KnownRows.{row_heard_as}
+use Rattle.entry_lists.specs.declared.row.Row.{Row}
 use Rattle.station_table.proofs.Queries.{name_as_heard, names_as_heard}
 use Rattle.journal.specs.Journal.{GarageValue, readings_at}
 use Rattle.journal.specs.State.{setting_at}

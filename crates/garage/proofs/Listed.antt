@@ -11,7 +11,7 @@ use Rattle.entry_lists.specs.declared.entry.NewEntry.{NewEntry}
 use Rattle.journal.specs.declared.event.Event.TheVariants.{Read}
 use Rattle.station_table.specs.Listing.{entry_heard, lists_heard}
 use Rattle.station_table.proofs.Listing.{lists_after}
-use Rattle.garage_steps.proofs.Events.{readings_with}
+use Rattle.garage.proofs.Events.{readings_with}
 
 put_all : (before after : List (ℕ × KindsValue)) (o : Option NewEntry) → HasPut HasAll before o after → (n : ℕ) (k : Kind) → entries_under after n k ≡ with_listed o (entries_under before) n k
 put_all before after None same n k = ap (λ (rows : List (ℕ × KindsValue)). entries_under rows n k) same

@@ -9,15 +9,15 @@ use Rattle.journal.specs.Promises.{KeepsLists}
 use Rattle.journal.specs.declared.event.Event.{Event}
 use Rattle.journal.specs.declared.event.Event.TheVariants as event
 use Rattle.journal.proofs.Lifted.{keeps_adds, keeps_same}
-use Rattle.garage_steps.specs.Answers.{Hears, Begins, Reads}
+use Rattle.garage.specs.Answers.{Hears, Begins, Reads}
 use Rattle.can_frame.specs.declared.reading.Reading.{Reading}
 use Rattle.can_frame.specs.declared.reading.Reading.TheVariants as reading
 use Rattle.garage.specs.Inside.{settings_of, garage_value_of, Stands}
 use Rattle.garage.specs.declared.garage.Garage.TheInside.{Inside}
-use Rattle.garage_steps.specs.declared.answers.HeardOne.{HeardOne}
-use Rattle.garage_steps.specs.declared.answers.HeardOne.TheVariants as heard
-use Rattle.garage_steps.specs.declared.answers.Begin.{Begin as Began}
-use Rattle.garage_steps.specs.declared.answers.Begin.TheVariants as began
+use Rattle.garage.specs.declared.answers.HeardOne.{HeardOne}
+use Rattle.garage.specs.declared.answers.HeardOne.TheVariants as heard
+use Rattle.garage.specs.declared.answers.Begin.{Begin as Began}
+use Rattle.garage.specs.declared.answers.Begin.TheVariants as began
 
 -- a journal has room for 2^24 events at most
 pub few_events : (a : Inside) (g : GarageValue) → garage_value_of a ≡ g → Stands a → length g.journal < 2 ^ 32

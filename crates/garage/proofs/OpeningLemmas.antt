@@ -19,7 +19,7 @@ use Rattle.journal.specs.declared.event.Event.{Event}
 use Rattle.journal.proofs.Starting.{claims_wire, seat_started, start_stands}
 use Rattle.journal.proofs.Station.{new_at}
 use Rattle.bus_ledger.proofs.Numbers.{same_or_not}
-use Rattle.garage_steps.proofs.Traffics.{within_or_past}
+use Rattle.garage.proofs.Traffics.{within_or_past}
 use Rattle.garage.specs.Opening.{nothing_set, setting_in, setting_value, station_seat_of, with_stations, HaveOwnNames, HaveNames, AreSettings, IsSetting}
 use Rattle.garage.specs.Inside.{no_tally, post_at, post_setting, settings_of, garage_value_of, unit_of, ArePostsOf, Stands}
 use Rattle.garage.specs.declared.garage.Garage.TheInside.{Inside}

@@ -3,10 +3,10 @@ use Rattle.std.proofs.Common.{ℕ, suc, zero, ◌≡◌, ◌≢◌, ◌⊎◌, i
 use Rattle.can_frame.specs.FrameValue.{FrameValue}
 use Rattle.requests.specs.Layouts.{commanded_bytes}
 use Rattle.transport.specs.Messages.{parts_from, frames_of_message, last_part}
-use Rattle.station_table.specs.KeptValue.{kept_under}
-use Rattle.station_table.specs.Orders.{address_in, ask_answer, ask_all_answer, ask_from, command_answer, command_from}
+use Rattle.entry_lists.specs.KeptValue.{kept_under}
+use Rattle.entry_lists.specs.KnownRows.{address_in, row_of}
+use Rattle.station_table.specs.Orders.{ask_answer, ask_all_answer, ask_from, command_answer, command_from}
 use Rattle.station_table.specs.Reactions.{asking, commanding}
-use Rattle.station_table.specs.StandsFor.{row_of}
 use Rattle.station_table.specs.StationValue.{StationValue}
 use Rattle.station_table.specs.declared.error.StationError.{StationError}
 use Rattle.station_table.specs.declared.reaction.Ask.{Ask}
@@ -26,11 +26,11 @@ use Rattle.journal.specs.declared.event.Event.{Event}
 use Rattle.journal.specs.declared.event.Event.TheVariants.{Ordered}
 use Rattle.journal.specs.declared.order.Order.{Order}
 use Rattle.garage.specs.Obeying.{Obeys}
-use Rattle.garage_steps.specs.Refusals.{of_station}
-use Rattle.garage_steps.specs.declared.error.GarageError.{GarageError}
-use Rattle.garage_steps.specs.declared.error.GarageError.TheVariants.{BookFull}
+use Rattle.garage.specs.Refusals.{of_station}
+use Rattle.garage.specs.declared.error.GarageError.{GarageError}
+use Rattle.garage.specs.declared.error.GarageError.TheVariants.{BookFull}
 use Rattle.station_table.specs.declared.error.StationError.TheVariants as station
-use Rattle.garage_steps.proofs.Traffics.{keeps_withdrawn_if, put_bound, put_seats, put_units, put_wire}
+use Rattle.garage.proofs.Traffics.{keeps_withdrawn_if, put_bound, put_seats, put_units, put_wire}
 
 one_frame : (f : FrameValue) (r : Reaction) → record { withdraw = false; put = f ∷ [] } ≡ r → length r.put ≤ 3
 one_frame f r e = let n : length r.put ≡ 1 = ap (λ (x : Reaction). length x.put) (sym e) in omega arith

@@ -21,14 +21,14 @@ use Rattle.journal.specs.Steps.{after, after_hearing, next_for}
 use Rattle.journal.specs.Journal.{GarageValue, Adds, one_more, state_of, tally_of}
 use Rattle.journal.specs.declared.event.Event.TheVariants.{Hear}
 use Rattle.entry_lists.specs.Entries.{entries_under}
-use Rattle.garage_steps.specs.Answers.{Hears, Passes}
+use Rattle.garage.specs.Answers.{Hears, Passes}
 use Rattle.garage.specs.Inside.{settings_of, garage_value_of, place_at, post_at, unit_of, Stands}
 use Rattle.garage.specs.declared.garage.Garage.TheInside.{Inside}
 use Rattle.garage.specs.declared.garage.Place.{Place}
 use Rattle.garage.specs.declared.garage.Post.{Post}
-use Rattle.garage_steps.specs.declared.answers.HeardOne.TheVariants as heard
-use Rattle.garage_steps.proofs.Traffics.{keeps_heard}
-use Rattle.garage_steps.proofs.Events.{hear_is, is_answered, joins_hear, next_within}
+use Rattle.garage.specs.declared.answers.HeardOne.TheVariants as heard
+use Rattle.garage.proofs.Traffics.{keeps_heard}
+use Rattle.garage.proofs.Events.{hear_is, is_answered, joins_hear, next_within}
 use Rattle.garage.proofs.Standing.{stations_are, windows_are, state, added, fresh_one, place_tally, place_within, stands_more, tallies_one, unit_is}
 
 -- the next frame of a seat, as the bus tells it

@@ -28,8 +28,8 @@ use Rattle.node_core.specs.Reaction.{memory_after, question}
 use Rattle.node_core.specs.Asking.{IsAsked}
 use Rattle.unit_trait.specs.declared.question.Question.{Question}
 use Rattle.bus_ledger.proofs.Numbers.{same_or_not}
-use Rattle.garage_steps.specs.Answers.{Hears}
-use Rattle.garage_steps.specs.declared.answers.HeardOne.TheVariants as heard
+use Rattle.garage.specs.Answers.{Hears}
+use Rattle.garage.specs.declared.answers.HeardOne.TheVariants as heard
 use Rattle.journal.specs.Fits.{Fits}
 use Rattle.journal.specs.Journal.{GarageValue, state_after, state_of, AllFit, injected_of, joins, readings_at, tallied, tally_of}
 use Rattle.journal.specs.declared.event.Event.{Event}
@@ -39,8 +39,8 @@ use Rattle.garage.specs.Inside.{settings_of, garage_value_of, unit_of, no_place,
 use Rattle.garage.specs.declared.garage.Place.{Place}
 use Rattle.garage.specs.declared.garage.Post.{Post}
 use Rattle.garage.specs.declared.garage.Garage.TheInside.{Inside}
-use Rattle.garage_steps.proofs.Traffics.{IsLive-queued, joined_live, joined_name}
-use Rattle.garage_steps.proofs.Events.{state_more, fit_more, tally_more, IsFewTally, tally_few, from_outside, injected_more, readings_with, readings_more, join_is}
+use Rattle.garage.proofs.Traffics.{IsLive-queued, joined_live, joined_name}
+use Rattle.garage.proofs.Events.{state_more, fit_more, tally_more, IsFewTally, tally_few, from_outside, injected_more, readings_with, readings_more, join_is}
 
 -- the state that the fields of a garage stand for
 abbrev pub state : Inside → State

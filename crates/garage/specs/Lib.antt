@@ -3,3 +3,12 @@ pub mod Obeying
 pub mod Opening
 pub mod Snapshots
 pub mod ParkedUnits
+pub mod Refusals
+pub mod Carrying
+pub mod Room
+pub mod Causes
+pub mod Calls
+pub mod Answers
+pub mod Crew
+pub mod Hearing
+pub mod Rounds

@@ -6,7 +6,7 @@ use Rattle.fault_memory.specs.Memory.{MemoryValue}
 use Rattle.unit_trait.specs.declared.question.Question.{Question}
 use Rattle.node_core.specs.Asking.{IsAsked}
 use Rattle.node_core.specs.declared.heard.Answer.{Answer as UnitAnswer}
-use Rattle.garage_steps.specs.Crew.{Sitting}
+use Rattle.garage.specs.Crew.{Sitting}
 use Rattle.garage.specs.declared.plug.Parked.{Parked}
 
 -- a parked unit is this to a garage, by the NAME and the memory of a box

@@ -2,12 +2,13 @@ ghost use Rattle.std.specs.Prelude.{◌≡◌, ◌⊎◌, ◌↔◌, Err, Ok, If
 ghost use Rattle.bus_ledger.specs.Carrying.{CanCarry, IsIdle, IsWaiting};
 ghost use Rattle.journal.specs.Journal.{state_of};
 ghost use Rattle.journal.specs.Promises.{KeepsLists};
-ghost use Rattle.garage_steps.specs.Carrying.{AddsCarry};
-ghost use Rattle.garage_steps.specs.Room.{IsFull};
+ghost use Rattle.garage.specs.Carrying.{AddsCarry};
+ghost use Rattle.garage.specs.Room.{IsFull};
 
+use crate::error::GarageError;
 use crate::garage::Garage;
+use crate::room::check_room;
 use bus_ledger::Carried;
-use garage_steps::{GarageError, check_room};
 
 impl Garage {
     /// Carries one frame.

@@ -8,22 +8,22 @@ ghost use Rattle.journal.specs.Journal.{one_more, state_of, IsSeated};
 ghost use Rattle.journal.specs.Promises.{KeepsLists};
 ghost use Rattle.journal.specs.Steps.{begins_session, next_for};
 ghost use Rattle.journal.specs.declared.event.Event.TheVariants.{Hear};
-ghost use Rattle.garage_steps.specs.Answers.{Hears, PassesNext};
-ghost use Rattle.garage_steps.specs.Calls.{HearsFull, HearsNothing, IsWant};
-ghost use Rattle.garage_steps.specs.Crew.{Comes};
+ghost use Rattle.garage.specs.Answers.{Hears, PassesNext};
+ghost use Rattle.garage.specs.Calls.{HearsFull, HearsNothing, IsNoMemoryOrFull};
+ghost use Rattle.garage.specs.Crew.{Comes};
 ghost use Rattle.garage.specs.ParkedUnits.{asked_of, sitting_of};
-ghost use Rattle.garage_steps.specs.Hearing.{HasHeardAll, HearsMany, HearsNext, HearsOut, IsHearingCut};
-ghost use Rattle.garage_steps.specs.Room.{IsFull};
+ghost use Rattle.garage.specs.Hearing.{HasHeardAll, HearsMany, HearsNext, HearsOut, IsHearingCut};
+ghost use Rattle.garage.specs.Room.{IsFull};
 
+use crate::answers::HeardOne;
+use crate::error::GarageError;
 use crate::garage::{Garage, Place};
 use crate::plug::Parked;
+use crate::queueing::{MessageNumbers, begins_session, begun_count, do_heard, last_session};
+use crate::room::{has_room, make_ready};
 use bus_ledger::Bus;
 use can_frame::Frame;
 use fault_memory::FaultMemory;
-use garage_steps::{
-    GarageError, HeardOne, Numbering, begins_session, begun_count, do_heard, has_room,
-    last_session, make_ready,
-};
 use journal::{Journal, MemoryThen};
 use node_core::{Acceptance, Answer};
 use std::alloc::Global;
@@ -66,7 +66,7 @@ impl Garage {
             × Hears self.old seat (memory_of unit.old) (Answers unit.old) unit.old.1 h self.new (memory_of unit.new) u) }
         ensures nothing { HearsNothing self.old seat result }
         ensures full { HearsFull self.old seat result }
-        ensures only { IfErr result IsWant }
+        ensures only { IfErr result IsNoMemoryOrFull }
         ensures err { OnErr result (self.new ≡ self.old) }
         ensures unasked { OnErr result (unit.new ≡ unit.old) }
     {
@@ -122,7 +122,7 @@ impl Garage {
             × Hears self.old seat (memory_of unit.old) (Answers unit.old) unit.old.1 (HeardOne.Frame frame) self.new
             (memory_of unit.new) u) }
         ensures full { IsErrOf result GarageError.BookFull ↔ IsFull self.old }
-        ensures only { IfErr result IsWant }
+        ensures only { IfErr result IsNoMemoryOrFull }
         ensures err { OnErr result (self.new ≡ self.old) }
         ensures unasked { OnErr result (unit.new ≡ unit.old) }
     {
@@ -138,7 +138,7 @@ impl Garage {
         let heard = place.node.hear(alloc, &frame, &mut *unit)?;
         place.session_message = last_session(place.session_message, self.begun, heard.begun);
         place.tally.events += 1;
-        let numbering = Numbering {
+        let numbering = MessageNumbers {
             begun: self.begun,
             is_session: begins_session(heard.begun),
             session: place.session_message,
@@ -160,7 +160,7 @@ impl Garage {
     /// Refused with `Stranger` exactly where this garage has no live seat with its seat number, NAME and count of events; then
     /// nothing changed. `BookFull`, then `OutOfMemory`, where there is one more frame to hear: what was heard before stays, and the
     /// hearing that was refused changed nothing.
-    #[tactic(auto, using(garage_steps::proofs::Crew::lists_come, garage_steps::proofs::Crew::comes_same, crate::proofs::Lists::lists_same))]
+    #[tactic(auto, using(crate::proofs::Crew::lists_come, crate::proofs::Crew::comes_same, crate::proofs::Lists::lists_same))]
     pub fn let_hear(
         &mut self,
         alloc: Global,
@@ -179,7 +179,7 @@ impl Garage {
         ensures most { IfOk result (λ n. n ≤ most) }
         ensures all { IfOk result (λ n. n < most → HasHeardAll parked.old.seat self.new) }
         ensures counted { IfOk result (λ n. parked.new.events ≡ parked.old.events + n) }
-        ensures only { IfErr result (λ e. (e ≡ GarageError.Stranger) ⊎ IsWant e) }
+        ensures only { IfErr result (λ e. (e ≡ GarageError.Stranger) ⊎ IsNoMemoryOrFull e) }
         ensures cut { IfErr result (λ e. (e ≡ GarageError.Stranger)
             ⊎ ((n : ℕ) × (n < most)
             × IsHearingCut (sitting_of (λ b. name_of b) (λ b. memory_of b)) (asked_of (λ b. Answers b)) n e self.old parked.old
@@ -228,7 +228,7 @@ impl Garage {
             self.old parked.old self.new parked.new) }
         ensures nothing { HearsNothing self.old parked.old.seat result }
         ensures full { HearsFull self.old parked.old.seat result }
-        ensures only { IfErr result IsWant }
+        ensures only { IfErr result IsNoMemoryOrFull }
         ensures err { OnErr result ((self.new ≡ self.old) × (parked.new ≡ parked.old)) }
     {
         let heard = self.hear(alloc, parked.seat, &mut *parked.unit)?;

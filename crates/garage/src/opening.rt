@@ -7,11 +7,11 @@ ghost use Rattle.journal.specs.State.{with_claims};
 ghost use Rattle.garage.specs.Opening.{new_garage, setting_value, station_seat_of, with_one, with_stations, HaveOwnNames, HaveNames, AreSettings, CanStart, IsApartBefore, IsSetting};
 ghost use Rattle.garage.specs.Inside.{ArePostsOf};
 
+use crate::error::GarageError;
 use crate::garage::{Garage, Post};
 use bus_ledger::{Bus, MOST_STATIONS, MOST_UNREAD, StationSeat};
 use can_frame::GREATEST_ADDRESS;
 use entry_lists::AllEntries;
-use garage_steps::GarageError;
 use journal::{Journal, MOST_EVENTS};
 use name_field::Name;
 use station_table::Station;

@@ -2,10 +2,12 @@ ghost use Rattle.std.specs.Prelude.{◌≡◌, ◌≢◌, ◌≤◌, ◌<◌, �
 ghost use Rattle.can_frame.specs.declared.address.TheConstants.{GREATEST_ADDRESS};
 ghost use Rattle.station_table.specs.declared.error.StationError.{StationError as AnyRefusal};
 ghost use Rattle.journal.specs.declared.order.Order.TheVariants as order;
-ghost use Rattle.garage_steps.specs.Refusals.{of_station};
+ghost use Rattle.garage.specs.Refusals.{of_station};
 
+use crate::error::GarageError;
 use crate::garage::Garage;
-use garage_steps::{GarageError, check_room, react};
+use crate::queueing::react;
+use crate::room::check_room;
 use journal::Order;
 use name_field::Name;
 use station_table::{Ask, Reaction, StationError};
@@ -22,7 +24,7 @@ impl Garage {
     ghost use Rattle.journal.specs.State.{table_at};
     ghost use Rattle.journal.specs.declared.event.Event.TheVariants.{Ordered};
     ghost use Rattle.garage.specs.Obeying.{Obeys};
-    ghost use Rattle.garage_steps.specs.Room.{IsFull};
+    ghost use Rattle.garage.specs.Room.{IsFull};
 
     /// Has station 0 ask the unit of a NAME, as `ask_at` says.
     pub fn ask(&mut self, alloc: Global, name: Name, ask: Ask) -> Result<(), GarageError>

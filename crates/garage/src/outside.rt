@@ -2,12 +2,13 @@ ghost use Rattle.std.specs.Prelude.{◌≡◌, ◌⊎◌, ◌↔◌, IfErr, IsEr
 ghost use Rattle.journal.specs.Journal.{injected_of, Adds};
 ghost use Rattle.journal.specs.Promises.{KeepsLists};
 ghost use Rattle.journal.specs.declared.event.Event.TheVariants.{Inject};
-ghost use Rattle.garage_steps.specs.Calls.{IsWant};
-ghost use Rattle.garage_steps.specs.Room.{IsFull};
+ghost use Rattle.garage.specs.Calls.{IsNoMemoryOrFull};
+ghost use Rattle.garage.specs.Room.{IsFull};
 
+use crate::error::GarageError;
 use crate::garage::Garage;
+use crate::room::check_room;
 use can_frame::Frame;
-use garage_steps::{GarageError, check_room};
 
 impl Garage {
     /// Puts a frame that no seat sent at the end of the wire at once.
@@ -20,7 +21,7 @@ impl Garage {
     pub fn inject(&mut self, frame: Frame) -> Result<(), GarageError>
         ensures ok { OnOk result (Adds self.old (Inject frame) self.new) }
         ensures full { IsErrOf result GarageError.BookFull ↔ IsFull self.old }
-        ensures only { IfErr result IsWant }
+        ensures only { IfErr result IsNoMemoryOrFull }
         ensures err { OnErr result (self.new ≡ self.old) }
         ensures lists { KeepsLists self.old self.new }
     {

@@ -2,13 +2,14 @@ ghost use Rattle.std.specs.Prelude.{◌≡◌, ◌+◌, ◌↔◌, ◌⊎◌, If
 ghost use Rattle.journal.specs.Journal.{Adds, IsSeated};
 ghost use Rattle.journal.specs.Promises.{KeepsLists};
 ghost use Rattle.journal.specs.declared.event.Event.TheVariants.{Turned};
-ghost use Rattle.garage_steps.specs.Answers.{Begins, counted_beginning};
-ghost use Rattle.garage_steps.specs.Calls.{BeginsFull, BeginsHeld, BeginsUnclaimed, IsBeginRefusal, IsWant};
-ghost use Rattle.garage_steps.specs.Room.{IsFull};
+ghost use Rattle.garage.specs.Answers.{Begins, counted_beginning};
+ghost use Rattle.garage.specs.Calls.{BeginsFull, BeginsHeld, BeginsUnclaimed, IsBeginRefusal, IsNoMemoryOrFull};
+ghost use Rattle.garage.specs.Room.{IsFull};
 
+use crate::answers::Begin;
+use crate::error::GarageError;
 use crate::garage::Garage;
 use crate::plug::Parked;
-use garage_steps::{Begin, GarageError};
 use std::alloc::Global;
 use unit_trait::Unit;
 
@@ -69,7 +70,7 @@ impl Garage {
         ensures counted { OnOk result (parked.new.events ≡ parked.old.events + 1) }
         ensures full { IsSeated self.old parked.old.seat (name_of parked.old.unit) parked.old.events
             → (IsErrOf result GarageError.BookFull ↔ IsFull self.old) }
-        ensures only { IfErr result (λ e. (e ≡ GarageError.Stranger) ⊎ IsWant e) }
+        ensures only { IfErr result (λ e. (e ≡ GarageError.Stranger) ⊎ IsNoMemoryOrFull e) }
         ensures err { OnErr result ((self.new ≡ self.old) × (parked.new ≡ parked.old)) }
         ensures lists { KeepsLists self.old self.new }
     {

@@ -6,16 +6,17 @@ ghost use Rattle.fault_memory.specs.declared.error.FaultError.{FaultError as Any
 ghost use Rattle.journal.specs.Journal.{state_of, tally_of, Adds, IsSeated};
 ghost use Rattle.journal.specs.Promises.{IsLawful, KeepsLists};
 ghost use Rattle.journal.specs.declared.event.Event.TheVariants.{Join, Turned, Leave};
-ghost use Rattle.garage_steps.specs.Answers.{Hears, Begins, counted_hearing, counted_beginning};
-ghost use Rattle.garage_steps.specs.Calls.{BeginsFull, BeginsHeld, BeginsUnclaimed, HasNameInUse, HasNoRoomFor, HasTooMany, HearsFull, HearsNothing, IsBeginRefusal, IsWant};
-ghost use Rattle.garage_steps.specs.Refusals.{IsJoinRefusal};
-ghost use Rattle.garage_steps.specs.Room.{IsFull};
+ghost use Rattle.garage.specs.Answers.{Hears, Begins, counted_hearing, counted_beginning};
+ghost use Rattle.garage.specs.Calls.{BeginsFull, BeginsHeld, BeginsUnclaimed, HasNameInUse, HasNoRoomFor, HasTooMany, HearsFull, HearsNothing, IsBeginRefusal, IsNoMemoryOrFull};
+ghost use Rattle.garage.specs.Refusals.{IsJoinRefusal};
+ghost use Rattle.garage.specs.Room.{IsFull};
 ghost use Rattle.garage.specs.contracts.garage.Garage.{the_row};
 
+use crate::answers::{Begin, HeardOne};
+use crate::error::GarageError;
 use crate::garage::Garage;
 use can_frame::GREATEST_ADDRESS;
 use fault_memory::{FaultChange, FaultError, FaultMemory};
-use garage_steps::{Begin, GarageError, HeardOne};
 use name_field::Name;
 use std::alloc::Global;
 use unit_trait::Unit;
@@ -280,7 +281,7 @@ impl<'a> Plug<'a> {
         ensures few { OnOk result (self.new.events < 2 ^ 32) }
         ensures nothing { HearsNothing self.old.garage.now self.old.seat result }
         ensures full { HearsFull self.old.garage.now self.old.seat result }
-        ensures only { IfErr result IsWant }
+        ensures only { IfErr result IsNoMemoryOrFull }
         ensures err { OnErr result ((self.new.garage.now ≡ self.old.garage.now) × (self.new.events ≡ self.old.events)) }
         ensures unasked { OnErr result (self.new.unit ≡ self.old.unit) }
         ensures lists { KeepsLists self.old.garage.now self.new.garage.now }
@@ -327,7 +328,7 @@ impl<'a> Plug<'a> {
         ensures ok { OnOk result (Adds self.old.garage.now (Turned self.old.seat) self.new.garage.now) }
         ensures counted { OnOk result (self.new.events ≡ self.old.events + 1) }
         ensures full { IsErrOf result GarageError.BookFull ↔ IsFull self.old.garage.now }
-        ensures only { IfErr result IsWant }
+        ensures only { IfErr result IsNoMemoryOrFull }
         ensures err { OnErr result ((self.new.garage.now ≡ self.old.garage.now) × (self.new.events ≡ self.old.events)) }
         ensures lists { KeepsLists self.old.garage.now self.new.garage.now }
     {

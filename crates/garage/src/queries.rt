@@ -1,8 +1,8 @@
 ghost use Rattle.std.specs.Prelude.{◌≡◌, ◌+◌, ◌<◌, ◌≤◌, ◌⊎◌, length};
-ghost use Rattle.station_table.specs.KeptValue.{kept_under};
+ghost use Rattle.entry_lists.specs.KeptValue.{kept_under};
 ghost use Rattle.std.specs.Option.{option_map};
 ghost use Rattle.bus_model.specs.Heard.{row_heard};
-ghost use Rattle.station_table.specs.StandsFor.{row_of, row_heard_as};
+ghost use Rattle.entry_lists.specs.KnownRows.{row_of, row_heard_as};
 ghost use Rattle.journal.specs.Journal.{joins, readings_at, readings_of, state_of, tally_of};
 ghost use Rattle.journal.specs.State.{table_at};
 ghost use Rattle.journal.specs.Worlds.{station_of, station_of_at};

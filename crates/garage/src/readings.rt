@@ -2,13 +2,15 @@ ghost use Rattle.std.specs.Prelude.{◌≡◌, ◌≢◌, ◌<◌, ◌^◌, ◌�
 ghost use Rattle.bus_ledger.specs.Reception.{next_reading};
 ghost use Rattle.journal.specs.Journal.{state_of};
 ghost use Rattle.journal.specs.Promises.{KeepsLists};
-ghost use Rattle.garage_steps.specs.Answers.{Reads};
-ghost use Rattle.garage_steps.specs.Calls.{IsWant};
-ghost use Rattle.garage_steps.specs.Room.{IsFull};
+ghost use Rattle.garage.specs.Answers.{Reads};
+ghost use Rattle.garage.specs.Calls.{IsNoMemoryOrFull};
+ghost use Rattle.garage.specs.Room.{IsFull};
 
+use crate::error::GarageError;
 use crate::garage::Garage;
+use crate::queueing::react;
+use crate::room::check_room;
 use can_frame::Reading;
-use garage_steps::{GarageError, check_room, react};
 use station_table::Outcome;
 use std::alloc::Global;
 
@@ -25,7 +27,7 @@ impl Garage {
         ensures empty { (result ≡ Ok Reading.Empty) ↔ (next_reading (state_of self.old).traffic 0 ≡ Reading.Empty) }
         ensures full { IsErrOf result GarageError.BookFull
             ↔ ((next_reading (state_of self.old).traffic 0 ≢ Reading.Empty) × IsFull self.old) }
-        ensures only { IfErr result IsWant }
+        ensures only { IfErr result IsNoMemoryOrFull }
         ensures err { OnErr result (self.new ≡ self.old) }
         ensures lists { KeepsLists self.old self.new }
     {
@@ -47,7 +49,7 @@ impl Garage {
         ensures empty { (result ≡ Ok Reading.Empty) ↔ (next_reading (state_of self.old).traffic station ≡ Reading.Empty) }
         ensures full { IsErrOf result GarageError.BookFull
             ↔ ((next_reading (state_of self.old).traffic station ≢ Reading.Empty) × IsFull self.old) }
-        ensures only { IfErr result IsWant }
+        ensures only { IfErr result IsNoMemoryOrFull }
         ensures err { OnErr result (self.new ≡ self.old) }
         ensures lists { KeepsLists self.old self.new }
     {
@@ -75,7 +77,7 @@ impl Garage {
         requires some { reading.now ≢ Reading.Empty }
         ensures ok { OnOk result (Reads station self.old reading.now self.new) }
         ensures full { IsErrOf result GarageError.BookFull ↔ IsFull self.old }
-        ensures only { IfErr result IsWant }
+        ensures only { IfErr result IsNoMemoryOrFull }
         ensures err { OnErr result (self.new ≡ self.old) }
         ensures lists { KeepsLists self.old self.new }
     {

@@ -3,18 +3,20 @@ ghost use Rattle.std.specs.Bool.{MatchBool};
 ghost use Rattle.bus_ledger.specs.Reception.{next_reading};
 ghost use Rattle.journal.specs.Journal.{state_of};
 ghost use Rattle.journal.specs.Promises.{KeepsLists};
-ghost use Rattle.garage_steps.specs.Calls.{IsWant};
-ghost use Rattle.garage_steps.specs.Crew.{AreSeated, AreUntouched, Comes};
+ghost use Rattle.garage.specs.Calls.{IsNoMemoryOrFull};
+ghost use Rattle.garage.specs.Crew.{AreSeated, AreUntouched, Comes};
 ghost use Rattle.garage.specs.ParkedUnits.{asked_of, sitting_of};
-ghost use Rattle.garage_steps.specs.Hearing.{HasHeardAll, IsLast, IsWantAt};
-ghost use Rattle.garage_steps.specs.Rounds.{EndsSo, HasReadAll, HaveReadAll, HaveRounds, HearOnward, IsListeningCut, IsReadingCut, IsRoundCut, IsUnread, Listens, EachReads, TakesReadings};
+ghost use Rattle.garage.specs.Hearing.{HasHeardAll, IsLast, IsNoMemoryOrFullAt};
+ghost use Rattle.garage.specs.Rounds.{EndsSo, HasReadAll, HaveReadAll, HaveRounds, HearOnward, IsListeningCut, IsReadingCut, IsRoundCut, IsUnread, Listens, EachReads, TakesReadings};
 
+use crate::answers::Rounds;
+use crate::error::GarageError;
 use crate::garage::Garage;
 use crate::hearing::pass_over;
 use crate::plug::Parked;
+use crate::room::has_room;
 use bus_ledger::Carried;
 use can_frame::{Frame, Reading};
-use garage_steps::{GarageError, Rounds, has_room};
 use node_core::Acceptance;
 use std::alloc::Global;
 use unit_trait::Unit;
@@ -37,7 +39,7 @@ impl Garage {
     /// them, or where they do not stand in the order of their seats; then nothing changed. `BookFull`, then `OutOfMemory`, where
     /// there is one more frame to hear, to read or to carry: what was done before stays, and the step that was refused changed
     /// nothing.
-    #[tactic(auto, using(garage_steps::proofs::Crew::lists_come, garage_steps::proofs::Crew::comes_same, crate::proofs::Lists::lists_same))]
+    #[tactic(auto, using(crate::proofs::Crew::lists_come, crate::proofs::Crew::comes_same, crate::proofs::Lists::lists_same))]
     pub fn round(
         &mut self,
         alloc: Global,
@@ -57,7 +59,7 @@ impl Garage {
         ensures carried { IfOk result
             (λ r. length (state_of self.new).traffic.wire ≡ length (state_of self.old).traffic.wire + r.carried) }
         ensures end { IfOk result (λ r. EndsSo most r.carried r.end self.new) }
-        ensures only { IfErr result (λ e. (e ≡ GarageError.Stranger) ⊎ IsWant e) }
+        ensures only { IfErr result (λ e. (e ≡ GarageError.Stranger) ⊎ IsNoMemoryOrFull e) }
         ensures cut { IfErr result (λ e. (e ≡ GarageError.Stranger)
             ⊎ IsRoundCut (sitting_of (λ b. name_of b) (λ b. memory_of b)) (asked_of (λ b. Answers b)) most e self.old units.old
             self.new units.new) }
@@ -238,7 +240,7 @@ impl Garage {
         ensures untouched { AreUntouched self.old self.new }
         ensures reads { TakesReadings station self.old self.new }
         ensures all { OnOk result (HasReadAll station self.new) }
-        ensures left { IfErr result (λ e. IsUnread station self.new × IsWantAt self.new e) }
+        ensures left { IfErr result (λ e. IsUnread station self.new × IsNoMemoryOrFullAt self.new e) }
     {
         loop {
             match self.read_at(alloc, station)? {

@@ -3,12 +3,14 @@ ghost use Rattle.bus_ledger.specs.BusValue.{IsUnit};
 ghost use Rattle.journal.specs.Journal.{state_of, Adds, IsSeated};
 ghost use Rattle.journal.specs.Promises.{KeepsLists};
 ghost use Rattle.journal.specs.declared.event.Event.TheVariants.{Join, Leave};
-ghost use Rattle.garage_steps.specs.Calls.{HasNameInUse, HasNoRoomFor, HasTooMany};
-ghost use Rattle.garage_steps.specs.Refusals.{IsJoinRefusal};
+ghost use Rattle.garage.specs.Calls.{HasNameInUse, HasNoRoomFor, HasTooMany};
+ghost use Rattle.garage.specs.Refusals.{IsJoinRefusal};
 
+use crate::error::GarageError;
 use crate::garage::{Garage, Place};
+use crate::queueing::queue_frames;
+use crate::room::check_room;
 use can_frame::GREATEST_ADDRESS;
-use garage_steps::{GarageError, check_room, queue_frames};
 use journal::Tally;
 use name_field::Name;
 use node_core::Node;

@@ -1,9 +1,9 @@
 ghost use Rattle.std.specs.Prelude.{◌≡◌};
 ghost use Rattle.garage.specs.Snapshots.{newest_of};
 
+use crate::error::GarageError;
 use crate::garage::Garage;
 use dm_messages::{Kind, Shown};
-use garage_steps::GarageError;
 use name_field::Name;
 use std::alloc::Global;
 use trouble_code::Lamps;

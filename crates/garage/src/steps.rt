@@ -1,6 +1,9 @@
+use crate::answers::Begin;
+use crate::error::GarageError;
 use crate::garage::Garage;
+use crate::queueing::{MessageNumbers, queue_outs};
+use crate::room::{check_room, make_ready};
 use dm_messages::Kind;
-use garage_steps::{Begin, GarageError, Numbering, check_room, make_ready, queue_outs};
 use journal::MemoryThen;
 use node_core::{NodeError, Outs, Started};
 use std::alloc::Global;
@@ -12,10 +15,10 @@ impl Garage {
     ghost use Rattle.journal.specs.Journal.{state_of, Adds};
     ghost use Rattle.journal.specs.State.{unit_at};
     ghost use Rattle.journal.specs.declared.event.Event.TheVariants.{Turned};
-    ghost use Rattle.garage_steps.specs.Answers.{Begins};
-    ghost use Rattle.garage_steps.specs.Calls.{BeginsFull, BeginsHeld, BeginsUnclaimed, IsBeginRefusal, IsWant};
-    ghost use Rattle.garage_steps.specs.Causes.{BeginsWith};
-    ghost use Rattle.garage_steps.specs.Room.{IsFull};
+    ghost use Rattle.garage.specs.Answers.{Begins};
+    ghost use Rattle.garage.specs.Calls.{BeginsFull, BeginsHeld, BeginsUnclaimed, IsBeginRefusal, IsNoMemoryOrFull};
+    ghost use Rattle.garage.specs.Causes.{BeginsWith};
+    ghost use Rattle.garage.specs.Room.{IsFull};
 
     /// Begins a DM1 of the memory of the unit on the seat.
     ///
@@ -63,7 +66,7 @@ impl Garage {
         requires few { length put ≤ 256 }
         ensures ok { OnOk result (Begins self.old seat (memory_of unit.now) Begin.Begun self.new) }
         ensures full { IsErrOf result GarageError.BookFull ↔ IsFull self.old }
-        ensures only { IfErr result IsWant }
+        ensures only { IfErr result IsNoMemoryOrFull }
         ensures err { OnErr result (self.new ≡ self.old) }
     {
         make_ready(
@@ -75,7 +78,7 @@ impl Garage {
         )?;
         let place = &mut self.places[(seat - self.stations) as usize];
         place.tally.events += 1;
-        let numbering = Numbering {
+        let numbering = MessageNumbers {
             begun: self.begun,
             is_session: false,
             session: place.session_message,
@@ -95,7 +98,7 @@ impl Garage {
         requires { IsUnit (state_of self.old).traffic seat }
         ensures ok { OnOk result (Adds self.old (Turned seat) self.new) }
         ensures full { IsErrOf result GarageError.BookFull ↔ IsFull self.old }
-        ensures only { IfErr result IsWant }
+        ensures only { IfErr result IsNoMemoryOrFull }
         ensures err { OnErr result (self.new ≡ self.old) }
     {
         check_room(&self.journal, self.live + 1, self.limit)?;

@@ -3,9 +3,8 @@
 //! It does `script`, `log`, `check` and `threads`. `j1939bench_lines` and `j1939bench_live` do the other subcommands.
 #![tactic(auto)]
 
-use command_words::{Job, LogArguments};
-use program_io::Failure;
-use program_start::{Errors, asked_for, done_elsewhere, ended, read_words};
+use command_line::{Errors, asked_for, done_elsewhere, ended, read_words};
+use program_io::{Failure, Job, LogArguments};
 use std::io;
 use std::process::ExitCode;
 use std::rt::Runtime;
@@ -48,7 +47,7 @@ fn do_job<R: Runtime + AllocGlobal + Threads + Wait + Sync>(
 
 #[inline(never)]
 fn script<R: Runtime + AllocGlobal>(rt: &R) -> Result<(), Failure> {
-    script_commands::script(rt.alloc(), &mut rt.reader(), &mut io::writer(rt))?;
+    script_run::script(rt.alloc(), &mut rt.reader(), &mut io::writer(rt))?;
     Ok(())
 }
 
@@ -59,7 +58,7 @@ fn threads<R: Runtime + AllocGlobal + Threads + Wait + Sync>(
     reads: u32,
     report: bool,
 ) -> Result<(), Failure> {
-    threads_command::threads(
+    unit_threads::threads(
         rt,
         rt.alloc(),
         turns,
@@ -72,7 +71,7 @@ fn threads<R: Runtime + AllocGlobal + Threads + Wait + Sync>(
 
 #[inline(never)]
 fn log<R: Runtime + AllocGlobal>(rt: &R, words: LogArguments<'_>) -> Result<(), Failure> {
-    script_commands::log(
+    script_run::log(
         rt.alloc(),
         words,
         &mut rt.reader(),
@@ -83,6 +82,6 @@ fn log<R: Runtime + AllocGlobal>(rt: &R, words: LogArguments<'_>) -> Result<(), 
 
 #[inline(never)]
 fn check<R: Runtime + AllocGlobal>(rt: &R) -> Result<(), Failure> {
-    script_commands::check(rt.alloc(), &mut rt.reader(), io::writer(rt))?;
+    script_run::check(rt.alloc(), &mut rt.reader(), io::writer(rt))?;
     Ok(())
 }

@@ -1,12 +1,11 @@
 //! `j1939bench_lines`: the subcommands of `j1939bench` that read the lines of a log or of a live bus, `watch` and `decode`.
 #![tactic(auto)]
 
-use command_words::{DecodeArguments, Job, WatchArguments, path_of};
+use command_line::{Errors, asked_for, done_elsewhere, ended, open, read_file, read_words};
 use either::Either;
 use line_commands::{ShopFiles, WatchRequest};
-use program_io::Failure;
-use program_start::{Errors, asked_for, done_elsewhere, ended, open, read_file, read_words};
-use reading_progress::TellingReader;
+use log_lines::ProgressReader;
+use program_io::{DecodeArguments, Failure, Job, path_of};
 use std::io::IsTerminal;
 use std::process::ExitCode;
 use std::rt::{Files, Runtime};
@@ -37,7 +36,18 @@ fn do_job<R: Runtime + AllocGlobal>(
     is_terminal: bool,
 ) -> Result<(), Failure> {
     match job {
-        Job::Watch { words, assumed } => watch(rt, words, assumed.as_slice(), is_terminal),
+        Job::Watch {
+            words,
+            assumed,
+            conversions,
+        } => {
+            let request = WatchRequest {
+                words,
+                assumed: assumed.as_slice(),
+                conversions: conversions.as_slice(),
+            };
+            watch(rt, request, is_terminal)
+        }
         Job::Decode(words) => decode(rt, words, is_terminal),
         Job::Script | Job::Threads { .. } | Job::Log(_) | Job::Check | Job::Live(_) => {
             Err(done_elsewhere(rt.alloc()))
@@ -49,11 +59,10 @@ fn do_job<R: Runtime + AllocGlobal>(
 #[inline(never)]
 fn watch<R: Runtime + AllocGlobal>(
     rt: &R,
-    words: WatchArguments<'_>,
-    assumed: &[&str],
+    request: WatchRequest<'_>,
     is_terminal: bool,
 ) -> Result<(), Failure> {
-    let request = WatchRequest { words, assumed };
+    let words = request.words;
     line_commands::look_at_watch_words(rt, &request)?;
     let units = read_texts(rt, words.units)?;
     let texts = read_texts(rt, words.texts)?;
@@ -96,7 +105,7 @@ fn reader_of<'a, R: Runtime + AllocGlobal>(
     file: Option<&str>,
     input: &'a mut R::Reader,
     is_terminal: bool,
-) -> Result<TellingReader<'a, Lines<'a, R>, R, Errors<'a, R>>, Failure> {
+) -> Result<ProgressReader<'a, Lines<'a, R>, R, Errors<'a, R>>, Failure> {
     match path_of(file) {
         Some(path) => {
             let lines = Either::Left(open(rt, path)?);
@@ -113,8 +122,8 @@ fn told<'a, R: Runtime, I>(
     reader: I,
     size: Option<u64>,
     is_terminal: bool,
-) -> TellingReader<'a, I, R, Errors<'a, R>> {
-    TellingReader::new(reader, rt, Errors::new(rt), size, is_terminal)
+) -> ProgressReader<'a, I, R, Errors<'a, R>> {
+    ProgressReader::new(reader, rt, Errors::new(rt), size, is_terminal)
 }
 
 /// How large a file is; none where it is no regular file, or that cannot be told.

@@ -1,8 +1,7 @@
 //! `live`: its files are read and opened here.
 
-use command_words::LiveArguments;
-use program_io::{Failure, Fault};
-use program_start::{Errors, open, read_file};
+use command_line::{Errors, open, read_file};
+use program_io::{Failure, Fault, LiveArguments};
 use std::alloc::Global;
 use std::fs::{File, OpenOptions};
 use std::io;

@@ -3,9 +3,8 @@
 
 mod live;
 
-use command_words::Job;
-use program_io::Failure;
-use program_start::{asked_for, done_elsewhere, ended, read_words};
+use command_line::{asked_for, done_elsewhere, ended, read_words};
+use program_io::{Failure, Job};
 use std::fs::File;
 use std::io::StdinLock;
 use std::process::ExitCode;

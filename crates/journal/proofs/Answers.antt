@@ -24,7 +24,7 @@ use Rattle.node_core.specs.Deed as deed
 use Rattle.node_core.specs.Laws.{BeginsLawfully, IsCalmTo, IsLawfulDeed, IsReply, SendsLawfully}
 use Rattle.node_core.specs.Requested.{acknowledgment}
 use Rattle.node_core.specs.declared.session.OpenSession.{OpenSession}
-use Rattle.station_table.proofs.Stands.{sender}
+use Rattle.parameter_group.specs.Laws.{sender}
 use Rattle.journal.specs.State.{UnitState}
 use Rattle.journal.proofs.Seated.{AreSession, IsSeat}
 use Rattle.journal.proofs.Parts.{session_last, way_session}

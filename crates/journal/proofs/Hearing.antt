@@ -16,7 +16,7 @@ use Rattle.node_core.specs.Deed.{Deed, begun_of, withdraw_of}
 use Rattle.node_core.specs.Laws.{IsLawfulDeed, reaction_is_lawful}
 use Rattle.node_core.specs.Reaction.{reaction}
 use Rattle.node_core.specs.declared.heard.Begun.{Begun}
-use Rattle.station_table.proofs.Stands.{sender_below}
+use Rattle.parameter_group.specs.Laws.{sender_below}
 use Rattle.journal.specs.State.{Settings, State, UnitState, new_unit}
 use Rattle.journal.specs.Steps.{after, after_hear_of, begun_after, item_of, message_begun, put_all, withdrawn_by}
 use Rattle.journal.specs.Fits.{Fits}

@@ -14,9 +14,9 @@ use Rattle.bus_model.specs.Expected.{Own, passed, readings}
 use Rattle.bus_model.specs.Machine.{Carry_station, IsFit, Seat, Step}
 use Rattle.bus_model.specs.Machine.{Ask as Asks}
 use Rattle.bus_model.proofs.Lookback.{true_test}
-use Rattle.station_table.specs.KeptValue.{KeptValue, kept_under}
-use Rattle.station_table.specs.Orders.{address_in, ask_from, command_from}
-use Rattle.station_table.specs.StandsFor.{row_of, still_owned}
+use Rattle.entry_lists.specs.KeptValue.{KeptValue, kept_under}
+use Rattle.entry_lists.specs.KnownRows.{address_in, row_of, still_owned}
+use Rattle.station_table.specs.Orders.{ask_from, command_from}
 use Rattle.station_table.specs.declared.error.StationError.{StationError}
 use Rattle.station_table.specs.declared.error.StationError.TheVariants.{NotAnAddress}
 use Rattle.reassembly.specs.Tables.{at}

@@ -23,7 +23,7 @@ use Rattle.bus_model.specs.Machine.{Event as MachineEvent, Miss, Read as Reads}
 use Rattle.bus_model.proofs.Bridge.{address_gap, address_hold, claimer_name}
 use Rattle.station_table.specs.Reactions.{station_reaction, group_reaction}
 use Rattle.station_table.specs.declared.reaction.Reaction.{Reaction}
-use Rattle.station_table.proofs.Stands.{sender_below}
+use Rattle.parameter_group.specs.Laws.{sender_below}
 use Rattle.journal.specs.State.{Settings, State, StationState, no_setting, path_at, setting_at, table_at}
 use Rattle.journal.specs.Steps.{after, after_read, item_of, path_after, reacted, untagged}
 use Rattle.journal.specs.Fits.{Fits}

@@ -21,7 +21,7 @@ use Rattle.station_table.specs.Steps.{packets_at_once}
 use Rattle.station_table.specs.Reactions.{silent, answering, claiming_again, own_claim, claim_reaction, request_reaction, request_for_claims, start_reaction, next_grant, packet_reply, reply_to, granted_at_once, replying, group_reaction, group_asked, asking, commanding}
 use Rattle.station_table.specs.declared.reaction.Ask.{Ask}
 use Rattle.station_table.specs.declared.reaction.Reaction.{Reaction}
-use Rattle.station_table.proofs.Stands.{sender}
+use Rattle.parameter_group.specs.Laws.{sender}
 use Rattle.journal.proofs.Saying.{IsNoRts, held_address, claim_may, request_may, ack_may, control_may, packet_may}
 
 -- the claim of that address, or the cannot claim, where the station claims

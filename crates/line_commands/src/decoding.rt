@@ -1,8 +1,7 @@
 use crate::ending::end_of;
 use crate::shop::{ShopFiles, ShopTexts};
-use command_words::DecodeArguments;
 use decode_lines::{DecodeForm, DecodeOptions};
-use program_io::{Failure, Fault, Messages};
+use program_io::{DecodeArguments, Failure, Fault, Messages};
 use std::alloc::Global;
 use std::io::{LineWriter, Read, Write};
 

@@ -1,6 +1,5 @@
-use clock_words::{LocalZone, ZoneFault};
-use command_words::Slip;
-use program_io::{Failure, Fault};
+use log_lines::{LocalZone, ZoneFault};
+use program_io::{ArgumentError, Failure, Fault};
 use std::rt::{Env, Files};
 
 /// The zone of this machine, where its clock is asked for; else UTC stands for it.
@@ -30,7 +29,7 @@ fn read_zone<R: Env + Files + AllocGlobal>(rt: &R) -> Result<LocalZone, Failure>
 }
 
 /// What is told where there is none.
-const NO_ZONE: Slip<'static> = Slip {
+const NO_ZONE: ArgumentError<'static> = ArgumentError {
     option: "clock <CLOCK>",
     word: "local",
     wanted: "a zone of this machine: what TZ says, or /etc/localtime where it is not set, is none",

@@ -1,7 +1,6 @@
-use code_texts::{Texts, TextsFault};
 use program_io::{Failure, Fault};
+use shop_texts::{SheetFault, Texts, UnitTexts};
 use std::alloc::Global;
-use unit_words::{UnitTexts, UnitsFault};
 
 /// What the files of a shop hold, each none where it is not given.
 #[derive(Clone, Copy)]
@@ -40,8 +39,8 @@ pub(crate) fn texts_of(alloc: Global, file: Option<&[u8]>) -> Result<Texts, Fail
     };
     match Texts::read(alloc, text) {
         Ok(texts) => Ok(texts),
-        Err(TextsFault::Refused(words)) => Err(Failure::told(Fault::Texts, Ok(words))),
-        Err(TextsFault::Memory) => Err(Failure::from(Fault::Memory)),
+        Err(SheetFault::Refused(words)) => Err(Failure::told(Fault::Texts, Ok(words))),
+        Err(SheetFault::Memory) => Err(Failure::from(Fault::Memory)),
     }
 }
 
@@ -52,7 +51,7 @@ fn units_of(alloc: Global, file: Option<&[u8]>) -> Result<UnitTexts, Failure> {
     };
     match UnitTexts::read(alloc, text) {
         Ok(texts) => Ok(texts),
-        Err(UnitsFault::Refused(words)) => Err(Failure::told(Fault::Texts, Ok(words))),
-        Err(UnitsFault::Memory) => Err(Failure::from(Fault::Memory)),
+        Err(SheetFault::Refused(words)) => Err(Failure::told(Fault::Texts, Ok(words))),
+        Err(SheetFault::Memory) => Err(Failure::from(Fault::Memory)),
     }
 }

@@ -4,18 +4,18 @@ ghost use Rattle.std.specs.Prelude.{◌≡◌, ◌+◌, ◌*◌, ◌≤◌, ◌�
 ghost use Rattle.can_frame.specs.declared.address.TheConstants.{GREATEST_ADDRESS};
 
 use crate::shop::ShopTexts;
-use bus_watch::{BusShown, Limits, Selection, UnitShown, WatchSettings};
+use bus_watch::{
+    BusShown, Limits, MOST_METHODS, Selection, Silence, UnitMethod, UnitMethods, UnitShown,
+    WatchSettings,
+};
 use can_frame::GREATEST_ADDRESS;
 use candump_line::Time;
-use clock_words::{ClockForm, LocalZone};
-use command_words::{WatchArguments, is_bus, path_of};
+use dm_messages::ConversionMethod;
+use log_lines::{ClockForm, LocalZone};
 use name_field::Name;
-use program_io::Fault;
+use program_io::{Fault, WatchArguments, is_bus, path_of};
 use std::alloc::Global;
 use watch_lines::{Assumed, WatchForm, WatchOptions};
-
-/// T1 of the transport protocol in milliseconds (SAE J1939-21): how late a packet may come where that is not said.
-const SILENCE: u64 = 750;
 
 /// The longest silence that can be asked for in milliseconds: an hour.
 const LONGEST_SILENCE: u64 = 3_600_000;
@@ -27,16 +27,17 @@ const MOST: u64 = 65_536;
 /// long.
 const KEEP: u64 = 1_000_000;
 
-/// How the bus is watched, with these units that hold an address before the first line.
+/// How the bus is watched, with these units that hold an address before the first line, and these conversion methods of units.
 pub(crate) fn options_of<'a>(
     words: &'a WatchArguments<'_>,
+    conversions: &[&str],
     local: &'a LocalZone,
     assumed: &'a [Assumed],
     shop: &'a ShopTexts,
 ) -> Result<WatchOptions<'a>, Fault> {
     let clock = clock_of(words.clock, local)?;
     Ok(WatchOptions {
-        settings: settings_of(words, clock)?,
+        settings: settings_of(words, conversions, clock)?,
         bus: bus_of(words.bus)?,
         assumed,
         limits: limits_of(words)?,
@@ -62,6 +63,7 @@ fn title_of(word: Option<&str>) -> &str {
 /// nothing.
 fn settings_of(
     words: &WatchArguments<'_>,
+    conversions: &[&str],
     clock: Option<ClockForm<'_>>,
 ) -> Result<WatchSettings, Fault> {
     if let Some(word) = words.name {
@@ -74,6 +76,7 @@ fn settings_of(
             unit: unit_of(words.unit)?,
             from: time_of(words.from, clock)?,
             to: time_of(words.to, clock)?,
+            methods: methods_of(conversions)?,
         },
         skips_bad: skips_bad(words.bad)?,
         silence: silence_of(words.silence)?,
@@ -130,6 +133,35 @@ fn shown_of(word: Option<&str>) -> Result<Option<u8>, Fault>
         Some(word) => Ok(Some(address_of(word)?)),
         None => Ok(None),
     }
+}
+
+/// Each `NAME=METHOD`: 1, 2 or 3, of up to 16 units.
+pub(crate) fn methods_of(words: &[&str]) -> Result<UnitMethods, Fault> {
+    let mut methods = [None; MOST_METHODS];
+    for (place, word) in words.iter().enumerate() {
+        match methods.get_mut(place) {
+            Some(method) => *method = Some(method_of(word)?),
+            None => return Err(Fault::CommandLine),
+        }
+    }
+    Ok(methods)
+}
+
+/// A `NAME=METHOD`.
+pub(crate) fn method_of(word: &str) -> Result<UnitMethod, Fault> {
+    let Some((name, method)) = word.split_once('=') else {
+        return Err(Fault::CommandLine);
+    };
+    let method = match method {
+        "1" => ConversionMethod::First,
+        "2" => ConversionMethod::Second,
+        "3" => ConversionMethod::Third,
+        _ => return Err(Fault::CommandLine),
+    };
+    Ok(UnitMethod {
+        name: name_of(name)?,
+        method,
+    })
 }
 
 /// Each `ADDRESS=NAME`.
@@ -253,17 +285,17 @@ pub(crate) fn shows_unclaimed(word: Option<&str>) -> Result<bool, Fault>
     }
 }
 
-/// The silence in microseconds; none: any.
-pub(crate) fn silence_of(word: Option<&str>) -> Result<Option<u64>, Fault>
-    ensures default { word.entry ≡ None → result ≡ Ok (Some 750000) }
-    ensures most { IfOk result (λ silence. IfSome silence (λ micros. micros ≤ 3600000000)) }
+/// How long a message may be silent: as the standard lets it where that is not said; 0: for ever.
+pub(crate) fn silence_of(word: Option<&str>) -> Result<Silence, Fault>
+    ensures default { word.entry ≡ None → result ≡ Ok Silence.Standard }
+    ensures most { (micros : ℕ) → result ≡ Ok (Silence.UpTo micros) → micros ≤ 3600000000 }
 {
     let Some(word) = word else {
-        return Ok(Some(SILENCE * 1000));
+        return Ok(Silence::Standard);
     };
     match word.parse::<u64>() {
-        Ok(0) => Ok(None),
-        Ok(silence) if silence <= LONGEST_SILENCE => Ok(Some(silence * 1000)),
+        Ok(0) => Ok(Silence::Any),
+        Ok(silence) if silence <= LONGEST_SILENCE => Ok(Silence::UpTo(silence * 1000)),
         Ok(_) | Err(_) => Err(Fault::CommandLine),
     }
 }

@@ -2,9 +2,8 @@ use crate::ending::end_of_watch;
 use crate::local::local_zone;
 use crate::shop::{ShopFiles, ShopTexts};
 use crate::watch_words::{assumed_of, options_of};
-use clock_words::LocalZone;
-use command_words::WatchArguments;
-use program_io::{Failure, Fault, Messages};
+use log_lines::LocalZone;
+use program_io::{Failure, Fault, Messages, WatchArguments};
 use std::alloc::Global;
 use std::io::{LineWriter, Read, Write};
 use std::rt::{Env, Files};
@@ -16,6 +15,8 @@ pub struct WatchRequest<'a> {
     pub words: WatchArguments<'a>,
     /// Each `ADDRESS=NAME` of a unit that holds an address before the first line.
     pub assumed: &'a [&'a str],
+    /// Each `NAME=METHOD` of a unit whose older codes are read by that conversion method.
+    pub conversions: &'a [&'a str],
 }
 
 /// `watch`: what the lines of a log or of a live bus tell.
@@ -88,16 +89,22 @@ fn watch_known<R: Read, W: Write, E: Write>(
 }
 
 /// Watches as the words ask for it.
-fn watch_with<R: Read, W: Write, E: Write>(
+fn watch_with<'a, R: Read, W: Write, E: Write>(
     alloc: Global,
-    request: &WatchRequest<'_>,
-    known: &Known,
+    request: &'a WatchRequest<'_>,
+    known: &'a Known,
     reader: &mut R,
     writer: &mut W,
     errors: &mut E,
 ) -> Result<(), Failure> {
     let assumed = known.assumed.as_slice();
-    match options_of(&request.words, &known.local, assumed, &known.shop) {
+    match options_of(
+        &request.words,
+        request.conversions,
+        &known.local,
+        assumed,
+        &known.shop,
+    ) {
         Ok(options) => watch_lines_of(alloc, reader, writer, errors, &options),
         Err(fault) => Err(Failure::from(fault)),
     }

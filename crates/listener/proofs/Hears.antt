@@ -19,11 +19,11 @@ use Rattle.bus_model.specs.Heard.{ack_in_row, counted, kind_of, missed_count, na
 use Rattle.bus_model.specs.Overheard.{HalfSent, MessageSent, newly_sent, between_after, between_heard, gaps_heard, is_lost_on, is_pair, kept_by_name, row_overheard, row_with_group, sent_by, sent_whole, unread_overheard, who_heard}
 use Rattle.bus_model.specs.Traffic.{owner_after}
 use Rattle.bus_model.specs.declared.who.Who.{Who}
-use Rattle.station_table.specs.KeptValue.{kept_under, nothing_kept, with_ack, with_claimed}
-use Rattle.station_table.specs.StandsFor.{row_known}
-use Rattle.station_table.proofs.Claims.{kept_once_claimed, names_once_claimed, no_address, row_acknowledged, row_of_claimant, row_of_other}
-use Rattle.station_table.proofs.Lines.{written_place}
-use Rattle.station_table.proofs.RowLemmas.{kept_under-changed, named, names-changed}
+use Rattle.entry_lists.specs.KeptValue.{kept_under, nothing_kept, with_ack, with_claimed}
+use Rattle.entry_lists.specs.KnownRows.{row_known}
+use Rattle.entry_lists.proofs.RowClaims.{kept_once_claimed, names_once_claimed, no_address, row_acknowledged, row_of_claimant, row_of_other}
+use Rattle.reassembly.specs.TableLaws.{written_place}
+use Rattle.entry_lists.proofs.RowLemmas.{kept_under-changed, named, names-changed}
 use Rattle.listener.specs.ListenerSteps.{after_acknowledging, after_announcing, after_claiming, after_message, after_packet_between, after_showing, group_taken, in_one_frame, whole_with, without_session_between}
 use Rattle.listener.specs.ListenerValue.{AreFor256, HasOverheard, ListenerValue, who_in}
 use Rattle.listener.proofs.Places.{dropped_places, owner_places, pair_places, pair_written, source_dropped}

@@ -9,3 +9,7 @@ pub mod Entering
 pub mod Calls
 pub mod Reasons
 pub mod Exact
+pub mod Pacing
+pub mod ReadInPart
+pub mod NewestUnits
+pub mod Breaking

@@ -6,11 +6,11 @@ use Rattle.std.proofs.lemmas.List.{length-map}
 use Rattle.can_frame.specs.declared.reading.Reading.{Reading}
 use Rattle.bus_model.specs.Heard.{missed_count, names_heard}
 use Rattle.bus_model.specs.Overheard.{row_overheard, unread_overheard}
-use Rattle.station_table.specs.KeptValue.{kept_under}
-use Rattle.station_table.specs.StandsFor.{row_heard_as, row_of}
-use Rattle.station_table.specs.declared.row.Row.{Row}
-use Rattle.station_table.proofs.Queries.{row_words}
-use Rattle.station_table.proofs.RowLemmas.{named}
+use Rattle.entry_lists.specs.KeptValue.{kept_under}
+use Rattle.entry_lists.specs.KnownRows.{row_heard_as, row_of}
+use Rattle.entry_lists.specs.declared.row.Row.{Row}
+use Rattle.entry_lists.proofs.RowClaims.{row_words}
+use Rattle.entry_lists.proofs.RowLemmas.{named}
 use Rattle.listener.specs.ListenerValue.{HasOverheard, ListenerValue}
 
 pub names_as_overheard : (l : ListenerValue) (h : List Reading) (n : ℕ) → n ≡ length l.rows → HasOverheard l h → n ≡ length (names_heard h)

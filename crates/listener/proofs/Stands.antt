@@ -14,8 +14,9 @@ use Rattle.reassembly.specs.TableLaws.{at-empty}
 use Rattle.reassembly.specs.Tables.{empty_table}
 use Rattle.bus_model.specs.Overheard.{HalfSent}
 use Rattle.bus_model.specs.Heard.{addressless, counted}
-use Rattle.station_table.specs.KeptValue.{KeptValue, kept_under}
-use Rattle.station_table.proofs.Stands.{addressless_row, sender, sender_below}
+use Rattle.entry_lists.specs.KeptValue.{KeptValue, kept_under}
+use Rattle.entry_lists.proofs.RowClaims.{addressless_row}
+use Rattle.parameter_group.specs.Laws.{sender, sender_below}
 use Rattle.listener.specs.ListenerSteps.{group_taken, new_listener, after_listening}
 use Rattle.listener.specs.ListenerValue.{HasOverheard, ListenerValue}
 use Rattle.listener.proofs.Hears.{Hears, aborts, acknowledges, bam, cannot_claims, claims, ends_none, heard_so, left_so, packet, rts, single}

@@ -16,9 +16,9 @@ use Rattle.reassembly.specs.Partials.{with_packet}
 use Rattle.reassembly.specs.Tables.{at}
 use Rattle.transport.specs.declared.control.Control.{Control}
 use Rattle.transport.specs.declared.control.Control.TheVariants.{Bam}
-use Rattle.station_table.specs.KeptValue.{kept_under}
-use Rattle.station_table.proofs.Changing.{address_words}
-use Rattle.station_table.proofs.Stands.{sender, sender_below}
+use Rattle.entry_lists.specs.KeptValue.{kept_under}
+use Rattle.entry_lists.proofs.RowClaims.{address_words}
+use Rattle.parameter_group.specs.Laws.{sender, sender_below}
 use Rattle.listener.specs.ListenerSteps.{ack_told, address_in_tables, group_told, has_in_tables, in_one_frame, reading_told, whole_with}
 use Rattle.listener.specs.ListenerValue.{HasOverheard, ListenerValue}
 use Rattle.listener.proofs.Hears.{whose}

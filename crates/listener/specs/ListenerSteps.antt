@@ -1,11 +1,15 @@
 -- What each reading does to a listener's tables, what it changes, and which entry it lists.
-use Rattle.std.specs.Prelude.{ℕ, ◌+◌, Bool, false, List, [], Option, Some, None, ◌==◌, if◌then◌else◌, is_some, slice_set}
+use Rattle.std.specs.Prelude.{ℕ, ◌+◌, Bool, false, List, [], Option, Some, None, ◌==◌, if◌then◌else◌, slice_set}
 use Rattle.address_claim.specs.Claiming.{is_held}
 use Rattle.can_frame.specs.declared.address.TheConstants.{GLOBAL_ADDRESS}
 use Rattle.can_frame.specs.declared.reading.Reading.{Reading}
 use Rattle.can_frame.specs.declared.reading.Reading.TheVariants.{Frame, Gap, Empty}
+use Rattle.dm_messages.specs.Tolerant.{message_read}
 use Rattle.dm_messages.specs.View.{decoding}
+use Rattle.dm_messages.specs.declared.error.ReadError.{ReadError}
 use Rattle.dm_messages.specs.declared.shown.Shown.{Shown}
+use Rattle.dm_messages.specs.declared.tolerant.MessageRead.{MessageRead}
+use Rattle.dm_messages.specs.declared.tolerant.MessageRead.TheVariants.{Whole, InPart}
 use Rattle.parameter_group.specs.Group.{Group, AddressClaimed, CannotClaim, Acknowledgment, Diagnostic, ConnectionManagement, DataTransfer, group_of}
 use Rattle.transport.specs.declared.control.Control.TheVariants.{Rts, Bam, Abort}
 use Rattle.reassembly.specs.Pairs.{no_pairs, pair_at, with_pair}
@@ -13,14 +17,13 @@ use Rattle.reassembly.specs.Partials.{after_packet, with_packet}
 use Rattle.reassembly.specs.Tables.{at, empty_table}
 use Rattle.bus_model.specs.Changed.{displaced_by, is_again}
 use Rattle.bus_model.specs.Heard.{ack_in_row, counted, kind_of}
-use Rattle.bus_model.specs.Overheard.{HalfSent, MessageSent, newly_sent, sent_whole}
+use Rattle.bus_model.specs.Overheard.{HalfSent, MessageSent, Sending, newly_sent, sent_whole}
 use Rattle.bus_model.specs.OverheardChanged.{announcement_change, claim_overheard, gave_up, sent_change, why_unread}
 use Rattle.bus_model.specs.declared.overheard.Overheard.{Overheard}
-use Rattle.bus_model.specs.declared.overheard.Overheard.TheVariants.{Nothing, Acknowledged, Listed, Unreadable, Missed}
-use Rattle.station_table.specs.KeptValue.{with_ack, with_claimed, with_row, changed_under, kept_under}
-use Rattle.station_table.specs.Orders.{address_in}
-use Rattle.station_table.specs.StandsFor.{row_known, row_of}
-use Rattle.station_table.specs.declared.row.AckSeen.{AckSeen}
+use Rattle.bus_model.specs.declared.overheard.Overheard.TheVariants.{Nothing, Acknowledged, Listed, ListedInPart, Unreadable, Missed}
+use Rattle.entry_lists.specs.KeptValue.{with_ack, with_claimed, with_row, changed_under, kept_under}
+use Rattle.entry_lists.specs.KnownRows.{address_in, row_known, row_of}
+use Rattle.entry_lists.specs.declared.row.AckSeen.{AckSeen}
 use Rattle.listener.specs.ListenerValue.{ListenerValue, who_in}
 use Rattle.listener.specs.declared.ended.ReadSending.{ReadSending}
 
@@ -131,15 +134,25 @@ reading_told l (Frame f) = group_told l (group_of f)
 
 -- ---- what is listed
 
--- what a message that ended shows, if one did, or why it cannot be read
+-- what is read of a message that ended, if one did, or why nothing is
 abbrev pub showing : Option MessageSent → Option ReadSending
 showing None = None
-showing (Some m) = Some (record { sending = record { who = m.who; kind = m.kind }; shown = decoding m.bytes; why = why_unread m.bytes })
+showing (Some m) = Some (record { sending = record { who = m.who; kind = m.kind }; read = message_read m.bytes; why = why_unread m.bytes })
+
+-- what is not read whole counts as unread
+abbrev pub after_read_of : ListenerValue → Option MessageRead → ListenerValue
+after_read_of l (Some (Whole shown)) = l
+after_read_of l _ = record l { unread = counted (l.unread + 1) }
 
 abbrev pub after_ended : ListenerValue → Option ReadSending → ListenerValue
 after_ended l None = l
-after_ended l (Some e) = after_showing l e.shown
+after_ended l (Some e) = after_read_of l e.read
+
+abbrev pub read_told : ℕ → ℕ → Sending → ReadError → Option MessageRead → Overheard
+read_told source to s why (Some (Whole shown)) = Listed s.who s.kind source to
+read_told source to s why (Some (InPart part)) = ListedInPart s.who s.kind source to
+read_told source to s why None = Unreadable s.who s.kind source to why
 
 abbrev pub ended_told : ℕ → ℕ → Option ReadSending → Overheard
 ended_told source to None = Nothing
-ended_told source to (Some e) = if is_some e.shown then Listed e.sending.who e.sending.kind source to else Unreadable e.sending.who e.sending.kind source to e.why
+ended_told source to (Some e) = read_told source to e.sending e.why e.read

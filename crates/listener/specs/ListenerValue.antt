@@ -6,8 +6,8 @@ use Rattle.bus_model.specs.Overheard.{HalfSent, between_heard, gaps_heard, row_o
 use Rattle.bus_model.specs.declared.who.Who.{Who}
 use Rattle.reassembly.specs.Pairs.{pair_at, pairs_from}
 use Rattle.reassembly.specs.Tables.{at}
-use Rattle.station_table.specs.KeptValue.{KeptValue, kept_under}
-use Rattle.station_table.specs.StandsFor.{row_known}
+use Rattle.entry_lists.specs.KeptValue.{KeptValue, kept_under}
+use Rattle.entry_lists.specs.KnownRows.{row_known}
 
 -- by address its owner; the rows by NAME in the order of their first claim; what is half sent by source and destination; and the counts
 pub record ListenerValue : Type 0 where

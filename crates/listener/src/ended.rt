@@ -1,36 +1,39 @@
 ghost use Rattle.std.specs.Prelude.{◌≡◌, Some, IfOk};
 ghost use Rattle.bus_model.specs.Overheard.{sent_whole};
 ghost use Rattle.bus_model.specs.OverheardChanged.{why_unread};
-ghost use Rattle.dm_messages.specs.View as view;
+ghost use Rattle.dm_messages.specs.Tolerant.{message_read};
 ghost use Rattle.listener.specs.ListenerSteps.{showing};
 ghost use Rattle.reassembly.specs.Pairs.{pair_at};
 ghost use Rattle.reassembly.specs.Partials.{answer_to, with_packet};
 
 use crate::sending::Sending;
-use dm_messages::{ReadError, Shown, read};
+use dm_messages::{MessageRead, ReadError, read, read_part};
 use reassembly::PairedPartials;
 use std::alloc::{AllocError, Global};
 use transport::Took;
 
-/// A message that ended: whose it is and of which kind, and what it shows; or why it cannot be read, which says nothing where it
-/// can.
+/// A message that ended: whose it is and of which kind, and what is read of it; or why nothing is, which says nothing where it can
+/// be read.
 #[derive(Drop)]
 pub struct ReadSending {
     pub sending: Sending,
-    pub shown: Option<Shown>,
+    pub read: Option<MessageRead>,
     pub why: ReadError,
 }
 
-/// What a payload shows; or none, and why it cannot be read, which says nothing where it can.
+/// What is read of a payload; or none, and why, which says nothing where it can be read.
 #[tactic(auto, using(crate::proofs::Reasons::none_refused))]
-pub fn shown_by(alloc: Global, payload: &[u8]) -> Result<(Option<Shown>, ReadError), AllocError>
-    ensures shown { IfOk result (λ o. o.0 ≡ view.decoding payload.now) }
+pub fn read_of(
+    alloc: Global,
+    payload: &[u8],
+) -> Result<(Option<MessageRead>, ReadError), AllocError>
+    ensures read { IfOk result (λ o. o.0 ≡ message_read payload.now) }
     ensures why { IfOk result (λ o. o.1 ≡ why_unread payload.now) }
 {
     match read(alloc, payload) {
-        Ok(shown) => Ok((Some(shown), ReadError::BadLength)),
+        Ok(shown) => Ok((Some(MessageRead::Whole(shown)), ReadError::BadLength)),
         Err(ReadError::OutOfMemory) => Err(AllocError),
-        Err(why) => Ok((None, why)),
+        Err(why) => Ok((read_part(alloc, payload)?, why)),
     }
 }
 
@@ -50,12 +53,8 @@ pub fn ended_with(
         return Ok(None);
     };
     let sending = partial.tag();
-    let (shown, why) = messages.read_with(source, dest, packet, |payload: &[u8]| {
-        shown_by(alloc, payload)
+    let (read, why) = messages.read_with(source, dest, packet, |payload: &[u8]| {
+        read_of(alloc, payload)
     })?;
-    Ok(Some(ReadSending {
-        sending,
-        shown,
-        why,
-    }))
+    Ok(Some(ReadSending { sending, read, why }))
 }

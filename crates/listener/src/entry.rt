@@ -1,7 +1,7 @@
 use bus_model::Who;
-use dm_messages::{Kind, Shown};
+use dm_messages::{Kind, MessageRead};
 
-/// An entry for a list: a diagnostic message that ended and can be read.
+/// An entry for a list: a diagnostic message that ended, of which its lamps at least can be read.
 #[derive(Drop)]
 pub struct SentEntry {
     /// Whose it is: the owner of its source address when it began, or where that had none, the address itself.
@@ -12,6 +12,6 @@ pub struct SentEntry {
     pub source: u8,
     /// The address that it went to, 255 for all.
     pub to: u8,
-    /// What it shows.
-    pub shown: Shown,
+    /// What was read of it.
+    pub read: MessageRead,
 }

@@ -9,6 +9,7 @@ ghost use Rattle.bus_model.specs.declared.who.Who.TheVariants.{Named};
 ghost use Rattle.can_frame.specs.declared.reading.Reading.{Reading};
 ghost use Rattle.dm_messages.specs.declared.kind.Kind.{Kind};
 ghost use Rattle.listener.specs.PathTold.{TellsPath};
+ghost use Rattle.listener.specs.ReadEntries.{lists_read, whole_among};
 ghost use Rattle.listener.specs.SentEntries.{entry_sent, lists_overheard, with_entry_sent};
 
 /// The lists that were overheard of a reading and those before it are those that were overheard before, with the entry that the
@@ -17,6 +18,12 @@ ghost use Rattle.listener.specs.SentEntries.{entry_sent, lists_overheard, with_e
 pub fn sent_lists_are_what_was_overheard()
     ensures { (x : Reading) (h : List Reading) (w : Who) (k : Kind)
         → with_entry_sent (entry_sent x h) (lists_overheard h) w k ≡ lists_overheard (x ∷ h) w k }
+{}
+
+/// What is kept of messages that were read whole is exactly what was overheard.
+#[tactic(auto, using(crate::proofs::Entering::whole_lists_same))]
+pub fn whole_entries_are_what_was_overheard()
+    ensures { (h : List Reading) (w : Who) (k : Kind) → whole_among (lists_read h w k) ≡ lists_overheard h w k }
 {}
 
 /// The lists of a listener are exact. Take any run of units and stations on a bus, and readings that tell frames of it, from any one

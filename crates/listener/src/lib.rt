@@ -5,17 +5,28 @@
 //! next.
 #![tactic(auto)]
 
+mod broken;
 mod ended;
 mod entry;
 mod laws;
 mod listener;
 mod lists;
+mod newest;
+mod paced;
 mod sending;
+mod unit_key;
 
+pub use broken::{BrokenBy, BrokenMessage, BrokenMessages, was_whole};
 pub use bus_model::{Displaced, Overheard, Who};
 pub use entry::SentEntry;
 pub use laws::{
     entries_of_sent_lists_were_sent, sent_lists_are_exact, sent_lists_are_what_was_overheard,
+    whole_entries_are_what_was_overheard,
 };
 pub use listener::Listener;
 pub use lists::SentLists;
+pub use newest::{KeptEntry, NewestSent};
+pub use paced::PacedListener;
+pub use reassembly::{Fate, Silence};
+pub use sending::Sending;
+pub use unit_key::UnitKey;

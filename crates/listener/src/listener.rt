@@ -1,16 +1,17 @@
 ghost use Rattle.std.specs.Prelude.{◌≡◌, ℕ, [], length, map, slice_get, List, IfOk};
-ghost use Rattle.std.specs.Option.{option_map};
+ghost use Rattle.std.specs.Option.{option_copied, option_map};
 ghost use Rattle.bus_model.specs.Heard.{missed_count, names_heard};
 ghost use Rattle.bus_model.specs.Overheard.{row_overheard, unread_overheard};
 ghost use Rattle.can_frame.specs.declared.reading.Reading.{Reading as AnyReading};
-ghost use Rattle.station_table.specs.KeptValue.{kept_under};
-ghost use Rattle.station_table.specs.StandsFor.{row_heard_as, row_of};
+ghost use Rattle.reassembly.specs.Pairs.{pair_at};
+ghost use Rattle.entry_lists.specs.KeptValue.{kept_under};
+ghost use Rattle.entry_lists.specs.KnownRows.{row_heard_as, row_of};
 
 use crate::sending::Sending;
 use bus_model::Who;
+use entry_lists::{Row, Rows};
 use name_field::Name;
-use reassembly::{AddressTable, PairedPartials};
-use station_table::{Row, Rows};
+use reassembly::{AddressTable, PairedPartials, Partial};
 use std::alloc::{AllocError, Global};
 use std::marker::Model;
 
@@ -99,6 +100,13 @@ impl Listener {
         ensures { result ≡ at self.now.owners address }
     {
         self.owners.get(address).copied()
+    }
+
+    /// What is half sent from a source to a destination.
+    pub(crate) fn half_sent(&self, source: u8, dest: u8) -> Option<&Partial<Sending>>
+        ensures { option_copied result ≡ pair_at self.now.pairs source dest }
+    {
+        self.pairs.get(source, dest)
     }
 
     /// Whose a message is that begins at an address.

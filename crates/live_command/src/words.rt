@@ -2,9 +2,8 @@
 
 ghost use Rattle.std.specs.Prelude.{◌≤◌, IfOk};
 
-use command_words::{LiveArguments, Slip, is_bus};
 use live_unit::UnitSettings;
-use program_io::{Failure, Fault};
+use program_io::{ArgumentError, Failure, Fault, LiveArguments, is_bus};
 use std::alloc::Global;
 
 /// How the units keep to time, and how lines are written.
@@ -26,7 +25,7 @@ impl<'a> Ways<'a> {
     ///
     /// # Errors
     /// A word is none that its option takes.
-    pub(crate) fn of(words: &LiveArguments<'a>) -> Result<Ways<'a>, Slip<'a>> {
+    pub(crate) fn of(words: &LiveArguments<'a>) -> Result<Ways<'a>, ArgumentError<'a>> {
         let bus = words.bus.unwrap_or("can0");
         if !is_bus(bus) {
             return Err(slip("bus <BUS>", bus, "the name of a bus"));
@@ -89,8 +88,8 @@ pub fn look_at_live_words(alloc: Global, words: &LiveArguments<'_>) -> Result<()
     Ok(())
 }
 
-fn slip<'a>(option: &'a str, word: &'a str, wanted: &'a str) -> Slip<'a> {
-    Slip {
+fn slip<'a>(option: &'a str, word: &'a str, wanted: &'a str) -> ArgumentError<'a> {
+    ArgumentError {
         option,
         word,
         wanted,
@@ -98,7 +97,7 @@ fn slip<'a>(option: &'a str, word: &'a str, wanted: &'a str) -> Slip<'a> {
 }
 
 /// Whether a DM1 is sent each second also while there is nothing to tell.
-fn is_always(word: Option<&str>) -> Result<bool, Slip<'_>> {
+fn is_always(word: Option<&str>) -> Result<bool, ArgumentError<'_>> {
     match word {
         None | Some("active") => Ok(false),
         Some("always") => Ok(true),
@@ -107,7 +106,7 @@ fn is_always(word: Option<&str>) -> Result<bool, Slip<'_>> {
 }
 
 /// Whether the times of the lines count.
-fn is_by_lines(word: Option<&str>) -> Result<bool, Slip<'_>> {
+fn is_by_lines(word: Option<&str>) -> Result<bool, ArgumentError<'_>> {
     match word {
         None | Some("clock") => Ok(false),
         Some("lines") => Ok(true),
@@ -123,7 +122,7 @@ fn number_of<'a>(
     most: u64,
     usual: u64,
     wanted: &'a str,
-) -> Result<u64, Slip<'a>>
+) -> Result<u64, ArgumentError<'a>>
     requires usual { usual ≤ 100000 }
     requires most { most ≤ 100000 }
     ensures { IfOk result (λ n. n ≤ 100000) }

@@ -5,19 +5,17 @@ use crate::shared::{Listens, Shared, State, date, failure_of, now, tell};
 use crate::words::Ways;
 use can_frame::{Frame, GREATEST_ADDRESS};
 use candump_line::{Time, write_line};
-use command_words::LiveArguments;
 use fault_memory::FaultError;
 use live_lines::{Ear, Fleet, Playback, Unheld, begin_with};
 use log_lines::LogFault;
-use program_io::{Failure, Fault};
-use simulated_unit::Simulated;
+use program_io::{Failure, Fault, LiveArguments};
 use std::alloc::Global;
 use std::io::{Read, Write};
 use std::sync::{Arc, Condvar, Mutex, Wait};
 use std::thread;
 use std::thread::{Builder, Threads};
 use std::time::{Clock, Duration};
-use unit_trait::Unit;
+use unit_trait::{Simulated, Unit};
 use vehicle::{LiveLine, SendLine, UnitLine};
 
 /// The longest that the thread which writes waits before it looks again, in microseconds.

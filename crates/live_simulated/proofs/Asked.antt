@@ -1,7 +1,7 @@
 -- What a simulated unit was asked, and what it answered.
 use Rattle.std.proofs.Common.{◌≡◌, ap, Option, Some, None, IsSome, Result, Ok, Err, IfOk, OnErr}
-use Rattle.simulated_unit.specs.Kinds.{is_willing}
-use Rattle.simulated_unit.specs.declared.Simulated.{Simulated}
+use Rattle.unit_trait.specs.Kinds.{is_willing}
+use Rattle.unit_trait.specs.declared.simulated.Simulated.{Simulated}
 use Rattle.node_core.specs.Asking.{IsAsked, is_agreed}
 use Rattle.node_core.specs.declared.heard.Answer.{Answer}
 use Rattle.unit_trait.specs.declared.question.Question.{Question}

@@ -4,7 +4,7 @@ use Rattle.can_frame.specs.FrameValue.{FrameValue}
 use Rattle.address_claim.specs.Frames.{claim_frame_value}
 use Rattle.fault_memory.specs.Memory.{MemoryValue, new_memory}
 use Rattle.unit_trait.specs.declared.kind.UnitKind.{UnitKind}
-use Rattle.simulated_unit.specs.Kinds.{is_willing}
+use Rattle.unit_trait.specs.Kinds.{is_willing}
 use Rattle.node_core.specs.Asking.{is_agreed}
 use Rattle.node_core.specs.Deed.{plain}
 use Rattle.node_core.specs.NodeValue.{NodeValue, new_node}

@@ -4,7 +4,7 @@ ghost use Rattle.std.specs.Prelude.{ℕ, ◌≡◌, ◌↔◌, ◌⊎◌, ◌≤
 ghost use Rattle.node_core.specs.Asking.{is_agreed};
 ghost use Rattle.node_core.specs.NodeValue.{is_open};
 ghost use Rattle.node_core.specs.Reaction.{question};
-ghost use Rattle.simulated_unit.specs.Kinds.{is_willing};
+ghost use Rattle.unit_trait.specs.Kinds.{is_willing};
 ghost use Rattle.live_unit.specs.Steps.{Acts, BeginsToAll, CanPut, HasHeardFrame, LacksRoomFor, clock_heard, standing};
 ghost use Rattle.live_unit.specs.Times.{is_dm1_due, is_left_alone, lane_due};
 
@@ -12,8 +12,8 @@ use can_frame::Frame;
 use dm_messages::Kind;
 use live_unit::{Act, LiveError, LiveNode};
 use node_core::Answer;
-use simulated_unit::Simulated;
 use std::alloc::Global;
+use unit_trait::Simulated;
 
 /// Has the node hear a frame, and put to the unit what it asks.
 pub(crate) fn hear_by(

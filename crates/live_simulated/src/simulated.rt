@@ -15,10 +15,9 @@ use dm_messages::Kind;
 use fault_memory::{FaultChange, FaultError};
 use live_unit::{LiveError, LiveNode, QueueCounts, UnitSettings};
 use name_field::Name;
-use simulated_unit::Simulated;
 use std::alloc::{AllocError, Global};
 use std::marker::Model;
-use unit_trait::{Unit, UnitKind};
+use unit_trait::{Simulated, Unit, UnitKind};
 
 /// A simulated unit that takes part in a bus that others are on.
 ///

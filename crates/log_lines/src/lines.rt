@@ -1,5 +1,6 @@
 use crate::fault::LogFault;
 use candump_line::LINE_LIMIT;
+use std::alloc::Global;
 use std::io::{BufRead, BufReader, Read, Write};
 
 /// The most bytes that are read or written at once.
@@ -7,6 +8,42 @@ pub const ROOM: usize = 65_536;
 
 /// The most bytes that are kept of a line with its end: one more than LF or CR LF behind a line of the greatest length has.
 const MOST: usize = LINE_LIMIT + 2;
+
+/// The lines of an input, read one by one.
+#[derive(Drop)]
+pub struct LineReader<R> {
+    reader: BufReader<R>,
+    line: Vec<u8>,
+}
+
+impl<R: Read + Drop> LineReader<R> {
+    /// Those of this reader.
+    ///
+    /// # Errors
+    /// `Memory`: memory was refused.
+    pub fn new(alloc: Global, reader: R) -> Result<LineReader<R>, LogFault> {
+        match BufReader::with_capacity(alloc, ROOM, reader) {
+            Ok(reader) => Ok(LineReader {
+                reader,
+                line: Vec::new(alloc),
+            }),
+            Err(error) => Err(LogFault::of_read(error)),
+        }
+    }
+
+    /// The next line, with its end, as `next_line` reads it; none where there is none.
+    ///
+    /// # Errors
+    /// - `Read`, `Memory`: it could not be read.
+    /// - `Write`: what was written could not go out.
+    pub fn next<W: Write>(&mut self, writer: &mut W) -> Result<Option<&[u8]>, LogFault> {
+        if next_line(&mut self.reader, writer, &mut self.line)? {
+            Ok(Some(self.line.as_slice()))
+        } else {
+            Ok(None)
+        }
+    }
+}
 
 /// Reads the next line, with its end. Of a line that is too long, one byte more than a line may have is kept. Tells whether
 /// there was one.

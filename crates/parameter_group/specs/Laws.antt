@@ -1,5 +1,6 @@
 -- What is written is read back: the proofs.
-use Rattle.std.proofs.Common.{◌≡◌, ℕ, ◌+◌, ◌*◌, ◌/◌, ◌%◌, ◌<◌, ◌^◌, List, Some, None, refl, arith, ◌∙◌}
+use Rattle.std.proofs.Common.{◌≡◌, ℕ, Bool, true, false, ◌+◌, ◌*◌, ◌/◌, ◌%◌, ◌<◌, ◌^◌, ◌==◌, ◌&&◌, if◌then◌else◌, length, List, Option, Some, None, refl, arith, ◌∙◌}
+use Rattle.std.specs.Prelude.{nat_lt, nat_le}
 use Rattle.std.proofs.lemmas.Nat.{from_le_bytes-to_le_bytes_8}
 use Rattle.std.proofs.lemmas.Bool.{lt-ltb}
 use Rattle.can_frame.specs.Fields.{pgn_of, pdu_specific_of, source_of, pdu1_number, pdu2_number}
@@ -15,7 +16,7 @@ use Rattle.transport.specs.ControlMessage.{control_bytes, control_of}
 use Rattle.transport.specs.Messages.{control_frame, packet_frame}
 use Rattle.transport.specs.declared.control.Control.{Control}
 use Rattle.parameter_group.specs.Written.{ReadsBack}
-use Rattle.parameter_group.specs.Group.{AddressClaimed, CannotClaim, Request, Acknowledgment, Diagnostic, ConnectionManagement, DataTransfer, group_by, group_of}
+use Rattle.parameter_group.specs.Group.{Group, AddressClaimed, CannotClaim, Request, Acknowledgment, Diagnostic, ConnectionManagement, DataTransfer, Other, control_group, group_by, group_of}
 
 -- by the fields of the identifier
 by_fields : (id : ℕ) (bytes : List ℕ) (pgn destination source : ℕ) → pgn_of id ≡ pgn → pdu_specific_of id ≡ destination → source_of id ≡ source → group_of (frame id bytes) ≡ group_by pgn destination source bytes
@@ -104,3 +105,39 @@ reads_back f = record {
   control = λ c source destination s d k e. rw e (group_of-control c source destination s d k);
   packet = λ bytes source destination s d e. rw e (group_of-packet bytes source destination s d);
 }
+
+-- what a frame says comes from an address of one byte
+abbrev pub sender : Group → ℕ
+sender (AddressClaimed source name) = source
+sender (CannotClaim name) = 254
+sender (Request pgn destination source) = source
+sender (Acknowledgment control requester pgn destination source) = source
+sender (Diagnostic kind source bytes) = source
+sender (ConnectionManagement source destination control) = source
+sender (DataTransfer source destination bytes) = source
+sender Other = 0
+
+below_if : (b : Bool) (x y : Group) → sender x < 256 → sender y < 256 → sender (if b then x else y) < 256
+below_if true x y p q = p
+below_if false x y p q = q
+
+below_control : (d src : ℕ) (o : Option Control) → src < 256 → sender (control_group d src o) < 256
+below_control d src None lt = omega arith
+below_control d src (Some c) lt = lt
+
+below_group : (pgn d src : ℕ) (bytes : List ℕ) → src < 256 → sender (group_by pgn d src bytes) < 256
+below_group pgn d src bytes lt =
+    let zero_below : 0 < 256 = omega arith in
+    let last_below : 254 < 256 = omega arith in
+    below_if (pgn == 60928) _ _
+    (below_if ((d == 255) && (length bytes == 8)) _ _ (below_if (nat_lt src 254) _ _ lt (below_if (src == 254) _ _ last_below zero_below)) zero_below)
+    (below_if (pgn == 59904) _ _
+    (below_if (nat_le 3 (length bytes)) _ _ lt zero_below)
+    (below_if (pgn == 59392) _ _
+    (below_if (length bytes == 8) _ _ lt zero_below)
+    (below_if (pgn == 65226) _ _ lt (below_if (pgn == 65227) _ _ lt (below_if (pgn == 65231) _ _ lt
+    (below_if (pgn == 60416) _ _ (below_control d src (control_of bytes) lt) (below_if (pgn == 60160) _ _ lt zero_below)))))))
+
+pub sender_below : (f : FrameValue) → sender (group_of f) < 256
+unfolding group_of
+sender_below f = below_group (pgn_of f.id) (pdu_specific_of f.id) (source_of f.id) f.bytes (omega arith)

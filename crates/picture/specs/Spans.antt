@@ -9,11 +9,12 @@ use Rattle.picture.specs.declared.span.Span.{Span}
 -- from the least bad on
 abbrev pub rank : Severity → ℕ
 rank bad.Fine = 0
-rank bad.Codes = 1
-rank bad.Protect = 2
-rank bad.Malfunction = 3
-rank bad.Amber = 4
-rank bad.Red = 5
+rank bad.Partly = 1
+rank bad.Codes = 2
+rank bad.Protect = 3
+rank bad.Malfunction = 4
+rank bad.Amber = 5
+rank bad.Red = 6
 
 abbrev pub severity_of : Shows → Severity
 severity_of (show.Address a) = bad.Fine

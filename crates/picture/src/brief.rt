@@ -16,17 +16,20 @@ pub struct Brief {
     pub to: u8,
     /// Whether its owner's claim had just displaced another NAME: it may be of that one.
     pub contested: bool,
+    /// Whether it was read in part: it may have codes that could not be read.
+    pub partly: bool,
 }
 
 impl Brief {
-    /// A message with these lamps and codes, that went to this address.
-    pub fn of(lamps: Lamps, codes: &[Dtc], to: u8, contested: bool) -> Brief {
+    /// A message with these lamps and readable codes, that went to this address.
+    pub fn of(lamps: Lamps, codes: &[Dtc], to: u8, contested: bool, partly: bool) -> Brief {
         Brief {
             lamps: lamps.to_bytes(),
             count: codes.len().min(usize::from(u16::MAX)) as u16,
             codes: first_of(codes),
             to,
             contested,
+            partly,
         }
     }
 
@@ -60,7 +63,7 @@ impl Brief {
 
     /// How bad it is what it tells.
     pub fn severity(&self) -> Severity {
-        Severity::of(self.lamps(), usize::from(self.count))
+        Severity::of(self.lamps(), usize::from(self.count), self.partly)
     }
 }
 

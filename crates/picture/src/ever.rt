@@ -70,7 +70,7 @@ impl Ever {
         }
     }
 
-    /// How bad it is what the newest message told.
+    /// How bad it is what the newest message told, as far as it was read.
     pub fn newest(&self) -> Severity {
         self.newest
     }
@@ -113,7 +113,7 @@ impl Ever {
         ensures { OnOk result ((told : List ToldMessage) → TellsEver told self.old → TellsEver (told_at lamps codes.now time.now ∷ told) self.new) }
     {
         self.last_heard = *time;
-        self.newest = Severity::of(lamps, codes.len());
+        self.newest = Severity::of(lamps, codes.len(), false);
         self.lamps.hear(lamps, time);
         hear_kept(&mut self.codes, codes, time);
         let more = keep_further(&mut self.codes, codes, time)?;

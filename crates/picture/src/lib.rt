@@ -1,5 +1,5 @@
-//! What is kept of a log for its picture: which unit held which address when, what it told, where frames were missed, and the first
-//! and the last changes.
+//! What is kept of a log for its picture, apart from `watch_page` for proof time alone: which unit held which address when, what it
+//! told, where frames were missed, and the first and the last changes.
 //!
 //! All of it is bounded, whatever the log: a lane for each of the first units, and in each of a lane's tracks so many spans. As
 //! long as no more are told, a track has the spans as they were told. Then neighbours are joined that are short together: such a

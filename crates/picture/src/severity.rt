@@ -3,11 +3,13 @@ ghost use Rattle.picture.specs.Spans.{rank};
 
 use trouble_code::{LampName, Lamps};
 
-/// How bad it is what a unit tells: the worst lamp that is on, else whether there are codes.
+/// How bad it is what a unit tells: the worst lamp that is on, else whether there are codes, else whether all of it could be read.
 #[derive(Clone, Copy, Debug, PartialEq, Eq)]
 pub enum Severity {
     /// No lamp is on, and there is no code.
     Fine,
+    /// No lamp is on, and a part of the message could not be read: no code that can be.
+    Partly,
     /// There are codes, and no lamp is on.
     Codes,
     /// The protect lamp is on.
@@ -24,8 +26,8 @@ pub enum Severity {
 const ON: u8 = 1;
 
 impl Severity {
-    /// How bad it is what lamps and so many codes tell.
-    pub fn of(lamps: Lamps, codes: usize) -> Severity {
+    /// How bad it is what lamps and so many readable codes tell, of a message that was read in part or whole.
+    pub fn of(lamps: Lamps, codes: usize, partly: bool) -> Severity {
         if lamps.lamp(LampName::RedStop) == ON {
             Severity::Red
         } else if lamps.lamp(LampName::Amber) == ON {
@@ -36,6 +38,8 @@ impl Severity {
             Severity::Protect
         } else if codes > 0 {
             Severity::Codes
+        } else if partly {
+            Severity::Partly
         } else {
             Severity::Fine
         }
@@ -47,11 +51,12 @@ impl Severity {
     {
         match self {
             Severity::Fine => 0,
-            Severity::Codes => 1,
-            Severity::Protect => 2,
-            Severity::Malfunction => 3,
-            Severity::Amber => 4,
-            Severity::Red => 5,
+            Severity::Partly => 1,
+            Severity::Codes => 2,
+            Severity::Protect => 3,
+            Severity::Malfunction => 4,
+            Severity::Amber => 5,
+            Severity::Red => 6,
         }
     }
 

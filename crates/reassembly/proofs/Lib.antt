@@ -1,2 +1,3 @@
 pub mod PartialLemmas
 pub mod TableLemmas
+mod Paced

@@ -1,8 +1,8 @@
 -- Tables of addresses after one change.
-use Rattle.std.proofs.Common.{◌≡◌, ℕ, ◌==◌, true, false, List, [], ◌∷◌, length, Option, Some, None, refl, sym, ap, ◌∙◌, arith}
+use Rattle.std.proofs.Common.{◌≡◌, ℕ, ◌<◌, ◌==◌, true, false, List, [], ◌∷◌, length, Option, Some, None, refl, sym, ap, ◌∙◌, subst, arith}
 use Rattle.std.specs.Prelude.{slice_set, replicate}
 use Rattle.std.proofs.lemmas.Bool.{eqb-true}
-use Rattle.std.proofs.lemmas.List.{length-replicate, length-set, set-set}
+use Rattle.std.proofs.lemmas.List.{get_or-set_same, length-replicate, length-set, set-set}
 use Rattle.reassembly.specs.TableLaws.{at-empty, written_back}
 use Rattle.reassembly.specs.Tables.{TableValue, at, empty_table, slots_of, has_slots, IsTable}
 
@@ -72,3 +72,14 @@ pub put_back : {X : Type 0} (t u v now : List (Option X)) (i : ℕ) (x y : X) �
 put_back {X} t u v now i x y left put same there now_is =
     put ∙ (ap (λ (w : List (Option X)). slice_set w i (Some y)) left
     ∙ (set-set t i None (Some y) ∙ (ap (λ (z : X). slice_set t i (Some z)) same ∙ (ap (slice_set t i) (sym there) ∙ (written_back t i ∙ now_is)))))
+
+-- and what is put there instead
+pub put_instead : {X : Type 0} (t u v now : List (Option X)) (i : ℕ) (x : X) (o : Option X) → u ≡ slice_set t i None → v ≡ slice_set u i (Some x) → Some x ≡ o → t ≡ now → v ≡ slice_set now i o
+put_instead {X} t u v now i x o left put is now_is =
+    put ∙ (ap (λ (w : List (Option X)). slice_set w i (Some x)) left ∙ (set-set t i None (Some x) ∙ (ap (slice_set t i) is ∙ ap (λ (w : List (Option X)). slice_set w i o) now_is)))
+
+-- what is put into memory is there
+pub put_there : {X : Type 0} (items : List (Option X)) (i : ℕ) (v : Option X) → IsTable items → has_slots items ≡ true → i < 256 → at (slots_of (slice_set items i v)) i ≡ v
+put_there {X} items i v t h below =
+    ap (λ (s : List (Option X)). at s i) (made_slots (slice_set items i v) (has-set items i v ∙ h))
+    ∙ get_or-set_same items i v None (subst (λ (n : ℕ). i < n) (sym (t.places h)) below)

@@ -6,11 +6,17 @@
 //! message.
 #![tactic(auto)]
 
+mod laws;
+mod paces;
+mod pacing;
 mod pairs;
 mod partial;
 mod partials;
 mod table;
 
+pub use laws::{each_frame_has_its_last_moment, the_next_packet_is_read};
+pub use paces::{Fate, PairedPaces, announces};
+pub use pacing::{Awaited, Grant, Pace, Silence, Step};
 pub use pairs::PairedPartials;
 pub use partial::Partial;
 pub use partials::Partials;

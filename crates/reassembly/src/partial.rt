@@ -1,6 +1,7 @@
 ghost use Rattle.std.specs.Prelude.{◌≡◌, ℕ, ◌<◌, ◌≤◌, [], ◌∷◌, ◌++◌, List, Some, IfOk, IsSome, IfSome, IsTrue, length};
 ghost use Rattle.std.specs.Fn.{FnOnceReturnsAt};
 ghost use Rattle.transport.specs.Pieces.{joined};
+ghost use Rattle.reassembly.specs.Pacing.{was_read};
 ghost use Rattle.reassembly.specs.Partials.{begun, with_packet, is_whole, took_by};
 
 use can_frame::Pgn;
@@ -64,6 +65,23 @@ impl<T: Copy> Partial<T> {
         ensures { result ≡ took_by (with_packet packet.now (Some self.now)) }
     {
         self.assembly.answer(packet)
+    }
+
+    /// Whether a packet of this number was taken, with the same bytes.
+    pub(crate) fn has_piece(&self, packet: &[u8]) -> bool
+        ensures { result ≡ was_read packet.now (Some self.now) }
+    {
+        match packet.split_first() {
+            Some((number, piece)) => self.assembly.has_piece(*number, piece),
+            None => false,
+        }
+    }
+
+    /// How many packets were taken, 0 to 255.
+    pub fn taken(&self) -> u8
+        ensures { result ≡ length self.now.pieces }
+    {
+        self.assembly.taken()
     }
 
     /// Takes a packet that is the next one. It takes no memory.

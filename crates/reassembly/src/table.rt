@@ -59,9 +59,11 @@ impl<X: Drop> AddressTable<X> {
     }
 
     /// Keeps this of an address, in place of what was kept.
+    #[tactic(auto, using(crate::proofs::TableLemmas::put_there))]
     pub fn put(&mut self, address: u8, value: X)
         requires { IsTrue self.old.is_made }
-        ensures { self.new ≡ record self.old { slots = slice_set self.old.slots address (Some value) } }
+        ensures kept { self.new ≡ record self.old { slots = slice_set self.old.slots address (Some value) } }
+        ensures there { at self.new.slots address ≡ Some value }
     {
         self.slots[usize::from(address)] = Some(value);
     }

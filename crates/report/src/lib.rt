@@ -1,4 +1,4 @@
-//! The text of a snapshot: a line for each NAME, and one of what the station missed.
+//! The text of a snapshot, apart from `script_run` for proof time alone: a line for each NAME, and one of what the station missed.
 //!
 //! ```text
 //! 00000000000000C0 none      0      0      0 ----    -

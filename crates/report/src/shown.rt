@@ -6,9 +6,9 @@ ghost use Rattle.report.specs.Text.{lamps_text, line_end};
 ghost use Rattle.report.specs.Shown.{code_text, head_text, entries_text, shown_text};
 
 use dm_messages::Shown;
+use safe_text::TextBuffer;
 use std::io;
 use std::io::Write;
-use text_buffer::TextBuffer;
 use trouble_code::{Dtc, Lamps};
 
 /// Writes what the station shows of a NAME: how many messages, and each of them. Where it answers Ok, the bytes added to the

@@ -1,6 +1,6 @@
 use Rattle.std.specs.Prelude.{◌≡◌}
 use Rattle.fault_memory.specs.declared.error.FaultError.TheVariants as memory
-use Rattle.garage_steps.specs.declared.error.GarageError.TheVariants as garage
+use Rattle.garage.specs.declared.error.GarageError.TheVariants as garage
 use Rattle.script_answer.specs.declared.refusal.Refusal.{Refusal}
 use Rattle.script_answer.specs.declared.refusal.Refusal.TheVariants.{Fault, Garage}
 

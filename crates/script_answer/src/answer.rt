@@ -3,10 +3,10 @@ ghost use Rattle.std.specs.Prelude.{◌≡◌, ◌+◌, ◌<◌, ◌≤◌, leng
 use crate::refusal::Refusal;
 use bus_ledger::Counts;
 use can_frame::Frame;
+use safe_text::TextBuffer;
 use station_table::Row;
 use std::io;
 use std::io::Write;
-use text_buffer::TextBuffer;
 
 /// No answer line has more bytes, but for a frame's and a refusal's, which are not put together.
 const LONGEST: usize = 96;

@@ -1,4 +1,4 @@
-//! The answer to a command of a script, and its line.
+//! The answer to a command of a script, and its line; apart from `script_run` for proof time alone.
 #![tactic(auto)]
 
 mod answer;

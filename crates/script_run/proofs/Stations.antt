@@ -3,7 +3,7 @@ use Rattle.std.proofs.Common.{ℕ, ◌≡◌, ◌<◌, length, ap, subst, sym}
 use Rattle.can_frame.specs.declared.reading.Reading.{Reading}
 use Rattle.can_frame.specs.declared.reading.Reading.TheVariants.{Empty, Frame, Gap}
 use Rattle.journal.specs.Journal.{GarageValue}
-use Rattle.garage_steps.specs.Answers.{Reads}
+use Rattle.garage.specs.Answers.{Reads}
 
 same_settings : (y : ℕ) (old new : GarageValue) (r : Reading) → Reads y old r new → new.settings ≡ old.settings
 same_settings y old new Empty h = ap (λ g. g.settings) h.1

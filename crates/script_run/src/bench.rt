@@ -2,7 +2,7 @@ ghost use Rattle.std.specs.Prelude.{◌<◌, length};
 
 use crate::answer_sink::AnswerSink;
 use crate::place::place_of;
-use crate::task::{Task, carry_out};
+use crate::unit_commands::carry_out;
 use bus_ledger::Carried;
 use can_frame::{Frame, PgnTooLarge, Reading};
 use garage::{Garage, GarageError, Parked};
@@ -128,26 +128,12 @@ impl Bench {
             Command::Injected => Ok(LineAnswer::Injected(self.garage.injected())),
             Command::Frame { index } => Ok(LineAnswer::Frame(self.garage.wire_frame(*index))),
             Command::Leave { seat } => self.dismiss(*seat),
-            Command::Change {
-                seat,
-                change,
-                spn,
-                fmi,
-                count,
-            } => {
-                let task = Task::Change {
-                    change: *change,
-                    spn: *spn,
-                    fmi: *fmi,
-                    count: *count,
-                };
-                self.act(*seat, task)
-            }
-            Command::Lamps { seat, lamps } => self.act(*seat, Task::Lamps { lamps: *lamps }),
-            Command::Think { seat } => self.act(*seat, Task::Think),
-            Command::Turn { seat } => self.act(*seat, Task::Turn),
-            Command::Hear { seat, most } => self.act(*seat, Task::Hear { most: *most }),
-            Command::Dm1 { seat } => self.act(*seat, Task::Dm1),
+            Command::Change { seat, .. }
+            | Command::Lamps { seat, .. }
+            | Command::Think { seat }
+            | Command::Turn { seat }
+            | Command::Hear { seat, .. }
+            | Command::Dm1 { seat } => self.act(*seat, command),
             Command::Shown { name, .. } | Command::Join { name, .. } => {
                 (*name)?;
                 Err(Refusal::BadLine)
@@ -173,12 +159,17 @@ impl Bench {
         }
     }
 
-    /// Does a task with the unit of a seat where it stands. One that the garage does not know leaves the bench then, and is let go.
-    fn act(&mut self, seat: u32, task: Task) -> Result<LineAnswer, Refusal> {
+    /// Carries out a command for the unit of a seat, where it stands. One that the garage does not know leaves the bench then, and is let go.
+    fn act(&mut self, seat: u32, command: &Command) -> Result<LineAnswer, Refusal> {
         let Some(place) = place_of(self.units.as_slice(), seat) else {
             return Err(Refusal::NoSeat);
         };
-        let answer = carry_out(self.alloc, &mut self.garage, &mut self.units[place], task);
+        let answer = carry_out(
+            self.alloc,
+            &mut self.garage,
+            &mut self.units[place],
+            command,
+        );
         if let Err(Refusal::Garage(GarageError::Stranger)) = answer {
             let stranger = self.units.remove(place);
             drop(self.garage.disown(stranger));

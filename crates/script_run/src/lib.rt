@@ -1,12 +1,21 @@
-//! The lines of a script: each one's command is carried out in a garage, and its answer goes to a sink.
+//! A script carried out in a garage: `script` answers each line, `check` tells those that are not accepted, and `log` writes
+//! the wire.
 #![tactic(auto)]
 
 mod answer_sink;
+mod answers;
 mod bench;
+mod checking;
+mod line_reporter;
 mod lines;
+mod logging;
 mod place;
-mod task;
+mod unit_commands;
+mod wire;
 
 pub use answer_sink::AnswerSink;
+pub use answers::script;
 pub use bench::Bench;
+pub use checking::check;
 pub use lines::answer_lines;
+pub use logging::log;

@@ -7,10 +7,9 @@ use name_field::{Name, NameError};
 use program_io::Fault;
 use script_answer::{LineAnswer, Refusal, Unwritten};
 use script_line::{Command, ScriptLine, StationWords, read_line};
-use simulated_unit::Simulated;
 use std::alloc::Global;
 use std::str::Lines;
-use unit_trait::UnitKind;
+use unit_trait::{Simulated, UnitKind};
 
 /// Answers the lines of a script. At the end each unit that is left on the bus is taken off.
 pub fn answer_lines<L: AnswerSink>(alloc: Global, text: &str, sink: &mut L) -> Result<(), Fault>

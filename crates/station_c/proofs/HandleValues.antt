@@ -18,7 +18,7 @@ use denote.Struct.Struct.{within}
 use denote.Struct.Owning.{shape}
 use Rattle.std.proofs.GlobalToken.{dealloc_token-Testable}
 use Rattle.std.specs.contracts.impls.GlobalAllocator.TheImpl.{ghosts}
-use Rattle.station_c.specs.contracts.listed_post.ListedPost as post
+use Rattle.station_c.specs.contracts.listed_station.ListedStation as post
 use Rattle.station_c.specs.Held.{heap, boxed, held}
 use Rattle.station_c.specs.contracts.handle.StationHandle as handle
 use Rattle.station_c.proofs.MachineValues.{both}

@@ -8,3 +8,6 @@ pub mod Taken
 pub mod SeriesLemmas
 pub mod ThreeFrames
 pub mod UnitHandleValues
+pub mod ListenerHandleValues
+pub mod Hearing
+pub mod Commanded

@@ -1,7 +1,7 @@
 -- Each NAME in the list of rows has a row.
 use Rattle.std.proofs.Common.{◌≡◌, ℕ, zero, suc, Bool, true, false, nat_eq, eq-eqb, cond, List, [], ◌∷◌, Option, Some, None, map, slice_get, refl}
-use Rattle.station_table.specs.KeptValue.{KeptValue, kept_under}
-use Rattle.station_table.specs.StandsFor.{row_of}
+use Rattle.entry_lists.specs.KeptValue.{KeptValue, kept_under}
+use Rattle.entry_lists.specs.KnownRows.{row_of}
 
 -- what stands first under a NAME is found, else what stands later
 found : (test : Bool) (kept : KeptValue) (later : Option KeptValue) → (later ≡ None → ⊥) → cond test (Some kept) later ≡ None → ⊥

@@ -7,14 +7,13 @@ use Rattle.bus_model.specs.Heard.{StationSettings}
 use Rattle.can_frame.specs.declared.reading.Reading.{Reading}
 use Rattle.can_frame.specs.declared.reading.Reading.TheVariants.{Frame}
 use Rattle.entry_lists.specs.Newest.{KeepsNewest}
-use Rattle.listening.specs.Posts.{answer_at, given_up_at, reading_at}
 use Rattle.station_table.specs.Listing.{lists_heard}
-use Rattle.station_table.specs.Reactions.{silent}
+use Rattle.station_table.specs.Reactions.{silent, station_reaction}
 use Rattle.station_table.specs.StandsFor.{StandsFor}
 use Rattle.station_table.specs.declared.error.StationError.{StationError}
 use Rattle.station_table.specs.declared.outcome.Outcome.{Outcome}
 use Rattle.station_table.specs.declared.reaction.Reaction.{Reaction}
-use Rattle.station_c.specs.ListedPosts.{ListedPostValue}
+use Rattle.station_c.specs.ListedStations.{ListedStationValue}
 use Rattle.station_c.specs.Records.{TellsChange, TellsReaction, change_told, flag, frame_recorded}
 use Rattle.station_c.specs.Series.{TakesFrames, TakesMore, TakesReading, reaction_told}
 use Rattle.station_c.specs.Statuses.{status_of_station}
@@ -35,35 +34,33 @@ told_reaction reply reaction tells =
     let e : (reply.withdraw == 1) ≡ reaction.withdraw = ap (λ (n : ℕ). n == 1) tells.0 ∙ flag_back reaction.withdraw in λ i. record { withdraw = e i; put = tells.1 i }
 
 -- a station that was handed a reading, and did what its call promises, took it
-pub took : (before after : ListedPostValue) (x : Reading) (outcome : Result Outcome StationError) (status : Status) (reply : ReplyRecord) (told : ChangeRecord) (Q R : Type 0)
-    → OnOk outcome ((r : StationSettings) (grant : ℕ) (h : List Reading) → StandsFor r grant before.post.station h → StandsFor r grant after.post.station (reading_at before.post x ∷ h))
-    → OnOk outcome ((r : StationSettings) (grant : ℕ) (h : List Reading) → StandsFor r grant before.post.station h → KeepsNewest before.lists (lists_heard r h)
-    → KeepsNewest after.lists (lists_heard r (reading_at before.post x ∷ h)))
-    → OnOk outcome (after.post.given_up ≡ given_up_at before.post x)
+pub took : (before after : ListedStationValue) (x : Reading) (outcome : Result Outcome StationError) (status : Status) (reply : ReplyRecord) (told : ChangeRecord) (Q R : Type 0)
+    → OnOk outcome ((r : StationSettings) (grant : ℕ) (h : List Reading) → StandsFor r grant before.station h → StandsFor r grant after.station (x ∷ h))
+    → OnOk outcome ((r : StationSettings) (grant : ℕ) (h : List Reading) → StandsFor r grant before.station h → KeepsNewest before.lists (lists_heard r h)
+    → KeepsNewest after.lists (lists_heard r (x ∷ h)))
     → OnOk outcome (after.lists.keep ≡ before.lists.keep)
-    → IfOk outcome (λ o. o.reaction ≡ answer_at before.post x)
-    → IfOk outcome (λ o. (r : StationSettings) (grant : ℕ) (h : List Reading) → StandsFor r grant before.post.station h → o.change ≡ change_heard r (reading_at before.post x) h)
+    → IfOk outcome (λ o. o.reaction ≡ station_reaction before.station x)
+    → IfOk outcome (λ o. (r : StationSettings) (grant : ℕ) (h : List Reading) → StandsFor r grant before.station h → o.change ≡ change_heard r x h)
     → IfErr outcome (λ e. (status ≡ status_of_station e) × Q × R)
     → IfOk outcome (λ o. (status ≡ Done) × TellsReaction reply o.reaction × TellsChange told o.change)
     → status ≡ Done → TakesReading before x told (reaction_told reply) after
-took before after x (Ok o) status reply told Q R stands lists noted keeps answer change refused tells done = record {
+took before after x (Ok o) status reply told Q R stands lists keeps answer change refused tells done = record {
   stands = stands;
   lists = lists;
-  noted = noted;
   keeps = keeps;
   replied = told_reaction reply o.reaction tells.1 ∙ answer;
   changed = λ r grant h st. tells.2 ∙ (λ i. change_told (change r grant h st i));
 }
-took before after x (Err e) status reply told Q R stands lists noted keeps answer change refused tells done = absurd (refusal_is_not_done e (sym refused.0 ∙ done))
+took before after x (Err e) status reply told Q R stands lists keeps answer change refused tells done = absurd (refusal_is_not_done e (sym refused.0 ∙ done))
 
 -- one that was lifted took it, and was put back
-pub took_lifted : (old lifted after new : ListedPostValue) (x : Reading) (told : ChangeRecord) (reply : Reaction) → lifted ≡ old → new ≡ after
+pub took_lifted : (old lifted after new : ListedStationValue) (x : Reading) (told : ChangeRecord) (reply : Reaction) → lifted ≡ old → new ≡ after
     → TakesReading lifted x told reply after → TakesReading old x told reply new
 took_lifted old lifted after new x told reply e f one =
-    subst (λ (v : ListedPostValue). TakesReading v x told reply new) e (subst (λ (v : ListedPostValue). TakesReading lifted x told reply v) (sym f) one)
+    subst (λ (v : ListedStationValue). TakesReading v x told reply new) e (subst (λ (v : ListedStationValue). TakesReading lifted x told reply v) (sym f) one)
 
 -- the frames before a place were taken, and then the one at that place
-pub one_more : (before between after : ListedPostValue) (fs : List FrameRecord) (cs : List ChangeRecord) (i : ℕ) (d : FrameRecord) (c : ChangeRecord) (reply : Reaction)
+pub one_more : (before between after : ListedStationValue) (fs : List FrameRecord) (cs : List ChangeRecord) (i : ℕ) (d : FrameRecord) (c : ChangeRecord) (reply : Reaction)
     → i < length fs → i < length cs
     → TakesFrames before (take i fs) (take i cs) silent between → (get_or fs i d).id < 2 ^ 29 → (get_or fs i d).len ≤ 8
     → TakesReading between (Frame (frame_recorded (get_or fs i d))) c reply after

@@ -19,4 +19,4 @@ HoldsSame before after = (has_station after ≡ has_station before) × (has_stat
 -- it holds a station that stands for these readings, and the newest entries of each list that was heard of them
 abbrev pub HoldsReadings : StationSettings → ℕ → StationHandle → List Reading → Type 0
 HoldsReadings r grant handle h =
-    (has_station handle ≡ true) × StandsFor r grant handle.value.post.station h × KeepsNewest handle.value.lists (lists_heard r h)
+    (has_station handle ≡ true) × StandsFor r grant handle.value.station h × KeepsNewest handle.value.lists (lists_heard r h)

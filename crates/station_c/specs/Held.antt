@@ -5,7 +5,7 @@ use denote.RawPtr.{Ptr, block_ptr, null_ptr}
 use Rattle.std.specs.declared.alloc.Global.{Global}
 use Rattle.std.specs.contracts.impls.GlobalAllocator.TheImpl.{ghosts}
 use Rattle.std_alloc.specs.Box.Ownership.{box_owns}
-use Rattle.station_c.specs.contracts.listed_post.ListedPost.{the_row as Row}
+use Rattle.station_c.specs.contracts.listed_station.ListedStation.{the_row as Row}
 
 -- the allocator: what one `Global` allocated, each frees
 abbrev pub heap : Global

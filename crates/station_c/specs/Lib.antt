@@ -2,10 +2,15 @@ pub mod Handles
 pub mod Held
 pub mod HeldUnits
 pub mod Lines
-pub mod ListedPosts
+pub mod ListedStations
 pub mod Orders
 pub mod Places
 pub mod Records
 pub mod Series
 pub mod Statuses
 pub mod UnitHandles
+pub mod HeldListeners
+pub mod ListedListeners
+pub mod ListenerHandles
+pub mod HeardRecords
+pub mod HeardSeries

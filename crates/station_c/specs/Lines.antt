@@ -44,21 +44,26 @@ pub record ReadsAs (text : List ℕ) (said : Line) : Type 0 where
   pub logged : (digits ticks : ℕ) (bus : List ℕ) (f : FrameValue) (end : List ℕ) → IsFraction digits → ticks < 10 ^ (10 + digits) → IsBusName bus → IsDataFrame f → IsLineEnd end
       → text ≡ timed_line (ticks_text digits ticks) bus f ++ end → frame_read said ≡ Some (micros_of_ticks digits ticks, bus, f)
 
--- a line that names this bus is of the one that is wanted; every one is where that is empty, and one that names none
+-- a line that names this bus is of the one that is wanted, and one that names none is of no bus; every one is where that is empty
 abbrev pub IsOf : List ℕ → Option (Bor (List ℕ)) → Type 0
-IsOf wanted None = Unit {0}
+IsOf wanted None = wanted ≡ []
 IsOf wanted (Some bus) = (wanted ≡ []) ⊎ (bus.now ≡ wanted)
 
--- what is told of a line of a bus: this, where it is wanted, else nothing
-pub record IsToldOfBus (wanted : List ℕ) (bus : Option (Bor (List ℕ))) (it result : LineContent) : Type 0 where
-  pub of : IsOf wanted bus → result ≡ it
-  pub other : ¬ IsOf wanted bus → result ≡ told.Nothing
+-- frames that were dropped may be of it where no bus is named, too
+abbrev pub MayBeOf : List ℕ → Option (Bor (List ℕ)) → Type 0
+MayBeOf wanted None = Unit {0}
+MayBeOf wanted (Some bus) = IsOf wanted (Some bus)
+
+-- what is told of a line: this, where it is of the bus, else nothing
+pub record IsToldWhere (here : Type 0) (it result : LineContent) : Type 0 where
+  pub of : here → result ≡ it
+  pub other : ¬ here → result ≡ told.Nothing
 
 -- what a line tells of a bus
 abbrev pub LineTells : List ℕ → Line → LineContent → Type 0
-LineTells wanted (line.Frame time bus f) result = IsToldOfBus wanted bus (told.Frame (micros_told time) f) result
-LineTells wanted (line.Dropped bus count) result = IsToldOfBus wanted bus (told.Missed count) result
-LineTells wanted (line.Overflow time bus) result = IsToldOfBus wanted bus (told.Missed 1) result
+LineTells wanted (line.Frame time bus f) result = IsToldWhere (IsOf wanted bus) (told.Frame (micros_told time) f) result
+LineTells wanted (line.Dropped bus count) result = IsToldWhere (MayBeOf wanted bus) (told.Missed count) result
+LineTells wanted (line.Overflow time bus) result = IsToldWhere (IsOf wanted bus) (told.Missed 1) result
 LineTells wanted (line.Foreign bus what) result = result ≡ told.Nothing
 LineTells wanted line.Note result = result ≡ told.Nothing
 LineTells wanted (line.Bad reason) result = result ≡ told.Bad (why_told reason)

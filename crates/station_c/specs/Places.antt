@@ -17,7 +17,7 @@ told_or_never None = Err NeverCame
 told_or_never (Some it) = Ok it
 
 -- at an entry that came before the newest ones nothing is kept
-abbrev pub if_kept : {T : Type 0} → ℕ → List Shown → ℕ → Option T → Result T Absent
+abbrev pub if_kept : {E T : Type 0} → ℕ → List E → ℕ → Option T → Result T Absent
 if_kept keep list entry told = if nat_lt (entry + keep) (length list) then Err NotKept else told_or_never told
 
 -- the entry at a place

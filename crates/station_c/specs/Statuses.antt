@@ -9,7 +9,7 @@ use Rattle.live_unit.specs.declared.error.LiveError.TheVariants as live
 use Rattle.station_table.specs.declared.error.StationError.{StationError}
 use Rattle.station_table.specs.declared.error.StationError.TheVariants as station
 use Rattle.station_c.specs.declared.status.Status.{Status}
-use Rattle.station_c.specs.declared.status.Status.TheVariants.{Done, IdTooLarge, TooLong, NotAnAddress, NoAddress, NotHeld, BadSetting, PgnTooLarge, NoStation, HasStation, NoPlace, NoKind, OutOfMemory, NotKept, SpnTooLarge, FmiTooLarge, MemoryFull, NotActive, NoUnit, HasUnit, QueueFull, SessionOpen, NotPending}
+use Rattle.station_c.specs.declared.status.Status.TheVariants.{Done, IdTooLarge, TooLong, NotAnAddress, NoAddress, NotHeld, BadSetting, PgnTooLarge, NoStation, HasStation, NoPlace, NoKind, OutOfMemory, NotKept, SpnTooLarge, FmiTooLarge, MemoryFull, NotActive, NoUnit, HasUnit, QueueFull, SessionOpen, NotPending, NoListener, HasListener}
 
 -- the number of each
 abbrev pub status_number : Status → ℕ
@@ -36,6 +36,8 @@ status_number HasUnit = 36
 status_number QueueFull = 37
 status_number SessionOpen = 38
 status_number NotPending = 39
+status_number NoListener = 40
+status_number HasListener = 41
 
 -- the refusal of a frame
 abbrev pub status_of_frame : FrameError → Status

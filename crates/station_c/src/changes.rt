@@ -144,7 +144,7 @@ impl ChangeRecord {
 }
 
 /// The number of a kind, which is that of its message.
-fn number_of(kind: Kind) -> u8
+pub(crate) fn number_of(kind: Kind) -> u8
     ensures { result ≡ kind_told kind }
 {
     match kind {

@@ -1,6 +1,7 @@
 //! The functions that C calls. Each takes a handle that it may find empty, and answers the number of a `Status`.
 
-mod lists;
+mod hearing;
+pub(crate) mod lists;
 mod logs;
 mod open;
 mod orders;

@@ -1,9 +1,9 @@
 //! What a C program holds of its station.
 ghost use Rattle.std.specs.Prelude.{◌≡◌, ◌↔◌, true, false, not, IfSome, IsNone};
-ghost use Rattle.station_c.specs.ListedPosts.{ListedPostValue};
+ghost use Rattle.station_c.specs.ListedStations.{ListedStationValue};
 ghost use Rattle.station_c.specs.Held.{held, is_there};
 
-use crate::listed_post::ListedPost;
+use crate::listed_station::ListedStation;
 use crate::raw_box::RawBox;
 use std::alloc::Global;
 use std::marker::{Model, Send};
@@ -18,7 +18,7 @@ pub struct StationHandle {
     /// Whether the library put a station in. It is never looked at.
     full: bool,
     /// The station with its lists, where there is one.
-    pub ghost value: { ListedPostValue },
+    pub ghost value: { ListedStationValue },
 }
 
 const _: () = prove!(size_of::<StationHandle>() == 16);
@@ -34,7 +34,7 @@ unsafe impl Send for StationHandle {}
 
 impl StationHandle {
     /// The handle of this station.
-    fn of(station: RawBox<ListedPost, Global>) -> StationHandle
+    fn of(station: RawBox<ListedStation, Global>) -> StationHandle
         ensures open { is_there result.at ≡ true }
         ensures value { result.value ≡ station.value }
     {
@@ -56,13 +56,13 @@ impl StationHandle {
     }
 
     /// The station of a handle that has one.
-    fn into_raw_box(self, alloc: Global) -> RawBox<ListedPost, Global>
+    fn into_raw_box(self, alloc: Global) -> RawBox<ListedStation, Global>
         requires { is_there self.at ≡ true }
         ensures { result.value ≡ self.value }
     {
         let StationHandle { at, full: _ } = self;
         RawBox {
-            at: at as *mut ListedPost,
+            at: at as *mut ListedStation,
             alloc,
         }
     }
@@ -78,7 +78,7 @@ impl StationHandle {
     }
 
     /// Takes the station out, where there is one; the handle is empty until `put`.
-    pub fn lift(&mut self, alloc: Global) -> Option<Box<ListedPost>>
+    pub fn lift(&mut self, alloc: Global) -> Option<Box<ListedStation>>
         ensures value { IfSome result (λ b. b.value ≡ self.old.value) }
         ensures open { IfSome result (λ _. is_there self.old.at ≡ true) }
         ensures none { IsNone result ↔ (is_there self.old.at ≡ false) }
@@ -92,7 +92,7 @@ impl StationHandle {
     }
 
     /// Puts a station in.
-    pub fn put(&mut self, station: Box<ListedPost>)
+    pub fn put(&mut self, station: Box<ListedStation>)
         ensures open { is_there self.new.at ≡ true }
         ensures value { self.new.value ≡ station.value }
     {

@@ -1,6 +1,7 @@
 //! What a call writes for C, in C's layout. `c/hidzgula_station.h` has the same structs.
 ghost use Rattle.std.specs.Prelude.{◌≡◌, ℕ, ◌<◌, ◌≤◌, ◌^◌, ◌↔◌, IfOk, IsErrOf, IsTrue, Some, length, slice_get};
 ghost use Rattle.can_frame.specs.FrameValue.{FrameValue};
+ghost use Rattle.station_c.specs.Records.{address_under};
 
 use can_frame::{Frame, FrameError, Id};
 use station_table::Reaction;
@@ -140,6 +141,16 @@ impl FrameRecord {
             Some(frame) => FrameRecord::of(frame),
             None => FrameRecord::none(),
         }
+    }
+}
+
+/// An address with its flag.
+pub(crate) fn flagged(address: Option<u8>) -> (u8, u8)
+    ensures { address_under result.0 result.1 ≡ address }
+{
+    match address {
+        Some(address) => (1, address),
+        None => (0, 0),
     }
 }
 

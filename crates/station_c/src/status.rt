@@ -54,6 +54,10 @@ pub enum Status {
     SessionOpen,
     /// The code that is to go away is not pending.
     NotPending,
+    /// The handle has no listener.
+    NoListener,
+    /// The handle has a listener already.
+    HasListener,
 }
 
 impl Status {
@@ -88,6 +92,8 @@ impl Status {
             Status::QueueFull => 37,
             Status::SessionOpen => 38,
             Status::NotPending => 39,
+            Status::NoListener => 40,
+            Status::HasListener => 41,
         }
     }
 

@@ -1,12 +1,12 @@
 //! What a line of a log tells a station.
 ghost use Rattle.std.specs.Prelude.{◌≡◌, ◌↔◌, IsTrue};
-ghost use Rattle.station_c.specs.Lines.{IsOf, LineTells, micros_told, why_told};
+ghost use Rattle.station_c.specs.Lines.{IsOf, LineTells, MayBeOf, micros_told, why_told};
 
 use can_frame::Frame;
 use candump_line::{Line, Reason, Time};
 
 /// The time of a line that has none.
-const NO_TIME: u64 = u64::MAX;
+pub(crate) const NO_TIME: u64 = u64::MAX;
 
 /// What a line of a log tells a station of a bus.
 #[derive(Clone, Copy, PartialEq, Eq)]
@@ -22,7 +22,8 @@ pub(crate) enum LineContent {
 }
 
 impl LineContent {
-    /// What a line tells of this bus; of every bus where that is empty. A line that names no bus is of every bus.
+    /// What a line tells of this bus; of every bus where that is empty. A line that names no bus is of none, but frames that it tells of
+    /// as dropped may be of any.
     pub(crate) fn of(line: &Line<'_>, wanted: &[u8]) -> LineContent
         ensures { LineTells wanted.now line.now result }
     {
@@ -34,7 +35,7 @@ impl LineContent {
                 };
                 told.where_of(*bus, wanted)
             }
-            Line::Dropped { bus, count } => LineContent::Missed { count: *count }.where_of(
+            Line::Dropped { bus, count } => LineContent::Missed { count: *count }.where_may_be_of(
                 *bus, wanted,
             ),
             Line::Overflow { bus, .. } => LineContent::Missed { count: 1 }.where_of(*bus, wanted),
@@ -57,6 +58,17 @@ impl LineContent {
             LineContent::Nothing
         }
     }
+
+    /// The same where the line may be of a bus that is wanted, else nothing.
+    fn where_may_be_of(self, bus: Option<&str>, wanted: &[u8]) -> LineContent
+        ensures wanted { MayBeOf wanted.now bus.entry → result ≡ self }
+        ensures other { ¬ MayBeOf wanted.now bus.entry → result ≡ LineContent.Nothing }
+    {
+        match bus {
+            Some(_) => self.where_of(bus, wanted),
+            None => self,
+        }
+    }
 }
 
 /// Whether a line that names this bus is of the one that is wanted.
@@ -65,7 +77,7 @@ fn is_of(bus: Option<&str>, wanted: &[u8]) -> bool
 {
     match bus {
         Some(bus) => wanted.is_empty() || bus.as_bytes() == wanted,
-        None => true,
+        None => wanted.is_empty(),
     }
 }
 

@@ -16,17 +16,15 @@ use Rattle.reassembly.specs.Tables.{at}
 use Rattle.transport.specs.declared.control.Control.{Control}
 use Rattle.transport.specs.declared.control.Control.TheVariants.{Bam}
 use Rattle.station_table.specs.Changing.{address_by, answers_again, ended_by_packet, group_changes, keeps_address, reading_changes}
-use Rattle.station_table.specs.KeptValue.{KeptValue, claimed_in, kept_under}
-use Rattle.station_table.specs.Orders.{address_in}
-use Rattle.station_table.specs.StandsFor.{StandsFor, row_known, row_of, still_owned}
+use Rattle.entry_lists.specs.KeptValue.{KeptValue, claimed_in, kept_under}
+use Rattle.entry_lists.specs.KnownRows.{address_in, row_known, row_of, still_owned}
+use Rattle.station_table.specs.StandsFor.{StandsFor}
 use Rattle.station_table.specs.StationValue.{StationValue}
 use Rattle.station_table.proofs.Lines.{held_same}
 use Rattle.station_table.specs.Steps.{after_group, origin_of}
-use Rattle.station_table.proofs.Stands.{stands_after, sender, sender_below}
-
-pub address_words : (owners : List (Option ℕ)) (name : ℕ) (k : Option KeptValue) → address_in (row_of owners name k) ≡ address_in_row (row_known owners name k)
-address_words owners name None = refl
-address_words owners name (Some k) = refl
+use Rattle.station_table.proofs.Stands.{stands_after}
+use Rattle.parameter_group.specs.Laws.{sender, sender_below}
+use Rattle.entry_lists.proofs.RowClaims.{address_words}
 
 address_same : (r : StationSettings) (grant : ℕ) (s : StationValue) (h : List Reading) → StandsFor r grant s h → (n : ℕ) → address_by s n ≡ address_known r n h
 address_same r grant s h st n = address_words s.owners n (kept_under s.rows n) ∙ ap (λ (o : Option RowHeard). address_in_row o) (st.rows n)

@@ -9,5 +9,4 @@ pub mod Messages
 pub mod Orders
 pub mod OwnAddress
 pub mod Queries
-pub mod RowLemmas
 pub mod Stands

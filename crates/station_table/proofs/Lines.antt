@@ -1,7 +1,6 @@
 -- After each thing that a frame can say, the tables have at each address what was then heard of it.
-use Rattle.std.proofs.Common.{◌≡◌, ℕ, ◌+◌, ◌<◌, Bool, true, false, ◌==◌, not, ◌&&◌, List, Option, Some, None, is_some, if◌then◌else◌, length, map, refl, sym, ap, ◌∙◌, subst}
-use Rattle.std.specs.Prelude.{slice_set, slice_index}
-use Rattle.std.proofs.lemmas.Bool.{eqb-true}
+use Rattle.std.proofs.Common.{◌≡◌, ℕ, ◌+◌, ◌<◌, Bool, true, false, ◌==◌, not, ◌&&◌, List, Option, Some, None, is_some, if◌then◌else◌, map, refl, sym, ap, ◌∙◌}
+use Rattle.std.specs.Prelude.{slice_index}
 use Rattle.address_claim.specs.Claiming.{ClaimerValue, is_held}
 use Rattle.can_frame.specs.declared.reading.Reading.{Reading}
 use Rattle.dm_messages.specs.declared.shown.Shown.{Shown}
@@ -9,13 +8,13 @@ use Rattle.dm_messages.specs.View.{decoding}
 use Rattle.parameter_group.specs.Group.{Group}
 use Rattle.bus_model.specs.Traffic.{owner_after}
 use Rattle.bus_model.specs.Heard.{StationSettings, Joining, Entry, RowHeard, counted, owner_heard, claimer_heard, claimer_after, address_heard, broadcast_after, broadcast_heard, session_after, session_heard, row_after, row_heard, names_after, names_heard, ended_by, is_unreadable, unread_count, missed_count}
-use Rattle.station_table.specs.KeptValue.{kept_under}
+use Rattle.entry_lists.specs.KeptValue.{kept_under}
 use Rattle.reassembly.specs.Tables.{at}
-use Rattle.reassembly.specs.TableLaws.{at-set}
 use Rattle.station_table.specs.StationValue.{StationValue}
 use Rattle.station_table.specs.Steps.{with_reading, with_ended}
-use Rattle.station_table.specs.StandsFor.{StandsFor, AreTables, most_after, most_heard, row_known}
-use Rattle.station_table.proofs.RowLemmas.{named}
+use Rattle.station_table.specs.StandsFor.{StandsFor, AreTables, most_after, most_heard}
+use Rattle.entry_lists.specs.KnownRows.{row_known}
+use Rattle.entry_lists.proofs.RowLemmas.{named}
 
 -- what is told of a station: of each address, and of each NAME
 pub record Account : Type 0 where
@@ -128,27 +127,6 @@ and_true false = refl
 pub and_false : (b : Bool) → (b && false) ≡ false
 and_false true = refl
 and_false false = refl
-
--- at the place that is tested for, one number is the other
-at_place : {X : Type 0} (f : ℕ → X) (i a : ℕ) (y : X) → (if i == a then f i else y) ≡ (if i == a then f a else y)
-at_place {X} f i a y = go (i == a) refl
-  where
-    go : (b : Bool) → (i == a) ≡ b → (if b then f i else y) ≡ (if b then f a else y)
-    go true e = ap f (eqb-true i a e)
-    go false e = refl
-
--- one place of a table is changed
-pub changed_place : {X : Type 0} (t : List (Option X)) (known : ℕ → Option X) (change : Option X → Option X) (i : ℕ) → length t ≡ 256 → i < 256
-    → ((a : ℕ) → a < 256 → at t a ≡ known a) → (a : ℕ) → a < 256 → at (slice_set t i (change (at t i))) a ≡ (if i == a then change (known a) else known a)
-changed_place t known change i len lt same a below =
-    at-set t i a (change (at t i)) (subst (λ (v : ℕ). i < v) (sym len) lt)
-    ∙ (rw (same i lt, same a below) (at_place (λ v. change (known v)) i a (known a)))
-
--- one place of a table is written
-pub written_place : {X : Type 0} (t : List (Option X)) (known new : ℕ → Option X) (i : ℕ) (v : Option X) → length t ≡ 256 → i < 256 → v ≡ new i
-    → ((a : ℕ) → a < 256 → at t a ≡ known a) → (a : ℕ) → a < 256 → at (slice_set t i v) a ≡ (if i == a then new a else known a)
-written_place t known new i v len lt e same a below =
-    at-set t i a v (subst (λ (x : ℕ). i < x) (sym len) lt) ∙ (rw (e, same a below) (at_place new i a (known a)))
 
 -- the tables before a message that ended is read: what else the frame says is there already
 pub record Midway (r : StationSettings) (grant : ℕ) (g : Group) (s : StationValue) (h : List Reading) : Type 0 where

@@ -19,13 +19,14 @@ use Rattle.parameter_group.specs.Group.{Group, AddressClaimed, CannotClaim, Requ
 use Rattle.reassembly.specs.Tables.{at}
 use Rattle.transport.specs.declared.control.Control.TheVariants.{Rts, Cts, EndAck, Bam, Abort}
 use Rattle.station_table.specs.Changing.{address_by, answers_again, ended_by_packet, group_changes, reading_changes}
-use Rattle.station_table.specs.KeptValue.{kept_under}
+use Rattle.entry_lists.specs.KeptValue.{kept_under}
 use Rattle.station_table.specs.Listing.{SaysEntry, entry_heard, entry_if_read, entry_of_ended, entry_of_read, group_entry, group_entry_heard, lists_heard, reading_entry}
-use Rattle.station_table.specs.StandsFor.{StandsFor, row_known}
+use Rattle.station_table.specs.StandsFor.{StandsFor}
+use Rattle.entry_lists.specs.KnownRows.{row_known}
 use Rattle.station_table.specs.StationValue.{StationValue}
 use Rattle.station_table.specs.Steps.{ended_shown}
 use Rattle.station_table.proofs.Changing.{packet_same}
-use Rattle.station_table.proofs.Stands.{sender, sender_below}
+use Rattle.parameter_group.specs.Laws.{sender, sender_below}
 
 -- ---- the tables and what was heard
 

@@ -12,12 +12,12 @@ use Rattle.transport.specs.declared.control.Control.TheVariants.{Rts, Bam, Abort
 use Rattle.parameter_group.specs.Group.{Diagnostic, ConnectionManagement, DataTransfer}
 use Rattle.reassembly.specs.Partials.{with_packet, after_packet}
 use Rattle.reassembly.specs.Tables.{at}
-use Rattle.reassembly.specs.TableLaws.{item-set}
+use Rattle.reassembly.specs.TableLaws.{item-set, changed_place, written_place}
 use Rattle.bus_model.specs.Heard.{StationSettings, Joining, Entry, kind_of, started, finished, entry_under, or_else, without_kind, owner_heard, address_heard, broadcast_heard, session_heard, ended_by}
 use Rattle.station_table.specs.StationValue.{StationValue}
 use Rattle.station_table.specs.Steps.{with_reading, with_ended, with_broadcast_packet, with_session_packet, with_session, after_group}
 use Rattle.station_table.specs.StandsFor.{StandsFor, most_heard}
-use Rattle.station_table.proofs.Lines.{StandsAfter, Midway, held_same, and_true, and_false, changed_place, written_place, ending, tells}
+use Rattle.station_table.proofs.Lines.{StandsAfter, Midway, held_same, and_true, and_false, ending, tells}
 
 -- a single message
 pub single : (r : StationSettings) (grant : ℕ) (s : StationValue) (h : List Reading) (k : Kind) (src : ℕ) (bytes : List ℕ) → src < 256 → StandsFor r grant s h

@@ -3,9 +3,10 @@ use Rattle.std.proofs.Common.{◌≡◌, ◌↔◌, ◌≤◌, ◌<◌, ℕ, Lis
 use Rattle.std.proofs.lemmas.Bool.{ltb-true, ltb-false}
 use Rattle.can_frame.specs.declared.reading.Reading.{Reading}
 use Rattle.bus_model.specs.Heard.{StationSettings, address_heard, address_in_row, address_known}
-use Rattle.station_table.specs.KeptValue.{KeptValue, kept_under}
-use Rattle.station_table.specs.Orders.{AnswersAskAll, AnswersAsk, AnswersCommand, address_in, ask_all_answer, ask_answer, ask_from, command_answer, command_from}
-use Rattle.station_table.specs.StandsFor.{StandsFor, row_known, row_of}
+use Rattle.entry_lists.specs.KeptValue.{KeptValue, kept_under}
+use Rattle.station_table.specs.Orders.{AnswersAskAll, AnswersAsk, AnswersCommand, ask_all_answer, ask_answer, ask_from, command_answer, command_from}
+use Rattle.entry_lists.specs.KnownRows.{address_in, row_known, row_of}
+use Rattle.station_table.specs.StandsFor.{StandsFor}
 use Rattle.station_table.specs.StationValue.{StationValue}
 use Rattle.station_table.specs.declared.error.StationError.TheVariants.{NotAnAddress, NoAddress, NotHeld}
 use Rattle.station_table.specs.declared.reaction.Ask.{Ask}

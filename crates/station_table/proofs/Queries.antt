@@ -5,12 +5,14 @@ use Rattle.std.specs.Option.{option_map}
 use Rattle.std.proofs.lemmas.List.{length-map}
 use Rattle.can_frame.specs.declared.reading.Reading.{Reading}
 use Rattle.bus_model.specs.Heard.{StationSettings, address_heard, names_heard, row_heard, missed_count, unread_count}
-use Rattle.station_table.specs.declared.row.Row.{Row}
-use Rattle.station_table.specs.KeptValue.{KeptValue, kept_under}
+use Rattle.entry_lists.specs.declared.row.Row.{Row}
+use Rattle.entry_lists.specs.KeptValue.{KeptValue, kept_under}
 use Rattle.station_table.specs.StationValue.{StationValue}
-use Rattle.station_table.specs.StandsFor.{StandsFor, row_known, row_of, row_heard_as}
+use Rattle.station_table.specs.StandsFor.{StandsFor}
+use Rattle.entry_lists.specs.KnownRows.{row_known, row_of, row_heard_as}
 use Rattle.station_table.proofs.Lines.{held_same}
-use Rattle.station_table.proofs.RowLemmas.{named}
+use Rattle.entry_lists.proofs.RowLemmas.{named}
+use Rattle.entry_lists.proofs.RowClaims.{row_words}
 
 pub held_as_heard : (r : StationSettings) (grant : ℕ) (s : StationValue) (h : List Reading) (o : Option ℕ) → o ≡ s.claimer.held → StandsFor r grant s h → o ≡ address_heard r h
 held_as_heard r grant s h o e st = e ∙ held_same r grant s h st
@@ -21,11 +23,6 @@ names_as_heard r grant s h n e st = e ∙ (sym (length-map s.rows named) ∙ ap 
 pub name_as_heard : (r : StationSettings) (grant : ℕ) (s : StationValue) (h : List Reading) (place : ℕ) (o : Option ℕ)
     → o ≡ slice_get (map named s.rows) place → StandsFor r grant s h → o ≡ slice_get (names_heard h) place
 name_as_heard r grant s h place o e st = e ∙ ap (λ (l : List ℕ). slice_get l place) st.names
-
--- the row that is shown, in the words of what was heard
-pub row_words : (owners : List (Option ℕ)) (name : ℕ) (k : Option KeptValue) → option_map row_heard_as (row_of owners name k) ≡ row_known owners name k
-row_words owners name None = refl
-row_words owners name (Some k) = refl
 
 pub row_as_heard : (r : StationSettings) (grant : ℕ) (s : StationValue) (h : List Reading) (name : ℕ) (o : Option Row)
     → o ≡ row_of s.owners name (kept_under s.rows name) → StandsFor r grant s h → option_map row_heard_as o ≡ row_heard r name h

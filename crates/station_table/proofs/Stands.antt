@@ -1,63 +1,25 @@
 -- The tables stand for the readings: at first for none, and after each reading for that one in front of the others.
 use Rattle.std.proofs.Common.{◌≡◌, ℕ, ◌+◌, ◌<◌, ◌≤◌, Bool, true, false, ◌==◌, ◌&&◌, List, [], ◌∷◌, Option, Some, None, if◌then◌else◌, length, refl, sym, ap, ◌∙◌, subst, arith}
-use Rattle.std.specs.Prelude.{nat_lt, nat_le, slice_index}
+use Rattle.std.specs.Prelude.{slice_index}
 use Rattle.std.proofs.lemmas.List.{get_or-replicate, length-replicate}
 use Rattle.std.proofs.lemmas.Bool.{ne_eqb}
 use Rattle.address_claim.specs.Claiming.{ClaimerValue, new_claimer}
 use Rattle.can_frame.specs.declared.reading.Reading.{Reading}
 use Rattle.can_frame.specs.declared.reading.Reading.TheVariants.{Frame, Gap, Empty}
-use Rattle.transport.specs.declared.control.Control.{Control}
 use Rattle.transport.specs.declared.control.Control.TheVariants.{Rts, Cts, EndAck, Bam, Abort}
-use Rattle.parameter_group.specs.Group.{Group, AddressClaimed, CannotClaim, Request, Acknowledgment, Diagnostic, ConnectionManagement, DataTransfer, Other, group_of, group_by, control_group}
-use Rattle.can_frame.specs.Fields.{pgn_of, pdu_specific_of, source_of}
-use Rattle.can_frame.specs.FrameValue.{FrameValue}
-use Rattle.transport.specs.ControlMessage.{control_of}
-use Rattle.bus_model.specs.Heard.{StationSettings, Joining, RowHeard, addressless, counted}
-use Rattle.station_table.specs.KeptValue.{KeptValue, kept_under}
+use Rattle.parameter_group.specs.Group.{Group, AddressClaimed, CannotClaim, Request, Acknowledgment, Diagnostic, ConnectionManagement, DataTransfer, Other, group_of}
+use Rattle.bus_model.specs.Heard.{StationSettings, Joining, addressless, counted}
+use Rattle.entry_lists.specs.KeptValue.{KeptValue, kept_under}
 use Rattle.reassembly.specs.Tables.{empty_table}
 use Rattle.reassembly.specs.TableLaws.{at-empty, places-empty}
 use Rattle.station_table.specs.StationValue.{StationValue}
 use Rattle.station_table.specs.Steps.{no_limits, new_station, after_group, after_gap, after_reading}
-use Rattle.station_table.specs.StandsFor.{StandsFor, still_owned, ack_known, row_known}
+use Rattle.station_table.specs.StandsFor.{StandsFor}
 use Rattle.station_table.proofs.Lines.{StandsAfter, stands_as_told, tells}
 use Rattle.station_table.proofs.Claims.{acknowledged, cannot_claim, claimed}
 use Rattle.station_table.proofs.Messages.{single, packet, bam, rts, aborted}
-
--- what a frame says comes from an address of one byte
-abbrev pub sender : Group → ℕ
-sender (AddressClaimed source name) = source
-sender (CannotClaim name) = 254
-sender (Request pgn destination source) = source
-sender (Acknowledgment control requester pgn destination source) = source
-sender (Diagnostic kind source bytes) = source
-sender (ConnectionManagement source destination control) = source
-sender (DataTransfer source destination bytes) = source
-sender Other = 0
-
-below_if : (b : Bool) (x y : Group) → sender x < 256 → sender y < 256 → sender (if b then x else y) < 256
-below_if true x y p q = p
-below_if false x y p q = q
-
-below_control : (d src : ℕ) (o : Option Control) → src < 256 → sender (control_group d src o) < 256
-below_control d src None lt = omega arith
-below_control d src (Some c) lt = lt
-
-below_group : (pgn d src : ℕ) (bytes : List ℕ) → src < 256 → sender (group_by pgn d src bytes) < 256
-below_group pgn d src bytes lt =
-    let zero_below : 0 < 256 = omega arith in
-    let last_below : 254 < 256 = omega arith in
-    below_if (pgn == 60928) _ _
-    (below_if ((d == 255) && (length bytes == 8)) _ _ (below_if (nat_lt src 254) _ _ lt (below_if (src == 254) _ _ last_below zero_below)) zero_below)
-    (below_if (pgn == 59904) _ _
-    (below_if (nat_le 3 (length bytes)) _ _ lt zero_below)
-    (below_if (pgn == 59392) _ _
-    (below_if (length bytes == 8) _ _ lt zero_below)
-    (below_if (pgn == 65226) _ _ lt (below_if (pgn == 65227) _ _ lt (below_if (pgn == 65231) _ _ lt
-    (below_if (pgn == 60416) _ _ (below_control d src (control_of bytes) lt) (below_if (pgn == 60160) _ _ lt zero_below)))))))
-
-pub sender_below : (f : FrameValue) → sender (group_of f) < 256
-unfolding group_of
-sender_below f = below_group (pgn_of f.id) (pdu_specific_of f.id) (source_of f.id) f.bytes (omega arith)
+use Rattle.entry_lists.proofs.RowClaims.{addressless_row}
+use Rattle.parameter_group.specs.Laws.{sender, sender_below}
 
 -- whatever a frame says
 pub group_stands : (r : StationSettings) (grant : ℕ) (s : StationValue) (h : List Reading) (g : Group) → sender g < 256
@@ -76,14 +38,6 @@ group_stands r grant s h (ConnectionManagement src d (EndAck size packets pgn)) 
 group_stands r grant s h Other lt st = tells r grant s h st
 
 -- a gap
-pub addressless_row : (n : ℕ) (owners : List (Option ℕ)) (o : Option KeptValue) → row_known empty_table n o ≡ addressless (row_known owners n o)
-addressless_row n owners None = refl
-addressless_row n owners (Some x) = go x.claimed
-  where
-    go : (c : Option ℕ) → ◌≡◌ {A = Option RowHeard} (Some (record { address = still_owned empty_table n c; ack = ack_known x.ack })) (Some (record { address = None; ack = ack_known x.ack }))
-    go None = refl
-    go (Some a) = rw (at-empty {X = ℕ} a) refl
-
 pub gap_stands : (r : StationSettings) (grant : ℕ) (s : StationValue) (h : List Reading) (n : ℕ) → StandsFor r grant s h → StandsFor r grant (after_gap s n) (Gap n ∷ h)
 gap_stands r grant s h n st = record {
   grants = st.grants;

@@ -13,9 +13,8 @@ use Rattle.reassembly.specs.Partials.{with_packet}
 use Rattle.reassembly.specs.Tables.{at}
 use Rattle.transport.specs.declared.control.Control.TheVariants.{Bam}
 use Rattle.station_table.specs.declared.ended.ReadMessage.{ReadMessage}
-use Rattle.station_table.specs.KeptValue.{kept_under}
-use Rattle.station_table.specs.Orders.{address_in}
-use Rattle.station_table.specs.StandsFor.{row_known, row_of}
+use Rattle.entry_lists.specs.KeptValue.{kept_under}
+use Rattle.entry_lists.specs.KnownRows.{address_in, row_known, row_of}
 use Rattle.station_table.specs.StationValue.{StationValue}
 
 -- the address that a NAME has

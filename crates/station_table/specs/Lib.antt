@@ -1,5 +1,4 @@
 pub mod Changing
-pub mod KeptValue
 pub mod Listing
 pub mod Orders
 pub mod Reactions

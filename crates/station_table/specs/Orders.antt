@@ -7,16 +7,10 @@ use Rattle.station_table.specs.declared.error.StationError.{StationError}
 use Rattle.station_table.specs.declared.error.StationError.TheVariants.{NotAnAddress, NoAddress, NotHeld}
 use Rattle.station_table.specs.declared.reaction.Ask.{Ask}
 use Rattle.station_table.specs.declared.reaction.Reaction.{Reaction}
-use Rattle.station_table.specs.declared.row.Row.{Row}
-use Rattle.station_table.specs.KeptValue.{kept_under}
+use Rattle.entry_lists.specs.KeptValue.{kept_under}
 use Rattle.station_table.specs.Reactions.{asking, commanding}
 use Rattle.station_table.specs.StationValue.{StationValue}
-use Rattle.station_table.specs.StandsFor.{row_of}
-
--- the address in a row, if there is one
-abbrev pub address_in : Option Row → Option ℕ
-address_in None = None
-address_in (Some row) = row.address
+use Rattle.entry_lists.specs.KnownRows.{address_in, row_of}
 
 -- a request from the station's address to the NAME's
 abbrev pub ask_from : Option ℕ → Option ℕ → Ask → Result Reaction StationError

@@ -8,11 +8,10 @@ use Rattle.transport.specs.declared.control.TheConstants.Control.{NO_LIMIT}
 use Rattle.transport.specs.declared.control.Control.TheVariants.{Rts}
 use Rattle.parameter_group.specs.Group.{Group, ConnectionManagement, group_of}
 use Rattle.reassembly.specs.Tables.{at}
-use Rattle.bus_model.specs.Heard.{StationSettings, Joining, AckHeard, RowHeard, kind_of, started, owner_heard, claimer_heard, address_heard, broadcast_heard, session_heard, row_heard, names_heard, missed_count, unread_count}
-use Rattle.station_table.specs.declared.row.AckSeen.{AckSeen}
-use Rattle.station_table.specs.declared.row.Row.{Row}
-use Rattle.station_table.specs.KeptValue.{KeptValue, kept_under}
+use Rattle.bus_model.specs.Heard.{StationSettings, Joining, kind_of, started, owner_heard, claimer_heard, address_heard, broadcast_heard, session_heard, row_heard, names_heard, missed_count, unread_count}
+use Rattle.entry_lists.specs.KeptValue.{kept_under}
 use Rattle.station_table.specs.StationValue.{StationValue}
+use Rattle.entry_lists.specs.KnownRows.{row_known}
 
 -- an Rts that starts a session tells how many packets its sender takes at once
 abbrev pub most_after : ℕ → Group → Option ℕ → Option ℕ → ℕ → ℕ
@@ -26,20 +25,6 @@ most_heard r a [] = NO_LIMIT
 most_heard r a (Gap n ∷ older) = most_heard r a older
 most_heard r a (Empty ∷ older) = most_heard r a older
 most_heard r a (Frame f ∷ older) = most_after a (group_of f) (address_heard r older) (owner_heard a older) (most_heard r a older)
-
--- the claimed address, where it is still the NAME's
-abbrev pub still_owned : List (Option ℕ) → ℕ → Option ℕ → Option ℕ
-still_owned owners name None = None
-still_owned owners name (Some a) = if is_held (at owners a) name then Some a else None
-
-abbrev pub ack_known : Option AckSeen → Option AckHeard
-ack_known None = None
-ack_known (Some ack) = Some (record { control = ack.control; pgn = ack.pgn })
-
--- a NAME's row as the tables have it
-abbrev pub row_known : List (Option ℕ) → ℕ → Option KeptValue → Option RowHeard
-row_known owners name None = None
-row_known owners name (Some kept) = Some (record { address = still_owned owners name kept.claimed; ack = ack_known kept.ack })
 
 -- the tables are of 256 addresses
 pub record AreTables (owned : List (Option ℕ)) (announced opened : List (Option Joining)) (limits : List ℕ) : Type 0 where
@@ -62,12 +47,3 @@ pub record StandsFor (r : StationSettings) (grant : ℕ) (s : StationValue) (h :
   pub names : map (λ e. e.0) s.rows ≡ names_heard h
   pub missed : s.missed ≡ missed_count h
   pub unread : s.unread ≡ unread_count r h
-
--- the row that the station shows of a NAME
-abbrev pub row_of : List (Option ℕ) → ℕ → Option KeptValue → Option Row
-row_of owners name None = None
-row_of owners name (Some kept) = Some (record { address = still_owned owners name kept.claimed; ack = kept.ack })
-
--- that row in the words of what was heard
-abbrev pub row_heard_as : Row → RowHeard
-row_heard_as row = record { address = row.address; ack = ack_known row.ack }

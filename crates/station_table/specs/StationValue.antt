@@ -2,7 +2,7 @@
 use Rattle.std.specs.Prelude.{ℕ, List, Option}
 use Rattle.address_claim.specs.Claiming.{ClaimerValue}
 use Rattle.bus_model.specs.Heard.{Joining}
-use Rattle.station_table.specs.KeptValue.{KeptValue}
+use Rattle.entry_lists.specs.KeptValue.{KeptValue}
 
 -- the station's own claims and its grant; by source address the owner, the broadcast and the session half joined, and how many
 -- packets the sender of the last session takes at once; the rows by NAME in the order of their first claim; the counts

@@ -15,9 +15,9 @@ use Rattle.address_claim.specs.declared.claimer.ClaimStep.TheVariants.{Nothing}
 use Rattle.reassembly.specs.Partials.{with_packet, after_packet}
 use Rattle.reassembly.specs.Tables.{at, empty_table}
 use Rattle.bus_model.specs.Heard.{Joining, Origin, Entry, kind_of, started, finished, entry_under, without_kind, counted, kept_by_owner as joining_under}
-use Rattle.station_table.specs.declared.row.AckSeen.{AckSeen}
+use Rattle.entry_lists.specs.declared.row.AckSeen.{AckSeen}
 use Rattle.station_table.specs.declared.ended.ReadMessage.{ReadMessage}
-use Rattle.station_table.specs.KeptValue.{with_claimed, with_ack, with_row, changed_under}
+use Rattle.entry_lists.specs.KeptValue.{with_claimed, with_ack, with_row, changed_under}
 use Rattle.station_table.specs.StationValue.{StationValue}
 
 -- no sender told how many packets it takes at once

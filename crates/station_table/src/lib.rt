@@ -3,22 +3,17 @@
 
 mod ended;
 mod error;
-mod kept;
 mod laws;
 mod origin;
 mod outcome;
 mod reaction;
 mod replies;
-mod row;
-mod rows;
 mod station;
 
 pub use bus_model::{Change, Displaced};
+pub use entry_lists::{AckSeen, Row};
 pub use error::StationError;
 pub use laws::lists_are_what_was_heard;
-pub use origin::kind_of;
 pub use outcome::Outcome;
 pub use reaction::{Ask, Reaction};
-pub use row::{AckSeen, Row};
-pub use rows::Rows;
 pub use station::Station;

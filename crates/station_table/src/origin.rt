@@ -3,7 +3,6 @@ ghost use Rattle.bus_model.specs.Heard.{kept_by_owner, without_kind};
 ghost use Rattle.bus_model.specs.Heard as heard;
 ghost use Rattle.reassembly.specs.Tables.{at};
 
-use can_frame::Pgn;
 use dm_messages::Kind;
 use name_field::Name;
 use reassembly::Partials;
@@ -46,18 +45,6 @@ impl Origin {
         ensures { result ≡ self.kind }
     {
         self.kind
-    }
-}
-
-/// The kind of diagnostic message that a parameter group stands for.
-pub fn kind_of(pgn: Pgn) -> Option<Kind>
-    ensures { result ≡ heard.kind_of pgn }
-{
-    match pgn {
-        Pgn::DM1 => Some(Kind::Dm1),
-        Pgn::DM2 => Some(Kind::Dm2),
-        Pgn::DM6 => Some(Kind::Dm6),
-        _ => None,
     }
 }
 

@@ -8,10 +8,9 @@ ghost use Rattle.station_table.specs.Reactions.{own_claim};
 ghost use Rattle.station_table.specs.Steps.{no_limits};
 
 use crate::origin::Origin;
-use crate::row::Row;
-use crate::rows::Rows;
 use address_claim::{Claimer, claim_frame};
 use can_frame::Frame;
+use entry_lists::{Row, Rows};
 use name_field::Name;
 use reassembly::{AddressTable, Partials};
 use std::alloc::Global;
@@ -64,10 +63,11 @@ impl Model for Station {
 }
 
 impl Station {
-    ghost use Rattle.station_table.specs.KeptValue.{kept_under};
+    ghost use Rattle.entry_lists.specs.KeptValue.{kept_under};
     ghost use Rattle.reassembly.specs.Tables.{at};
     ghost use Rattle.station_table.specs.Steps.{new_station};
-    ghost use Rattle.station_table.specs.StandsFor.{StandsFor, row_of, row_heard_as};
+    ghost use Rattle.station_table.specs.StandsFor.{StandsFor};
+    ghost use Rattle.entry_lists.specs.KnownRows.{row_of, row_heard_as};
 
     /// A station of this NAME that holds this address, 0 to 253, and grants at most this many packets at once, at least one.
     /// It has read nothing.

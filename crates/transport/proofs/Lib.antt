@@ -2,3 +2,4 @@ pub mod Filling
 pub mod Order
 pub mod Steps
 pub mod Runs
+pub mod Taken

@@ -1,5 +1,5 @@
 -- Joining packets in their order.
-use Rattle.std.specs.Prelude.{◌≡◌, ℕ, suc, ◌+◌, Bool, ◌&&◌, nat_eq, nat_lt, if◌then◌else◌, List, [], ◌∷◌, ◌++◌, length, drop, slice_index, Option, Some, None}
+use Rattle.std.specs.Prelude.{◌≡◌, ℕ, suc, ◌+◌, ◌-◌, Bool, false, ◌&&◌, bytes_eq, nat_eq, nat_le, nat_lt, if◌then◌else◌, List, [], ◌∷◌, ◌++◌, length, drop, slice_index, slice_index_or, Option, Some, None}
 use Rattle.transport.specs.Pieces.{packet_count, IsNext}
 use Rattle.transport.specs.declared.took.Took.{Took}
 use Rattle.transport.specs.declared.took.Took.TheVariants.{More, Whole, Broken}
@@ -23,6 +23,12 @@ is_next size taken part =
 abbrev pub with_part : ℕ → Option (List (List ℕ)) → List ℕ → Option (List (List ℕ))
 with_part size None part = None
 with_part size (Some taken) part = if is_next size taken part then Some (taken ++ drop 1 part ∷ []) else None
+
+-- whether the piece of this number, from 1, was taken and has these bytes
+abbrev pub has_piece : Option (List (List ℕ)) → ℕ → List ℕ → Bool
+has_piece None number piece = false
+has_piece (Some taken) number piece =
+    nat_le 1 number && (nat_le number (length taken) && bytes_eq (slice_index_or taken (number - 1) []) piece)
 
 -- the message after one packet more
 abbrev pub after_part : AssemblyValue → List ℕ → AssemblyValue

@@ -1,4 +1,5 @@
 ghost use Rattle.std.specs.Prelude.{◌≡◌, ℕ, ◌+◌, ◌*◌, ◌/◌, ◌<◌, ◌≤◌, ◌↔◌, ◌∷◌, [], ◌++◌, IfOk, IsTrue, IsSome, IsSomeAnd, Some, List, length, drop, nat_eq, if◌then◌else◌};
+ghost use Rattle.transport.specs.Assembling as assembling;
 ghost use Rattle.transport.specs.Pieces.{IsNext};
 ghost use Rattle.transport.specs.Pieces.{packet_count, pieces, packets_of, joined};
 
@@ -88,6 +89,20 @@ impl Assembly {
         answered(len, self.size)
     }
 
+    /// How many packets were taken of a message that is not broken, 0 to 255.
+    pub fn taken(&self) -> u8
+        ensures { (parts : List (List ℕ)) → self.now.taken ≡ Some parts → result ≡ length parts }
+    {
+        (self.bytes.len() / 7) as u8
+    }
+
+    /// Whether the piece of this number, from 1, was taken and has these bytes.
+    pub fn has_piece(&self, number: u8, piece: &[u8]) -> bool
+        ensures { result ≡ assembling.has_piece self.now.taken number piece.now }
+    {
+        !self.broken && is_piece(self.bytes.as_slice(), number, piece)
+    }
+
     /// Takes a packet that is the next one, without judging it again. It takes no memory.
     pub fn add(&mut self, part: &[u8])
         requires { IsSome (with_part self.old.size self.old.taken part.now) }
@@ -157,6 +172,23 @@ fn piece_of(part: &[u8]) -> &[u8; 7]
         unreachable!()
     };
     piece
+}
+
+/// Whether the piece of this number, from 1, stands in bytes of whole pieces, and is this one.
+#[tactic(auto, using(crate::proofs::Taken::piece_there, crate::proofs::Taken::none_there, crate::proofs::Taken::none_at_zero))]
+fn is_piece(bytes: &[u8], number: u8, piece: &[u8]) -> bool
+    requires { length bytes.now ≡ 7 * packet_count (length bytes.now) }
+    ensures { result ≡ assembling.has_piece (Some (pieces bytes.now)) number piece.now }
+{
+    if number == 0 {
+        return false;
+    }
+    let end = 7 * usize::from(number);
+    if end > bytes.len() {
+        return false;
+    }
+    let taken = &bytes[end - 7..end];
+    taken == piece
 }
 
 /// Whether a packet is the next one of a message of this size, of which so many bytes were taken.

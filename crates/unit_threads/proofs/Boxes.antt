@@ -6,11 +6,11 @@ use Rattle.fault_memory.specs.Memory.{MemoryValue}
 use Rattle.unit_trait.specs.declared.question.Question.{Question}
 use Rattle.journal.specs.Journal.{Adds, GarageValue, with_event}
 use Rattle.journal.specs.declared.event.Event.TheVariants.{Turned}
-use Rattle.garage_steps.specs.Answers.{Hears, counted_hearing}
-use Rattle.garage_steps.specs.Hearing.{HasHeardAll, HearsMany}
-use Rattle.garage_steps.specs.declared.answers.HeardOne.{HeardOne}
-use Rattle.garage_steps.specs.declared.answers.HeardOne.TheVariants as heard
-use Rattle.garage_steps.proofs.HearLemmas.{many_more, many_none, many_same}
+use Rattle.garage.specs.Answers.{Hears, counted_hearing}
+use Rattle.garage.specs.Hearing.{HasHeardAll, HearsMany}
+use Rattle.garage.specs.declared.answers.HeardOne.{HeardOne}
+use Rattle.garage.specs.declared.answers.HeardOne.TheVariants as heard
+use Rattle.garage.proofs.HearLemmas.{many_more, many_none, many_same}
 use Rattle.unit_threads.specs.Turns.{BoxHeard, IsTurnInBox, asked_at, begun_by, sitting_at}
 
 -- one more hearing, at one vtable

@@ -8,7 +8,7 @@ use Rattle.std.specs.List.{All}
 use Rattle.journal.specs.Journal.{GarageValue, joins, tally_of}
 use Rattle.journal.specs.declared.tally.Tally.{Tally}
 use Rattle.garage.specs.Opening.{no_events}
-use Rattle.garage_steps.specs.declared.error.GarageError.TheVariants.{Stranger}
+use Rattle.garage.specs.declared.error.GarageError.TheVariants.{Stranger}
 use Rattle.unit_threads.specs.declared.ended.Ended.{Ended}
 use Rattle.unit_threads.specs.declared.ended.EndReason.{EndReason}
 use Rattle.unit_threads.specs.declared.ended.EndReason.TheVariants as reason

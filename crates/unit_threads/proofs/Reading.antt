@@ -5,12 +5,12 @@ use Rattle.can_frame.specs.declared.reading.Reading.TheVariants as reading
 use Rattle.bus_ledger.proofs.Numbers.{same_or_not}
 use Rattle.journal.specs.Journal.{Adds, GarageValue, state_of}
 use Rattle.journal.specs.declared.event.Event.TheVariants.{Read}
-use Rattle.garage_steps.specs.Answers.{Reads}
-use Rattle.garage_steps.specs.Calls.{IsWant}
-use Rattle.garage_steps.specs.Rounds.{HasReadAll, HaveReadAll, IsReadOf}
-use Rattle.garage_steps.specs.declared.error.GarageError.{GarageError}
+use Rattle.garage.specs.Answers.{Reads}
+use Rattle.garage.specs.Calls.{IsNoMemoryOrFull}
+use Rattle.garage.specs.Rounds.{HasReadAll, HaveReadAll, IsReadOf}
+use Rattle.garage.specs.declared.error.GarageError.{GarageError}
 use Rattle.unit_threads.specs.Turns.{CarriesAll, CarriesSome, GrowsBy, IsOneRead, IsPartOfRead, IsPartOfReading, LeavesOthers, ReadInTurn}
-use Rattle.garage_steps.proofs.ReadLemmas.{event_same, next_same}
+use Rattle.garage.proofs.ReadLemmas.{event_same, next_same}
 use Rattle.unit_threads.proofs.Turning.{grows_more, grown_same}
 
 -- a reading of one station leaves the others as they were
@@ -78,6 +78,6 @@ part_of_read a b c reads all carries = inr (record { read = b; reads = reads; al
 pub cut_short : (a b : GarageValue) → IsPartOfReading a b → IsPartOfRead a b
 cut_short a b part = inl part
 
-pub wants_and : {T : Type 0} (r : Result T GarageError) (P : Type 0) → IfErr r IsWant → P → IfErr r (λ e. IsWant e × P)
+pub wants_and : {T : Type 0} (r : Result T GarageError) (P : Type 0) → IfErr r IsNoMemoryOrFull → P → IfErr r (λ e. IsNoMemoryOrFull e × P)
 wants_and (Ok v) P w p = tt
 wants_and (Err e) P w p = (w, p)

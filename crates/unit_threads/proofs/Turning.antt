@@ -17,13 +17,13 @@ use Rattle.journal.specs.Journal.{Adds, GarageValue, IsSeated, state_after, stat
 use Rattle.journal.specs.declared.event.Event.{Event}
 use Rattle.journal.specs.declared.event.Event.TheVariants.{Hear, Begin, Turned, Carry, Leave}
 use Rattle.journal.specs.declared.tally.Tally.{Tally}
-use Rattle.garage_steps.specs.Answers.{Hears}
-use Rattle.garage_steps.specs.Carrying.{AddsCarry}
-use Rattle.garage_steps.specs.Causes.{held_at, has_open_dm1}
-use Rattle.garage_steps.specs.Hearing.{HasHeardAll}
-use Rattle.garage_steps.specs.declared.answers.HeardOne.{HeardOne}
-use Rattle.garage_steps.specs.declared.answers.HeardOne.TheVariants as heard
-use Rattle.garage_steps.proofs.Traffics.{set_live}
+use Rattle.garage.specs.Answers.{Hears}
+use Rattle.garage.specs.Carrying.{AddsCarry}
+use Rattle.garage.specs.Causes.{held_at, has_open_dm1}
+use Rattle.garage.specs.Hearing.{HasHeardAll}
+use Rattle.garage.specs.declared.answers.HeardOne.{HeardOne}
+use Rattle.garage.specs.declared.answers.HeardOne.TheVariants as heard
+use Rattle.garage.proofs.Traffics.{set_live}
 use Rattle.unit_threads.specs.Turns.{CannotCarry, CarriesAll, CarriesSome, GrowsBy, IsCarry, IsHearOf, IsOneTurn, IsPartOfTurn, IsTurnInSeat, KeepsSeats, LeavesAfterSome, LeftTurn, begun_by}
 
 abbrev pub grows_none : (P : Event → Type 0) (g : GarageValue) → GrowsBy P g g

@@ -2,11 +2,11 @@
 use Rattle.std.specs.Prelude.{ℕ, ◌≡◌, ◌≢◌, ◌⊎◌, ◌+◌, ◌<◌, ◌≤◌, List, Option, Some, None, length, slice_index_or}
 use Rattle.journal.specs.Journal.{GarageValue, joins, tally_of}
 use Rattle.journal.specs.declared.tally.Tally.{Tally}
-use Rattle.garage_steps.specs.Calls.{IsWant}
+use Rattle.garage.specs.Calls.{IsNoMemoryOrFull}
 use Rattle.garage.specs.Opening.{no_events}
-use Rattle.garage_steps.specs.Refusals.{IsJoinRefusal, garage_error_number}
-use Rattle.garage_steps.specs.declared.error.GarageError.{GarageError}
-use Rattle.garage_steps.specs.declared.error.GarageError.TheVariants.{NotAnAddress, Stranger, TooManySeats}
+use Rattle.garage.specs.Refusals.{IsJoinRefusal, garage_error_number}
+use Rattle.garage.specs.declared.error.GarageError.{GarageError}
+use Rattle.garage.specs.declared.error.GarageError.TheVariants.{NotAnAddress, Stranger, TooManySeats}
 use Rattle.unit_threads.specs.declared.ended.Ended.{Ended}
 use Rattle.unit_threads.specs.declared.ended.EndReason.{EndReason}
 use Rattle.unit_threads.specs.declared.ended.EndReason.TheVariants as reason
@@ -37,7 +37,7 @@ IsCutShort turns t events = (t.joined ≡ 1) × (t.turned ≤ turns) × (t.left 
 abbrev pub AgreesAt : ℕ → Tally → ℕ → Option EndReason → Type 0
 AgreesAt turns t events None = IsWhole turns t events
 AgreesAt turns t events (Some (reason.Garage Stranger)) = events ≡ t.events
-AgreesAt turns t events (Some (reason.Garage e)) = IsWant e × IsCutShort turns t events
+AgreesAt turns t events (Some (reason.Garage e)) = IsNoMemoryOrFull e × IsCutShort turns t events
 AgreesAt turns t events (Some reason.NoThread) = ⊥
 
 -- a unit that never joined was refused by the mount, or its thread was not started

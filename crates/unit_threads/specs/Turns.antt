@@ -11,10 +11,10 @@ use Rattle.bus_ledger.specs.Reception.{next_reading}
 use Rattle.journal.specs.Journal.{GarageValue, IsSeated, state_of, with_event}
 use Rattle.journal.specs.declared.event.Event.{Event}
 use Rattle.journal.specs.declared.event.Event.TheVariants.{Hear, Begin, Turned, Carry, Leave}
-use Rattle.garage_steps.specs.Causes.{held_at, has_open_dm1}
-use Rattle.garage_steps.specs.Crew.{Sitting}
-use Rattle.garage_steps.specs.Hearing.{HasHeardAll, HearsMany}
-use Rattle.garage_steps.specs.Rounds.{HaveReadAll, IsReadOf}
+use Rattle.garage.specs.Causes.{held_at, has_open_dm1}
+use Rattle.garage.specs.Crew.{Sitting}
+use Rattle.garage.specs.Hearing.{HasHeardAll, HearsMany}
+use Rattle.garage.specs.Rounds.{HaveReadAll, IsReadOf}
 
 -- these events more, the newest first
 abbrev pub with_events : List Event → GarageValue → GarageValue

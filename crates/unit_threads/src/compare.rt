@@ -1,7 +1,7 @@
 ghost use Rattle.std.specs.Prelude.{◌≡◌, ◌≢◌, ◌≤◌, ◌↔◌, false, true, Some, None, length, vec_len};
-ghost use Rattle.garage_steps.specs.declared.error.GarageError.{GarageError as AnyError};
+ghost use Rattle.garage.specs.declared.error.GarageError.{GarageError as AnyError};
 ghost use Rattle.std.specs.List.{All};
-ghost use Rattle.garage_steps.specs.Calls.{IsWant};
+ghost use Rattle.garage.specs.Calls.{IsNoMemoryOrFull};
 ghost use Rattle.unit_threads.specs.Ends.{Agrees, AgreesAt, HaveOwnSeats, IsCounted, IsCutShort, IsMountRefusal, IsSeatless, IsStrangerAt, IsUnseated, IsWhole, StaySeatless};
 
 use crate::ended::{EndReason, Ended};
@@ -110,7 +110,7 @@ fn is_mount_refusal(error: GarageError) -> bool
 fn compared(turns: u32, tally: Tally, end: Ended) -> Option<EndReason>
     ensures agrees { AgreesAt turns tally tally.events result }
     ensures whole { end.refusal ≡ None → IsWhole turns tally end.events → result ≡ None }
-    ensures cut { (e : AnyError) → end.refusal ≡ Some (EndReason.Garage e) → IsWant e → IsCutShort turns tally tally.events
+    ensures cut { (e : AnyError) → end.refusal ≡ Some (EndReason.Garage e) → IsNoMemoryOrFull e → IsCutShort turns tally tally.events
         → result ≡ end.refusal }
 {
     let left = tally.joined == 1 && tally.left == 1;
@@ -125,7 +125,7 @@ fn compared(turns: u32, tally: Tally, end: Ended) -> Option<EndReason>
 
 /// Whether a step of a seated unit can be refused with this.
 fn is_want(error: GarageError) -> bool
-    ensures { (result ≡ true) ↔ IsWant error }
+    ensures { (result ≡ true) ↔ IsNoMemoryOrFull error }
 {
     matches!(error, GarageError::BookFull | GarageError::OutOfMemory)
 }

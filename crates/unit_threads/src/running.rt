@@ -1,6 +1,6 @@
 ghost use Rattle.std.specs.Prelude.{◌≡◌, ◌+◌, ◌≤◌, min, Some, None, IfErr, IfOk, IfSome, vec_capacity, vec_len};
 ghost use Rattle.std.specs.List.{All};
-ghost use Rattle.garage_steps.specs.Calls.{IsWant};
+ghost use Rattle.garage.specs.Calls.{IsNoMemoryOrFull};
 ghost use Rattle.unit_threads.specs.Ends.{Agrees, AreSeatlessFrom, HaveOwnSeats, IsSeatless};
 
 use crate::compare::compared_ends;
@@ -59,7 +59,7 @@ pub fn run<R: Threads + Wait + Sync, G: Gate>(
     ensures agree { IfOk result.1 (λ r. All (Agrees turns result.0) r.ended.items) }
     ensures apart { IfOk result.1 (λ r. HaveOwnSeats r.ended.items) }
     ensures seatless { IfOk result.1 (λ r. AreSeatlessFrom MOST_UNITS r.ended.items) }
-    ensures station { IfOk result.1 (λ r. IfSome r.station IsWant) }
+    ensures station { IfOk result.1 (λ r. IfSome r.station IsNoMemoryOrFull) }
 {
     let ended: Vec<Ended> = match Vec::with_capacity(alloc, units.len()) {
         Ok(ended) => ended,
@@ -78,7 +78,7 @@ pub fn run<R: Threads + Wait + Sync, G: Gate>(
             requires none { (vec_len ended ≡ 0) × (vec_len threads ≡ 0) }
             requires room { vec_len units ≤ vec_capacity ended }
             requires seats { min (vec_len units) MOST_UNITS ≤ vec_capacity threads }
-            ensures { (vec_len result.0 ≡ vec_len units) × IfSome result.1 IsWant × AreSeatlessFrom MOST_UNITS result.0.items }
+            ensures { (vec_len result.0 ≡ vec_len units) × IfSome result.1 IsNoMemoryOrFull × AreSeatlessFrom MOST_UNITS result.0.items }
         {
             run_all(
                 scope, rt, alloc, lock, gate, units, turns, reads, threads, ended,
@@ -108,7 +108,7 @@ fn run_all<'s, 'e, R: Threads + Wait + Sync, G: Gate>(
     requires room { vec_len units ≤ vec_capacity ended }
     requires seats { min (vec_len units) MOST_UNITS ≤ vec_capacity threads }
     ensures len { vec_len result.0 ≡ vec_len units }
-    ensures station { IfSome result.1 IsWant }
+    ensures station { IfSome result.1 IsNoMemoryOrFull }
     ensures seatless { AreSeatlessFrom MOST_UNITS result.0.items }
 {
     let seatless = units.len().saturating_sub(MOST_UNITS);
@@ -245,7 +245,7 @@ fn read_often<R: Wait>(
     shared: &Mutex<Garage>,
     reads: u32,
 ) -> Option<GarageError>
-    ensures { IfSome result IsWant }
+    ensures { IfSome result IsNoMemoryOrFull }
 {
     for _ in 0..reads {
         let read = one_read(alloc, &mut *shared.lock(rt));

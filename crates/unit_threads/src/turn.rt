@@ -1,9 +1,9 @@
 ghost use Rattle.std.specs.Prelude.{◌≡◌, ◌⊎◌, ◌↔◌, ◌<◌, ◌≤◌, ℕ, length, Err, None, IfErr, IfOk, IsErr, MatchResult, OnErr, OnOk};
 ghost use Rattle.journal.specs.Journal.{GarageValue, IsSeated};
-ghost use Rattle.garage_steps.specs.Hearing.{HasHeardAll};
-ghost use Rattle.garage_steps.specs.Rounds.{HasReadAll, HaveReadAll, IsReadOf};
+ghost use Rattle.garage.specs.Hearing.{HasHeardAll};
+ghost use Rattle.garage.specs.Rounds.{HasReadAll, HaveReadAll, IsReadOf};
 ghost use Rattle.unit_threads.specs.Turns.{BoxHeard, CarriesAll, CarriesSome, GrowsBy, IsHearOf, IsOneRead, IsOneTurn, IsPartOfRead, IsPartOfReading, IsPartOfTurn, IsTurnInBox, IsTurnInSeat, KeepsSeats, LeavesAfterSome, LeavesOthers, LeftTurn, ReadInTurn, begun_by};
-ghost use Rattle.garage_steps.specs.Calls.{IsWant};
+ghost use Rattle.garage.specs.Calls.{IsNoMemoryOrFull};
 
 use can_frame::Reading;
 use garage::{Carried, Garage, GarageError, HeardOne, Parked, Plug};
@@ -37,7 +37,7 @@ pub fn one_turn(alloc: Global, garage: &mut Garage, parked: Parked) -> Result<Pa
     ensures stranger { (result ≡ Err GarageError.Stranger)
         ↔ (¬ IsSeated garage.old parked.seat ((⟦<dyn Unit as Unit>⟧ parked.unit.vtable).name_of parked.unit.value) parked.events) }
     ensures err { IfErr result
-        (λ e. ((e ≡ GarageError.Stranger) × (garage.new ≡ garage.old)) ⊎ (IsWant e × LeftTurn parked.seat garage.old garage.new)) }
+        (λ e. ((e ≡ GarageError.Stranger) × (garage.new ≡ garage.old)) ⊎ (IsNoMemoryOrFull e × LeftTurn parked.seat garage.old garage.new)) }
 {
     match turned_in_seat(alloc, garage, parked) {
         Ok(Ok(parked)) => carried_after(garage, parked),
@@ -56,7 +56,7 @@ pub fn one_turn(alloc: Global, garage: &mut Garage, parked: Parked) -> Result<Pa
 #[tactic(auto, using(crate::proofs::Reading::one_read_of, crate::proofs::Reading::part_of_read, crate::proofs::Reading::cut_short))]
 pub fn one_read(alloc: Global, garage: &mut Garage) -> Result<(), GarageError>
     ensures ok { OnOk result (IsOneRead garage.old garage.new) }
-    ensures err { IfErr result (λ e. IsWant e × IsPartOfRead garage.old garage.new) }
+    ensures err { IfErr result (λ e. IsNoMemoryOrFull e × IsPartOfRead garage.old garage.new) }
 {
     read_each(alloc, garage)?;
     carry_some(garage)
@@ -66,7 +66,7 @@ pub fn one_read(alloc: Global, garage: &mut Garage) -> Result<(), GarageError>
 fn read_each(alloc: Global, garage: &mut Garage) -> Result<(), GarageError>
     ensures reads { OnOk result (ReadInTurn (length garage.old.settings.stations) garage.old garage.new) }
     ensures all { OnOk result (HaveReadAll (length garage.old.settings.stations) garage.new) }
-    ensures err { IfErr result (λ e. IsWant e × IsPartOfReading garage.old garage.new) }
+    ensures err { IfErr result (λ e. IsNoMemoryOrFull e × IsPartOfReading garage.old garage.new) }
 {
     for station in 0..garage.stations() {
         read_all(alloc, garage, station)?;
@@ -81,7 +81,7 @@ fn read_all(alloc: Global, garage: &mut Garage, station: u32) -> Result<(), Gara
     ensures reads { GrowsBy (IsReadOf station) garage.old garage.new }
     ensures all { OnOk result (HasReadAll station garage.new) }
     ensures others { LeavesOthers station garage.old garage.new }
-    ensures want { IfErr result IsWant }
+    ensures want { IfErr result IsNoMemoryOrFull }
 {
     loop {
         match garage.read_at(alloc, station)? {
@@ -97,7 +97,7 @@ fn carry_some(garage: &mut Garage) -> Result<(), GarageError>
     ensures ok { OnOk result (CarriesAll garage.old garage.new) }
     ensures err { OnErr result (CarriesSome garage.old garage.new) }
     ensures seats { KeepsSeats garage.old garage.new }
-    ensures want { IfErr result IsWant }
+    ensures want { IfErr result IsNoMemoryOrFull }
 {
     for _turn in 0..MOST_CARRIED {
         match garage.carry()? {
@@ -114,7 +114,7 @@ fn carry_some(garage: &mut Garage) -> Result<(), GarageError>
 fn carried_after(garage: &mut Garage, parked: Parked) -> Result<Parked, GarageError>
     requires { IsSeated garage.old parked.seat ((⟦<dyn Unit as Unit>⟧ parked.unit.vtable).name_of parked.unit.value) parked.events }
     ensures ok { IfOk result (λ p. (p ≡ parked) × CarriesAll garage.old garage.new × KeepsSeats garage.old garage.new) }
-    ensures err { IfErr result (λ e. IsWant e × LeavesAfterSome parked.seat garage.old garage.new) }
+    ensures err { IfErr result (λ e. IsNoMemoryOrFull e × LeavesAfterSome parked.seat garage.old garage.new) }
 {
     match carry_some(garage) {
         Ok(()) => Ok(parked),
@@ -144,7 +144,7 @@ fn turned_in_seat(
     ensures unit { IfOk result (λ r. IfOk r (λ p. IsTurnInBox (λ i. (⟦<dyn Unit as Unit>⟧ i).name_of)
         (λ i. (⟦<dyn Unit as Unit>⟧ i).wants) (λ i. (⟦<dyn Unit as Unit>⟧ i).memory_of) (λ i. (⟦<dyn Unit as Unit>⟧ i).Answers)
         parked.seat garage.old parked.unit parked.events garage.new p.unit)) }
-    ensures left { IfOk result (λ r. IfErr r (λ e. IsWant e × LeftTurn parked.seat garage.old garage.new)) }
+    ensures left { IfOk result (λ r. IfErr r (λ e. IsNoMemoryOrFull e × LeftTurn parked.seat garage.old garage.new)) }
     ensures err { IfErr result (λ e. (e.0 ≡ parked) × (e.1 ≡ GarageError.Stranger) × (garage.new ≡ garage.old)) }
 {
     let mut plug = garage.attach(parked)?;
@@ -166,7 +166,7 @@ fn steps(alloc: Global, plug: &mut Plug<'_>) -> Result<(), GarageError>
     ensures unit { OnOk result (IsTurnInBox (λ i. (⟦<dyn Unit as Unit>⟧ i).name_of) (λ i. (⟦<dyn Unit as Unit>⟧ i).wants)
         (λ i. (⟦<dyn Unit as Unit>⟧ i).memory_of) (λ i. (⟦<dyn Unit as Unit>⟧ i).Answers) plug.old.seat plug.old.garage.now
         plug.old.unit plug.old.events plug.new.garage.now plug.new.unit) }
-    ensures err { IfErr result (λ e. IsWant e × IsPartOfTurn plug.old.seat plug.old.garage.now plug.new.garage.now) }
+    ensures err { IfErr result (λ e. IsNoMemoryOrFull e × IsPartOfTurn plug.old.seat plug.old.garage.now plug.new.garage.now) }
 {
     hear_all(alloc, plug)?;
     begin_wanted(alloc, plug)?;
@@ -186,7 +186,7 @@ fn hear_all(alloc: Global, plug: &mut Plug<'_>) -> Result<(), GarageError>
         (λ i. (⟦<dyn Unit as Unit>⟧ i).Answers) plug.old.seat plug.old.garage.now plug.old.unit plug.old.events plug.new.garage.now
         plug.new.unit plug.new.events }
     ensures all { OnOk result (HasHeardAll plug.old.seat plug.new.garage.now) }
-    ensures want { IfErr result IsWant }
+    ensures want { IfErr result IsNoMemoryOrFull }
 {
     loop {
         match plug.hear(alloc)? {
@@ -205,7 +205,7 @@ fn begin_wanted(alloc: Global, plug: &mut Plug<'_>) -> Result<(), GarageError>
     ensures ok { OnOk result (plug.new.garage.now ≡ begun_by plug.old.seat
         ((⟦<dyn Unit as Unit>⟧ plug.old.unit.vtable).wants plug.old.unit.value)
         ((⟦<dyn Unit as Unit>⟧ plug.old.unit.vtable).memory_of plug.old.unit.value) plug.old.garage.now) }
-    ensures err { IfErr result (λ e. IsWant e × (plug.new.garage.now ≡ plug.old.garage.now)) }
+    ensures err { IfErr result (λ e. IsNoMemoryOrFull e × (plug.new.garage.now ≡ plug.old.garage.now)) }
 {
     if !plug.wants_dm1() {
         return Ok(());

@@ -10,7 +10,7 @@ use Rattle.unit_trait.specs.declared.kind.UnitKind.TheVariants.{Plain, Guarded, 
 use Rattle.trouble_code.specs.declared.dtc.TheConstants.{GREATEST_SPN, GREATEST_FMI}
 use Rattle.vehicle.specs.declared.read.TheConstants.{GREATEST_WINDOW, GREATEST_LIMIT, MOST_GRANTED}
 use Rattle.vehicle.specs.declared.StationTable.{StationTable}
-use Rattle.vehicle.specs.declared.Second.{Second}
+use Rattle.vehicle.specs.declared.StationSettings.{StationSettings}
 use Rattle.vehicle.specs.declared.UnitLine.{UnitLine}
 use Rattle.vehicle.specs.declared.Vehicle.{Vehicle}
 
@@ -49,7 +49,7 @@ pub record HoldsStation (d : Data) (s : StationTable) : Type 0 where
   pub limit : HasNumber d (codes "limit") s.limit 1 GREATEST_LIMIT
 
 -- a station's NAME, and three numbers in their ranges; no key but these
-pub record HoldsTable (keys : List (List ℕ)) (d : Data) (s : Second) : Type 0 where
+pub record HoldsTable (keys : List (List ℕ)) (d : Data) (s : StationSettings) : Type 0 where
   pub only : HasOnly keys d
   pub name : HasName d s.name
   pub address : HasNumber d (codes "address") s.address 0 GREATEST_ADDRESS
@@ -57,13 +57,13 @@ pub record HoldsTable (keys : List (List ℕ)) (d : Data) (s : Second) : Type 0 
   pub grant : HasNumber d (codes "grant") s.grant 1 MOST_GRANTED
 
 -- the second station's NAME, and three numbers in their ranges; nothing else
-abbrev pub HoldsSecond : Data → Second → Type 0
+abbrev pub HoldsSecond : Data → StationSettings → Type 0
 HoldsSecond d s = HoldsTable (codes "name" ∷ codes "address" ∷ codes "window" ∷ codes "grant" ∷ []) d s
 
 -- the second station at the key "second": there is one exactly where there is such a key
-abbrev pub HoldsSecondAt : Option Data → Option Second → Type 0
+abbrev pub HoldsSecondAt : Option Data → Option StationSettings → Type 0
 HoldsSecondAt None second = second ≡ None
-HoldsSecondAt (Some d) second = (s : Second) × (second ≡ Some s) × HoldsSecond d s
+HoldsSecondAt (Some d) second = (s : StationSettings) × (second ≡ Some s) × HoldsSecond d s
 
 -- the word at the key "kind", and a flicker's two numbers
 abbrev pub HoldsKind : Data → UnitKind → Type 0

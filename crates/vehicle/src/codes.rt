@@ -5,7 +5,7 @@ ghost use Rattle.toml.specs.View.{view, items_view};
 ghost use Rattle.vehicle.specs.Holding.{EachHolds};
 ghost use Rattle.vehicle.specs.Live.{HoldsCode, HoldsCodesAt, HoldsLampsAt, SpellsCode, SpellsMode};
 
-use crate::misfit::{KeyPlace, Unread, Wrong};
+use crate::key_error::{KeyFault, KeyPlace, ReadError};
 use crate::read::items_at;
 use script_line::{read_lamps, read_number, read_small_number};
 use std::alloc::Global;
@@ -16,18 +16,18 @@ use trouble_code::{Dtc, Lamps};
 const MOST_OCCURRENCES: u8 = 126;
 
 /// The lamps of a unit; off where it has no such key.
-pub(crate) fn read_lamps_of(place: KeyPlace, value: &Value) -> Result<Lamps, Unread<'_>>
+pub(crate) fn read_lamps_of(place: KeyPlace, value: &Value) -> Result<Lamps, ReadError<'_>>
     ensures { IfOk result (HoldsLampsAt (get (codes "lamps") (view value.now))) }
 {
     let Some(found) = value.get("lamps") else {
         return Ok(Lamps::off());
     };
     let Some(text) = found.as_str() else {
-        return Err(Unread::at(place, "lamps", Wrong::NoText));
+        return Err(ReadError::at(place, "lamps", KeyFault::NoText));
     };
     match read_lamps(text) {
         Some(lamps) => Ok(lamps),
-        None => Err(Unread::of_text(place, "lamps", text, Wrong::NotLamps)),
+        None => Err(ReadError::of_text(place, "lamps", text, KeyFault::NotLamps)),
     }
 }
 
@@ -38,10 +38,10 @@ pub(crate) fn read_codes<'a>(
     place: KeyPlace,
     value: &'a Value,
     key: &'a str,
-) -> Result<Vec<Dtc>, Unread<'a>>
+) -> Result<Vec<Dtc>, ReadError<'a>>
     ensures { IfOk result (λ codes. HoldsCodesAt (get key.now (view value.now)) codes.items) }
 {
-    let items = items_at(place, value, key, Wrong::NoTexts)?;
+    let items = items_at(place, value, key, KeyFault::NoTexts)?;
     codes_of(alloc, place, key, items)
 }
 
@@ -51,7 +51,7 @@ fn codes_of<'a>(
     place: KeyPlace,
     key: &'a str,
     items: &'a [Value],
-) -> Result<Vec<Dtc>, Unread<'a>>
+) -> Result<Vec<Dtc>, ReadError<'a>>
     ensures { IfOk result (λ codes. EachHolds HoldsCode (items_view items.now) codes.items) }
 {
     let mut codes = Vec::new(alloc);
@@ -64,15 +64,15 @@ fn codes_of<'a>(
     Ok(codes)
 }
 
-fn code_of<'a>(place: KeyPlace, key: &'a str, value: &'a Value) -> Result<Dtc, Unread<'a>>
+fn code_of<'a>(place: KeyPlace, key: &'a str, value: &'a Value) -> Result<Dtc, ReadError<'a>>
     ensures { IfOk result (HoldsCode (view value.now)) }
 {
     let Some(text) = value.as_str() else {
-        return Err(Unread::at(place, key, Wrong::NoTexts));
+        return Err(ReadError::at(place, key, KeyFault::NoTexts));
     };
     match read_code(text) {
         Some(code) => Ok(code),
-        None => Err(Unread::of_text(place, key, text, Wrong::NotCode)),
+        None => Err(ReadError::of_text(place, key, text, KeyFault::NotCode)),
     }
 }
 

@@ -49,9 +49,9 @@
 
 mod codes;
 mod fault;
+mod key_error;
 mod lines;
 mod live;
-mod misfit;
 mod read;
 mod send_line;
 mod sends;
@@ -78,9 +78,9 @@ pub struct StationTable {
     pub limit: u32,
 }
 
-/// A second station of a vehicle. The limit of the journal is that of its bus, so that it has none of its own.
+/// How a second station of a vehicle is opened. The limit of the journal is that of its bus, so that it has none of its own.
 #[derive(Clone, Copy, PartialEq, Eq)]
-pub struct Second {
+pub struct StationSettings {
     /// Its NAME, which is not the first station's.
     pub name: Name,
     /// The address that it claims, 0 to 253.
@@ -108,7 +108,7 @@ pub struct Vehicle {
     /// Its station.
     pub station: StationTable,
     /// Its second station, where it has one.
-    pub second: Option<Second>,
+    pub second: Option<StationSettings>,
     /// Its units, in the order of the text.
     pub units: Vec<UnitLine>,
 }

@@ -1,7 +1,7 @@
 //! The line of a vehicle's text at which a key stands. It is looked for in the forms of a table with a header and a line for each
 //! key; a text may have others, and then it is told without its line.
 
-use crate::misfit::KeyPlace;
+use crate::key_error::KeyPlace;
 
 /// The number, from 1 on, of the line at which a key of a table stands; that of the table's header where the key has none, or
 /// where the table itself is asked for.

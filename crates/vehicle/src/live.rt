@@ -10,7 +10,7 @@ ghost use Rattle.vehicle.specs.Live.{HaveDistinctNames, HoldsLiveUnit, HoldsLive
 use crate::UnitLine;
 use crate::codes::{read_codes, read_lamps_of};
 use crate::fault::VehicleFault;
-use crate::misfit::{KeyPlace, Unread, Wrong};
+use crate::key_error::{KeyFault, KeyPlace, ReadError};
 use crate::read::{fault_of, has_document_keys, items_at, read_station, read_unit_of, second_of};
 use crate::send_line::SendLine;
 use crate::sends::read_sends;
@@ -62,12 +62,12 @@ pub fn read_live_units(alloc: Global, text: &str) -> Result<Vec<LiveLine>, Vehic
 
 /// The units that a document describes.
 #[tactic(auto, using(crate::proofs::UnitLemmas::held))]
-fn units_of(alloc: Global, root: &Value) -> Result<Vec<LiveLine>, Unread<'_>>
+fn units_of(alloc: Global, root: &Value) -> Result<Vec<LiveLine>, ReadError<'_>>
     ensures { IfOk result (λ units. HoldsLiveUnits (view root.now) units.items) }
 {
     has_document_keys(root)?;
     look_at_stations(root)?;
-    let lines = items_at(KeyPlace::Whole, root, "unit", Wrong::NoTables)?;
+    let lines = items_at(KeyPlace::Whole, root, "unit", KeyFault::NoTables)?;
     match read_units(alloc, lines) {
         Ok(units) => some_apart(units),
         Err(unread) => Err(unread),
@@ -75,7 +75,7 @@ fn units_of(alloc: Global, root: &Value) -> Result<Vec<LiveLine>, Unread<'_>>
 }
 
 /// Looks at the stations of a vehicle, which take no part: they are as they have to be, where they are there.
-fn look_at_stations(root: &Value) -> Result<(), Unread<'_>> {
+fn look_at_stations(root: &Value) -> Result<(), ReadError<'_>> {
     let Some(value) = root.get("station") else {
         return Ok(());
     };
@@ -86,7 +86,7 @@ fn look_at_stations(root: &Value) -> Result<(), Unread<'_>> {
     }
 }
 
-fn read_units(alloc: Global, lines: &[Value]) -> Result<Vec<LiveLine>, Unread<'_>>
+fn read_units(alloc: Global, lines: &[Value]) -> Result<Vec<LiveLine>, ReadError<'_>>
     ensures { IfOk result (λ units. EachHolds HoldsLiveUnit (items_view lines.now) units.items) }
 {
     let mut units = Vec::new(alloc);
@@ -98,18 +98,18 @@ fn read_units(alloc: Global, lines: &[Value]) -> Result<Vec<LiveLine>, Unread<'_
 }
 
 /// Units, where there is one at least, and no two have one NAME.
-fn some_apart<'a>(units: Vec<LiveLine>) -> Result<Vec<LiveLine>, Unread<'a>>
+fn some_apart<'a>(units: Vec<LiveLine>) -> Result<Vec<LiveLine>, ReadError<'a>>
     ensures same { IfOk result (λ some. some ≡ units) }
     ensures some { IfOk result (λ some. 1 ≤ length some.items) }
     ensures apart { IfOk result (λ some. HaveDistinctNames some.items) }
 {
     if units.is_empty() {
-        return Err(Unread::at(KeyPlace::Whole, "unit", Wrong::NoUnit));
+        return Err(ReadError::at(KeyPlace::Whole, "unit", KeyFault::NoUnit));
     }
     match twins(units.as_slice()) {
         Some((first, second)) => {
             let place = KeyPlace::Unit(second);
-            Err(Unread::at(place, "name", Wrong::OfUnit(first)))
+            Err(ReadError::at(place, "name", KeyFault::OfUnit(first)))
         }
         None => Ok(units),
     }
@@ -135,7 +135,7 @@ fn place_of(units: &[LiveLine], name: Name) -> Option<usize>
     units.iter().position(|unit| unit.unit.name == name)
 }
 
-fn read_unit(alloc: Global, number: usize, value: &Value) -> Result<LiveLine, Unread<'_>>
+fn read_unit(alloc: Global, number: usize, value: &Value) -> Result<LiveLine, ReadError<'_>>
     ensures { IfOk result (HoldsLiveUnit (view value.now)) }
 {
     let place = KeyPlace::Unit(number);
@@ -151,7 +151,7 @@ fn read_rest(
     number: usize,
     unit: UnitLine,
     value: &Value,
-) -> Result<LiveLine, Unread<'_>>
+) -> Result<LiveLine, ReadError<'_>>
     ensures { IfOk result (λ u. (u.unit ≡ unit) × HoldsRest (view value.now) u) }
 {
     let place = KeyPlace::Unit(number);
@@ -171,7 +171,7 @@ fn read_rest(
 }
 
 /// What a unit is.
-fn read_live_unit(place: KeyPlace, value: &Value) -> Result<UnitLine, Unread<'_>>
+fn read_live_unit(place: KeyPlace, value: &Value) -> Result<UnitLine, ReadError<'_>>
     ensures { IfOk result (λ u. HoldsUnitOf (live_keys_of_kind u.kind) (view value.now) u) }
 {
     read_unit_of(
@@ -195,7 +195,7 @@ struct Memory {
     pending: Vec<Dtc>,
 }
 
-fn read_memory(alloc: Global, place: KeyPlace, value: &Value) -> Result<Memory, Unread<'_>>
+fn read_memory(alloc: Global, place: KeyPlace, value: &Value) -> Result<Memory, ReadError<'_>>
     ensures { IfOk result (HoldsMemory (view value.now)) }
 {
     Ok(Memory {

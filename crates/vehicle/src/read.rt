@@ -9,8 +9,8 @@ ghost use Rattle.toml.specs.View.{view, items_view};
 ghost use Rattle.vehicle.specs.Holding.{number_at, text_at, HasItemsAt, HasName, HasNumber, HasOnly, HoldsStation, HoldsSecond, HoldsSecondAt, HoldsTable, HoldsUnitsAt, HoldsUnit, HoldsUnitOf, HoldsKind, HoldsVehicle, HoldsUnits, keys_by};
 
 use crate::fault::VehicleFault;
-use crate::misfit::{KeyPlace, Unread, Wrong};
-use crate::{Second, StationTable, UnitKind, UnitLine, Vehicle};
+use crate::key_error::{KeyFault, KeyPlace, ReadError};
+use crate::{StationSettings, StationTable, UnitKind, UnitLine, Vehicle};
 use can_frame::GREATEST_ADDRESS;
 use name_field::Name;
 use std::alloc::Global;
@@ -66,7 +66,7 @@ pub(crate) fn fault_of(alloc: Global, text: &str, error: &Error) -> VehicleFault
 }
 
 /// The vehicle that a document describes.
-fn vehicle_of(alloc: Global, root: &Value) -> Result<Vehicle, Unread<'_>>
+fn vehicle_of(alloc: Global, root: &Value) -> Result<Vehicle, ReadError<'_>>
     ensures { IfOk result (HoldsVehicle (view root.now)) }
 {
     has_document_keys(root)?;
@@ -77,7 +77,7 @@ fn vehicle_of(alloc: Global, root: &Value) -> Result<Vehicle, Unread<'_>>
 }
 
 /// The vehicle of a station: what else a document tells of it.
-fn vehicle_at(alloc: Global, station: StationTable, root: &Value) -> Result<Vehicle, Unread<'_>>
+fn vehicle_at(alloc: Global, station: StationTable, root: &Value) -> Result<Vehicle, ReadError<'_>>
     ensures station { IfOk result (λ v. v.station ≡ station) }
     ensures second { IfOk result (λ v. HoldsSecondAt (get (codes "second") (view root.now)) v.second) }
     ensures apart { IfOk result (λ v. IfSome v.second (λ s. s.name ≢ station.name)) }
@@ -97,24 +97,24 @@ fn vehicle_at(alloc: Global, station: StationTable, root: &Value) -> Result<Vehi
 }
 
 /// Accepts a document with the tables of a vehicle alone, or some of them.
-pub(crate) fn has_document_keys(root: &Value) -> Result<(), Unread<'_>>
+pub(crate) fn has_document_keys(root: &Value) -> Result<(), ReadError<'_>>
     ensures { IfOk result (λ _. HasOnly (codes "station" ∷ codes "second" ∷ codes "unit" ∷ []) (view root.now)) }
 {
     has_only(KeyPlace::Whole, root, &["station", "second", "unit"])
 }
 
 /// The station of a document.
-fn station_of(root: &Value) -> Result<StationTable, Unread<'_>>
+fn station_of(root: &Value) -> Result<StationTable, ReadError<'_>>
     ensures { IfOk result (λ s. (t : Data) × (get (codes "station") (view root.now) ≡ Some t) × HoldsStation t s) }
 {
     match root.get("station") {
         Some(value) => read_station(value),
-        None => Err(Unread::at(KeyPlace::Whole, "station", Wrong::Missing)),
+        None => Err(ReadError::at(KeyPlace::Whole, "station", KeyFault::Missing)),
     }
 }
 
 /// The second station of a document, beside one of this NAME.
-pub(crate) fn second_of(root: &Value, first: Name) -> Result<Option<Second>, Unread<'_>>
+pub(crate) fn second_of(root: &Value, first: Name) -> Result<Option<StationSettings>, ReadError<'_>>
     ensures holds { IfOk result (HoldsSecondAt (get (codes "second") (view root.now))) }
     ensures apart { IfOk result (λ second. IfSome second (λ s. s.name ≢ first)) }
 {
@@ -129,14 +129,14 @@ pub(crate) fn second_of(root: &Value, first: Name) -> Result<Option<Second>, Unr
 
 /// The units of a document.
 #[tactic(auto, using(crate::proofs::UnitLemmas::held))]
-fn units_of(alloc: Global, root: &Value) -> Result<Vec<UnitLine>, Unread<'_>>
+fn units_of(alloc: Global, root: &Value) -> Result<Vec<UnitLine>, ReadError<'_>>
     ensures { IfOk result (λ units. HoldsUnitsAt (get (codes "unit") (view root.now)) units.items) }
 {
-    let lines = items_at(KeyPlace::Whole, root, "unit", Wrong::NoTables)?;
+    let lines = items_at(KeyPlace::Whole, root, "unit", KeyFault::NoTables)?;
     read_units(alloc, lines)
 }
 
-pub(crate) fn read_station(value: &Value) -> Result<StationTable, Unread<'_>>
+pub(crate) fn read_station(value: &Value) -> Result<StationTable, ReadError<'_>>
     ensures { IfOk result (HoldsStation (view value.now)) }
 {
     let place = KeyPlace::StationTable;
@@ -154,7 +154,7 @@ pub(crate) fn read_station(value: &Value) -> Result<StationTable, Unread<'_>>
 }
 
 /// A second station, beside one of this NAME.
-fn read_second(value: &Value, first: Name) -> Result<Second, Unread<'_>>
+fn read_second(value: &Value, first: Name) -> Result<StationSettings, ReadError<'_>>
     ensures holds { IfOk result (HoldsSecond (view value.now)) }
     ensures apart { IfOk result (λ s. s.name ≢ first) }
 {
@@ -168,7 +168,7 @@ fn read_table<'a>(
     value: &'a Value,
     keys: &[&str],
     taken: Option<Name>,
-) -> Result<Second, Unread<'a>>
+) -> Result<StationSettings, ReadError<'a>>
     ensures holds { IfOk result (HoldsTable (map (λ k. k.now) keys.now) (view value.now)) }
     ensures apart { IfOk result (λ s. IfSome taken (λ t. s.name ≢ t)) }
 {
@@ -180,24 +180,32 @@ fn read_table<'a>(
 }
 
 /// A NAME that is not the one that is taken.
-fn read_free_name(place: KeyPlace, value: &Value, taken: Option<Name>) -> Result<Name, Unread<'_>>
+fn read_free_name(
+    place: KeyPlace,
+    value: &Value,
+    taken: Option<Name>,
+) -> Result<Name, ReadError<'_>>
     ensures holds { IfOk result (HasName (view value.now)) }
     ensures apart { IfOk result (λ name. IfSome taken (λ t. name ≢ t)) }
 {
     match read_name(place, value) {
-        Ok(name) if taken == Some(name) => Err(Unread::at(place, "name", Wrong::InUse)),
+        Ok(name) if taken == Some(name) => Err(ReadError::at(place, "name", KeyFault::InUse)),
         read => read,
     }
 }
 
 /// What the table of a station of this NAME tells beside it.
-fn read_numbers(place: KeyPlace, value: &Value, name: Name) -> Result<Second, Unread<'_>>
+fn read_numbers(
+    place: KeyPlace,
+    value: &Value,
+    name: Name,
+) -> Result<StationSettings, ReadError<'_>>
     ensures name { IfOk result (λ s. s.name ≡ name) }
     ensures address { IfOk result (λ s. HasNumber (view value.now) (codes "address") s.address 0 GREATEST_ADDRESS) }
     ensures window { IfOk result (λ s. HasNumber (view value.now) (codes "window") s.window 1 GREATEST_WINDOW) }
     ensures grant { IfOk result (λ s. HasNumber (view value.now) (codes "grant") s.grant 1 MOST_GRANTED) }
 {
-    Ok(Second {
+    Ok(StationSettings {
         name,
         address: read_address(place, value)?,
         window: read_number(place, value, "window", 1, GREATEST_WINDOW)?,
@@ -205,7 +213,7 @@ fn read_numbers(place: KeyPlace, value: &Value, name: Name) -> Result<Second, Un
     })
 }
 
-fn read_units(alloc: Global, lines: &[Value]) -> Result<Vec<UnitLine>, Unread<'_>>
+fn read_units(alloc: Global, lines: &[Value]) -> Result<Vec<UnitLine>, ReadError<'_>>
     ensures { IfOk result (λ units. HoldsUnits (items_view lines.now) units.items) }
 {
     let mut units = Vec::new(alloc);
@@ -219,7 +227,7 @@ fn read_units(alloc: Global, lines: &[Value]) -> Result<Vec<UnitLine>, Unread<'_
     Ok(units)
 }
 
-fn read_unit(place: KeyPlace, value: &Value) -> Result<UnitLine, Unread<'_>>
+fn read_unit(place: KeyPlace, value: &Value) -> Result<UnitLine, ReadError<'_>>
     ensures { IfOk result (HoldsUnit (view value.now)) }
 {
     read_unit_of(
@@ -236,7 +244,7 @@ pub(crate) fn read_unit_of<'a>(
     value: &'a Value,
     keys: &[&str],
     flicker_keys: &[&str],
-) -> Result<UnitLine, Unread<'a>>
+) -> Result<UnitLine, ReadError<'a>>
     ensures { IfOk result
         (λ u. HoldsUnitOf (keys_by u.kind (map (λ k. k.now) keys.now) (map (λ k. k.now) flicker_keys.now)) (view value.now) u) }
 {
@@ -256,7 +264,7 @@ fn read_kind<'a>(
     value: &'a Value,
     keys: &[&str],
     flicker_keys: &[&str],
-) -> Result<UnitKind, Unread<'a>>
+) -> Result<UnitKind, ReadError<'a>>
     ensures holds { IfOk result (HoldsKind (view value.now)) }
     ensures only { IfOk result
         (λ kind. HasOnly (keys_by kind (map (λ k. k.now) keys.now) (map (λ k. k.now) flicker_keys.now)) (view value.now)) }
@@ -270,12 +278,12 @@ fn read_kind<'a>(
     match word {
         "plain" => Ok(UnitKind::Plain),
         "guarded" => Ok(UnitKind::Guarded),
-        _ => Err(Unread::of_text(place, "kind", word, Wrong::NotKind)),
+        _ => Err(ReadError::of_text(place, "kind", word, KeyFault::NotKind)),
     }
 }
 
 /// The kind of a flicker.
-fn read_flicker(place: KeyPlace, value: &Value) -> Result<UnitKind, Unread<'_>>
+fn read_flicker(place: KeyPlace, value: &Value) -> Result<UnitKind, ReadError<'_>>
     ensures { IfOk result (λ kind. (spn : ℕ) × (fmi : ℕ) × (kind ≡ Flicker spn fmi)
         × HasNumber (view value.now) (codes "spn") spn 0 GREATEST_SPN × HasNumber (view value.now) (codes "fmi") fmi 0 GREATEST_FMI) }
 {
@@ -284,17 +292,17 @@ fn read_flicker(place: KeyPlace, value: &Value) -> Result<UnitKind, Unread<'_>>
     Ok(UnitKind::Flicker { spn, fmi })
 }
 
-fn read_name(place: KeyPlace, value: &Value) -> Result<Name, Unread<'_>>
+fn read_name(place: KeyPlace, value: &Value) -> Result<Name, ReadError<'_>>
     ensures { IfOk result (HasName (view value.now)) }
 {
     let word = read_text(place, value, "name")?;
     match Name::read_hex(word) {
         Ok(name) => Ok(name),
-        Err(_) => Err(Unread::of_text(place, "name", word, Wrong::NotName)),
+        Err(_) => Err(ReadError::of_text(place, "name", word, KeyFault::NotName)),
     }
 }
 
-fn read_address(place: KeyPlace, value: &Value) -> Result<u8, Unread<'_>>
+fn read_address(place: KeyPlace, value: &Value) -> Result<u8, ReadError<'_>>
     ensures { IfOk result (λ a. HasNumber (view value.now) (codes "address") a 0 GREATEST_ADDRESS) }
 {
     Ok(read_number(place, value, "address", 0, u32::from(GREATEST_ADDRESS))? as u8)
@@ -304,15 +312,15 @@ pub(crate) fn read_text<'a>(
     place: KeyPlace,
     value: &'a Value,
     key: &'a str,
-) -> Result<&'a str, Unread<'a>>
+) -> Result<&'a str, ReadError<'a>>
     ensures { IfOk result (λ t. text_at key.now (view value.now) ≡ Some t.now) }
 {
     match value.get(key) {
         Some(found) => match found.as_str() {
             Some(text) => Ok(text),
-            None => Err(Unread::at(place, key, Wrong::NoText)),
+            None => Err(ReadError::at(place, key, KeyFault::NoText)),
         },
-        None => Err(Unread::at(place, key, Wrong::Missing)),
+        None => Err(ReadError::at(place, key, KeyFault::Missing)),
     }
 }
 
@@ -322,16 +330,16 @@ pub(crate) fn read_number<'a>(
     key: &'a str,
     least: u32,
     most: u32,
-) -> Result<u32, Unread<'a>>
+) -> Result<u32, ReadError<'a>>
     ensures { IfOk result (λ n. (number_at key.now (view value.now) ≡ Some (pos n)) × (least ≤ n) × (n ≤ most)) }
 {
     match value.get(key) {
         Some(found) => match found.as_integer() {
             Some(n) if n >= i64::from(least) && n <= i64::from(most) => Ok(n as u32),
-            Some(found) => Err(Unread::at(place, key, Wrong::Outside { found, least, most })),
-            None => Err(Unread::at(place, key, Wrong::NoNumber)),
+            Some(found) => Err(ReadError::at(place, key, KeyFault::Outside { found, least, most })),
+            None => Err(ReadError::at(place, key, KeyFault::NoNumber)),
         },
-        None => Err(Unread::at(place, key, Wrong::Missing)),
+        None => Err(ReadError::at(place, key, KeyFault::Missing)),
     }
 }
 
@@ -340,8 +348,8 @@ pub(crate) fn items_at<'a>(
     place: KeyPlace,
     value: &'a Value,
     key: &'a str,
-    wrong: Wrong,
-) -> Result<&'a [Value], Unread<'a>>
+    wrong: KeyFault,
+) -> Result<&'a [Value], ReadError<'a>>
     ensures { IfOk result (λ items. HasItemsAt (get key.now (view value.now)) (items_view items.now)) }
 {
     let Some(found) = value.get(key) else {
@@ -349,7 +357,7 @@ pub(crate) fn items_at<'a>(
     };
     match found.as_array() {
         Some(items) => Ok(items.as_slice()),
-        None => Err(Unread::at(place, key, wrong)),
+        None => Err(ReadError::at(place, key, wrong)),
     }
 }
 
@@ -358,26 +366,26 @@ pub(crate) fn has_only<'a>(
     place: KeyPlace,
     value: &'a Value,
     keys: &[&str],
-) -> Result<(), Unread<'a>>
+) -> Result<(), ReadError<'a>>
     ensures { IfOk result (λ _. HasOnly (map (λ k. k.now) keys.now) (view value.now)) }
 {
     let Some(table) = value.as_table() else {
-        return Err(Unread::at(place, "", Wrong::NoTable));
+        return Err(ReadError::at(place, "", KeyFault::NoTable));
     };
     for (key, _) in table.iter() {
         if !is_among(key.as_str(), keys) {
-            return Err(Unread::at(place, key.as_str(), why_not(place, key.as_str())));
+            return Err(ReadError::at(place, key.as_str(), why_not(place, key.as_str())));
         }
     }
     Ok(())
 }
 
 /// Why a key may not stand in a table.
-fn why_not(place: KeyPlace, key: &str) -> Wrong {
+fn why_not(place: KeyPlace, key: &str) -> KeyFault {
     let of_live = &["lamps", "active", "previous", "pending", "sends"];
     match place {
-        KeyPlace::Unit(_) if is_among(key, of_live) => Wrong::OfLive,
-        _ => Wrong::NotKnown,
+        KeyPlace::Unit(_) if is_among(key, of_live) => KeyFault::OfLive,
+        _ => KeyFault::NotKnown,
     }
 }
 

@@ -7,7 +7,7 @@ ghost use Rattle.vehicle.specs.Live.{HasBytes, HoldsPriorityAt, HoldsSend, Holds
 ghost use Rattle.vehicle.specs.Sending.{SpellsBytes};
 ghost use Rattle.vehicle.specs.Sending as sending;
 
-use crate::misfit::{KeyPlace, Unread, Wrong};
+use crate::key_error::{KeyFault, KeyPlace, ReadError};
 use crate::read::{has_only, items_at, read_number, read_text};
 use crate::send_line::{GREATEST_PGN, LOWEST_PRIORITY, SendLine};
 use can_frame::Pgn;
@@ -29,14 +29,14 @@ pub(crate) fn read_sends(
     alloc: Global,
     unit: usize,
     value: &Value,
-) -> Result<Vec<SendLine>, Unread<'_>>
+) -> Result<Vec<SendLine>, ReadError<'_>>
     ensures { IfOk result (λ sends. HoldsSendsAt (get (codes "sends") (view value.now)) sends.items) }
 {
-    let items = items_at(KeyPlace::Unit(unit), value, "sends", Wrong::NoTables)?;
+    let items = items_at(KeyPlace::Unit(unit), value, "sends", KeyFault::NoTables)?;
     sends_of(alloc, unit, items)
 }
 
-fn sends_of(alloc: Global, unit: usize, items: &[Value]) -> Result<Vec<SendLine>, Unread<'_>>
+fn sends_of(alloc: Global, unit: usize, items: &[Value]) -> Result<Vec<SendLine>, ReadError<'_>>
     ensures { IfOk result (λ sends. EachHolds HoldsSend (items_view items.now) sends.items) }
 {
     let mut sends = Vec::new(alloc);
@@ -50,7 +50,7 @@ fn sends_of(alloc: Global, unit: usize, items: &[Value]) -> Result<Vec<SendLine>
     Ok(sends)
 }
 
-fn read_send(alloc: Global, place: KeyPlace, value: &Value) -> Result<SendLine, Unread<'_>>
+fn read_send(alloc: Global, place: KeyPlace, value: &Value) -> Result<SendLine, ReadError<'_>>
     ensures { IfOk result (HoldsSend (view value.now)) }
 {
     has_only(place, value, &["pgn", "priority", "period", "bytes"])?;
@@ -66,7 +66,7 @@ fn read_send(alloc: Global, place: KeyPlace, value: &Value) -> Result<SendLine, 
     })
 }
 
-fn read_pgn(place: KeyPlace, value: &Value) -> Result<u32, Unread<'_>>
+fn read_pgn(place: KeyPlace, value: &Value) -> Result<u32, ReadError<'_>>
     ensures number { IfOk result (λ n. HasNumber (view value.now) (codes "pgn") n 0 GREATEST_PGN) }
     ensures free { IfOk result (λ n. sending.is_free_group n ≡ true) }
 {
@@ -74,7 +74,7 @@ fn read_pgn(place: KeyPlace, value: &Value) -> Result<u32, Unread<'_>>
     if is_free_group(number) {
         Ok(number)
     } else {
-        Err(Unread::at(place, "pgn", Wrong::NotFree(number)))
+        Err(ReadError::at(place, "pgn", KeyFault::NotFree(number)))
     }
 }
 
@@ -97,7 +97,7 @@ fn is_ruled_group(number: u32) -> bool
         || number == Pgn::COMMANDED_ADDRESS.number()
 }
 
-fn read_priority(place: KeyPlace, value: &Value) -> Result<u8, Unread<'_>>
+fn read_priority(place: KeyPlace, value: &Value) -> Result<u8, ReadError<'_>>
     ensures { IfOk result (HoldsPriorityAt (view value.now)) }
 {
     match value.get("priority") {
@@ -106,13 +106,13 @@ fn read_priority(place: KeyPlace, value: &Value) -> Result<u8, Unread<'_>>
     }
 }
 
-fn read_bytes(alloc: Global, place: KeyPlace, value: &Value) -> Result<Vec<u8>, Unread<'_>>
+fn read_bytes(alloc: Global, place: KeyPlace, value: &Value) -> Result<Vec<u8>, ReadError<'_>>
     ensures { IfOk result (λ bytes. HasBytes (view value.now) bytes.items) }
 {
     let text = read_text(place, value, "bytes")?;
     match bytes_of(alloc, text)? {
         Some(bytes) => Ok(bytes),
-        None => Err(Unread::of_text(place, "bytes", text, Wrong::NotBytes)),
+        None => Err(ReadError::of_text(place, "bytes", text, KeyFault::NotBytes)),
     }
 }
 

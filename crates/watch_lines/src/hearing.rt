@@ -5,9 +5,10 @@ use candump_line::Line;
 use log_lines::LogFault;
 use std::alloc::Global;
 use std::io::Write;
-use watch_reports::{Assumed, ReportOptions, write_changes};
+use watch_reports::{Assumed, ReportOptions, write_broken, write_changes};
 
-/// Has each watch hear the line of this number that it is for, and writes what that changes.
+/// Has the watches hear the line of this number, and writes what that changes. Where it is the first of its bus, the assumed owners
+/// come before it.
 pub(crate) fn hear_line<W: Write>(
     alloc: Global,
     writer: &mut W,
@@ -17,74 +18,72 @@ pub(crate) fn hear_line<W: Write>(
     line: &Line<'_>,
 ) -> Result<(), LogFault> {
     heard.kept.pass(number, line);
-    match heard.buses.hearers(alloc, line)? {
+    if !options.assumed.is_empty() {
+        begin_bus(alloc, writer, heard, options, line)?;
+    }
+    match heard.buses.hear(alloc, line)? {
         Hearers::Nobody => Ok(()),
-        Hearers::One(place) => hear_at(alloc, writer, heard, place, options, number, line),
-        Hearers::New(place) => hear_first(alloc, writer, heard, place, options, number, line),
-        Hearers::Every => hear_each(alloc, writer, heard, options, number, line),
+        Hearers::One(place) | Hearers::New(place) => tell_at(writer, heard, place, options, number),
+        Hearers::Every => tell_each(writer, heard, options, number),
     }
 }
 
-/// Has the watch at this place hear a line, which is its first: the assumed owners come before it.
-fn hear_first<W: Write>(
-    alloc: Global,
-    writer: &mut W,
-    heard: &mut Heard,
-    place: usize,
-    options: &ReportOptions<'_>,
-    number: u64,
-    line: &Line<'_>,
-) -> Result<(), LogFault> {
-    assume_owners(alloc, writer, heard, place, options)?;
-    hear_at(alloc, writer, heard, place, options, number, line)
-}
-
-/// Has each watch hear a line.
-fn hear_each<W: Write>(
+/// Begins the watch of the bus of which the line is the first, if it is, with the assumed owners.
+fn begin_bus<W: Write>(
     alloc: Global,
     writer: &mut W,
     heard: &mut Heard,
     options: &ReportOptions<'_>,
-    number: u64,
     line: &Line<'_>,
 ) -> Result<(), LogFault> {
-    for place in 0..heard.buses.watches().len() {
-        hear_at(alloc, writer, heard, place, options, number, line)?;
-    }
-    Ok(())
-}
-
-/// Has the watch at this place hear a line.
-fn hear_at<W: Write>(
-    alloc: Global,
-    writer: &mut W,
-    heard: &mut Heard,
-    place: usize,
-    options: &ReportOptions<'_>,
-    number: u64,
-    line: &Line<'_>,
-) -> Result<(), LogFault> {
-    let Heard { buses, kept } = heard;
-    match buses.watch_at(place) {
-        Some(one) => hear(alloc, writer, one, kept, place, options, number, line),
+    match heard.buses.begin(alloc, line)? {
+        Some(place) => assume_owners(alloc, writer, heard, place, options),
         None => Ok(()),
     }
 }
 
-/// Has a watch hear a line, and writes and keeps what that changes.
-fn hear<W: Write>(
-    alloc: Global,
+/// Tells what the line of this number changed on each bus.
+fn tell_each<W: Write>(
     writer: &mut W,
-    one: &mut BusWatch,
+    heard: &mut Heard,
+    options: &ReportOptions<'_>,
+    number: u64,
+) -> Result<(), LogFault> {
+    for place in 0..heard.buses.watches().len() {
+        tell_at(writer, heard, place, options, number)?;
+    }
+    Ok(())
+}
+
+/// Tells what the line of this number changed of the bus at this place.
+fn tell_at<W: Write>(
+    writer: &mut W,
+    heard: &mut Heard,
+    place: usize,
+    options: &ReportOptions<'_>,
+    number: u64,
+) -> Result<(), LogFault> {
+    let Heard { buses, kept } = heard;
+    match buses.watches().get(place) {
+        Some(one) => tell(writer, one, kept, place, options, number),
+        None => Ok(()),
+    }
+}
+
+/// Writes and keeps what the line of this number changed of a bus.
+fn tell<W: Write>(
+    writer: &mut W,
+    one: &BusWatch,
     kept: &mut PageHistory,
     place: usize,
     options: &ReportOptions<'_>,
     number: u64,
-    line: &Line<'_>,
 ) -> Result<(), LogFault> {
-    let changes = one.watch.hear(alloc, line)?;
-    write_changes(writer, one, options, kept.start(), number, &changes)?;
-    kept.tell(place, one, &changes)
+    write_changes(writer, one, options, kept.start(), number, &one.changes)?;
+    if !one.watch.broken().is_empty() {
+        write_broken(writer, one, options, kept.start(), number)?;
+    }
+    kept.tell(place, one)
 }
 
 /// Has the watch at this place take in the assumed owners, and writes each as a change of the line 0. Where there is none, nothing
@@ -96,24 +95,11 @@ pub(crate) fn assume_owners<W: Write>(
     place: usize,
     options: &ReportOptions<'_>,
 ) -> Result<(), LogFault> {
-    let Heard { buses, kept } = heard;
-    match buses.watch_at(place) {
-        Some(one) => assume_each(alloc, writer, one, kept, place, options),
-        None => Ok(()),
+    if heard.buses.watches().get(place).is_none() {
+        return Ok(());
     }
-}
-
-/// Has a watch take in the assumed owners.
-fn assume_each<W: Write>(
-    alloc: Global,
-    writer: &mut W,
-    one: &mut BusWatch,
-    kept: &mut PageHistory,
-    place: usize,
-    options: &ReportOptions<'_>,
-) -> Result<(), LogFault> {
     for assumed in options.assumed {
-        assume_owner(alloc, writer, one, kept, place, options, assumed)?;
+        assume_owner(alloc, writer, heard, place, options, assumed)?;
     }
     Ok(())
 }
@@ -121,13 +107,13 @@ fn assume_each<W: Write>(
 fn assume_owner<W: Write>(
     alloc: Global,
     writer: &mut W,
-    one: &mut BusWatch,
-    kept: &mut PageHistory,
+    heard: &mut Heard,
     place: usize,
     options: &ReportOptions<'_>,
     assumed: &Assumed,
 ) -> Result<(), LogFault> {
-    let changes = one.watch.assume(alloc, assumed.name, assumed.address)?;
-    write_changes(writer, one, options, kept.start(), 0, &changes)?;
-    kept.tell(place, one, &changes)
+    heard
+        .buses
+        .assume(alloc, place, assumed.name, assumed.address)?;
+    tell_at(writer, heard, place, options, 0)
 }

@@ -1,6 +1,6 @@
 use crate::ever::{settle_ever, tell_ever};
 use crate::units::{bus_at, lost_unit, unit_of, who_of};
-use bus_watch::{BusWatch, Buses, Changes, EntryRun, Watch, WatchChange, Who};
+use bus_watch::{BusWatch, Buses, EntryRun, Watch, WatchChange, Who};
 use candump_line::{Line, Time};
 use dm_messages::Kind;
 use log_lines::LogFault;
@@ -80,17 +80,12 @@ impl PageHistory {
         }
     }
 
-    /// The line that is read changed this of the bus at this place.
+    /// What the line that is read changed of the bus at this place.
     ///
     /// # Errors
     /// Memory was refused.
-    pub(crate) fn tell(
-        &mut self,
-        place: usize,
-        one: &BusWatch,
-        changes: &Changes,
-    ) -> Result<(), LogFault> {
-        let Some(change) = &changes.change else {
+    pub(crate) fn tell(&mut self, place: usize, one: &BusWatch) -> Result<(), LogFault> {
+        let Some(change) = &one.changes.change else {
             return Ok(());
         };
         let bus = bus_at(place);
@@ -103,7 +98,7 @@ impl PageHistory {
             &one.watch,
             bus,
             *change,
-            lost_unit(bus, &changes.lost),
+            lost_unit(bus, &one.changes.lost),
         )?;
         Ok(())
     }
@@ -251,6 +246,7 @@ fn tell_entry(
         run.shown.codes.as_slice(),
         run.to,
         run.contested,
+        run.trouble.is_some(),
     );
     picture.tell(
         &Occurrence::Message {

@@ -1,8 +1,7 @@
 use bus_watch::{BusShown, Limits, WatchSettings};
 use candump_line::Time;
-use clock_words::ClockForm;
-use code_texts::Texts;
-use unit_words::UnitTexts;
+use log_lines::ClockForm;
+use shop_texts::{Texts, UnitTexts};
 use watch_reports::{Assumed, ReportOptions, WatchForm};
 
 /// How a log or a live bus is watched.

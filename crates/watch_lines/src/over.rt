@@ -108,9 +108,7 @@ fn is_full(buses: &Buses, limits: Limits) -> bool {
 /// Begins each bus anew.
 fn start_over(alloc: Global, buses: &mut Buses) -> Result<(), LogFault> {
     for place in 0..buses.watches().len() {
-        if let Some(one) = buses.watch_at(place) {
-            one.watch.start_over(alloc)?;
-        }
+        buses.start_over(alloc, place)?;
     }
     Ok(())
 }

@@ -1,7 +1,6 @@
 use crate::heard::Heard;
 use crate::options::RunOptions;
-use clock_words::ClockForm;
-use log_lines::LogFault;
+use log_lines::{ClockForm, LogFault};
 use std::alloc::Global;
 use std::io::Write;
 use watch_page::{PageFault, View};

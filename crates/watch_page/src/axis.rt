@@ -3,9 +3,9 @@ ghost use Rattle.std.specs.Prelude.{◌≤◌};
 use crate::moment::{write_moment, write_time};
 use crate::words::PageWords;
 use candump_line::Time;
-use clock_words::{ClockForm, Fraction};
-use page_text::Page;
+use log_lines::{ClockForm, Fraction};
 use picture::{Axis, Picture};
+use safe_text::Page;
 use std::io::Write;
 
 /// The whole width in hundredths of a percent.

@@ -2,8 +2,8 @@
 
 use crate::message_words::write_numbers;
 use crate::pieces::write_count;
-use page_text::Page;
 use picture::Brief;
+use safe_text::Page;
 use std::io::Write;
 
 /// The words in a bar.

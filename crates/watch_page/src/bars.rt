@@ -8,8 +8,8 @@ use crate::moment::write_range;
 use crate::pieces::write_count;
 use crate::words::PageWords;
 use dm_messages::Kind;
-use page_text::Page;
 use picture::{Brief, Severity, Shows, Span, Track};
+use safe_text::Page;
 use std::alloc::{AllocError, Global};
 use std::io::Write;
 

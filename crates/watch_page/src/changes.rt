@@ -4,10 +4,10 @@ use crate::moment::write_moment;
 use crate::pieces::{write_between, write_count};
 use crate::view::View;
 use crate::words::PageWords;
-use clock_words::Fraction;
 use dm_messages::Kind;
-use page_text::Page;
+use log_lines::Fraction;
 use picture::{Brief, DrawnUnit, Handover, Happened, History, Occurrence};
+use safe_text::Page;
 use std::io::Write;
 
 /// How large the page may be when a further row is begun, in bytes.

@@ -2,8 +2,8 @@ use crate::message_words::{LAMPS, lamp_class, lamp_word};
 use crate::pieces::{by_count, write_between, write_count};
 use crate::standing::Standing;
 use crate::view::View;
-use page_text::Page;
 use picture::{EverInLog, Handover};
+use safe_text::Page;
 use std::io::Write;
 use trouble_code::LampName;
 
@@ -16,6 +16,7 @@ pub(crate) fn write_chips<W: Write>(page: &mut Page<W>, view: &View<'_>, standin
     page.markup("<h2>How it stands</h2>\n<ul class=\"chips\">\n");
     write_faulty(page, standing, view.ever.faulty());
     write_lamps(page, standing.lamps, view.ever);
+    write_partly(page, standing.partly);
     write_silent(page, standing.silent);
     write_handed(page, view.picture.handovers());
     write_missed(page, view.missed());
@@ -71,6 +72,19 @@ fn write_lamp<W: Write>(page: &mut Page<W>, lamp: LampName, count: u64, had: u64
     let at_the_end = by_count(count, " unit at the end, ", " units at the end, ");
     write_count(page, "", count, at_the_end);
     write_count(page, "", had, " in this log</li>\n");
+}
+
+/// Of how many units the DM1 at the end was read in part.
+fn write_partly<W: Write>(page: &mut Page<W>, partly: u64) {
+    if partly > 0 {
+        let words = by_count(partly, " unit</li>\n", " units</li>\n");
+        write_count(
+            page,
+            "<li class=\"changing\">DM1 read in part: ",
+            partly,
+            words,
+        );
+    }
 }
 
 /// Of how many units a DM1 with a fault was not heard to the end.

@@ -5,8 +5,8 @@ use crate::silence::write_last_heard;
 use crate::view::View;
 use crate::words::PageWords;
 use dm_messages::Kind;
-use page_text::Page;
 use picture::{Appearance, Axis, DrawnUnit, Ever, EverCode};
+use safe_text::Page;
 use std::io::Write;
 use trouble_code::LampName;
 

@@ -2,11 +2,11 @@ use crate::pieces::write_count;
 use crate::view::View;
 use bus_watch::BusWatch;
 use name_field::Name;
-use page_text::Page;
 use picture::{DrawnUnit, Sender};
+use safe_text::Page;
+use shop_texts::{FieldWords, UnitTexts, unclaimed_words};
 use std::alloc::Global;
 use std::io::Write;
-use unit_words::{FieldWords, UnitTexts, unclaimed_words};
 
 /// The most bytes of a unit's text that are shown.
 const MOST: usize = 80;

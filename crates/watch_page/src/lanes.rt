@@ -9,8 +9,8 @@ use crate::standing::{ALL_ORDERS, Presence, order_of, presence_of, severity_now}
 use crate::view::View;
 use crate::words::PageWords;
 use dm_messages::Kind;
-use page_text::Page;
 use picture::{Picture, Severity, Shows, Span, Track, UnitLane};
+use safe_text::Page;
 use std::io::Write;
 
 /// How large the page may be when a further bar is begun, in bytes, and how many bars all lanes have at most.
@@ -56,7 +56,7 @@ fn head() -> &'static str {
 /// What the colours say.
 fn key() -> &'static str {
     "<ul class=\"key\"><li><span class=\"k held\"></span>holds the address</li><li><span class=\"k fine\"></span>DM1 without fault</li>\
-<li><span class=\"k codes\"></span>faults, no lamp</li><li><span class=\"k protect\"></span>lamp protect</li><li><span class=\"k mil\"></span>lamp mil</li>\
+<li><span class=\"k changing\"></span>no readable code, read in part</li><li><span class=\"k codes\"></span>faults, no lamp</li><li><span class=\"k protect\"></span>lamp protect</li><li><span class=\"k mil\"></span>lamp mil</li>\
 <li><span class=\"k amber\"></span>lamp amber</li><li><span class=\"k red\"></span>lamp stop</li><li><span class=\"k striped\"></span>several changes, in the colour of the worst</li>\
 <li><span class=\"k gapped\"></span>frames missed: who sends is not known until units claim again</li><li><span class=\"k doubted\"></span>in doubt</li></ul>\n"
 }

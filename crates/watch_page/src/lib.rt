@@ -1,6 +1,6 @@
 //! What a log told, as a page of HTML: how it stands, each unit, a lane for each in time, and each change.
 //!
-//! The page has no script and asks for nothing from a network. Text from outside goes through the one escape of `page_text`. It is
+//! The page has no script and asks for nothing from a network. Text from outside goes through the one escape of `safe_text`. It is
 //! also XML.
 #![tactic(auto)]
 
@@ -24,5 +24,5 @@ mod view;
 mod words;
 
 pub use page::write_page;
-pub use page_text::PageFault;
+pub use safe_text::PageFault;
 pub use view::View;

@@ -2,8 +2,8 @@ use crate::pieces::{by_count, write_between, write_count};
 use crate::words::PageWords;
 use dm_messages::Kind;
 use dm_words::failure_mode_words;
-use page_text::Page;
 use picture::{Brief, Severity};
+use safe_text::Page;
 use std::io::Write;
 use trouble_code::{Dtc, LampName, Lamps};
 
@@ -56,6 +56,7 @@ pub(crate) fn kind_word(kind: Kind) -> &'static str {
 pub(crate) fn class_of(severity: Severity) -> &'static str {
     match severity {
         Severity::Fine => "fine",
+        Severity::Partly => "changing",
         Severity::Codes => "codes",
         Severity::Protect => "protect",
         Severity::Malfunction => "mil",
@@ -68,6 +69,7 @@ pub(crate) fn class_of(severity: Severity) -> &'static str {
 pub(crate) fn severity_word(severity: Severity) -> &'static str {
     match severity {
         Severity::Fine => "no fault",
+        Severity::Partly => "no readable code",
         Severity::Codes => "faults, no lamp",
         Severity::Protect => "lamp protect",
         Severity::Malfunction => "lamp mil",
@@ -80,6 +82,7 @@ pub(crate) fn severity_word(severity: Severity) -> &'static str {
 pub(crate) fn label_word(severity: Severity) -> &'static str {
     match severity {
         Severity::Fine => "no fault",
+        Severity::Partly => "in part",
         Severity::Codes => "faults",
         Severity::Protect => "protect",
         Severity::Malfunction => "mil",
@@ -181,12 +184,24 @@ pub(crate) fn write_brief<W: Write>(page: &mut Page<W>, words: &PageWords<'_>, b
     write_lamps(page, brief.lamps());
     page.markup("; ");
     if brief.count == 0 {
-        page.markup("no code");
+        page.markup(no_code_words(brief.partly));
     }
     write_codes(page, words, brief);
     write_more(page, brief.left_out());
+    if brief.partly {
+        page.markup(" (read in part)");
+    }
     if brief.contested {
         page.markup(" (in doubt)");
+    }
+}
+
+/// That a message has no code; or where it was read in part, none that can be read.
+pub(crate) fn no_code_words(partly: bool) -> &'static str {
+    if partly {
+        "no readable code"
+    } else {
+        "no code"
     }
 }
 

@@ -1,9 +1,9 @@
 use crate::pieces::write_count;
 use crate::words::PageWords;
 use candump_line::Time;
-use clock_words::{Fraction, TimeWords};
-use page_text::Page;
+use log_lines::{Fraction, TimeWords};
 use picture::Axis;
+use safe_text::Page;
 use std::io::Write;
 
 /// Writes when a moment is: its time by the clock of the page, or its line.

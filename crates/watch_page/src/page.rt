@@ -9,9 +9,9 @@ use crate::table::write_table;
 use crate::view::View;
 use crate::words::PageWords;
 use bus_watch::BusWatch;
-use clock_words::{DurationWords, Fraction};
-use page_text::{Page, PageFault};
+use log_lines::{DurationWords, Fraction};
 use picture::Axis;
+use safe_text::{Page, PageFault};
 use std::io::Write;
 
 /// The most bytes of a title that are shown.
@@ -123,19 +123,28 @@ fn write_buses<W: Write>(page: &mut Page<W>, buses: &[BusWatch]) {
 }
 
 fn write_note<W: Write>(page: &mut Page<W>, buses: &[BusWatch]) {
-    write_count(
-        page,
-        note(),
-        unread_on(buses),
-        ".</p>\n</main></body></html>\n",
-    );
+    write_count(page, note(), unread_on(buses), "");
+    let broken = broken_on(buses);
+    if broken > 0 {
+        write_count(page, "; broken before their last packet: ", broken, "");
+    }
+    page.markup(".</p>\n</main></body></html>\n");
+}
+
+/// How many messages were half joined and ended without being whole.
+fn broken_on(buses: &[BusWatch]) -> u64 {
+    let mut broken = 0u64;
+    for bus in buses {
+        broken = broken.saturating_add(bus.watch.broken_in_all());
+    }
+    broken
 }
 
 /// How many messages could not be read.
 fn unread_on(buses: &[BusWatch]) -> u64 {
     let mut unread = 0u64;
     for bus in buses {
-        unread = unread.saturating_add(bus.watch.unread_in_all());
+        unread = unread.saturating_add(bus.watch.unreadable_in_all());
     }
     unread
 }

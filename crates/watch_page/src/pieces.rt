@@ -1,4 +1,4 @@
-use page_text::Page;
+use safe_text::Page;
 use std::io::Write;
 
 /// Writes a number between two pieces of markup.

@@ -1,9 +1,9 @@
 use crate::moment::write_moment;
 use crate::words::PageWords;
 use candump_line::Time;
-use clock_words::{DurationWords, Fraction};
-use page_text::Page;
+use log_lines::{DurationWords, Fraction};
 use picture::Axis;
+use safe_text::Page;
 use std::io::Write;
 
 /// Writes how long before the end a DM1 was last heard, in microseconds.

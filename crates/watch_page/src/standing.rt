@@ -13,10 +13,10 @@ use trouble_code::Lamps;
 const MOST: usize = 1_000;
 
 /// How many orders there are of how bad it is what a unit on the bus tells, and then those that are gone.
-const NOW: usize = 7;
+const NOW: usize = 8;
 
 /// How many orders there are: by the worst that a unit told at any time, and then by how it stands.
-const ORDERS: usize = 6 * NOW;
+const ORDERS: usize = 7 * NOW;
 
 /// Whether a unit is on the bus.
 #[derive(Clone, Copy, PartialEq, Eq)]
@@ -49,6 +49,8 @@ pub(crate) struct Standing {
     pub(crate) faulty: u64,
     /// How many of them have each lamp on, in the order of `LAMPS`.
     pub(crate) lamps: [u64; 4],
+    /// Of how many of them the newest DM1 was read in part.
+    pub(crate) partly: u64,
     /// Of how many units a DM1 with a fault was not heard to the end.
     pub(crate) silent: u64,
     /// The units that are listed.
@@ -64,6 +66,7 @@ impl Standing {
             on: 0,
             faulty: 0,
             lamps: [0; 4],
+            partly: 0,
             silent: 0,
             listed: Vec::new(view.alloc),
             counts: [0; ORDERS],
@@ -99,18 +102,27 @@ impl Standing {
         }
         if presence == Presence::On {
             self.on = self.on.saturating_add(1);
-            self.count_faults(watch, unit, severity);
+            self.count_newest(view, watch, unit, severity);
         }
         let order = order_of(view.worst_ever(unit), presence, severity);
         self.list(order, unit, presence)
     }
 
-    fn count_faults(&mut self, watch: &Watch, unit: &DrawnUnit, severity: Severity) {
-        if severity == Severity::Fine {
+    fn count_newest(
+        &mut self,
+        view: &View<'_>,
+        watch: &Watch,
+        unit: &DrawnUnit,
+        severity: Severity,
+    ) {
+        let Some(run) = newest_of(view, watch, unit) else {
             return;
+        };
+        if run.trouble.is_some() {
+            self.partly = self.partly.saturating_add(1);
         }
-        self.faulty = self.faulty.saturating_add(1);
-        if let Some(run) = watch.runs(who_of(&unit.sender), Kind::Dm1).last() {
+        if severity.rank() >= Severity::Codes.rank() {
+            self.faulty = self.faulty.saturating_add(1);
             self.count_lamps(run.shown.lamps);
         }
     }
@@ -183,20 +195,24 @@ fn holds_address(watch: &Watch, name: Name) -> bool {
     }
 }
 
-/// How bad it is what the newest of some equal messages tells.
-pub(crate) fn severity_of(newest: Option<&EntryRun>) -> Severity {
-    match newest {
-        Some(run) => Severity::of(run.shown.lamps, run.shown.codes.as_slice().len()),
-        None => Severity::Fine,
+/// The newest of a unit's equal DM1 at the end: none where its DM1 fell silent.
+fn newest_of<'a>(view: &View<'_>, watch: &'a Watch, unit: &DrawnUnit) -> Option<&'a EntryRun> {
+    if view.ever.silence(unit).is_some() {
+        return None;
     }
+    watch.runs(who_of(&unit.sender), Kind::Dm1).last()
 }
 
 /// How bad it is what a unit tells at the end: nothing where its DM1 fell silent.
 pub(crate) fn severity_now(view: &View<'_>, watch: &Watch, unit: &DrawnUnit) -> Severity {
-    if view.ever.silence(unit).is_some() {
-        return Severity::Fine;
+    match newest_of(view, watch, unit) {
+        Some(run) => Severity::of(
+            run.shown.lamps,
+            run.shown.codes.as_slice().len(),
+            run.trouble.is_some(),
+        ),
+        None => Severity::Fine,
     }
-    severity_of(watch.runs(who_of(&unit.sender), Kind::Dm1).last())
 }
 
 /// In which order a unit stands: the worst at any time first; of equal ones the worst on the bus at the end first, and those that are gone last.
@@ -208,11 +224,11 @@ pub(crate) fn order_of(worst: Severity, presence: Presence, severity: Severity) 
     (steps_from_worst(worst) * NOW).saturating_add(now)
 }
 
-/// How many steps it is better than the worst, 0 to 5.
+/// How many steps it is better than the worst, 0 to 6.
 fn steps_from_worst(severity: Severity) -> usize
-    ensures { result ≤ 5 }
+    ensures { result ≤ 6 }
 {
-    5usize.saturating_sub(usize::from(severity.rank()))
+    6usize.saturating_sub(usize::from(severity.rank()))
 }
 
 /// The orders.

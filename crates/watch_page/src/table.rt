@@ -1,7 +1,8 @@
 use crate::ever_cell::write_ever;
 use crate::labels::{write_fields, write_identity, write_label};
 use crate::message_words::{
-    LAMPS, flash_word, is_on, lamp_class, lamp_word, write_meaning, write_numbers, write_seen,
+    LAMPS, flash_word, is_on, lamp_class, lamp_word, no_code_words, write_meaning, write_numbers,
+    write_seen,
 };
 use crate::moment::write_moment;
 use crate::pieces::{write_between, write_count};
@@ -11,11 +12,12 @@ use crate::view::View;
 use crate::words::PageWords;
 use bus_watch::{EntryRun, Watch, Who};
 use candump_line::Time;
-use clock_words::Fraction;
-use dm_messages::Kind;
+use dm_messages::{Kind, Trouble};
+use dm_words::unread_parts;
+use log_lines::Fraction;
 use name_field::Name;
-use page_text::Page;
 use picture::{DrawnUnit, Sender};
+use safe_text::Page;
 use std::io::Write;
 use trouble_code::{Dtc, LampName, Lamps};
 
@@ -268,11 +270,61 @@ fn write_newest<W: Write>(page: &mut Page<W>, words: &PageWords<'_>, newest: Opt
 fn write_active<W: Write>(page: &mut Page<W>, words: &PageWords<'_>, run: &EntryRun) {
     let codes = run.shown.codes.as_slice();
     if codes.is_empty() {
-        page.markup("<span class=\"fine\">no active code</span>");
+        page.markup(no_active_words(run.trouble.is_some()));
     }
     write_codes(page, words, codes);
     if run.contested {
         page.markup(doubt_words());
+    }
+    if let Some(trouble) = run.trouble {
+        write_trouble(page, trouble);
+    }
+}
+
+/// What of a message is not read, and what is read by an older conversion method.
+fn write_trouble<W: Write>(page: &mut Page<W>, trouble: Trouble) {
+    page.markup("<div class=\"doubt\">read in part");
+    let mut mark = "; not read: ";
+    for (count, word, rest) in unread_parts(trouble) {
+        if count > 0 {
+            write_counted(page, mark, count, word);
+            page.markup(rest);
+            mark = ", ";
+        }
+    }
+    if trouble.missing > 0 {
+        write_count(
+            page,
+            "; ",
+            u64::from(trouble.missing),
+            " of 8 bytes missing",
+        );
+    }
+    if trouble.converted > 0 {
+        write_counted(page, "; ", u64::from(trouble.converted), "code");
+        page.markup(" by an older conversion method");
+    }
+    page.markup("</div>");
+}
+
+/// A number and its word, with an `s` behind where it is not 1.
+fn write_counted<W: Write>(
+    page: &mut Page<W>,
+    before: &'static str,
+    count: u64,
+    word: &'static str,
+) {
+    write_count(page, before, count, " ");
+    page.markup(word);
+    page.markup(if count == 1 { "" } else { "s" });
+}
+
+/// That there is no code; or where some of the message is not read, that none is known.
+fn no_active_words(partly: bool) -> &'static str {
+    if partly {
+        "<span class=\"quiet\">no readable code</span>"
+    } else {
+        "<span class=\"fine\">no active code</span>"
     }
 }
 
@@ -324,7 +376,10 @@ fn write_other<W: Write>(
     newest: Option<&EntryRun>,
 ) {
     if let Some(run) = newest {
-        write_listed(page, words, before, run.shown.codes.as_slice());
+        write_listed(page, words, before, run);
+        if let Some(trouble) = run.trouble {
+            write_trouble(page, trouble);
+        }
     }
 }
 
@@ -333,18 +388,18 @@ fn write_listed<W: Write>(
     page: &mut Page<W>,
     words: &PageWords<'_>,
     before: &'static str,
-    codes: &[Dtc],
+    run: &EntryRun,
 ) {
     page.markup("<div class=\"past\">");
     page.markup(before);
-    write_line(page, words, codes);
+    if run.shown.codes.as_slice().is_empty() {
+        page.markup(no_code_words(run.trouble.is_some()));
+    }
+    write_line(page, words, run.shown.codes.as_slice());
     page.markup("</div>");
 }
 
 fn write_line<W: Write>(page: &mut Page<W>, words: &PageWords<'_>, codes: &[Dtc]) {
-    if codes.is_empty() {
-        page.markup("no code");
-    }
     let mut between = "";
     for code in listed_of(codes) {
         page.markup(between);

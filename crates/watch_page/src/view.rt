@@ -1,11 +1,10 @@
 use bus_watch::{BusWatch, Watch, Who};
-use clock_words::ClockForm;
-use code_texts::Texts;
 use dm_messages::Kind;
+use log_lines::ClockForm;
 use name_field::Name;
 use picture::{DrawnUnit, Ever, EverInLog, Picture, Sender, Severity};
+use shop_texts::{Texts, UnitTexts};
 use std::alloc::Global;
-use unit_words::UnitTexts;
 
 /// What a page is written of.
 #[derive(Clone, Copy)]

@@ -1,7 +1,7 @@
 use crate::view::View;
-use clock_words::ClockForm;
-use code_texts::Texts;
+use log_lines::ClockForm;
 use picture::Axis;
+use shop_texts::Texts;
 use std::alloc::Global;
 
 /// By what moments and codes are told: the clock of the page, and a shop's texts for codes.

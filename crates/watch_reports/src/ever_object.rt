@@ -4,9 +4,9 @@ use crate::object_parts::{write_code_text, write_time};
 use crate::report_writer::ReportWriter;
 use crate::reported_bus::{ReportedBus, lamp_words, whole_seconds};
 use bus_watch::Who;
-use code_texts::Texts;
 use dm_messages::Kind;
 use picture::{Appearance, Ever, EverCode};
+use shop_texts::Texts;
 use std::io::Write;
 
 /// The member `ever` of a row: an object of DM1, and one of DM6. Nothing where it is not kept what the unit told.

@@ -8,10 +8,10 @@ use crate::text_report::write_bus_name;
 use crate::units::kind_word;
 use bus_watch::Who;
 use candump_line::Time;
-use clock_words::{ClockForm, DurationWords};
-use code_texts::{TextWords, Texts};
 use dm_messages::Kind;
+use log_lines::{ClockForm, DurationWords};
 use picture::{Appearance, Ever, EverCode, Severity};
+use shop_texts::{TextWords, Texts};
 use std::io::Write;
 use trouble_code::Dtc;
 

@@ -1,6 +1,6 @@
 use crate::options::{ReportOptions, ReportPart};
 use crate::report_writer::ReportWriter;
-use crate::{objects, report_object, rows, text, text_report};
+use crate::{broken, objects, report_object, rows, text, text_report};
 use bus_watch::{BusWatch, Buses, Changes, WatchChange};
 use candump_line::Time;
 use log_lines::LogFault;
@@ -40,6 +40,26 @@ pub fn write_changes<W: Write>(
     }
     if let Some(change) = &changes.change {
         write_change(&mut report, one, options, start, number, change);
+    }
+    report.end()
+}
+
+/// Writes what is told of the messages that the line of this number broke.
+///
+/// # Errors
+/// - `Write`: a write failed; how much was written by then is not told.
+pub fn write_broken<W: Write>(
+    writer: &mut W,
+    one: &BusWatch,
+    options: &ReportOptions<'_>,
+    start: &Option<Time>,
+    number: u64,
+) -> Result<(), LogFault> {
+    let mut report = ReportWriter::new(writer);
+    match options.form {
+        WatchForm::Text => broken::write_lines(&mut report, one, options, start),
+        WatchForm::Json => broken::write_objects(&mut report, one, number),
+        WatchForm::Csv | WatchForm::Html => {}
     }
     report.end()
 }

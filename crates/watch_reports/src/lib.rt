@@ -3,6 +3,7 @@
 #![tactic(auto)]
 
 mod assumed;
+mod broken;
 mod ever_object;
 mod ever_rows;
 mod ever_text;
@@ -19,6 +20,6 @@ mod text_report;
 mod units;
 
 pub use assumed::Assumed;
-pub use form::{WatchForm, write_changes, write_report};
+pub use form::{WatchForm, write_broken, write_changes, write_report};
 pub use options::{ReportOptions, ReportPart};
 pub use units::KINDS;

@@ -5,13 +5,13 @@ use crate::units::address_of;
 use bus_watch::{BusWatch, EntryRun, Watch, Who};
 use can_frame::GLOBAL_ADDRESS;
 use candump_line::Time;
-use code_texts::Texts;
-use dm_words::{LampBytes, NO_COUNT, failure_mode_words};
+use dm_messages::Trouble;
+use dm_words::{LampBytes, NO_COUNT, failure_mode_words, trouble_keys};
 use name_field::Name;
+use safe_text::is_hidden;
+use shop_texts::{Texts, UnitTexts};
 use std::io::Write;
-use text_buffer::is_hidden;
 use trouble_code::Dtc;
-use unit_words::UnitTexts;
 
 /// A unit: its NAME, null where nobody has claimed its address; that address; and of such a one how many gaps of missed frames were
 /// before it.
@@ -77,6 +77,20 @@ pub(crate) fn write_shown<W: Write>(
     let contested = run.contested;
     write!(report, "],\"contested\":{contested}");
     write_destination(report, run.to);
+}
+
+/// What of an entry is not read, where it was read in part, each sort with its number.
+pub(crate) fn write_trouble<W: Write>(report: &mut ReportWriter<'_, W>, run: &EntryRun) {
+    let Some(trouble) = run.trouble else {
+        return;
+    };
+    report.text(",\"not_read\":");
+    let mut before = "{";
+    for (key, count) in trouble_keys(trouble) {
+        write!(report, "{before}\"{key}\":{count}");
+        before = ",";
+    }
+    report.text("}");
 }
 
 /// The address that an entry went to; nothing where it went to all.

@@ -1,19 +1,19 @@
 //! A change as a JSON object, written as it goes: no memory is asked for.
 
 use crate::object_parts::{
-    write_bus, write_destination, write_fields, write_named, write_shown, write_time, write_who,
+    write_bus, write_destination, write_fields, write_named, write_shown, write_time,
+    write_trouble, write_who,
 };
 use crate::options::ReportOptions;
 use crate::report_writer::ReportWriter;
 use crate::units::kind_word;
 use bus_watch::{BusWatch, EntryRun, Watch, WatchChange, Who};
 use can_frame::Pgn;
-use code_texts::Texts;
 use dm_messages::{Kind, ReadError};
 use frame_words::{ControlWords, UnreadWords};
 use name_field::Name;
+use shop_texts::{Texts, UnitTexts};
 use std::io::Write;
-use unit_words::UnitTexts;
 
 /// Writes a change as an object, and a line end: the number of its line, its time, what happened, and to whom.
 pub(crate) fn write_change<W: Write>(
@@ -28,7 +28,21 @@ pub(crate) fn write_change<W: Write>(
     write_event(report, &one.watch, options.texts, change);
     write_bus(report, one);
     write_unit_words(report, options.units, change);
+    write_unread_part(report, &one.watch, change);
     report.text("}\n");
+}
+
+/// What of an entry is not read, where it was read in part.
+fn write_unread_part<W: Write>(
+    report: &mut ReportWriter<'_, W>,
+    watch: &Watch,
+    change: &WatchChange,
+) {
+    if let WatchChange::Entry { who, kind } = *change {
+        if let Some(run) = watch.runs(who, kind).last() {
+            write_trouble(report, run);
+        }
+    }
 }
 
 /// What happened.
@@ -141,7 +155,7 @@ fn write_unread<W: Write>(
     to: u8,
     why: ReadError,
 ) {
-    write_event_count(report, "unread", watch.unread_in_all());
+    write_event_count(report, "unread", watch.unreadable_in_all());
     report.text(",");
     write_who(report, watch, who);
     write_why(report, kind, to, why);

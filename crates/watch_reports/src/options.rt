@@ -1,8 +1,7 @@
 use crate::assumed::Assumed;
 use crate::form::WatchForm;
-use clock_words::ClockForm;
-use code_texts::Texts;
-use unit_words::UnitTexts;
+use log_lines::ClockForm;
+use shop_texts::{Texts, UnitTexts};
 
 /// How changes and reports are written.
 #[derive(Clone, Copy)]

@@ -1,9 +1,10 @@
 //! The report as a JSON object, written as it goes: nothing of it is held, and no memory is asked for.
 
 use crate::assumed::is_assumed_unit;
+use crate::broken::write_count_keys;
 use crate::ever_object::write_ever;
 use crate::object_parts::{
-    write_bus, write_fields, write_shown, write_text, write_time, write_who,
+    write_bus, write_fields, write_shown, write_text, write_time, write_trouble, write_who,
 };
 use crate::options::{ReportOptions, ReportPart};
 use crate::report_writer::ReportWriter;
@@ -31,6 +32,8 @@ pub(crate) fn write_report<W: Write>(
         write_buses(report, buses.watches());
     }
     write_left_out(report, ever.left_out());
+    write_partly(report, buses.counts().partly);
+    write_count_keys(report, buses);
     report.text("}\n");
 }
 
@@ -142,6 +145,7 @@ fn write_run<W: Write>(
     write_time(report, "first", &run.first);
     write_time(report, "last", &run.last);
     write_shown(report, options.texts, run);
+    write_trouble(report, run);
     report.text("}");
 }
 
@@ -151,9 +155,16 @@ fn write_heard<W: Write>(report: &mut ReportWriter<'_, W>, watches: &[BusWatch])
     let mut unread = 0u64;
     for one in watches {
         missed = missed.saturating_add(one.watch.missed_in_all());
-        unread = unread.saturating_add(one.watch.unread_in_all());
+        unread = unread.saturating_add(one.watch.unreadable_in_all());
     }
     write!(report, "],\"missed\":{missed},\"unread\":{unread}");
+}
+
+/// How many messages were read in part, where any were.
+fn write_partly<W: Write>(report: &mut ReportWriter<'_, W>, partly: u64) {
+    if partly > 0 {
+        write!(report, ",\"partly\":{partly}");
+    }
 }
 
 /// The same of each bus.
@@ -175,8 +186,10 @@ fn write_heard_on<W: Write>(report: &mut ReportWriter<'_, W>, one: &BusWatch) {
         report.text(",");
     }
     let missed = one.watch.missed_in_all();
-    let unread = one.watch.unread_in_all();
-    write!(report, "\"missed\":{missed},\"unread\":{unread}}}");
+    let unread = one.watch.unreadable_in_all();
+    write!(report, "\"missed\":{missed},\"unread\":{unread}");
+    write_partly(report, one.watch.partly_in_all());
+    report.text("}");
 }
 
 fn write_counts<W: Write>(report: &mut ReportWriter<'_, W>, counts: WatchCounts) {

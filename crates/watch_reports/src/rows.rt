@@ -8,15 +8,14 @@ use crate::units::{KINDS, WhoValue, address_of, has_entries, kind_word, row_at, 
 use bus_watch::{BusWatch, Buses, EntryRun, Watch, Who};
 use can_frame::GLOBAL_ADDRESS;
 use candump_line::Time;
-use code_texts::Texts;
 use dm_messages::Kind;
-use dm_words::{LampBytes, NO_COUNT, failure_mode_words};
+use dm_words::{LampBytes, NO_COUNT, TroubleWords, failure_mode_words};
 use name_field::Name;
 use picture::EverInLog;
+use safe_text::{Seen, SeenCharacter};
+use shop_texts::{Texts, UnitTexts};
 use std::io::Write;
-use text_buffer::{Seen, SeenCharacter};
 use trouble_code::Dtc;
-use unit_words::UnitTexts;
 
 /// The names of the values.
 const HEADER: &str =
@@ -24,8 +23,8 @@ const HEADER: &str =
 
 /// Writes the report: a row for each code of each run of equal entries, one without a code for a run without codes, and one
 /// without a kind for a unit without entries. Where each bus is watched, the bus follows; then come what the NAME says of the unit,
-/// the shop's texts for the unit and for the code, the NAME again, what the unit told at any time, and what
-/// the FMI says. The names of the values stand before the first part.
+/// the shop's texts for the unit and for the code, the NAME again, what the unit told at any time, what
+/// the FMI says, and what of the entries is not read. The names of the values stand before the first part.
 pub(crate) fn write_rows<W: Write>(
     report: &mut ReportWriter<'_, W>,
     buses: &Buses,
@@ -63,7 +62,7 @@ fn write_header<W: Write>(report: &mut ReportWriter<'_, W>, names_bus: bool) {
     }
     report.text(",function,instance,manufacturer,identity,unit_text,code_text,name_hex");
     report.text(EVER_HEADER);
-    report.text(",fmi_text\n");
+    report.text(",fmi_text,not_read\n");
 }
 
 /// The rows of a bus.
@@ -109,7 +108,7 @@ fn write_without_kind<W: Write>(
     report.text(",,,,,,,,,,");
     write_words(report, one, options, who, None);
     write_no_ever(report);
-    report.text(",\n");
+    report.text(",,\n");
 }
 
 /// The rows of a kind of messages.
@@ -174,6 +173,7 @@ fn write_row<W: Write>(
     write_words(report, bus.one, options, who, code);
     write_ever(report, bus, who, kind, code);
     write_failure_mode(report, code);
+    write_trouble(report, run);
     report.text("\n");
 }
 
@@ -182,6 +182,15 @@ fn write_failure_mode<W: Write>(report: &mut ReportWriter<'_, W>, code: Option<&
     report.text(",");
     if let Some(code) = code {
         write_text(report, failure_mode_words(code.fmi()));
+    }
+}
+
+/// What of a run's entries is not read, behind a comma and in quotes, where they were read in part.
+fn write_trouble<W: Write>(report: &mut ReportWriter<'_, W>, run: &EntryRun) {
+    report.text(",");
+    if let Some(trouble) = run.trouble {
+        let words = TroubleWords(trouble);
+        write!(report, "\"{words}\"");
     }
 }
 

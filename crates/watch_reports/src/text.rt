@@ -6,15 +6,14 @@ use crate::units::{NameWords, SourceWords, WhoWords, address_words, kind_word};
 use bus_watch::{BusWatch, EntryRun, Watch, WatchChange, Who};
 use can_frame::{GLOBAL_ADDRESS, Pgn};
 use candump_line::Time;
-use clock_words::{ClockForm, Fraction, TimeWords};
-use code_texts::{TextWords, Texts};
 use dm_messages::{Kind, ReadError};
-use dm_words::{CodeWords, LampBytes, LampWords};
+use dm_words::{CodeWords, LampBytes, LampWords, TroubleWords};
 use frame_words::{Audience, ControlWords, GroupWords, UnreadWords};
+use log_lines::{ClockForm, Fraction, TimeWords};
 use name_field::Name;
+use safe_text::Seen;
+use shop_texts::{TextWords, Texts, UnitTexts};
 use std::io::Write;
-use text_buffer::Seen;
-use unit_words::UnitTexts;
 
 /// Writes a line for a change, with the time of the line that made it, or `-` where no line has a time, and its bus where each is
 /// watched.
@@ -37,7 +36,7 @@ pub(crate) fn write_change<W: Write>(
 }
 
 /// Its bus, where each is watched.
-fn write_bus<W: Write>(report: &mut ReportWriter<'_, W>, one: &BusWatch) {
+pub(crate) fn write_bus<W: Write>(report: &mut ReportWriter<'_, W>, one: &BusWatch) {
     if let Some(bus) = &one.bus {
         let bus = Seen::line(bus.as_str());
         write!(report, " {bus}");
@@ -162,7 +161,7 @@ fn write_unread<W: Write>(
     to: u8,
     why: ReadError,
 ) {
-    write_unread_of(report, units, watch.unread_in_all(), who, kind);
+    write_unread_of(report, units, watch.unreadable_in_all(), who, kind);
     write_destination(report, to);
     let why = UnreadWords(why);
     writeln!(report, ": {why}");
@@ -193,6 +192,7 @@ fn write_entry<W: Write>(
     if let Some(run) = watch.runs(*who, kind).last() {
         write_shown(report, run);
         write_texts(report, options.texts, run);
+        write_trouble(report, run);
     }
     report.text("\n");
 }
@@ -230,6 +230,14 @@ fn write_texts<W: Write>(report: &mut ReportWriter<'_, W>, texts: &Texts, run: &
         codes: run.shown.codes.as_slice(),
     };
     write!(report, "{words}");
+}
+
+/// What of an entry is not read, where it was read in part.
+fn write_trouble<W: Write>(report: &mut ReportWriter<'_, W>, run: &EntryRun) {
+    if let Some(trouble) = run.trouble {
+        let words = TroubleWords(trouble);
+        write!(report, "; {words}");
+    }
 }
 
 /// The address that an entry went to; nothing where it went to all.

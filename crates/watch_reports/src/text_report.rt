@@ -1,6 +1,7 @@
 //! The report for people, written as it goes: nothing of it is held, and no memory is asked for.
 
 use crate::assumed::is_assumed_unit;
+use crate::broken::write_count_line;
 use crate::ever_text::write_ever;
 use crate::options::{ReportOptions, ReportPart};
 use crate::report_writer::ReportWriter;
@@ -11,8 +12,8 @@ use candump_line::Time;
 use dm_messages::Kind;
 use dm_words::{LampBytes, LampWords};
 use picture::EverInLog;
+use safe_text::Seen;
 use std::io::Write;
-use text_buffer::Seen;
 
 /// Writes for each bus what is told of its units, and the counts of what was heard; then those of the lines.
 pub(crate) fn write_report<W: Write>(
@@ -49,8 +50,18 @@ fn write_bus<W: Write>(
     write_rows(report, bus, options, false);
     write_bus_name(report, bus.one);
     let missed = bus.one.watch.missed_in_all();
-    let unread = bus.one.watch.unread_in_all();
-    writeln!(report, "missed {missed} unread {unread}");
+    let unread = bus.one.watch.unreadable_in_all();
+    write!(report, "missed {missed} unread {unread}");
+    write_partly(report, bus.one.watch.partly_in_all());
+    write_count_line(report, bus.one);
+}
+
+/// How many messages were read in part, where any were, and a line end.
+fn write_partly<W: Write>(report: &mut ReportWriter<'_, W>, partly: u64) {
+    if partly > 0 {
+        write!(report, " partly {partly}");
+    }
+    report.text("\n");
 }
 
 /// What is told of each unit whose red stop lamp was on, or was not.
@@ -147,7 +158,7 @@ fn write_entries<W: Write>(report: &mut ReportWriter<'_, W>, entries: u64) {
     write!(report, "{entries:>6} ");
 }
 
-/// The number of codes and the lamps of an entry.
+/// The number of codes and the lamps of an entry, and whether it was read in part.
 fn write_newest<W: Write>(report: &mut ReportWriter<'_, W>, newest: Option<&EntryRun>) {
     match newest {
         Some(newest) => write_lamps(report, newest),
@@ -159,7 +170,12 @@ fn write_lamps<W: Write>(report: &mut ReportWriter<'_, W>, newest: &EntryRun) {
     let codes = newest.shown.codes.as_slice().len();
     let lamps = LampWords(newest.shown.lamps);
     let bytes = LampBytes(newest.shown.lamps);
-    write!(report, "{codes:>4} {lamps} ({bytes})");
+    let part = if newest.trouble.is_some() {
+        " in part"
+    } else {
+        ""
+    };
+    write!(report, "{codes:>4} {lamps} ({bytes}){part}");
 }
 
 /// Whether it is assumed, the unit in words where it has a NAME, and a line end.

@@ -3,9 +3,9 @@ use can_frame::GLOBAL_ADDRESS;
 use dm_messages::Kind;
 use frame_words::{AddressWords, Audience};
 use name_field::Name;
+use safe_text::Seen;
+use shop_texts::{UnitTexts, unclaimed_words};
 use std::fmt;
-use text_buffer::Seen;
-use unit_words::{UnitTexts, unclaimed_words};
 
 /// The kinds of messages that are listed, in the order in which a report has them.
 pub const KINDS: [Kind; 3] = [Kind::Dm1, Kind::Dm2, Kind::Dm6];

@@ -7,16 +7,29 @@ import threading
 
 
 class BusABC(abc.ABC):
-    """What a bus is."""
+    """What a bus is: those of hidzgula.bench are made of it."""
+
+    def __init__(self, channel, **_):
+        self.channel_info = channel
+
+    def _matches_filters(self, msg):
+        return True
+
+    def send_periodic(self, msgs, period, duration=None, store_task=True):
+        return self._send_periodic_internal(msgs if isinstance(msgs, list) else [msgs], period, duration)
+
+    def shutdown(self):
+        pass
 
 
 class Message:
     def __init__(
-        self, arbitration_id=0, data=b"", is_extended_id=True, is_remote_frame=False, is_error_frame=False, is_fd=False, is_rx=True, timestamp=0.0
-    ):
+        self, arbitration_id=0, data=b"", is_extended_id=True, is_remote_frame=False, is_error_frame=False, is_fd=False, is_rx=True, timestamp=0.0,
+        channel=None
+    ):  # fmt: skip
         self.arbitration_id, self.data = arbitration_id, bytearray(data)
         self.is_extended_id, self.is_remote_frame, self.is_error_frame = is_extended_id, is_remote_frame, is_error_frame
-        self.is_fd, self.is_rx, self.timestamp = is_fd, is_rx, timestamp
+        self.is_fd, self.is_rx, self.timestamp, self.channel = is_fd, is_rx, timestamp, channel
 
 
 class Listener(abc.ABC):

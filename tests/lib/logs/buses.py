@@ -1,6 +1,7 @@
 """Logs of several buses."""
 
 import json
+import re
 
 from logs.common import CLAIM, MESSAGE, SHOWN, log_of, run, same
 
@@ -25,7 +26,7 @@ TWO_BUSES = b"""(1.000000) can0 18EEFF00#A000000000000000
 (1.700000) can0 18E8FF00#01FFFFFFF9CCFE00
 DROPCOUNT: dropped 7 CAN frames on 'can1' socket (total drops 7)
 (1.800000) can1 18FECA00#04FFB8040301FFFF
-(1.900000) can0 18FECA00#04FFB80403
+(1.900000) can0 18FECA00#04
 (x
 (2.000000) vcan2 18EEFF21#C000000000000000
 (2.100000) can0 123#00
@@ -52,13 +53,13 @@ vcan2 00000000000000C0  33(21)      0      0      0    - -; function 0 instance 
 vcan2 missed 0 unread 0
 lines 15 frames 12 bad 1; not J1939: 11-bit 1, remote 0, CAN FD 0, error 0; other bus 0; not attributed 1
 """
-EACH_BUS_CSV = """name,address,kind,first_time,last_time,entries,lamps,spn,fmi,count,contested,to,bus,function,instance,manufacturer,identity,unit_text,code_text,name_hex,ever_lamp,ever_lamp_times,ever_lamp_first,ever_lamp_last,last_heard,silent,ever_code_times,ever_code_first,ever_code_last,fmi_text
-00000000000000A0,,dm2,1.600000,1.600000,1,04FF,1208,3,1,false,249,can0,0,0,0,160,,,0x00000000000000A0,,,,,,,,,,voltage above normal or shorted high
-00000000000000A0,,dm2,1.600000,1.600000,1,04FF,100,5,1,false,249,can0,0,0,0,160,,,0x00000000000000A0,,,,,,,,,,current below normal or open circuit
-00000000000000B0,,dm2,1.500000,1.500000,1,00FF,110,0,1,false,249,can1,0,0,0,176,,,0x00000000000000B0,,,,,,,,,,"above normal, most severe"
-00000000000000B0,,dm2,1.500000,1.500000,1,00FF,100,5,1,false,249,can1,0,0,0,176,,,0x00000000000000B0,,,,,,,,,,current below normal or open circuit
-"address 0, no claim seen since gap 1",0,dm1,1.800000,1.800000,1,04FF,1208,3,1,false,,can1,,,,,,,,amber,1,1.800000,1.800000,1.800000,,1,1.800000,1.800000,voltage above normal or shorted high
-00000000000000C0,33,,,,,,,,,,,vcan2,0,0,0,192,,,0x00000000000000C0,,,,,,,,,,
+EACH_BUS_CSV = """name,address,kind,first_time,last_time,entries,lamps,spn,fmi,count,contested,to,bus,function,instance,manufacturer,identity,unit_text,code_text,name_hex,ever_lamp,ever_lamp_times,ever_lamp_first,ever_lamp_last,last_heard,silent,ever_code_times,ever_code_first,ever_code_last,fmi_text,not_read
+00000000000000A0,,dm2,1.600000,1.600000,1,04FF,1208,3,1,false,249,can0,0,0,0,160,,,0x00000000000000A0,,,,,,,,,,voltage above normal or shorted high,
+00000000000000A0,,dm2,1.600000,1.600000,1,04FF,100,5,1,false,249,can0,0,0,0,160,,,0x00000000000000A0,,,,,,,,,,current below normal or open circuit,
+00000000000000B0,,dm2,1.500000,1.500000,1,00FF,110,0,1,false,249,can1,0,0,0,176,,,0x00000000000000B0,,,,,,,,,,"above normal, most severe",
+00000000000000B0,,dm2,1.500000,1.500000,1,00FF,100,5,1,false,249,can1,0,0,0,176,,,0x00000000000000B0,,,,,,,,,,current below normal or open circuit,
+"address 0, no claim seen since gap 1",0,dm1,1.800000,1.800000,1,04FF,1208,3,1,false,,can1,,,,,,,,amber,1,1.800000,1.800000,1.800000,,1,1.800000,1.800000,voltage above normal or shorted high,
+00000000000000C0,33,,,,,,,,,,,vcan2,0,0,0,192,,,0x00000000000000C0,,,,,,,,,,,
 """
 # The same of examples/logs/07-two-buses.log: other units at one address of two buses, asked by one tool at the same time.
 TWO_UNITS_AT_0 = """1792922400.050000 can0 unit 1000000001419907 (function 0 instance 0, manufacturer 10, identity 104711) at 0
@@ -96,7 +97,7 @@ def each_bus():
     found += same({[key for key in one if key not in said][-1] for one in [*changes, *report["rows"]]}, {"bus"}, "the last key but what a NAME says")
     found += same([row["bus"] for row in report["rows"]], ["can0", "can1", "can1", "vcan2"], "rows in JSON")
     found += same([list(bus.values()) for bus in report["buses"]], [["can0", 1, 1], ["can1", 8, 0], ["vcan2", 0, 0]], "buses")
-    found += same([report["missed"], report["unread"], list(report)[-1]], [9, 1, "buses"], "report")
+    found += same([report["missed"], report["unread"], list(report)[-3:]], [9, 1, ["buses", "broken", "open"]], "report")
     acknowledged = {"line": 9, "time": "1.700000", "event": "ack", "name": "00000000000000A0", "control": 1, "pgn": 65228, "answer": "negative", "requester": 249, "bus": "can0"}
     found += same([change for change in changes if change["event"] == "ack"], [acknowledged], "acknowledgment")
     found += same([change["why"] for change in changes if change["event"] == "unread"], ["bad length"], "why it is unread")
@@ -113,3 +114,15 @@ def buses_too_many():
     text = "".join(f"(1.{n:06d}) can{n} 18EEFF00#{n:02X}00000000000000\n" for n in range(20)).encode()
     out = run(["watch", "--bus", "all"], text)[1]
     return same([len(out.splitlines()), "other bus 4;" in out, "can15 " in out, "can16 " in out], [49, True, True, False], "lines") if out else ["nothing"]
+
+
+def each_bus_has_its_ceiling():
+    """As many runs are kept of whichever bus changes: the eleventh is told to be one too many, and then the eleventh after that."""
+    found = []
+    for bus in ("can0", "can1"):
+        lines = ["(1.000000) can0 18EEFF00#A000000000000000", "(1.100000) can1 18EEFF00#B000000000000000"]
+        lines += [f"({2 + at}.000000) {bus} 18FECA00#04FF{at + 1:02X}040301FFFF" for at in range(25)]
+        status, out, said = run(["watch", "--bus", "all", "--keep", "10"], "".join(f"{it}\n" for it in lines).encode())
+        told = re.findall(r"(?m)^over at line (\d+), so far:$", out)
+        found += same((status, told, said.count("more than is kept at once")), (3, ["13", "23"], 1), f"a ceiling where {bus} changes")
+    return found

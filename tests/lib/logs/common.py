@@ -5,7 +5,7 @@ import subprocess
 
 from harness import TOP, called
 
-LOGS = ["01-startup-and-dm1", "02-contention", "03-lost-frames", "04-pending-codes", "05-sessions-given-up"]
+LOGS = ["01-startup-and-dm1", "02-contention", "03-lost-frames", "04-pending-codes", "05-sessions-given-up", "08-held-and-broken"]
 KINDS = ("dm1", "dm2", "dm6")
 CLAIM = b"(1.000000) can0 18EEFF00#A000000000000000\n"
 MESSAGE = b"(1.100000) can0 18FECA00#04FFB8040301FFFF\n"
@@ -38,9 +38,10 @@ def entry_of(lamps, codes):
 
 
 def units_of_json(report):
+    """What was read whole: the lists of who takes part have no more."""
     units = {}
     for row in report["rows"]:
-        runs = {kind: [(r["times"], entry_of(r["lamps"], r["codes"])) for r in row[kind]] for kind in KINDS}
+        runs = {kind: [(r["times"], entry_of(r["lamps"], r["codes"])) for r in row[kind] if "not_read" not in r] for kind in KINDS}
         units[row["name"]] = (row["address"], joined(runs))
     return units
 

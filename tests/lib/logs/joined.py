@@ -12,6 +12,8 @@ FIRST, LAST = "1CEBFF00#0104FFB804030164", "1CEBFF00#02000501FFFFFFFF"
 RTS = "1CECF900#100A0002FFCAFE00"
 S_FIRST, S_LAST = FIRST.replace("1CEBFF", "1CEBF9"), LAST.replace("1CEBFF", "1CEBF9")
 TO_ALL, TO_TOOL = f"joined 0>all 65226 {AMBER}", f"joined 0>249(F9) 65226 {AMBER}"
+SPACE = 200  # milliseconds from frame to frame: three of them are no more than there may be between two packets to all
+ASKED = "1CEC00F9#110201FFFFCAFE00"
 JOINED = [
     ("a broadcast", [BAM, FIRST, LAST], [TO_ALL]),
     ("a session", [RTS, "1CEC00F9#110201FFFFCAFE00", S_FIRST, S_LAST, "1CEC00F9#130A0002FFCAFE00"], [TO_TOOL]),
@@ -20,6 +22,10 @@ JOINED = [
      [TO_TOOL, f"joined 249(F9)>0 65226 {AMBER}"]),
     ("sessions of two sources to one", [RTS, RTS.replace("F900", "F901"), S_FIRST, S_FIRST.replace("F900", "F901"), S_LAST, S_LAST.replace("F900", "F901")],
      [TO_TOOL, f"joined 1>249(F9) 65226 {AMBER}"]),
+    ("a packet that is asked for again comes again", [RTS, ASKED, S_FIRST, ASKED, S_FIRST, S_LAST], [TO_TOOL]),
+    ("it comes again with another byte", [RTS, ASKED, S_FIRST, ASKED, S_FIRST.replace("64", "65"), S_LAST], []),
+    ("it comes again though nobody asked", [RTS, S_FIRST, S_FIRST, S_LAST], []),
+    ("the session is held", [RTS, *["1CEC00F9#1100FFFFFFCAFE00"] * 15, ASKED, S_FIRST, S_LAST], [TO_TOOL]),
     ("packets that nobody announced", [FIRST, LAST], []),
     ("a packet is missing", [BAM, LAST], []),
     ("a packet comes twice", [BAM, FIRST, FIRST, LAST], []),
@@ -34,8 +40,8 @@ JOINED = [
     ("an abort names another group", [RTS, S_FIRST, "1CEC00F9#FF02FFFFFFCBFE00", S_LAST], []),
     ("others abort", [RTS, S_FIRST, "1CEC01F9#FF02FFFFFFCAFE00", "1CECF901#FF02FFFFFFCAFE00", "1CECFF00#FF02FFFFFFCAFE00", S_LAST], [TO_TOOL]),
     ("an abort of a session leaves the broadcast", [BAM, RTS, "1CEC00F9#FF02FFFFFFCAFE00", FIRST, LAST], [TO_ALL]),
-    ("acknowledged before its last packet", [RTS, S_FIRST, "1CEC00F9#130A0002FFCAFE00", S_LAST], []),
-    ("the sender's acknowledgment ends the other way's", [RTS, S_FIRST, "1CECF900#130A0002FFCAFE00", S_LAST], [TO_TOOL]),
+    ("acknowledged before its last packet", [RTS, S_FIRST, "1CEC00F9#130A0002FFCAFE00", S_LAST], [TO_TOOL]),
+    ("the sender's acknowledgment", [RTS, S_FIRST, "1CECF900#130A0002FFCAFE00", S_LAST], [TO_TOOL]),
     ("packets go to another", [RTS, S_FIRST, S_LAST.replace("F900", "FA00")], []),
     ("a request to send to all", [RTS.replace("F900", "FF00"), FIRST, LAST], []),
     ("an announcement to one", [BAM.replace("FF00", "F900", 1), S_FIRST, S_LAST], []),
@@ -47,7 +53,7 @@ def joined_messages():
     """Each message has its line behind that of its last packet, in text and JSON; without --join there is none."""
     found = []
     for what, frames, wanted in JOINED:
-        text = "".join(f"({n}.000000) can0 {frame}\n" for n, frame in enumerate(frames)).encode()
+        text = "".join(f"({n * SPACE // 1000}.{n * SPACE % 1000:03d}000) can0 {frame}\n" for n, frame in enumerate(frames)).encode()
         status, out, err = run(["decode", "--join"], text)
         lines = out.splitlines()
         found += same([line.split(" can0 ")[1] for line in lines if " joined " in line], wanted, what) + same((status, err), (0, ""), what)
@@ -79,7 +85,7 @@ def joined_back(frames, at):
     for s, d, kind, bytes_ in reversed(frames[:at]):
         if kind is None and (s, d) == (source, dest):
             packets.insert(0, bytes_)
-        elif kind == 255 and (s, d) in ((source, dest), (dest, source)) or kind == 19 and (s, d) == (dest, source):
+        elif kind == 255 and dest != 255 and (s, d) in ((source, dest), (dest, source)):
             return None
         elif (s, d) == (source, dest) and kind == (32 if dest == 255 else 16):
             size, group = bytes_[1], int.from_bytes(bytes_[5:8], "little")

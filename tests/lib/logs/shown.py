@@ -32,16 +32,21 @@ def acknowledgments_in_words():
     return same(told, wanted, "acknowledgments")
 
 
-def why_unread():
-    """Each reason, in one frame and of a session, with where that went."""
-    frames = ["18FECA00#04FFB80403", "18FECA00#04FFB8040381FFFF", "1CECF900#100E0002FFCAFE00", "1CEBF900#0104FF6400010100", "1CEBF900#0200000065000101"]
-    text = CLAIM + "".join(f"(2.000000) can0 {frame}\n" for frame in frames).encode()
-    reasons = ["bad length", "old conversion", "a code of zeros"]
-    told = [line for line in run(["watch"], text)[1].splitlines() if " unread 1" in line or " unread 2" in line or " unread 3" in line]
-    found = same([line for line in told if line.startswith("2.")], [f"2.000000 unread {n}: dm1 of 00000000000000A0{' to 249(F9)' if n == 3 else ''}: {why}" for n, why in enumerate(reasons, 1)], "text")
-    objects = [json.loads(line) for line in run(["watch", "--format", "json"], text)[1].splitlines()]
-    return found + same([(one["count"], one["why"], one.get("to"), list(one)[-1]) for one in objects if one["event"] == "unread"],
-                        [(1, reasons[0], None, "why"), (2, reasons[1], None, "why"), (3, reasons[2], 249, "why")], "JSON")
+def read_in_part():
+    """What of a message is not read, and why one is not read at all; of an older code what its unit's conversion method says."""
+    frames = ["18FECA00#04FFB80403", "18FECA00#04FF0017C385FFFF", "18FECA00#04", "1CECF900#100E0002FFCAFE00", "1CEBF900#0104FF6400010100", "1CEBF900#0200000065000101"]
+    text = CLAIM + "".join(f"(2.{n}00000) can0 {frame}\n" for n, frame in enumerate(frames)).encode()
+    told = [line for line in run(["watch"], text)[1].splitlines() if line.startswith("2.")]
+    unit, behind = "00000000000000A0", " (100/1: below normal, most severe) (101/1: below normal, most severe)"
+    found = same(told, [f"2.000000 dm1 {unit} amber (04FF); -; not read: 3 bytes behind the last code; 3 of 8 bytes missing", f"2.100000 dm1 {unit} amber (04FF); -; not read: 1 code of an older conversion method",
+                        f"2.200000 unread 1: dm1 of {unit}: bad length", f"2.500000 dm1 {unit} amber (04FF); 100/1/1 101/1/1 to 249(F9){behind}; not read: 1 group of zeros"], "text")
+    for method, spn in ((1, 190), (2, 47110), (3, 399104)):
+        told = [line.split("; ")[1:] for line in run(["watch", "--conversion", f"{unit}={method}"], text)[1].splitlines() if line.startswith("2.1")]
+        found += same(told, [[f"{spn}/3/5 ({spn}/3: voltage above normal or shorted high)", "1 code by an older conversion method"]], f"method {method}")
+    *objects, report = [json.loads(line) for line in run(["watch", "--format", "json"], text)[1].splitlines()]
+    found += same([[key for key, count in one["not_read"].items() if count] for one in objects if "not_read" in one], [["bytes_behind", "bytes_missing"], ["older"], ["zeros"]], "JSON")
+    found += same([(one["count"], one["why"]) for one in objects if one["event"] == "unread"], [(1, "bad length")], "unread in JSON")
+    return found + same((report["unread"], report["partly"]), (1, 3), "counts")
 
 
 # What is left of the text of `watch` over log 02, whose engine and another unit contest address 0, and of which NAME or address it is asked.
@@ -116,7 +121,8 @@ def session_given_up():
             text = "".join(f"({n}.000000) can0 {frame}\n" for n, frame in enumerate(left)).encode()
             for silence in ("0", "750", "3600000"):
                 out = run(["watch", "--address", "249", "--silence", silence], text)[1]
-                found += [f"without {without}, silence {silence}: {out}"] if f" {kind} " in out else []
+                entries = [line for line in out.splitlines() if f" {kind} " in line and " broken " not in line]
+                found += [f"without {without}, silence {silence}: {out}"] if entries else []
     return found
 
 

@@ -1,9 +1,10 @@
 ghost use Rattle.std.specs.Prelude.{◌≡◌, IfOk, OnOk, OnErr};
+ghost use Rattle.bus_watch.specs.Followed.{followed_with, frame_reading};
 ghost use Rattle.bus_watch.specs.Tellings.{is_new, news_by, told_after, told_of};
 ghost use Rattle.bus_watch.specs.Tellings as tellings;
-ghost use Rattle.bus_watch.specs.WatchValue.{Takes, Tells};
+ghost use Rattle.bus_watch.specs.WatchValue.{Takes, Tells, noted_in};
 ghost use Rattle.can_frame.specs.FrameValue.{FrameValue};
-ghost use Rattle.can_frame.specs.declared.reading.Reading.TheVariants.{Frame as FrameRead};
+ghost use Rattle.listener.specs.Paced.{half_in};
 ghost use Rattle.parameter_group.specs.Group.{group_of};
 ghost use Rattle.parameter_group.specs.Said.{IsLawfulGroup, said};
 
@@ -30,7 +31,7 @@ impl Watch {
     {
         let before = self.lists.now();
         self.lists.pass(time);
-        match self.listener.take(alloc, reading, &mut self.lists) {
+        match self.ear.take(alloc, reading, &mut self.lists) {
             Ok(heard) => Ok(self.tell(&heard, false)),
             Err(refused) => {
                 self.lists.go_back(before);
@@ -39,8 +40,8 @@ impl Watch {
         }
     }
 
-    /// Has the listener take what one frame says, as `take` takes the frame. Most frames of a bus say nothing to it, and it is
-    /// not asked then.
+    /// Has the listener take what one frame says, but for a packet that is withheld or passed over. Most frames of a bus say nothing
+    /// to it, and it is not asked then.
     pub(super) fn take_group(
         &mut self,
         alloc: Global,
@@ -48,17 +49,20 @@ impl Watch {
         time: Option<Time>,
     ) -> Result<Changes, AllocError>
         requires { IsLawfulGroup group.now }
-        ensures takes { OnOk result
-            ((f : FrameValue) → group_of f ≡ said group.now → Takes self.old self.new (FrameRead f) time self.old.followed) }
-        ensures tells { IfOk result (λ c. (f : FrameValue) → group_of f ≡ said group.now → Tells self.old self.new (FrameRead f) c) }
+        ensures takes { OnOk result ((f : FrameValue) → group_of f ≡ said group.now
+            → Takes self.old self.new (frame_reading time (half_in self.old.listener) self.old.followed f) time (followed_with time (said group.now) self.old.followed)) }
+        ensures tells { IfOk result (λ c. (f : FrameValue) → group_of f ≡ said group.now
+            → Tells self.old self.new (frame_reading time (half_in self.old.listener) self.old.followed f) c) }
         ensures err { OnErr result (self.new ≡ self.old) }
     {
+        let at = time;
+        let now = micros(at);
         let before = self.lists.now();
         self.lists.pass(time);
         if let ParameterGroup::Other = *group {
             return Ok(nothing());
         }
-        match self.listener.take_group(alloc, group, &mut self.lists) {
+        match self.ear.take_group_at(alloc, now, group, &mut self.lists) {
             Ok(heard) => Ok(self.tell(&heard, is_single(group))),
             Err(refused) => {
                 self.lists.go_back(before);
@@ -70,13 +74,14 @@ impl Watch {
     /// Tells of what the listener heard, of a diagnostic message in one frame or not, and takes note of it.
     fn tell(&mut self, heard: &Overheard, single: bool) -> Changes
         ensures noted { self.new ≡ record self.old
-            { told = told_after (tellings.is_told self.old.lists.selection self.old.lists.time heard.now) heard.now self.old.told } }
+            { lists = noted_in heard.now self.old.lists; told = told_after (tellings.is_told self.old.lists.selection self.old.lists.time heard.now) heard.now self.old.told } }
         ensures told { result ≡ told_of self.old.lists.selection.unclaimed
             (news_by self.old.told self.old.lists.selection self.old.lists.time self.old.lists.began heard.now) heard.now }
     {
         if let Overheard::Nothing = *heard {
             return nothing();
         }
+        self.broken.hear(heard);
         let is_told = self.lists.tells(heard);
         let is_news = is_told && self.is_news(heard);
         self.unowned.follow(heard, is_told);
@@ -91,7 +96,8 @@ impl Watch {
     {
         let selection = self.lists.selection();
         match *heard {
-            Overheard::Listed { who, source, .. } => self.is_entry_news(who, source),
+            Overheard::Listed { who, source, .. } | Overheard::ListedInPart { who, source, .. } =>
+                self.is_entry_news(who, source),
             Overheard::Acknowledged {
                 requester,
                 to,
@@ -116,10 +122,13 @@ impl Watch {
         }
     }
 
-    /// Takes note of when a claim displaced another NAME, and counts messages from addresses without owner.
+    /// Takes note of when a claim displaced another NAME, and counts messages from addresses without owner, and those read in part.
     fn note(&mut self, heard: &Overheard, single: bool)
-        ensures { self.new ≡ self.old }
+        ensures { self.new ≡ record self.old { lists = noted_in heard.now self.old.lists } }
     {
+        if let Overheard::ListedInPart { .. } = *heard {
+            self.counts.partly = self.counts.partly.saturating_add(1);
+        }
         match *heard {
             Overheard::Claimed {
                 address,
@@ -128,7 +137,10 @@ impl Watch {
             } => self.lists.contest(address),
             Overheard::Missed { .. } => self.lists.forget_contests(),
             Overheard::Unowned { .. } => self.count_not_attributed(),
-            Overheard::Listed { who, .. } | Overheard::Unreadable { who, .. } if single => {
+            Overheard::Listed { who, .. }
+            | Overheard::ListedInPart { who, .. }
+            | Overheard::Unreadable { who, .. }
+                if single => {
                 self.count_entry(who);
             }
             _ => {}
@@ -139,7 +151,8 @@ impl Watch {
     fn count_run(&mut self, heard: &Overheard)
         ensures { self.new ≡ self.old }
     {
-        if let Overheard::Listed { who, kind, .. } = *heard
+        if let Overheard::Listed { who, kind, .. }
+        | Overheard::ListedInPart { who, kind, .. } = *heard
             && self.lists.has_begun()
         {
             let codes = match self.lists.runs(who, kind).last() {
@@ -172,4 +185,14 @@ fn is_single(group: &ParameterGroup<'_>) -> bool {
         return true;
     }
     false
+}
+
+/// A time in microseconds.
+pub(super) fn micros(time: Option<Time>) -> Option<u64>
+    ensures { result ≡ time }
+{
+    match time {
+        Some(time) => Some(time.micros()),
+        None => None,
+    }
 }

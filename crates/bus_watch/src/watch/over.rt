@@ -3,6 +3,7 @@ ghost use Rattle.bus_watch.specs.Over.{HasOwnersAlone, HoldsAddress, beginning_o
 ghost use Rattle.bus_watch.specs.Told.{StandsForAll};
 ghost use Rattle.can_frame.specs.declared.address.TheConstants.{GREATEST_ADDRESS};
 
+use crate::broken::Broken;
 use crate::watch::{Watch, WatchSettings};
 use can_frame::GREATEST_ADDRESS;
 use name_field::Name;
@@ -34,7 +35,7 @@ impl Watch {
         ensures rows { result ≡ false → length self.entry.now.listener.rows < limits.most }
         ensures units { result ≡ false → length self.entry.now.lists.units.order < limits.most }
     {
-        self.listener.names() >= limits.most
+        self.ear.listener().names() >= limits.most
             || self.lists.units() >= limits.most
             || self.kept >= limits.keep
             || self.pairs.count() >= MOST_PAIRS
@@ -45,7 +46,7 @@ impl Watch {
         self.before.missed.saturating_add(self.missed())
     }
 
-    /// How many messages could not be read, also before it started over, up to the greatest 64-bit number.
+    /// How many messages could not be read whole, also before it started over, up to the greatest 64-bit number.
     pub fn unread_in_all(&self) -> u64 {
         self.before.unread.saturating_add(self.unread())
     }
@@ -82,7 +83,7 @@ impl Watch {
         requires { StandsForAll (beginning_of other.now) [] self.old }
         ensures { OnOk result (HasOwnersAlone other.now self.new) }
     {
-        for place in 0..other.listener.names() {
+        for place in 0..other.ear.listener().names() {
             if let Some(owner) = other.owner_at(place) {
                 self.take_over(alloc, owner.0, owner.1)?;
             }
@@ -96,6 +97,7 @@ impl Watch {
     {
         let settings = WatchSettings {
             selection: self.lists.selection(),
+            silence: self.ear.silence(),
             ..self.settings
         };
         let bus = match &self.bus {
@@ -108,6 +110,7 @@ impl Watch {
             missed: self.missed_in_all(),
             unread: self.unread_in_all(),
         };
+        fresh.broken = Broken::new(alloc, self.broken.count());
         fresh.lists.keep_contests(&self.lists);
         Ok(fresh)
     }
@@ -117,7 +120,7 @@ impl Watch {
         ensures holds { IfSome result (λ o. HoldsAddress self.now o.0 o.1) }
         ensures address { IfSome result (λ o. o.1 ≤ GREATEST_ADDRESS) }
     {
-        let Some(name) = self.listener.name_at(place) else {
+        let Some(name) = self.ear.listener().name_at(place) else {
             return None;
         };
         let owner = name;
@@ -131,7 +134,7 @@ impl Watch {
     fn address_of(&self, name: Name) -> Option<u8>
         ensures { IfSome result (λ address. HoldsAddress self.now name address) }
     {
-        match self.listener.row(name) {
+        match self.ear.listener().row(name) {
             Some(row) => row.address,
             None => None,
         }

@@ -4,18 +4,18 @@ ghost use Rattle.bus_watch.specs.Followed as followed;
 ghost use Rattle.bus_watch.specs.Told.{Told, Beginning, IsToldAs, StandsForAll};
 ghost use Rattle.bus_watch.specs.Told as told;
 ghost use Rattle.bus_watch.specs.WatchValue.{HearsLine, TellsLine, Takes, Tells};
-ghost use Rattle.can_frame.specs.FrameValue.{FrameValue};
 ghost use Rattle.can_frame.specs.declared.address.TheConstants.{GREATEST_ADDRESS};
-ghost use Rattle.can_frame.specs.declared.reading.Reading.TheVariants.{Frame as FrameRead};
 ghost use Rattle.candump_line.specs.declared.line.Line.TheVariants as said;
-ghost use Rattle.parameter_group.specs.Group.{ConnectionManagement, DataTransfer, group_of};
-ghost use Rattle.parameter_group.specs.Said.{IsLawfulGroup, said as group_said};
+ghost use Rattle.listener.specs.Paced.{half_in};
+ghost use Rattle.parameter_group.specs.Group.{group_of};
 
 use crate::change::Changes;
 use crate::watch::Watch;
+use crate::watch::changes::micros;
 use address_claim::claim_frame;
-use can_frame::{Frame, GLOBAL_ADDRESS, Reading};
+use can_frame::{Frame, Reading};
 use candump_line::{Foreign, Line, Time};
+use listener::Fate;
 use name_field::Name;
 use parameter_group::ParameterGroup;
 use std::alloc::{AllocError, Global};
@@ -24,7 +24,8 @@ use transport::Control;
 impl Watch {
     /// Reads a line, and tells what it changed.
     ///
-    /// The listener takes one reading: the frame of a line of the watched bus, but for a packet that came too late; so many
+    /// The listener takes one reading: the frame of a line of the watched bus, but for a packet that came too late, or again as it was
+    /// asked for; so many
     /// missed frames where the line tells of them, and one where it is bad and bad lines count; else the empty reading.
     /// An entry that it lists by it goes to the runs, where it is shown.
     ///
@@ -40,6 +41,7 @@ impl Watch {
         ensures err { OnErr result (self.new ≡ self.old) }
     {
         self.counts.lines = self.counts.lines.saturating_add(1);
+        self.broken.clear();
         self.hear_line(alloc, line)
     }
 
@@ -129,71 +131,38 @@ impl Watch {
         time: Option<Time>,
         frame: &Frame,
     ) -> Result<Changes, AllocError>
-        ensures takes { OnOk result (Takes self.old self.new (followed.frame_reading time self.old.followed frame.now) time
-            (followed.followed_with self.old.followed.silence time (group_of frame.now) (followed.with_bus_name (option_map string_bytes named) self.old.followed))) }
-        ensures tells { IfOk result (λ c. Tells self.old self.new (followed.frame_reading time self.old.followed frame.now) c) }
+        ensures takes { OnOk result (Takes self.old self.new (followed.frame_reading time (half_in self.old.listener) self.old.followed frame.now) time
+            (followed.followed_with time (group_of frame.now) (followed.with_bus_name (option_map string_bytes named) self.old.followed))) }
+        ensures tells { IfOk result (λ c. Tells self.old self.new (followed.frame_reading time (half_in self.old.listener) self.old.followed frame.now) c) }
         ensures err { OnErr result (self.new ≡ self.old) }
     {
         let at = time;
         let group = ParameterGroup::read(frame);
-        let changes = self.hear_group(alloc, at, &group)?;
+        let fate = self.expect(at, &group)?;
+        let changes = self.take_group(alloc, &group, time)?;
+        self.settle(&group, fate);
         self.name_bus(named);
-        self.follow_group(time, &group);
         Ok(changes)
     }
 
-    /// Has the listener take what a frame says, unless that is withheld.
-    #[tactic(auto, using(crate::proofs::Naming::frame_tells_ok))]
-    fn hear_group(
-        &mut self,
-        alloc: Global,
-        time: Option<Time>,
-        group: &ParameterGroup<'_>,
-    ) -> Result<Changes, AllocError>
-        requires { IsLawfulGroup group.now }
-        ensures takes { OnOk result ((f : FrameValue) → group_of f ≡ group_said group.now
-            → Takes self.old self.new (followed.frame_reading time self.old.followed f) time self.old.followed) }
-        ensures tells { IfOk result (λ c. (f : FrameValue) → group_of f ≡ group_said group.now
-            → Tells self.old self.new (followed.frame_reading time self.old.followed f) c) }
-        ensures err { OnErr result (self.new ≡ self.old) }
-    {
-        let at = time;
-        if self.is_withheld(at, group) {
-            self.count_withheld();
-            self.take(alloc, Reading::Empty, time)
-        } else {
-            self.take_group(alloc, group, time)
-        }
-    }
-
-    fn count_withheld(&mut self)
+    /// What is to be done with a frame that comes next; what it may end is noted.
+    fn expect(&mut self, time: Option<Time>, group: &ParameterGroup<'_>) -> Result<Fate, AllocError>
         ensures { self.new ≡ self.old }
     {
-        self.counts.withheld = self.counts.withheld.saturating_add(1);
+        let fate = self.ear.fate(micros(time), group);
+        self.broken.expect(&self.ear, group, fate)?;
+        Ok(fate)
     }
 
-    /// Whether a frame that says this is a packet that came too late for its message, or one of a message that has such a packet.
-    fn is_withheld(&self, time: Option<Time>, group: &ParameterGroup<'_>) -> bool
-        ensures { result ≡ followed.is_withheld self.now.followed.silence time (group_said group.now) self.now.followed }
+    /// Takes note of what a frame ended that was read, of a packet that was withheld, and of between whom a message is announced.
+    fn settle(&mut self, group: &ParameterGroup<'_>, fate: Fate)
+        ensures { self.new ≡ self.old }
     {
-        let Some(most) = self.settings.silence else {
-            return false;
-        };
-        let ParameterGroup::DataTransfer { source, dest, .. } = *group else {
-            return false;
-        };
-        self.packets.is_late(source, dest, time, most)
-    }
-
-    /// Takes note of the times of what a frame says.
-    fn follow_group(&mut self, time: Option<Time>, group: &ParameterGroup<'_>)
-        ensures { self.new ≡ record self.old
-            { followed = followed.followed_with self.old.followed.silence time (group_said group.now) self.old.followed } }
-    {
-        self.note_pair(group);
-        if let Some(most) = self.settings.silence {
-            self.follow_packets(time, most, group);
+        if fate == Fate::Late {
+            self.counts.withheld = self.counts.withheld.saturating_add(1);
         }
+        self.broken.settle(&self.ear, &self.lists);
+        self.note_pair(group);
     }
 
     /// Takes note of between whom a message is announced.
@@ -210,53 +179,9 @@ impl Watch {
         }
     }
 
-    /// Takes note of the times of messages.
-    fn follow_packets(&mut self, time: Option<Time>, most: u64, group: &ParameterGroup<'_>)
-        ensures { self.new ≡ record self.old
-            { followed = followed.followed_by_group most time (group_said group.now) self.old.followed } }
-    {
-        match *group {
-            ParameterGroup::ConnectionManagement {
-                source,
-                dest,
-                control,
-            } => self.hear_control(time, source, dest, control),
-            ParameterGroup::DataTransfer { source, dest, .. } => {
-                self.hear_packet(time, most, source, dest);
-            }
-            _ => {}
-        }
-    }
-
-    /// Takes note of a packet.
-    fn hear_packet(&mut self, time: Option<Time>, most: u64, source: u8, dest: u8)
-        ensures { (bytes : List ℕ)
-            → self.new ≡ record self.old
-            { followed = followed.followed_by_group most time (DataTransfer source dest bytes) self.old.followed } }
-    {
-        self.packets.hear(source, dest, time, most);
-    }
-
-    /// Takes note of a message that is announced, to all or to one address.
-    fn hear_control(&mut self, time: Option<Time>, source: u8, dest: u8, control: Control)
-        ensures { (most : ℕ)
-            → self.new ≡ record self.old
-            { followed = followed.followed_by_group most time (ConnectionManagement source dest control) self.old.followed } }
-    {
-        match control {
-            Control::Bam { .. } if dest == GLOBAL_ADDRESS => {
-                self.packets.announce(source, dest, time);
-            }
-            Control::Rts { .. } if dest != GLOBAL_ADDRESS => {
-                self.packets.announce(source, dest, time);
-            }
-            _ => {}
-        }
-    }
-
     /// Frames that were dropped are missed, where they may be of the watched bus.
     fn reading_of_drops(&mut self, bus: Option<&str>, count: u32) -> Reading
-        ensures reading { result ≡ followed.reading_by self.old.followed (said.Dropped bus.entry count) }
+        ensures reading { result ≡ followed.reading_by (half_in self.old.listener) self.old.followed (said.Dropped bus.entry count) }
         ensures same { self.new ≡ self.old }
     {
         if !self.is_dropped_here(bus) {
@@ -290,7 +215,7 @@ impl Watch {
         time: Option<Time>,
         bus: Option<&str>,
     ) -> (Reading, Option<Time>)
-        ensures reading { result.0 ≡ followed.reading_by self.old.followed (said.Overflow time bus.entry) }
+        ensures reading { result.0 ≡ followed.reading_by (half_in self.old.listener) self.old.followed (said.Overflow time bus.entry) }
         ensures time { result.1 ≡ followed.time_by self.old.followed (said.Overflow time bus.entry) }
         ensures same { self.new ≡ self.old }
     {

@@ -3,15 +3,15 @@ ghost use Rattle.bus_model.specs.Changed.{displaced_by, is_again};
 ghost use Rattle.bus_model.specs.Heard.{ack_in_row};
 ghost use Rattle.parameter_group.specs.Group as group;
 ghost use Rattle.reassembly.specs.Tables.{at};
-ghost use Rattle.station_table.specs.KeptValue.{kept_under};
-ghost use Rattle.station_table.specs.StandsFor.{row_known};
+ghost use Rattle.entry_lists.specs.KeptValue.{kept_under};
+ghost use Rattle.entry_lists.specs.KnownRows.{row_known};
 
 use crate::listener::Listener;
 use bus_model::{Displaced, Overheard};
 use can_frame::Pgn;
+use entry_lists::{AckSeen, Row};
 use name_field::Name;
 use requests::Ack;
-use station_table::{AckSeen, Row};
 use std::alloc::{AllocError, Global};
 
 impl Listener {

@@ -1,5 +1,6 @@
-ghost use Rattle.std.specs.Prelude.{◌≡◌, ◌≤◌, Some, IfOk, OnOk, OnErr};
+ghost use Rattle.std.specs.Prelude.{◌≡◌, ◌≤◌, ◌+◌, Some, IfOk, OnOk, OnErr};
 ghost use Rattle.bus_model.specs.OverheardChanged.{announcement_change, sent_change};
+ghost use Rattle.bus_model.specs.Heard.{counted};
 ghost use Rattle.bus_model.specs.Heard as heard;
 ghost use Rattle.parameter_group.specs.Group as group;
 ghost use Rattle.reassembly.specs.Pairs.{pair_at};
@@ -7,15 +8,15 @@ ghost use Rattle.reassembly.specs.Partials.{answer_to};
 ghost use Rattle.reassembly.specs.Tables.{at};
 ghost use Rattle.listener.specs.SentEntries.{HasTaken};
 
-use crate::ended::{ReadSending, ended_with, shown_by};
+use crate::ended::{ReadSending, ended_with, read_of};
 use crate::entry::SentEntry;
 use crate::listener::Listener;
 use crate::lists::SentLists;
 use crate::sending::Sending;
 use bus_model::Overheard;
 use can_frame::{GLOBAL_ADDRESS, Pgn};
-use dm_messages::Kind;
-use station_table::kind_of;
+use dm_messages::{Kind, MessageRead};
+use entry_lists::kind_of;
 use std::alloc::{AllocError, Global};
 use transport::Took;
 
@@ -23,7 +24,7 @@ impl Listener {
     ghost use Rattle.listener.specs.ListenerSteps.{after_announcing, after_ended, after_packet_between, ended_told, group_taken, group_told, whole_with, without_session_between};
     ghost use Rattle.listener.specs.SentEntries.{entry_ended, entry_if_sent, group_listed};
 
-    /// What a message shows that ended goes to the lists: an entry of its unit where it shows something, else it counts as unread.
+    /// What is read of a message that ended goes to the lists as an entry of its unit. What is not read whole counts as unread.
     fn keep<L: SentLists>(
         &mut self,
         alloc: Global,
@@ -38,24 +39,17 @@ impl Listener {
         ensures err { OnErr result (self.new ≡ self.old) }
         ensures err_lists { OnErr result (lists.new ≡ lists.old) }
     {
-        let Some(
-            ReadSending {
-                sending,
-                shown,
-                why,
-            },
-        ) = ended
-        else {
+        let Some(ReadSending { sending, read, why }) = ended else {
             return Ok(Overheard::Nothing);
         };
-        match shown {
-            Some(shown) => {
+        match read {
+            Some(MessageRead::Whole(shown)) => {
                 let entry = SentEntry {
                     who: sending.who(),
                     kind: sending.kind(),
                     source,
                     to,
-                    shown,
+                    read: MessageRead::Whole(shown),
                 };
                 lists.put(alloc, entry)?;
                 Ok(Overheard::Listed {
@@ -65,8 +59,25 @@ impl Listener {
                     to,
                 })
             }
+            Some(MessageRead::InPart(part)) => {
+                let entry = SentEntry {
+                    who: sending.who(),
+                    kind: sending.kind(),
+                    source,
+                    to,
+                    read: MessageRead::InPart(part),
+                };
+                lists.put(alloc, entry)?;
+                self.count_unread();
+                Ok(Overheard::ListedInPart {
+                    who: sending.who(),
+                    kind: sending.kind(),
+                    source,
+                    to,
+                })
+            }
             None => {
-                self.unread = self.unread.saturating_add(1);
+                self.count_unread();
                 Ok(Overheard::Unreadable {
                     who: sending.who(),
                     kind: sending.kind(),
@@ -76,6 +87,12 @@ impl Listener {
                 })
             }
         }
+    }
+
+    fn count_unread(&mut self)
+        ensures { self.new ≡ record self.old { unread = counted (self.old.unread + 1) } }
+    {
+        self.unread = self.unread.saturating_add(1);
     }
 
     /// A diagnostic message in one frame, which goes to all.
@@ -94,10 +111,10 @@ impl Listener {
         ensures err { OnErr result (self.new ≡ self.old) }
         ensures err_lists { OnErr result (lists.new ≡ lists.old) }
     {
-        let (shown, why) = shown_by(alloc, bytes)?;
+        let (read, why) = read_of(alloc, bytes)?;
         let ended = ReadSending {
             sending: Sending::new(self.who(source), kind),
-            shown,
+            read,
             why,
         };
         self.keep(alloc, source, GLOBAL_ADDRESS, Some(ended), lists)

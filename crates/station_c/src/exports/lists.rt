@@ -43,11 +43,11 @@ pub extern "C" fn hidzgula_entries(
     let Some(kind) = kind_of(kind) else {
         return Status::NoKind.number();
     };
-    let Some(post) = handle.lift(alloc) else {
+    let Some(station) = handle.lift(alloc) else {
         return Status::NoStation.number();
     };
-    *count = post.lists().count(Name::from_number(name), kind);
-    handle.put(post);
+    *count = station.lists().count(Name::from_number(name), kind);
+    handle.put(station);
     Status::Done.number()
 }
 
@@ -83,11 +83,11 @@ pub extern "C" fn hidzgula_entry(
     let Some(kind) = kind_of(kind) else {
         return Status::NoKind.number();
     };
-    let Some(post) = handle.lift(alloc) else {
+    let Some(station) = handle.lift(alloc) else {
         return Status::NoStation.number();
     };
-    let found = entry_at(post.lists(), Name::from_number(name), kind, place);
-    handle.put(post);
+    let found = entry_at(station.lists(), Name::from_number(name), kind, place);
+    handle.put(station);
     match found {
         Ok(it) => {
             *entry = it;
@@ -134,11 +134,11 @@ pub extern "C" fn hidzgula_code(
     let Some(kind) = kind_of(kind) else {
         return Status::NoKind.number();
     };
-    let Some(post) = handle.lift(alloc) else {
+    let Some(station) = handle.lift(alloc) else {
         return Status::NoStation.number();
     };
-    let found = code_at(post.lists(), Name::from_number(name), kind, entry, place);
-    handle.put(post);
+    let found = code_at(station.lists(), Name::from_number(name), kind, entry, place);
+    handle.put(station);
     match found {
         Ok(it) => {
             *code = it;
@@ -162,7 +162,7 @@ pub(crate) fn kind_of(number: u8) -> Option<Kind>
 }
 
 /// Where an entry stands among those that are kept of a list of which so many came: it is at this place of all, from 0.
-fn place_among_kept(count: u64, keep: u32, place: u64) -> Result<usize, Absent>
+pub(crate) fn place_among_kept(count: u64, keep: u32, place: u64) -> Result<usize, Absent>
     ensures { result ≡ place_kept count keep place }
 {
     if place >= count {

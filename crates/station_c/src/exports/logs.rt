@@ -9,8 +9,8 @@ use candump_line::read_line;
 
 /// Reads the whole lines of a text that candump wrote, or a part of one, from its beginning: each as `watch` does. A whole line
 /// ends with a line feed. The frames of SAE J1939 of this bus stand in `frames`, in their order, and in `logged` when each was seen
-/// and in which line; of every bus, where `bus` is empty, and so do those of lines that name no bus. What is behind those is as it
-/// was. Frames that are none of SAE J1939, notes and other buses are passed over.
+/// and in which line; where `bus` is empty, those of every bus, and of lines that name none. What is behind those is as it was.
+/// Frames that are none of SAE J1939, notes and other buses are passed over.
 ///
 /// It stops where `frames` or `logged` is full, where no whole line is left, and behind a line that tells of missed frames, or is
 /// bad: `read` says how far it came, and which.

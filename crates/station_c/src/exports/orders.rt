@@ -32,7 +32,7 @@ pub extern "C" fn hidzgula_ask(
     reply: &mut ReplyRecord,
 ) -> u32
     ensures replied { Answers result Status.Done
-        → (x : AnyReaction) × (ask_answer handle.old.value.post.station name (Other pgn) ≡ Ok x) × TellsReaction reply.new x }
+        → (x : AnyReaction) × (ask_answer handle.old.value.station name (Other pgn) ≡ Ok x) × TellsReaction reply.new x }
     ensures unanswered { ¬ Answers result Status.Done → reply.new ≡ reply.old }
     ensures kept { HoldsSame handle.old handle.new }
     ensures pgn_too_large { Answers result Status.PgnTooLarge ↔ (2 ^ 24 ≤ pgn) }
@@ -43,13 +43,13 @@ pub extern "C" fn hidzgula_ask(
     let Ok(pgn) = Pgn::new(pgn) else {
         return Status::PgnTooLarge.number();
     };
-    let Some(post) = handle.lift(alloc) else {
+    let Some(station) = handle.lift(alloc) else {
         return Status::NoStation.number();
     };
-    let answer = post
+    let answer = station
         .station()
         .ask(alloc, Name::from_number(name), Ask::Other(pgn));
-    handle.put(post);
+    handle.put(station);
     reply_with(answer, reply).number()
 }
 
@@ -65,7 +65,7 @@ pub extern "C" fn hidzgula_ask_all(
     reply: &mut ReplyRecord,
 ) -> u32
     ensures replied { Answers result Status.Done
-        → (x : AnyReaction) × (ask_all_answer handle.old.value.post.station (Other pgn) ≡ Ok x) × TellsReaction reply.new x }
+        → (x : AnyReaction) × (ask_all_answer handle.old.value.station (Other pgn) ≡ Ok x) × TellsReaction reply.new x }
     ensures unanswered { ¬ Answers result Status.Done → reply.new ≡ reply.old }
     ensures kept { HoldsSame handle.old handle.new }
     ensures pgn_too_large { Answers result Status.PgnTooLarge ↔ (2 ^ 24 ≤ pgn) }
@@ -76,11 +76,11 @@ pub extern "C" fn hidzgula_ask_all(
     let Ok(pgn) = Pgn::new(pgn) else {
         return Status::PgnTooLarge.number();
     };
-    let Some(post) = handle.lift(alloc) else {
+    let Some(station) = handle.lift(alloc) else {
         return Status::NoStation.number();
     };
-    let answer = post.station().ask_all(alloc, Ask::Other(pgn));
-    handle.put(post);
+    let answer = station.station().ask_all(alloc, Ask::Other(pgn));
+    handle.put(station);
     reply_with(answer, reply).number()
 }
 
@@ -98,19 +98,19 @@ pub extern "C" fn hidzgula_command(
     reply: &mut ReplyRecord,
 ) -> u32
     ensures replied { Answers result Status.Done
-        → (x : AnyReaction) × (command_answer handle.old.value.post.station name address ≡ Ok x) × TellsReaction reply.new x }
+        → (x : AnyReaction) × (command_answer handle.old.value.station name address ≡ Ok x) × TellsReaction reply.new x }
     ensures unanswered { ¬ Answers result Status.Done → reply.new ≡ reply.old }
     ensures kept { HoldsSame handle.old handle.new }
     ensures no_station { Answers result Status.NoStation ↔ (has_station handle.old ≡ false) }
     ensures heard { (r : StationSettings) (grant : ℕ) (h : List AnyReading) → HoldsReadings r grant handle.old h
         → OrderCommands (address_heard r h) address result }
 {
-    let Some(post) = handle.lift(alloc) else {
+    let Some(station) = handle.lift(alloc) else {
         return Status::NoStation.number();
     };
-    let answer = post
+    let answer = station
         .station()
         .command(alloc, Name::from_number(name), address);
-    handle.put(post);
+    handle.put(station);
     reply_with(answer, reply).number()
 }

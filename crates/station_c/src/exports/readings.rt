@@ -4,11 +4,11 @@ ghost use Rattle.bus_model.specs.Changed.{change_heard};
 ghost use Rattle.bus_model.specs.Heard.{StationSettings};
 ghost use Rattle.can_frame.specs.FrameValue.{frame};
 ghost use Rattle.can_frame.specs.declared.reading.Reading.{Reading as AnyReading};
-ghost use Rattle.listening.specs.Posts.{reading_at, given_up_at, answer_at};
 ghost use Rattle.station_c.specs.Handles.{HoldsSame, HoldsReadings, has_station};
 ghost use Rattle.station_c.specs.Records.{TellsChange, TellsReaction};
 ghost use Rattle.station_c.specs.Series.{TakesReading, reaction_told};
 ghost use Rattle.station_c.specs.Statuses.{Answers, DoneUnlessMemory};
+ghost use Rattle.station_table.specs.Reactions.{station_reaction};
 
 use crate::changes::ChangeRecord;
 use crate::handle::StationHandle;
@@ -18,8 +18,8 @@ use crate::status::Status;
 use can_frame::{Frame, Reading};
 use std::alloc::Global;
 
-/// The station takes a frame that was read of the bus; `reply` is what it answers, nothing where it only listens, and `change` is
-/// what the frame changed of what it shows. A station that only listens passes over a packet of a session that was given up.
+/// The station takes a frame that was read of the bus; `reply` is what it answers, and `change` is
+/// what the frame changed of what it shows.
 ///
 /// Refused, in this order: `IdTooLarge` for an identifier of 2^29 or more, `TooLong` for more than eight bytes, `NoStation`,
 /// `OutOfMemory`; handle, reply and change are then as they were.
@@ -33,14 +33,12 @@ pub extern "C" fn hidzgula_take_frame_telling(
     change: &mut ChangeRecord,
 ) -> u32
     ensures taken { Answers result Status.Done → (r : StationSettings) (grant : ℕ) (h : List AnyReading) → HoldsReadings r grant handle.old h
-        → HoldsReadings r grant handle.new (reading_at handle.old.value.post (Reading.Frame (frame id bytes.now)) ∷ h) }
-    ensures noted { Answers result Status.Done
-        → handle.new.value.post.given_up ≡ given_up_at handle.old.value.post (Reading.Frame (frame id bytes.now)) }
+        → HoldsReadings r grant handle.new (Reading.Frame (frame id bytes.now) ∷ h) }
     ensures keeps { Answers result Status.Done → handle.new.value.lists.keep ≡ handle.old.value.lists.keep }
     ensures replied { Answers result Status.Done
-        → TellsReaction reply.new (answer_at handle.old.value.post (Reading.Frame (frame id bytes.now))) }
+        → TellsReaction reply.new (station_reaction handle.old.value.station (Reading.Frame (frame id bytes.now))) }
     ensures changed { Answers result Status.Done → (r : StationSettings) (grant : ℕ) (h : List AnyReading) → HoldsReadings r grant handle.old h
-        → TellsChange change.new (change_heard r (reading_at handle.old.value.post (Reading.Frame (frame id bytes.now))) h) }
+        → TellsChange change.new (change_heard r (Reading.Frame (frame id bytes.now)) h) }
     ensures step { Answers result Status.Done
         → TakesReading handle.old.value (Reading.Frame (frame id bytes.now)) change.new (reaction_told reply.new) handle.new.value }
     ensures kept { ¬ Answers result Status.Done → HoldsSame handle.old handle.new }
@@ -59,7 +57,7 @@ pub extern "C" fn hidzgula_take_frame_telling(
 }
 
 /// The station is told that this many frames were missed; `reply` is what it answers: its claim, and a request for the claims of
-/// all; nothing, where it only listens. `change` says how many were missed.
+/// all. `change` says how many were missed.
 ///
 /// Refused, in this order: `NoStation`, `OutOfMemory`; handle, reply and change are then as they were.
 #[unsafe(no_mangle)]
@@ -72,9 +70,8 @@ pub extern "C" fn hidzgula_take_gap_telling(
 ) -> u32
     ensures taken { Answers result Status.Done → (r : StationSettings) (grant : ℕ) (h : List AnyReading) → HoldsReadings r grant handle.old h
         → HoldsReadings r grant handle.new (Reading.Gap count ∷ h) }
-    ensures noted { Answers result Status.Done → handle.new.value.post.given_up ≡ handle.old.value.post.given_up }
     ensures keeps { Answers result Status.Done → handle.new.value.lists.keep ≡ handle.old.value.lists.keep }
-    ensures replied { Answers result Status.Done → TellsReaction reply.new (answer_at handle.old.value.post (Reading.Gap count)) }
+    ensures replied { Answers result Status.Done → TellsReaction reply.new (station_reaction handle.old.value.station (Reading.Gap count)) }
     ensures changed { Answers result Status.Done → (r : StationSettings) (grant : ℕ) (h : List AnyReading) → HoldsReadings r grant handle.old h
         → TellsChange change.new (change_heard r (Reading.Gap count) h) }
     ensures step { Answers result Status.Done
@@ -97,12 +94,11 @@ fn take(
     change: &mut ChangeRecord,
 ) -> Status
     ensures taken { result ≡ Status.Done → (r : StationSettings) (grant : ℕ) (h : List AnyReading) → HoldsReadings r grant handle.old h
-        → HoldsReadings r grant handle.new (reading_at handle.old.value.post reading ∷ h) }
-    ensures noted { result ≡ Status.Done → handle.new.value.post.given_up ≡ given_up_at handle.old.value.post reading }
+        → HoldsReadings r grant handle.new (reading ∷ h) }
     ensures keeps { result ≡ Status.Done → handle.new.value.lists.keep ≡ handle.old.value.lists.keep }
-    ensures replied { result ≡ Status.Done → TellsReaction reply.new (answer_at handle.old.value.post reading) }
+    ensures replied { result ≡ Status.Done → TellsReaction reply.new (station_reaction handle.old.value.station reading) }
     ensures changed { result ≡ Status.Done → (r : StationSettings) (grant : ℕ) (h : List AnyReading) → HoldsReadings r grant handle.old h
-        → TellsChange change.new (change_heard r (reading_at handle.old.value.post reading) h) }
+        → TellsChange change.new (change_heard r reading h) }
     ensures step { result ≡ Status.Done
         → TakesReading handle.old.value reading change.new (reaction_told reply.new) handle.new.value }
     ensures kept { ¬ (result ≡ Status.Done) → HoldsSame handle.old handle.new }
@@ -111,10 +107,10 @@ fn take(
     ensures no_station { (result ≡ Status.NoStation) ↔ (has_station handle.old ≡ false) }
     ensures only { (result ≡ Status.Done) ⊎ (result ≡ Status.OutOfMemory) ⊎ (result ≡ Status.NoStation) }
 {
-    let Some(mut post) = handle.lift(alloc) else {
+    let Some(mut station) = handle.lift(alloc) else {
         return Status::NoStation;
     };
-    let taken = post.take(alloc, reading);
-    handle.put(post);
+    let taken = station.take(alloc, reading);
+    handle.put(station);
     tell(taken, reply, change)
 }

@@ -8,7 +8,7 @@ ghost use Rattle.station_table.specs.Reactions.{silent};
 
 use crate::changes::ChangeRecord;
 use crate::handle::StationHandle;
-use crate::listed_post::ListedPost;
+use crate::listed_station::ListedStation;
 use crate::records::{FrameRecord, ReplyRecord};
 use crate::replies::tell;
 use crate::status::Status;
@@ -51,11 +51,11 @@ pub extern "C" fn hidzgula_take_frames(
     ensures only { (Answers result Status.Done) ⊎ (Answers result Status.IdTooLarge) ⊎ (Answers result Status.TooLong)
         ⊎ (Answers result Status.NoStation) ⊎ (Answers result Status.OutOfMemory) }
 {
-    let Some(mut post) = handle.lift(alloc) else {
+    let Some(mut station) = handle.lift(alloc) else {
         return Status::NoStation.number();
     };
-    let (count, status) = take_each(alloc, &mut post, frames, changes, reply);
-    handle.put(post);
+    let (count, status) = take_each(alloc, &mut station, frames, changes, reply);
+    handle.put(station);
     *taken = count;
     status.number()
 }
@@ -64,12 +64,12 @@ pub extern "C" fn hidzgula_take_frames(
 /// changes.
 fn take_each(
     alloc: Global,
-    post: &mut ListedPost,
+    station: &mut ListedStation,
     frames: &[FrameRecord],
     changes: &mut [ChangeRecord],
     reply: &mut ReplyRecord,
 ) -> (usize, Status)
-    ensures series { TakesFrames post.old (take result.0 frames.now) (take result.0 changes.new) (reaction_told reply.new) post.new }
+    ensures series { TakesFrames station.old (take result.0 frames.now) (take result.0 changes.new) (reaction_told reply.new) station.new }
     ensures within { (result.0 ≤ length frames.now) × (result.0 ≤ length changes.old) }
     ensures behind { drop result.0 changes.new ≡ drop result.0 changes.old }
     ensures ended { result.1 ≡ Status.Done
@@ -85,7 +85,7 @@ fn take_each(
     *reply = ReplyRecord::nothing();
     let most = frames.len().min(changes.len());
     for place in 0..most {
-        let status = take_one(alloc, post, &frames[place], reply, &mut changes[place]);
+        let status = take_one(alloc, station, &frames[place], reply, &mut changes[place]);
         if status != Status::Done {
             return (place, status);
         }
@@ -99,21 +99,21 @@ fn take_each(
 /// The station takes the frame of a record.
 fn take_one(
     alloc: Global,
-    post: &mut ListedPost,
+    station: &mut ListedStation,
     frame: &FrameRecord,
     reply: &mut ReplyRecord,
     change: &mut ChangeRecord,
 ) -> Status
     ensures taken { result ≡ Status.Done → (frame.now.id < 2 ^ 29) × (frame.now.len ≤ 8)
-        × TakesReading post.old (Reading.Frame (frame_recorded frame.now)) change.new (reaction_told reply.new) post.new }
-    ensures kept { ¬ (result ≡ Status.Done) → (post.new ≡ post.old) × (reply.new ≡ reply.old) × (change.new ≡ change.old) }
+        × TakesReading station.old (Reading.Frame (frame_recorded frame.now)) change.new (reaction_told reply.new) station.new }
+    ensures kept { ¬ (result ≡ Status.Done) → (station.new ≡ station.old) × (reply.new ≡ reply.old) × (change.new ≡ change.old) }
     ensures id_too_large { result ≡ Status.IdTooLarge → 2 ^ 29 ≤ frame.now.id }
     ensures too_long { result ≡ Status.TooLong → (frame.now.id < 2 ^ 29) × (8 < frame.now.len) }
     ensures out_of_memory { result ≡ Status.OutOfMemory → (frame.now.id < 2 ^ 29) × (frame.now.len ≤ 8) }
     ensures only { (result ≡ Status.Done) ⊎ (result ≡ Status.IdTooLarge) ⊎ (result ≡ Status.TooLong) ⊎ (result ≡ Status.OutOfMemory) }
 {
     match frame.frame() {
-        Ok(frame) => tell(post.take(alloc, Reading::Frame(frame)), reply, change),
+        Ok(frame) => tell(station.take(alloc, Reading::Frame(frame)), reply, change),
         Err(refusal) => Status::of_frame(refusal),
     }
 }

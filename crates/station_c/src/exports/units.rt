@@ -9,7 +9,7 @@ ghost use Rattle.station_c.specs.Records.{address_under, frame_recorded, row_in}
 ghost use Rattle.station_c.specs.Statuses.{Answers};
 
 use crate::handle::StationHandle;
-use crate::records::{FrameRecord, RowRecord};
+use crate::records::{FrameRecord, RowRecord, flagged};
 use crate::status::Status;
 use station_table::Station;
 use std::alloc::Global;
@@ -30,11 +30,11 @@ pub extern "C" fn hidzgula_claim(
     ensures no_station { Answers result Status.NoStation ↔ (has_station handle.old ≡ false) }
     ensures done { Answers result Status.Done ↔ (has_station handle.old ≡ true) }
 {
-    let Some(post) = handle.lift(alloc) else {
+    let Some(station) = handle.lift(alloc) else {
         return Status::NoStation.number();
     };
-    *frame = FrameRecord::of(&post.station().start());
-    handle.put(post);
+    *frame = FrameRecord::of(&station.station().start());
+    handle.put(station);
     Status::Done.number()
 }
 
@@ -55,11 +55,11 @@ pub extern "C" fn hidzgula_held(
     ensures no_station { Answers result Status.NoStation ↔ (has_station handle.old ≡ false) }
     ensures done { Answers result Status.Done ↔ (has_station handle.old ≡ true) }
 {
-    let Some(post) = handle.lift(alloc) else {
+    let Some(station) = handle.lift(alloc) else {
         return Status::NoStation.number();
     };
-    (*has, *address) = flagged(post.station().held());
-    handle.put(post);
+    (*has, *address) = flagged(station.station().held());
+    handle.put(station);
     Status::Done.number()
 }
 
@@ -80,12 +80,12 @@ pub extern "C" fn hidzgula_counts(
     ensures no_station { Answers result Status.NoStation ↔ (has_station handle.old ≡ false) }
     ensures done { Answers result Status.Done ↔ (has_station handle.old ≡ true) }
 {
-    let Some(post) = handle.lift(alloc) else {
+    let Some(station) = handle.lift(alloc) else {
         return Status::NoStation.number();
     };
-    *missed = post.station().missed();
-    *unread = post.station().unread();
-    handle.put(post);
+    *missed = station.station().missed();
+    *unread = station.station().unread();
+    handle.put(station);
     Status::Done.number()
 }
 
@@ -101,11 +101,11 @@ pub extern "C" fn hidzgula_rows(alloc: Global, handle: &mut StationHandle, count
     ensures no_station { Answers result Status.NoStation ↔ (has_station handle.old ≡ false) }
     ensures done { Answers result Status.Done ↔ (has_station handle.old ≡ true) }
 {
-    let Some(post) = handle.lift(alloc) else {
+    let Some(station) = handle.lift(alloc) else {
         return Status::NoStation.number();
     };
-    *count = post.station().names();
-    handle.put(post);
+    *count = station.station().names();
+    handle.put(station);
     Status::Done.number()
 }
 
@@ -128,11 +128,11 @@ pub extern "C" fn hidzgula_row(
     ensures no_station { Answers result Status.NoStation ↔ (has_station handle.old ≡ false) }
     ensures done { has_station handle.old ≡ true → (Answers result Status.Done) ⊎ (Answers result Status.NoPlace) }
 {
-    let Some(post) = handle.lift(alloc) else {
+    let Some(station) = handle.lift(alloc) else {
         return Status::NoStation.number();
     };
-    let found = row_at(post.station(), place);
-    handle.put(post);
+    let found = row_at(station.station(), place);
+    handle.put(station);
     match found {
         Some(it) => {
             *row = it;
@@ -165,14 +165,4 @@ fn row_at(station: &Station, place: usize) -> Option<RowRecord>
         ack_control,
         ack_pgn,
     })
-}
-
-/// An address with its flag.
-pub(crate) fn flagged(address: Option<u8>) -> (u8, u8)
-    ensures { address_under result.0 result.1 ≡ address }
-{
-    match address {
-        Some(address) => (1, address),
-        None => (0, 0),
-    }
 }

@@ -3,10 +3,10 @@ ghost use Rattle.parameter_group.specs.Group as group;
 ghost use Rattle.station_table.specs.Reactions as reactions;
 
 use crate::reaction::Reaction;
-use crate::row::AckSeen;
 use crate::station::Station;
 use bus_model::Change;
 use can_frame::{GLOBAL_ADDRESS, NULL_ADDRESS, Pgn};
+use entry_lists::AckSeen;
 use name_field::Name;
 use requests::{Ack, Request};
 use std::alloc::AllocError;

@@ -5,7 +5,7 @@ ghost use Rattle.bus_model.specs.Changed.{displaced_by};
 ghost use Rattle.bus_model.specs.Heard.{kept_by_owner};
 ghost use Rattle.parameter_group.specs.Group as group;
 ghost use Rattle.reassembly.specs.Tables.{at};
-ghost use Rattle.station_table.specs.KeptValue.{with_row};
+ghost use Rattle.entry_lists.specs.KeptValue.{with_row};
 ghost use Rattle.station_table.specs.Reactions as reactions;
 ghost use Rattle.station_table.specs.Steps.{sessions_after};
 
@@ -13,12 +13,11 @@ use crate::error::StationError;
 use crate::origin::{Origin, keep_under};
 use crate::outcome::Outcome;
 use crate::reaction::Reaction;
-use crate::row::Row;
-use crate::rows::Rows;
 use crate::station::Station;
 use address_claim::{ClaimStep, Claimer, claim_frame};
 use bus_model::{Change, Displaced};
 use can_frame::{Frames, GLOBAL_ADDRESS, NULL_ADDRESS, Pgn};
+use entry_lists::{Row, Rows};
 use name_field::Name;
 use reassembly::Partials;
 use requests::Request;
@@ -169,7 +168,7 @@ impl Station {
 }
 
 /// The NAME has a row, and the claimer has heard its claim. Where memory is refused, both are as they were.
-#[tactic(auto, using(crate::proofs::RowLemmas::rows_before))]
+#[tactic(auto, using(entry_lists::proofs::RowLemmas::rows_before))]
 fn note_claim(
     alloc: Global,
     rows: &mut Rows,

@@ -10,7 +10,7 @@ ghost use Rattle.transport.specs.Messages as message;
 
 use crate::ended::{ReadMessage, ended_with, shown_by};
 use crate::error::StationError;
-use crate::origin::{Origin, drop_kind, kind_of};
+use crate::origin::{Origin, drop_kind};
 use crate::outcome::Outcome;
 use crate::reaction::Reaction;
 use crate::replies::{at_once, reply};
@@ -18,7 +18,7 @@ use crate::station::Station;
 use bus_model::Change;
 use can_frame::{NULL_ADDRESS, Pgn};
 use dm_messages::Kind;
-use entry_lists::{Lists, NewEntry};
+use entry_lists::{Lists, NewEntry, kind_of};
 use std::alloc::Global;
 use transport::{Control, Took, control_frame};
 

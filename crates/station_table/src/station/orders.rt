@@ -6,9 +6,9 @@ ghost use Rattle.station_table.specs.declared.error.StationError.{StationError a
 
 use crate::error::StationError;
 use crate::reaction::{Ask, Reaction};
-use crate::row::Row;
 use crate::station::Station;
 use can_frame::{Frames, GLOBAL_ADDRESS, GREATEST_ADDRESS, Pgn};
+use entry_lists::Row;
 use name_field::Name;
 use requests::{Commanded, Request};
 use std::alloc::{AllocError, Global};

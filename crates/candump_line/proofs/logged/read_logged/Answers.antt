@@ -1,6 +1,7 @@
 use Rattle.std.proofs.Common.{◌∷◌, drop, subst, lit≤, ap, sym, ◌∙◌}
 use Rattle.candump_line.specs.LineText.{ticks_text, IsBusName}
 use Rattle.candump_line.proofs.LineLemmas.{at_line, dark_bus, some_same, three_same, tail2, tail4}
+use Rattle.candump_line.proofs.LoggedLemmas.{logged_parts}
 use Rattle.candump_line.proofs.logged.read_logged.Goals as goal
 
 pub returns-in_err-rest-clause-reads : goal.returns-in_err-rest-clause-reads
@@ -63,3 +64,8 @@ returns-clause-reads c = λ digits ticks bus f three small named lawful e.
     let six = rw c.in_ok-bus.was at (c.bus_name.ensures.reads_back (subst IsBusName (sym five.0) named)) in
     let same = some_same _ _ _ (c.read_frame.ensures.reads_back f lawful five.1) c.in_ok-frame.was in
     three_same _ _ _ _ _ _ (c.of_micros.ensures ∙ two.0) (six ∙ five.0) same
+
+pub returns-clause-parts : goal.returns-clause-parts
+returns-clause-parts c =
+    logged_parts _ _ _ _ _ _ _ _ c.in_ok-rest.ensures c.in_ok-micros.ensures.front c.in_ok-rest-2.ensures c.in_ok-rest-3.ensures c.in_ok-word.ensures.parts c.in_ok-word.ensures.word
+    c.in_ok-bus.ensures.same c.in_ok-frame.ensures.seen c.in_ok-frame.ensures.id

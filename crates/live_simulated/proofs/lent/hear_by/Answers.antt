@@ -6,7 +6,7 @@ use Rattle.node_core.specs.Asking.{IsAsked}
 use Rattle.node_core.specs.Reaction.{question}
 use Rattle.parameter_group.specs.Group.{group_of}
 use Rattle.live_unit.specs.Steps.{HasHeardFrame, clock_heard, standing}
-use Rattle.simulated_unit.specs.declared.Simulated.{Simulated}
+use Rattle.unit_trait.specs.declared.simulated.Simulated.{Simulated}
 use Rattle.live_simulated.proofs.Asked.{agrees_willing, either_way, kind_kept}
 use Rattle.live_simulated.proofs.lent.hear_by.OwnLists.{own-1, at-1-1, entry-1-1, same-1-1}
 use Rattle.live_simulated.proofs.lent.hear_by.Goals as goal

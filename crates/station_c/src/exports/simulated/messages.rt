@@ -10,7 +10,7 @@ ghost use Rattle.station_c.specs.Statuses.{Answers, DoneUnlessMemory};
 ghost use Rattle.station_c.specs.UnitHandles.{HoldsSameUnit, has_unit};
 
 use crate::exports::lists::kind_of;
-use crate::exports::units::flagged;
+use crate::records::flagged;
 use crate::status::Status;
 use crate::unit_handle::UnitHandle;
 use crate::unit_records::UnitCountsRecord;

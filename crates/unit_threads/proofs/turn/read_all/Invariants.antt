@@ -1,5 +1,5 @@
 use Rattle.std.proofs.Common.{◌-◌, ◌^◌, length}
-use Rattle.garage_steps.specs.Rounds.{IsReadOf}
+use Rattle.garage.specs.Rounds.{IsReadOf}
 use Rattle.unit_threads.specs.Turns.{GrowsBy, LeavesOthers}
 use Rattle.unit_threads.proofs.turn.read_all.Given as goal
 

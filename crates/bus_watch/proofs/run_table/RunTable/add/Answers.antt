@@ -4,8 +4,10 @@ use Rattle.bus_model.specs.Overheard.{same_who}
 use Rattle.bus_model.specs.declared.who.Who.{Who}
 use Rattle.dm_messages.specs.View.{same_kind}
 use Rattle.dm_messages.specs.declared.kind.Kind.{Kind}
-use Rattle.bus_watch.specs.Runs.{HasOrder, UnitsValue, UnitValue, key_of, runs_in, runs_of, same_key, units_of, unrolled, with_unit}
+use Rattle.bus_watch.specs.Runs.{Came, HasOrder, UnitsValue, UnitValue, key_of, runs_in, runs_of, same_key, units_of, unrolled, with_came, with_unit}
 use Rattle.bus_watch.specs.declared.key.Key.{Key}
+use Rattle.bus_watch.specs.declared.run.EntryRun.{EntryRun}
+use Rattle.bus_watch.specs.declared.shown_entry.ShownEntry.{ShownEntry}
 use Rattle.bus_watch.proofs.Steps.{on_ok}
 use Rattle.bus_watch.proofs.Units.{begun_in, lengthened, order_kept, runs_found, set_found, units_kept}
 use Rattle.bus_watch.proofs.run_table.RunTable.add.Goals as goal
@@ -16,13 +18,27 @@ returns-in-Some-clause-entries c =
     let after : UnitsValue = record { order = c.self.inside.order.items; runs = (c.get_mut.follows.lender c.add.new.self).entries } in
     on_ok c.add.result
     (λ (e : (k : Kind) → unrolled (runs_of c.add.new.self k)
-    ≡ (if same_kind c.args.entry.kind k then unrolled (runs_of c.in-Some.unit.now k) ++ (record { to = c.args.entry.to; shown = c.args.entry.shown }) ∷ [] else unrolled (runs_of c.in-Some.unit.now k))).
+    ≡ (if same_kind c.args.entry.kind k then unrolled (runs_of c.in-Some.unit.now k) ++ c.args.entry.what ∷ [] else unrolled (runs_of c.in-Some.unit.now k))).
     subst (λ (t : UnitsValue). (w : Who) (k : Kind) → unrolled (runs_in after w k)
-    ≡ (if same_who c.args.entry.who w && same_kind c.args.entry.kind k then unrolled (runs_in t w k) ++ (record { to = c.args.entry.to; shown = c.args.entry.shown }) ∷ [] else unrolled (runs_in t w k))) c.self.view_is
-    (lengthened before after c.args.entry.who c.args.entry.kind c.in-Some.unit.now c.add.new.self (record { to = c.args.entry.to; shown = c.args.entry.shown })
+    ≡ (if same_who c.args.entry.who w && same_kind c.args.entry.kind k then unrolled (runs_in t w k) ++ c.args.entry.what ∷ [] else unrolled (runs_in t w k))) c.self.view_is
+    (lengthened unrolled (λ (l : List ShownEntry). l ++ c.args.entry.what ∷ []) before after c.args.entry.who c.args.entry.kind c.in-Some.unit.now c.add.new.self
     (ap (λ (q : Key). lookup (same_key q) before.runs) (sym c.of.ensures) ∙ sym c.in-Some.ensures.value)
     ((c.get_mut.follows.holds c.add.new.self).0 ∙ ap (λ (q : Key). set_value (same_key q) before.runs c.add.new.self) c.of.ensures) e))
     c.add.ensures.entries
+
+pub returns-in-Some-clause-came : goal.returns-in-Some-clause-came
+returns-in-Some-clause-came c =
+    let before : UnitsValue = record { order = c.self.inside.order.items; runs = c.self.inside.units.entries } in
+    let after : UnitsValue = record { order = c.self.inside.order.items; runs = (c.get_mut.follows.lender c.add.new.self).entries } in
+    let came : Came = record { what = c.args.entry.what; time = c.args.time; contested = c.args.contested } in
+    on_ok c.add.result
+    (λ (e : (k : Kind) → runs_of c.add.new.self k ≡ (if same_kind c.args.entry.kind k then with_came (runs_of c.in-Some.unit.now k) came else runs_of c.in-Some.unit.now k)).
+    subst (λ (t : UnitsValue). (w : Who) (k : Kind) → runs_in after w k
+    ≡ (if same_who c.args.entry.who w && same_kind c.args.entry.kind k then with_came (runs_in t w k) came else runs_in t w k)) c.self.view_is
+    (lengthened (λ (l : List EntryRun). l) (λ (l : List EntryRun). with_came l came) before after c.args.entry.who c.args.entry.kind c.in-Some.unit.now c.add.new.self
+    (ap (λ (q : Key). lookup (same_key q) before.runs) (sym c.of.ensures) ∙ sym c.in-Some.ensures.value)
+    ((c.get_mut.follows.holds c.add.new.self).0 ∙ ap (λ (q : Key). set_value (same_key q) before.runs c.add.new.self) c.of.ensures) e))
+    c.add.ensures.came
 
 pub invariant_of-self : goal.invariant_of-self
 invariant_of-self c =

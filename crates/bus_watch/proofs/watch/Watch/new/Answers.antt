@@ -3,4 +3,4 @@ use Rattle.bus_watch.proofs.Steps.{opened}
 use Rattle.bus_watch.proofs.watch.Watch.new.Goals as goal
 
 pub returns : goal.returns
-returns c = opened _ _ c.in_ok-listener.ensures.stands (search rules) (search rules) (search rules)
+returns c = opened _ _ c.in_ok-ear.ensures.stands (search rules) (search rules) (search rules)

@@ -1,4 +1,4 @@
-use Rattle.entry_lists.proofs.Rows.{all_on_ok}
+use Rattle.entry_lists.proofs.UnderNames.{all_on_ok}
 use Rattle.entry_lists.proofs.all.AllEntriesLists.put.Goals as goal
 
 pub returns-clause-ok : goal.returns-clause-ok

@@ -10,9 +10,9 @@ use Rattle.journal.specs.Journal.{one_more}
 use Rattle.journal.specs.declared.event.Event.TheVariants.{Begin}
 use Rattle.garage.specs.declared.garage.Place.{Place}
 use Rattle.garage.proofs.BeginLemmas.{begins_inside}
-use Rattle.garage_steps.proofs.Traffics.{some_live, puts, keeps_refl}
+use Rattle.garage.proofs.Traffics.{some_live, puts, keeps_refl}
 use Rattle.garage.proofs.InHand.{stations_live}
-use Rattle.garage_steps.proofs.Events.{begin_did, begin_fits, joins_begin}
+use Rattle.garage.proofs.Events.{begin_did, begin_fits, joins_begin}
 use Rattle.garage.proofs.Standing.{windows_are, state, begins_of, seat_few, place_within, unit_now, bus_unit, unit_is, units_same, place_tally, stands_more, tallies_one, fresh_one}
 use Rattle.garage.proofs.garage.Garage.begin_message.Goals as goal
 

@@ -9,7 +9,7 @@ use Rattle.bus_ledger.specs.declared.traffic.Carried.TheVariants.{Frame}
 use Rattle.bus_ledger.proofs.Sounds.{offer_says}
 use Rattle.journal.specs.State.{State}
 use Rattle.journal.specs.declared.event.Event.TheVariants.{Carry}
-use Rattle.garage_steps.proofs.Events.{carry_table, joins_carry, carry_is, sent_queued, sent_units}
+use Rattle.garage.proofs.Events.{carry_table, joins_carry, carry_is, sent_queued, sent_units}
 use Rattle.garage.proofs.Standing.{state, stands_more, tallies_still, fresh_still}
 use Rattle.garage.proofs.Lists.{lists_pushed}
 use Rattle.garage.proofs.garage.Garage.carry.Goals as goal

@@ -1,5 +1,5 @@
 use Rattle.std.proofs.Common.{arith}
-use Rattle.garage_steps.proofs.HearLemmas.{out_some}
+use Rattle.garage.proofs.HearLemmas.{out_some}
 use Rattle.garage.proofs.garage.Garage.catch_up.Goals as goal
 
 pub returns-clause-heard : goal.returns-clause-heard

@@ -2,7 +2,7 @@ use Rattle.station_table.specs.declared.error.StationError.TheVariants as statio
 use Rattle.journal.specs.Journal.{readings_at}
 use Rattle.journal.specs.Worlds.{station_of_at}
 use Rattle.journal.specs.State.{setting_at}
-use Rattle.garage_steps.specs.Room.{IsFull}
+use Rattle.garage.specs.Room.{IsFull}
 use Rattle.garage.proofs.Headline.{kept_tables}
 use Rattle.garage.proofs.OrderLemmas.{command_never, both_ways, full_of_two, refuses, not_an_address, not_held}
 use Rattle.garage.proofs.garage.Garage.command_at.Goals as goal

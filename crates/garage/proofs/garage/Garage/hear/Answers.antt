@@ -1,8 +1,8 @@
 use Rattle.std.proofs.Common.{refl, subst, sym, ◌∙◌}
 use Rattle.journal.specs.Journal.{GarageValue}
-use Rattle.garage_steps.specs.Answers.{Hears}
-use Rattle.garage_steps.specs.declared.answers.HeardOne.TheVariants as heard
-use Rattle.garage_steps.proofs.HearLemmas.{passes_this}
+use Rattle.garage.specs.Answers.{Hears}
+use Rattle.garage.specs.declared.answers.HeardOne.TheVariants as heard
+use Rattle.garage.proofs.HearLemmas.{passes_this}
 use Rattle.garage.proofs.Lent.{on_err}
 use Rattle.garage.proofs.Passing.{hears_quietly}
 use Rattle.garage.proofs.garage.Garage.hear.Goals as goal

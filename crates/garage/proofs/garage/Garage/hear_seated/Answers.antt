@@ -1,7 +1,7 @@
 use Rattle.std.proofs.Common.{ℕ, refl, ap, ◌∙◌}
-use Rattle.garage_steps.specs.Answers.{Hears}
-use Rattle.garage_steps.proofs.HearLemmas.{next_heard}
-use Rattle.garage_steps.proofs.SeatKept.{hearing_counted, is_unit, unit_hears}
+use Rattle.garage.specs.Answers.{Hears}
+use Rattle.garage.proofs.HearLemmas.{next_heard}
+use Rattle.garage.proofs.SeatKept.{hearing_counted, is_unit, unit_hears}
 use Rattle.garage.proofs.Lent.{lent_as, given_back, on_err}
 use Rattle.garage.proofs.garage.Garage.hear_seated.Goals as goal
 

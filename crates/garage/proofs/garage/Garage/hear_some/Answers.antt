@@ -1,5 +1,5 @@
 use Rattle.std.proofs.Common.{◌≡◌, Err, arith, refl, rules}
-use Rattle.garage_steps.proofs.HearLemmas.{cut_next, hearing_many, many_count, many_none, next_more, next_none}
+use Rattle.garage.proofs.HearLemmas.{cut_next, hearing_many, many_count, many_none, next_more, next_none}
 use Rattle.garage.proofs.Lent.{if_err_is}
 use Rattle.garage.proofs.garage.Garage.hear_some.Goals as goal
 

@@ -1,6 +1,6 @@
 use Rattle.std.proofs.Common.{◌≡◌}
 use Rattle.node_core.specs.Asking.{IsAsked}
-use Rattle.garage_steps.specs.Hearing.{HearsMany}
+use Rattle.garage.specs.Hearing.{HearsMany}
 use Rattle.garage.proofs.garage.Garage.hear_some.Given as goal
 
 abbrev pub invariant-loop-heard : goal.invariant-loop-heard

@@ -5,7 +5,7 @@ use Rattle.bus_ledger.specs.Changes.{injected, stray_frame}
 use Rattle.bus_ledger.specs.Newcomers.{live_units}
 use Rattle.journal.specs.State.{State, table_at}
 use Rattle.journal.specs.declared.event.Event.TheVariants.{Inject}
-use Rattle.garage_steps.proofs.Events.{inject_is, injected_few, joins_inject}
+use Rattle.garage.proofs.Events.{inject_is, injected_few, joins_inject}
 use Rattle.garage.proofs.Standing.{state, fresh_still, stands_more, tallies_still}
 use Rattle.garage.proofs.Lists.{lists_pushed}
 use Rattle.garage.proofs.garage.Garage.inject.Goals as goal

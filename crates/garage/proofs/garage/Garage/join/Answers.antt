@@ -14,9 +14,9 @@ use Rattle.address_claim.specs.Frames.{claim_frame_value}
 use Rattle.journal.specs.Steps.{untagged}
 use Rattle.journal.specs.declared.event.Event.TheVariants.{Join}
 use Rattle.bus_ledger.specs.Newcomers.{join_refusal}
-use Rattle.garage_steps.proofs.Traffics.{PutsOn, puts, keeps_refl, joined_units, joined_queued}
+use Rattle.garage.proofs.Traffics.{PutsOn, puts, keeps_refl, joined_units, joined_queued}
 use Rattle.garage.proofs.InHand.{stations_live}
-use Rattle.garage_steps.proofs.Events.{join_is, joins_join}
+use Rattle.garage.proofs.Events.{join_is, joins_join}
 use Rattle.garage.proofs.Standing.{state, stands_more, tallies_push, fresh_join, added, seated_join}
 use Rattle.garage.proofs.Lists.{lists_added}
 use Rattle.garage.proofs.garage.Garage.join.Goals as goal

@@ -1,8 +1,8 @@
 use Rattle.std.proofs.Common.{ℕ, ◌≡◌, arith, get_or, inl, inr, slice_get, subst, sym, ap, ◌∙◌}
 use Rattle.std.proofs.lemmas.Option.{slice_get-get_or, slice_get_within}
 use Rattle.bus_ledger.proofs.Numbers.{same_or_not}
-use Rattle.garage_steps.specs.Hearing.{HasHeardAll}
-use Rattle.garage_steps.proofs.LastFrames.{heard_all}
+use Rattle.garage.specs.Hearing.{HasHeardAll}
+use Rattle.garage.proofs.LastFrames.{heard_all}
 use Rattle.garage.proofs.garage.Garage.last_unheard.Goals as goal
 
 pub unheard-requires : goal.unheard-requires

@@ -1,5 +1,5 @@
 use Rattle.std.proofs.Common.{ℕ, ◌≡◌, ◌<◌, Some, slice_get}
-use Rattle.garage_steps.specs.Hearing.{HasHeardAll}
+use Rattle.garage.specs.Hearing.{HasHeardAll}
 use Rattle.garage.proofs.garage.Garage.last_unheard.Given as goal
 
 abbrev pub invariant-loop-i : goal.invariant-loop-i

@@ -7,9 +7,9 @@ use Rattle.journal.specs.State.{State, table_at}
 use Rattle.journal.specs.Journal.{one_more}
 use Rattle.journal.specs.declared.event.Event.TheVariants.{Leave}
 use Rattle.journal.specs.declared.tally.Tally.{Tally}
-use Rattle.garage_steps.proofs.Traffics.{some_live, live_left}
+use Rattle.garage.proofs.Traffics.{some_live, live_left}
 use Rattle.garage.proofs.InHand.{stations_live}
-use Rattle.garage_steps.proofs.Events.{joins_leave, leave_is, left_queued}
+use Rattle.garage.proofs.Events.{joins_leave, leave_is, left_queued}
 use Rattle.garage.proofs.Standing.{seat_low, seat_placed, windows_are, seat_few, place_within, unit_now, units_same, place_tally, stands_more, tallies_one, fresh_one, bus_unit}
 use Rattle.garage.proofs.Lists.{lists_pushed}
 use Rattle.garage.proofs.garage.Garage.leave.Goals as goal

@@ -1,6 +1,6 @@
 use Rattle.std.proofs.Common.{◌∙◌, subst}
-use Rattle.garage_steps.specs.Answers.{Begins}
-use Rattle.garage_steps.proofs.SeatKept.{beginning_counted, is_unit, still_seated, unit_begins}
+use Rattle.garage.specs.Answers.{Begins}
+use Rattle.garage.proofs.SeatKept.{beginning_counted, is_unit, still_seated, unit_begins}
 use Rattle.garage.proofs.garage.Garage.let_begin.Goals as goal
 
 pub events_of-parked-requires : goal.events_of-parked-requires

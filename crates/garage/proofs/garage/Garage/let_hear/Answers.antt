@@ -1,5 +1,5 @@
-use Rattle.garage_steps.proofs.Crew.{lists_come}
-use Rattle.garage_steps.proofs.HearLemmas.{hearing_many}
+use Rattle.garage.proofs.Crew.{lists_come}
+use Rattle.garage.proofs.HearLemmas.{hearing_many}
 use Rattle.garage.proofs.garage.Garage.let_hear.Goals as goal
 
 pub returns-in_err-heard-clause-kept : goal.returns-in_err-heard-clause-kept

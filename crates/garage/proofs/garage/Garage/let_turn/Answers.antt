@@ -1,5 +1,5 @@
 use Rattle.std.proofs.Common.{◌∙◌}
-use Rattle.garage_steps.proofs.SeatKept.{turn_counted, is_unit, still_seated, unit_turned}
+use Rattle.garage.proofs.SeatKept.{turn_counted, is_unit, still_seated, unit_turned}
 use Rattle.garage.proofs.Lists.{lists_of_event}
 use Rattle.journal.specs.declared.event.Event.TheVariants.{Turned}
 use Rattle.garage.proofs.garage.Garage.let_turn.Goals as goal

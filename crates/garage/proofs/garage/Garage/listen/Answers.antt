@@ -1,8 +1,8 @@
 use Rattle.std.proofs.Common.{refl, rules, ◌≡◌, Err, length, get_or, arith}
 use Rattle.std.proofs.lemmas.Option.{slice_get-get_or}
-use Rattle.garage_steps.proofs.Crew.{comes_both, crew_still}
+use Rattle.garage.proofs.Crew.{comes_both, crew_still}
 use Rattle.garage.proofs.Lent.{if_err_is, if_err_of, on_ok_of}
-use Rattle.garage_steps.proofs.RoundLemmas.{last_after, listens, moved_some, reading_left, rest_comes, turned, unit_left, units_idle, units_more, units_none}
+use Rattle.garage.proofs.RoundLemmas.{last_after, listens, moved_some, reading_left, rest_comes, turned, unit_left, units_idle, units_more, units_none}
 use Rattle.garage.proofs.garage.Garage.listen.Goals as goal
 
 pub loop-next-init : goal.loop-next-init

@@ -1,8 +1,8 @@
 use Rattle.std.proofs.Common.{◌≡◌, ◌-◌, ◌≤◌, length}
 use Rattle.node_core.specs.Asking.{IsAsked}
-use Rattle.garage_steps.specs.Crew.{AreSeated}
-use Rattle.garage_steps.specs.Hearing.{IsLast}
-use Rattle.garage_steps.specs.Rounds.{HearInTurn}
+use Rattle.garage.specs.Crew.{AreSeated}
+use Rattle.garage.specs.Hearing.{IsLast}
+use Rattle.garage.specs.Rounds.{HearInTurn}
 use Rattle.garage.proofs.garage.Garage.listen.Given as goal
 
 abbrev pub invariant-loop-next : goal.invariant-loop-next

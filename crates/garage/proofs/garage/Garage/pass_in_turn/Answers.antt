@@ -8,10 +8,10 @@ use Rattle.node_core.specs.declared.heard.Answer.TheVariants.{NotAsked}
 use Rattle.fault_memory.specs.Memory.{IsLawfulMemory, MemoryValue}
 use Rattle.journal.specs.declared.event.Event.TheVariants.{Hear}
 use Rattle.journal.specs.Journal.{GarageValue, one_more}
-use Rattle.garage_steps.specs.Crew.{AreSeated}
-use Rattle.garage_steps.specs.Hearing.{IsLast}
+use Rattle.garage.specs.Crew.{AreSeated}
+use Rattle.garage.specs.Hearing.{IsLast}
 use Rattle.garage.specs.Inside.{garage_value_of}
-use Rattle.garage_steps.specs.Rounds.{HearOnward}
+use Rattle.garage.specs.Rounds.{HearOnward}
 use Rattle.garage.specs.declared.garage.Garage.TheInside.{Inside}
 use Rattle.garage.specs.declared.garage.Place.{Place}
 use Rattle.garage.proofs.InTurn.{InTurn, stands_written, turn_passed, turn_still}

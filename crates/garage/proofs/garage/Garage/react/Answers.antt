@@ -14,11 +14,11 @@ use Rattle.journal.specs.Journal.{GarageValue, state_of, one_more}
 use Rattle.journal.specs.declared.event.Event.TheVariants.{Hear}
 use Rattle.std.specs.Vec.{with_item}
 use Rattle.garage.specs.Inside.{unit_of}
-use Rattle.garage_steps.specs.Answers.{count_with_begun}
+use Rattle.garage.specs.Answers.{count_with_begun}
 use Rattle.garage.specs.declared.garage.Place.{Place}
-use Rattle.garage_steps.proofs.Traffics.{some_live, puts, keeps_heard, keeps_withdrawn_by, keeps_then}
+use Rattle.garage.proofs.Traffics.{some_live, puts, keeps_heard, keeps_withdrawn_by, keeps_then}
 use Rattle.garage.proofs.InHand.{stations_live}
-use Rattle.garage_steps.proofs.Events.{hear_did, begun_length, begun_few, next_within, is_answered, joins_hear}
+use Rattle.garage.proofs.Events.{hear_did, begun_length, begun_few, next_within, is_answered, joins_hear}
 use Rattle.garage.proofs.Standing.{stations_are, windows_are, state, seat_few, place_within, unit_now, bus_unit, unit_is, place_tally, stands_more, tallies_one, fresh_one, hears_of, still, same_place}
 use Rattle.garage.proofs.Lent.{on_err}
 use Rattle.garage.proofs.garage.Garage.react.Goals as goal

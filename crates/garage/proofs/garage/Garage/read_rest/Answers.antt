@@ -1,6 +1,6 @@
 use Rattle.std.proofs.Common.{arith, refl}
-use Rattle.garage_steps.proofs.Crew.{untouched_both, untouched_none}
-use Rattle.garage_steps.proofs.ReadLemmas.{turn_more, turn_none, turn_there}
+use Rattle.garage.proofs.Crew.{untouched_both, untouched_none}
+use Rattle.garage.proofs.ReadLemmas.{turn_more, turn_none, turn_there}
 use Rattle.garage.proofs.garage.Garage.read_rest.Goals as goal
 
 pub loop-station-init : goal.loop-station-init

@@ -1,5 +1,5 @@
-use Rattle.garage_steps.specs.Crew.{AreUntouched}
-use Rattle.garage_steps.specs.Rounds.{EachReads}
+use Rattle.garage.specs.Crew.{AreUntouched}
+use Rattle.garage.specs.Rounds.{EachReads}
 use Rattle.garage.proofs.garage.Garage.read_rest.Given as goal
 
 abbrev pub invariant-loop-station : goal.invariant-loop-station

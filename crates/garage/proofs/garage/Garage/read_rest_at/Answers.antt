@@ -1,6 +1,6 @@
 use Rattle.std.proofs.Common.{refl}
-use Rattle.garage_steps.proofs.Crew.{read_untouched, station_still, untouched_both, untouched_none}
-use Rattle.garage_steps.proofs.ReadLemmas.{reads_come, reads_more, reads_none}
+use Rattle.garage.proofs.Crew.{read_untouched, station_still, untouched_both, untouched_none}
+use Rattle.garage.proofs.ReadLemmas.{reads_come, reads_more, reads_none}
 use Rattle.garage.proofs.garage.Garage.read_rest_at.Goals as goal
 
 pub loop-init : goal.loop-init

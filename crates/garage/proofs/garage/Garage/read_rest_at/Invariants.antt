@@ -1,6 +1,6 @@
 use Rattle.std.proofs.Common.{◌-◌, ◌^◌, length}
-use Rattle.garage_steps.specs.Crew.{AreUntouched}
-use Rattle.garage_steps.specs.Rounds.{TakesReadings}
+use Rattle.garage.specs.Crew.{AreUntouched}
+use Rattle.garage.specs.Rounds.{TakesReadings}
 use Rattle.garage.proofs.garage.Garage.read_rest_at.Given as goal
 
 abbrev pub invariant-loop : goal.invariant-loop

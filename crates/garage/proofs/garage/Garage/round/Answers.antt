@@ -1,7 +1,7 @@
 use Rattle.std.proofs.Common.{inr}
-use Rattle.garage_steps.proofs.Crew.{lists_come}
+use Rattle.garage.proofs.Crew.{lists_come}
 use Rattle.garage.proofs.Lent.{if_err_of, if_ok_of, on_ok_if}
-use Rattle.garage_steps.proofs.RoundLemmas.{done, no_stranger, round_want}
+use Rattle.garage.proofs.RoundLemmas.{done, no_stranger, round_want}
 use Rattle.garage.proofs.garage.Garage.round.Goals as goal
 
 pub returns-clause-stranger : goal.returns-clause-stranger

@@ -1,8 +1,8 @@
 use Rattle.std.proofs.Common.{◌≡◌, Err, ap, arith, inr, refl, rules, sym, subst}
-use Rattle.garage_steps.proofs.Crew.{carried_untouched, comes_both, comes_carried, comes_same, crew_still, untouched_none}
+use Rattle.garage.proofs.Crew.{carried_untouched, comes_both, comes_carried, comes_same, crew_still, untouched_none}
 use Rattle.garage.proofs.Lent.{if_err_is}
-use Rattle.garage_steps.proofs.RoundLemmas.{carry_left, rounds_more, rounds_none, rounds_still}
-use Rattle.garage_steps.specs.Carrying.{AddsCarry}
+use Rattle.garage.proofs.RoundLemmas.{carry_left, rounds_more, rounds_none, rounds_still}
+use Rattle.garage.specs.Carrying.{AddsCarry}
 use Rattle.garage.proofs.garage.Garage.rounds.Goals as goal
 
 pub loop-carried-init : goal.loop-carried-init

@@ -1,7 +1,7 @@
 use Rattle.std.proofs.Common.{◌≡◌}
 use Rattle.node_core.specs.Asking.{IsAsked}
-use Rattle.garage_steps.specs.Crew.{AreSeated, Comes}
-use Rattle.garage_steps.specs.Rounds.{AreRounds}
+use Rattle.garage.specs.Crew.{AreSeated, Comes}
+use Rattle.garage.specs.Rounds.{AreRounds}
 use Rattle.garage.proofs.garage.Garage.rounds.Given as goal
 
 abbrev pub invariant-loop-carried : goal.invariant-loop-carried

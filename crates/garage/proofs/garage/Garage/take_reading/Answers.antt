@@ -4,7 +4,7 @@ use Rattle.bus_ledger.specs.Newcomers.{live_units}
 use Rattle.bus_ledger.specs.Reception.{next_reading, reading_taken}
 use Rattle.can_frame.specs.declared.reading.Reading.{Reading}
 use Rattle.can_frame.specs.declared.reading.Reading.TheVariants as reading
-use Rattle.garage_steps.specs.Answers.{Reads}
+use Rattle.garage.specs.Answers.{Reads}
 use Rattle.std.specs.Vec.{with_item}
 use Rattle.station_table.specs.StationValue.{StationValue}
 use Rattle.station_table.specs.Steps.{after_reading as station_after}
@@ -13,9 +13,9 @@ use Rattle.station_table.specs.declared.reaction.Reaction.{Reaction}
 use Rattle.journal.specs.State.{Settings, State, StationSetting, table_at}
 use Rattle.journal.specs.Steps.{after, reacted}
 use Rattle.journal.specs.declared.event.Event.TheVariants.{Read}
-use Rattle.garage_steps.proofs.Traffics.{live_read, keeps_read, puts_reacted}
+use Rattle.garage.proofs.Traffics.{live_read, keeps_read, puts_reacted}
 use Rattle.garage.proofs.InHand.{seat_of_station}
-use Rattle.garage_steps.proofs.Events.{read_is, readings_with, joins_read}
+use Rattle.garage.proofs.Events.{read_is, readings_with, joins_read}
 use Rattle.garage.proofs.Standing.{added, other_table, post_table, read_table, station_below, station_there, state, stands_more, still, tallies_still, fresh_still}
 use Rattle.garage.proofs.Headline.{reading_heard}
 use Rattle.garage.proofs.Listed.{listed_now, other_reading, own_reading}

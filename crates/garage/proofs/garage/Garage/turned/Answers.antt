@@ -3,7 +3,7 @@ use Rattle.std.proofs.lemmas.List.{length-set}
 use Rattle.journal.specs.Journal.{one_more}
 use Rattle.journal.specs.declared.event.Event.TheVariants.{Turned}
 use Rattle.journal.specs.declared.tally.Tally.{Tally}
-use Rattle.garage_steps.proofs.Events.{joins_turned}
+use Rattle.garage.proofs.Events.{joins_turned}
 use Rattle.garage.proofs.Standing.{windows_are, seat_few, place_within, unit_now, units_same, place_tally, stands_more, tallies_one, fresh_one}
 use Rattle.garage.proofs.garage.Garage.turned.Goals as goal
 

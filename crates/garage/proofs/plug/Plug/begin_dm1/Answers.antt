@@ -1,6 +1,6 @@
 use Rattle.std.proofs.Common.{◌∙◌, subst}
-use Rattle.garage_steps.specs.Answers.{Begins}
-use Rattle.garage_steps.proofs.SeatKept.{beginning_counted, is_unit, still_seated, unit_begins}
+use Rattle.garage.specs.Answers.{Begins}
+use Rattle.garage.proofs.SeatKept.{beginning_counted, is_unit, still_seated, unit_begins}
 use Rattle.garage.proofs.plug.Plug.begin_dm1.Goals as goal
 
 pub events_of-self-requires : goal.events_of-self-requires

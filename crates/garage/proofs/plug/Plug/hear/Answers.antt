@@ -1,7 +1,7 @@
 use Rattle.std.proofs.Common.{refl, ap, ◌∙◌}
-use Rattle.garage_steps.specs.Answers.{Hears}
+use Rattle.garage.specs.Answers.{Hears}
 use Rattle.garage.proofs.Lent.{lent_as, given_back, on_err}
-use Rattle.garage_steps.proofs.SeatKept.{hearing_counted, is_unit, still_seated, unit_hears}
+use Rattle.garage.proofs.SeatKept.{hearing_counted, is_unit, still_seated, unit_hears}
 use Rattle.garage.proofs.plug.Plug.hear.Goals as goal
 
 pub events_of-self-requires : goal.events_of-self-requires

@@ -1,7 +1,6 @@
 use Rattle.std.proofs.Common.{◌∷◌, sym, subst, ◌∙◌}
 use Rattle.can_frame.specs.FrameValue.{FrameValue}
 use Rattle.can_frame.specs.declared.reading.Reading.TheVariants.{Frame}
-use Rattle.listening.specs.Posts.{reading_at}
 use Rattle.station_c.specs.Handles.{HoldsReadings}
 use Rattle.station_c.specs.Series.{TakesReading, reaction_told}
 use Rattle.station_c.proofs.Answered.{done_by_number}
@@ -10,7 +9,7 @@ use Rattle.station_c.proofs.exports.readings.hidzgula_take_frame_telling.Goals a
 -- the frame that was taken is the one of the identifier and the bytes
 pub returns-in-Ok-clause-taken : goal.returns-in-Ok-clause-taken
 returns-in-Ok-clause-taken c = λ done r grant h held.
-    subst (λ (f : FrameValue). HoldsReadings r grant c.take.new.handle (reading_at c.args.handle.now.value.post (Frame f) ∷ h)) c.in-Ok.ensures.ok
+    subst (λ (f : FrameValue). HoldsReadings r grant c.take.new.handle (Frame f ∷ h)) c.in-Ok.ensures.ok
     (c.take.ensures.taken (done_by_number c.take.result (sym c.number.ensures ∙ done)) r grant h held)
 
 pub returns-in-Ok-clause-step : goal.returns-in-Ok-clause-step

@@ -20,5 +20,5 @@ returns-clause-changed c = λ done r grant h held.
 pub returns-clause-step : goal.returns-clause-step
 returns-clause-step c = λ done.
     took_lifted _ _ _ _ c.args.reading _ _ (c.deref_mut.ensures.value ∙ c.in-Some.ensures.value) c.put.ensures.value
-    (took _ _ _ c.take-taken.result c.tell.result c.tell.new.reply c.tell.new.change _ _ c.take-taken.ensures.stands c.take-taken.ensures.lists c.take-taken.ensures.noted
+    (took _ _ _ c.take-taken.result c.tell.result c.tell.new.reply c.tell.new.change _ _ c.take-taken.ensures.stands c.take-taken.ensures.lists
     c.take-taken.ensures.keep c.take-taken.ensures.answer c.take-taken.ensures.change c.tell.ensures.refused c.tell.ensures.done done)

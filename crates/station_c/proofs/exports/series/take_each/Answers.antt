@@ -7,7 +7,7 @@ use Rattle.station_c.proofs.SeriesLemmas.{at_place, one_more, untouched}
 use Rattle.station_c.proofs.exports.series.take_each.Goals as goal
 
 pub loop-place-init : goal.loop-place-init
-loop-place-init c = (TakesNone c.args.post.now, c.nothing.ensures, refl)
+loop-place-init c = (TakesNone c.args.station.now, c.nothing.ensures, refl)
 
 -- the frame that was refused is the one at the place
 pub returns-then-ne-clause-id_too_large : goal.returns-then-ne-clause-id_too_large
@@ -34,8 +34,8 @@ loop-place-preserved c =
     let low : c.loop-place.place < length c.args.frames.now = omega arith in let high : c.loop-place.place < length c.loop-place.changes = omega arith in
     let done : c.take_one-status.result ≡ Done = search rules in let one = c.take_one-status.ensures.taken done in
     let nothing : reaction_told c.take_one-status.new.reply ≡ silent = search rules in (
-      subst (λ (r : Reaction). TakesFrames c.args.post.now (take (c.loop-place.place + 1) c.args.frames.now)
-          (take (c.loop-place.place + 1) (slice_set c.loop-place.changes c.loop-place.place c.take_one-status.new.change)) r c.take_one-status.new.post) nothing
+      subst (λ (r : Reaction). TakesFrames c.args.station.now (take (c.loop-place.place + 1) c.args.frames.now)
+          (take (c.loop-place.place + 1) (slice_set c.loop-place.changes c.loop-place.place c.take_one-status.new.change)) r c.take_one-status.new.station) nothing
           (one_more _ _ _ _ _ _ _ _ _ low high c.loop-place.invariant.0 one.0 one.1 one.2),
       nothing,
       untouched c.loop-place.changes c.args.changes.now c.loop-place.place c.take_one-status.new.change c.loop-place.invariant.2,

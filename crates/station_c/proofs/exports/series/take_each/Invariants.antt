@@ -6,5 +6,5 @@ use Rattle.station_c.proofs.exports.series.take_each.Given as goal
 -- the frames before the place were taken, and none was replied to; the changes from there on are untouched
 abbrev pub invariant-loop-place : goal.invariant-loop-place
 invariant-loop-place l =
-    TakesFrames l.fn.post (take l.place l.frames) (take l.place l.changes) silent l.post
+    TakesFrames l.fn.station (take l.place l.frames) (take l.place l.changes) silent l.station
     × (reaction_told l.reply ≡ silent) × (drop l.place l.changes ≡ drop l.place l.initial.changes)

@@ -11,7 +11,7 @@ returns-in-Ok-clause-taken c = λ done.
     let read = c.in-Ok.ensures.ok in (
       read.1,
       read.2,
-      subst (λ (f : FrameValue). TakesReading c.args.post.now (Frame f) c.tell.new.change (reaction_told c.tell.new.reply) c.take.new.self) read.0
-          (took _ _ _ c.take.result c.tell.result c.tell.new.reply c.tell.new.change _ _ c.take.ensures.stands c.take.ensures.lists c.take.ensures.noted c.take.ensures.keep
+      subst (λ (f : FrameValue). TakesReading c.args.station.now (Frame f) c.tell.new.change (reaction_told c.tell.new.reply) c.take.new.self) read.0
+          (took _ _ _ c.take.result c.tell.result c.tell.new.reply c.tell.new.change _ _ c.take.ensures.stands c.take.ensures.lists c.take.ensures.keep
           c.take.ensures.answer c.take.ensures.change c.tell.ensures.refused c.tell.ensures.done done),
     )

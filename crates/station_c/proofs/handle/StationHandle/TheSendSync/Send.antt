@@ -9,7 +9,7 @@ use Rattle.std.proofs.MapsCrossing as maps
 use Rattle.std_alloc.proofs.SendSync.{lies, quiet}
 use Rattle.station_c.specs.Held.{heap, held}
 use Rattle.station_c.specs.contracts.handle.StationHandle as handle
-use Rattle.station_c.specs.contracts.listed_post.ListedPost as post
+use Rattle.station_c.specs.contracts.listed_station.ListedStation as post
 use Rattle.entry_lists.specs.contracts.newest.NewestEntries as newest
 use Rattle.station_table.specs.contracts.station.Station as station
 

@@ -1,5 +1,5 @@
 -- A handle of null and no flag owns nothing.
-use Rattle.std.proofs.Common.{◌≡◌, [], ◌∷◌, None, refl, lit<}
+use Rattle.std.proofs.Common.{◌≡◌, [], ◌∷◌, refl, lit<}
 use mathlib.Core.Bool.{false}
 use mir.Val.{Val, vbool, vnull}
 use base.Logic.{SProp, emp}
@@ -15,7 +15,7 @@ use denote.Steps.{nothing}
 use denote.Triple.Walked.{walk_of}
 use Rattle.std.proofs.raw_atomic.Walks.{proved_at, leaves}
 use Rattle.station_table.specs.Steps.{new_station}
-use Rattle.station_c.specs.ListedPosts.{ListedPostValue}
+use Rattle.station_c.specs.ListedStations.{ListedStationValue}
 use Rattle.station_c.proofs.MachineValues.{both}
 use Rattle.station_c.proofs.HandleValues.{handle_in}
 use Rattle.station_c.specs.contracts.handle.StationHandle.empty.{ended, clauses}
@@ -27,7 +27,7 @@ pub empty_spec : {M : Type 1} → statement M
 empty_spec 𝓤 𝓛 𝓜 𝓡 wired =
     let H = 𝓛.H in let 𝓣 = tables 𝓤 H 𝓜 𝓡 𝓡.env in let c = clauses 𝓛 𝓜.mem 𝓡.returns in
     proved_at 𝓛 ended tt c 𝓜 𝓡 tt #self code.function (code.unfolded 𝓤 H 𝓜 𝓡 wired) (λ z are.
-    let Post : Val → SProp 𝓤 = (walk_of 𝓛 ended tt c).post z in let w : Val = both vnull (vbool false) in let none : ListedPostValue = record { post = record { station = new_station 0 0 1; given_up = None }; lists = record { keep = 0; rows = [] } } in
+    let Post : Val → SProp 𝓤 = (walk_of 𝓛 ended tt c).post z in let w : Val = both vnull (vbool false) in let none : ListedStationValue = record { station = new_station 0 0 1; lists = record { keep = 0; rows = [] } } in
     qed 𝓛 ((‵ ftrue ⊛ ‵ ftrue) ∷ raw ((c z.0.0 z.0.3).requires z.1) ∷ []) ∵ drop ! $ drop ! $
     enter ! 𝓣.C 𝓣.Λ code.function [] Post $ alloc_all ! (λ l. pass_all ! refl tt $
     sets ! (agg ! (and_then ! (lit ! tt) (and_then ! (false_lit !) (no_more !)))) refl (tt, (record { fits = lit< tt }, (tt, tt))) $

@@ -15,7 +15,7 @@ use Rattle.live_unit.specs.contracts.node.LiveNode as node
 use Rattle.live_unit.specs.contracts.queue.Queue as queue
 use Rattle.live_unit.specs.contracts.told.Told as told
 use Rattle.node_core.specs.contracts.node.Node as place
-use Rattle.simulated_unit.specs.contracts.Simulated as simulated
+use Rattle.unit_trait.specs.contracts.simulated.Simulated as simulated
 
 queue_send : IsSend queue.the_row
 queue_send = search (sendable, crosses) depth 60 fits 20000

@@ -1,9 +1,0 @@
-pub mod Events
-pub mod Traffics
-pub mod Pieces
-pub mod SeatKept
-pub mod Crew
-pub mod LastFrames
-pub mod HearLemmas
-pub mod ReadLemmas
-pub mod RoundLemmas

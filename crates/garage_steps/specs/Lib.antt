@@ -1,9 +1,0 @@
-pub mod Refusals
-pub mod Carrying
-pub mod Room
-pub mod Causes
-pub mod Calls
-pub mod Answers
-pub mod Crew
-pub mod Hearing
-pub mod Rounds

@@ -1,3 +1,0 @@
-pub mod GivenUp
-pub mod Posts
-pub mod Listened

@@ -1,2 +1,0 @@
-pub mod Inert
-pub mod Writing

@@ -1,8 +1,0 @@
-use Rattle.pair_joining.proofs.HalfLemmas.{none_half, none_whole}
-use Rattle.pair_joining.proofs.halves.PairHalves.new.Goals as goal
-
-pub invariant_of-result : goal.invariant_of-result
-invariant_of-result c = none_whole _ c.in_ok-pairs.ensures
-
-pub returns : goal.returns
-returns c = none_half _ c.in_ok-pairs.ensures

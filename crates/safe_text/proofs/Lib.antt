@@ -1,0 +1,4 @@
+pub mod Inert
+pub mod Writing
+pub mod Decimal
+pub mod NothingHidden

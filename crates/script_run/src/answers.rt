@@ -1,0 +1,114 @@
+ghost use Rattle.std.specs.Prelude.{◌≡◌, ◌⊎◌, ◌<◌, length, IfErr, IfSome};
+ghost use Rattle.program_io.specs.Fault.{IsOfInput};
+ghost use Rattle.program_io.specs.Input.{input_limit};
+
+use crate::answer_sink::AnswerSink;
+use crate::bench::Bench;
+use crate::lines::answer_lines;
+use program_io::{Fault, read_text};
+use safe_text::TextBuffer;
+use script_answer::{LineAnswer, Refusal, Unwritten, put_answer};
+use script_line::is_silent;
+use std::alloc::Global;
+use std::io;
+use std::io::{BufWriter, Read, Write};
+
+/// Reads commands, a line each, and writes an answer line for each.
+///
+/// The whole input is read first. A line that is empty or begins with `#` has no answer. At the end each unit that is
+/// left on the bus is taken off.
+///
+/// # Errors
+/// - `Read`: a read failed.
+/// - `InputTooLong`, `NotUtf8`: the input is refused; nothing was answered.
+/// - `Write`: an answer could not be written.
+/// - `Memory`: memory was refused outside a command.
+pub fn script<R: Read, W: Write>(alloc: Global, reader: &mut R, writer: &mut W) -> Result<(), Fault>
+    ensures unanswered { IfErr result (λ fault. IsOfInput fault → writer.new ≡ writer.old) }
+    ensures too_long { result ≡ Err Fault.InputTooLong → IfSome (R.remaining reader.old) (λ bytes. input_limit < length bytes) }
+{
+    let text = read_text(alloc, reader)?;
+    answer_text(alloc, text.as_str(), writer)
+}
+
+/// Answers the lines of a text.
+fn answer_text<W: Write>(alloc: Global, text: &str, writer: &mut W) -> Result<(), Fault>
+    ensures { IfErr result (λ fault. (fault ≡ Fault.Write) ⊎ (fault ≡ Fault.Memory)) }
+{
+    match BufWriter::new(alloc, writer) {
+        Ok(writer) => answer_all(alloc, text, &mut Answers::new(writer)),
+        Err(_) => Err(Fault::Memory),
+    }
+}
+
+fn answer_all<W: Write>(alloc: Global, text: &str, answers: &mut Answers<W>) -> Result<(), Fault>
+    ensures { IfErr result (λ fault. fault ≡ Fault.Write) }
+{
+    answer_lines(alloc, text, answers)?;
+    match answers.flush() {
+        Ok(()) => Ok(()),
+        Err(_) => Err(Fault::Write),
+    }
+}
+
+/// Answers on their way to a writer: lines are held, and written when there is no room for one more.
+#[derive(Drop)]
+pub struct Answers<W> {
+    held: TextBuffer,
+    writer: W,
+}
+
+impl<W: Write> Answers<W> {
+    /// No answer yet.
+    pub fn new(writer: W) -> Answers<W> {
+        Answers {
+            held: TextBuffer::new(),
+            writer,
+        }
+    }
+}
+
+/// What is written stands behind the lines that are held.
+impl<W: Write> Write for Answers<W> {
+    fn write(&mut self, buf: &[u8]) -> io::Result<usize> {
+        self.held.write_to(&mut self.writer)?;
+        self.writer.write(buf)
+    }
+
+    fn flush(&mut self) -> io::Result<()> {
+        self.held.write_to(&mut self.writer)?;
+        self.writer.flush()
+    }
+}
+
+/// It is given each answer, and nothing else.
+impl<W: Write> AnswerSink for Answers<W> {
+    ghost use Rattle.std.specs.Prelude.{◌≡◌};
+    ghost use Rattle.program_io.specs.declared.fault.Fault.TheVariants as fault;
+
+    ghost ends_by = { λ f. f ≡ fault.Write };
+
+    fn begin_line(&mut self, line: &str) -> bool {
+        is_silent(line)
+    }
+
+    fn answer(&mut self, answer: Result<LineAnswer, Refusal>) -> Result<(), Unwritten> {
+        put_answer(&mut self.held, &mut self.writer, answer)
+    }
+
+    fn end_line(
+        &mut self,
+        _line: &str,
+        _has_garage: bool,
+        answered: Result<(), Unwritten>,
+    ) -> Result<(), Fault> {
+        match answered {
+            Ok(()) => Ok(()),
+            Err(Unwritten) => Err(Fault::Write),
+        }
+    }
+
+    fn finish(&mut self, _bench: &Bench) -> Result<(), Fault> {
+        Ok(())
+    }
+}

@@ -1,0 +1,179 @@
+"""Which tests see a wrong body: each that comes by it, the quickest first, until one fails. What is known is kept."""
+import json
+import os
+import re
+import signal
+import subprocess
+import time
+
+from harness import TOP
+
+from . import copies
+
+KEPT = TOP / "out/mutants/known.json"
+# A part that takes longer, in seconds of a run on the unchanged program, is left out.
+LONGEST = 300
+# Once more than this and some seconds, a part is ended: it is seen that something does not end.
+TIMES = 3
+# So many wrong bodies are switched on together first.
+TOGETHER = 4
+# Parts over random inputs with fewer of them: most wrong bodies are seen by the first.
+FEWER = {"run/random_scripts": ["--seed", "1", "--runs", "120"], "run/random_logs": ["--seed", "1", "--runs", "24"], "run/random_live": ["--lines", "800", "--most", "60"],
+         "run/random_pages": ["--runs", "4"], "run/stop_at_every_frame": None, "measure/live": None, "run/soak": None, "run/threads": None}
+# The slow ones, from the quickest on.
+SLOW = ["run/random_pages", "run/pages", "run/random_live", "run/live", "run/logs", "run/random_logs"]
+LAST = ["run/random_pages", "--seed", "2", "--runs", "16"]
+# What a program without proof does not pass, since it has checks and takes more memory; and what no wrong body of a program can change.
+WITHOUT_PROOF = ("refuse_memory", "fail_streams", "faults", "refuse_live")
+WITHOUT_PROGRAM = ("harness", "contracts", "one_home", "reading_list", "names_in_docs", "release", "constants", "c", "python", "random_units", "install",
+                   "chosen_names")
+# The parts that try a script, where that is not plain by its name in them.
+TRYING = {"run_program": ("run/signals", "run/install"), "install_program": ("run/install", "run/c"), "program_for": ("run/signals", "run/install"), "j1939bench": ("run/signals",),
+          "pages/answer": ("run/pages_of_help",)}
+
+
+def every_part():
+    """The parts of tests/check_all, as words."""
+    text = (TOP / "tests/check_all").read_text(encoding="utf-8")
+    found = re.findall(r'^(?:part|begin_part "[^"]*") (\S.*)$', text, re.M)
+    return [it.split() for it in dict.fromkeys(found)]
+
+
+def parts():
+    """Those that run a program, with few random inputs, the quick ones first."""
+    names = [it for it in every_part() if it[0].split("/")[-1] not in WITHOUT_PROGRAM + WITHOUT_PROOF and it[1:] != ["--model"]]
+    chosen = [[it[0], *FEWER[it[0]]] if it[0] in FEWER else it for it in names if FEWER.get(it[0], it) is not None]
+    return [*sorted(chosen, key=lambda it: SLOW.index(it[0]) if it[0] in SLOW else -1), LAST]
+
+
+def ran(folder, words, limit):
+    """Runs a part in a copy: whether it passed, the seconds, and the last of what it said. It ends at the first try that fails."""
+    begun = time.monotonic()
+    part = subprocess.Popen([f"tests/{words[0]}", *words[1:]], cwd=folder, stdin=subprocess.DEVNULL, stdout=subprocess.PIPE, stderr=subprocess.STDOUT,
+                            errors="replace", start_new_session=True, env=os.environ | {"WITHOUT_PROOF": "1"})
+    try:
+        said, _ = part.communicate(timeout=limit)
+        passed = part.returncode == 0
+    except subprocess.TimeoutExpired:
+        said, passed = f"not ended after {limit:.0f} s\n", False
+    finally:
+        try:
+            os.killpg(part.pid, signal.SIGKILL)
+        except ProcessLookupError:
+            pass
+        part.wait()
+    return passed, time.monotonic() - begun, said[-400:]
+
+
+class Known:
+    """What is known of wrong bodies: by the key of each a text, `seen by ..`, `not seen` or `harmless: ..`."""
+
+    def __init__(self):
+        self.rows = json.loads(KEPT.read_text(encoding="utf-8")) if KEPT.exists() else {}
+
+    def get(self, body):
+        return self.rows.get(body.key())
+
+    def note(self, body, told):
+        self.rows[body.key()] = told
+        KEPT.parent.mkdir(parents=True, exist_ok=True)
+        new = KEPT.with_suffix(".new")
+        new.write_text(json.dumps(self.rows, indent=0, sort_keys=True), encoding="utf-8")
+        os.replace(new, KEPT)
+
+
+class Programs:
+    """The programs of a lot in a copy, and what sees which of their wrong bodies."""
+
+    def __init__(self, folder, numbered, programs, tell):
+        self.folder, self.numbered, self.programs, self.tell = folder, numbered, programs, tell
+        self.seen, self.reached = {}, set()
+
+    def put(self, numbers, mode=copies.RUNNING):
+        for program in copies.programs():
+            copies.put(self.folder, program, [it for it in numbers if program in self.programs[it]], mode)
+
+    def measured(self, words):
+        """The seconds of a part without a wrong body, and which of them it comes by; None where it does not pass."""
+        noted = self.folder / "noted"
+        noted.write_bytes(bytes(copies.MOST))
+        self.put((), copies.NOTING)
+        passed, seconds, said = ran(self.folder, words, LONGEST)
+        if not passed:
+            self.tell(f"{' '.join(words)}: left out: {said.strip()[-200:]}")
+            return None
+        return seconds, {number for number, was in enumerate(noted.read_bytes()) if was}
+
+    def judge(self, note):
+        """Runs each part over those that are not seen yet; calls `note` with each that is seen, and by which part."""
+        for words in parts():
+            left = [it for it in self.numbered if it not in self.seen]
+            found = self.measured(words) if left else None
+            if found:
+                seconds, reached = found
+                self.reached |= reached
+                chosen = [it for it in left if it in reached]
+                self.tell(f"{' '.join(words)}: {seconds:.0f} s, comes by {len(chosen)} of {len(left)} unseen")
+                for at in range(0, len(chosen), TOGETHER):
+                    self.split(words, seconds, chosen[at : at + TOGETHER], note)
+
+    def split(self, words, seconds, numbers, note):
+        """Which of some wrong bodies a part sees: none where it passes with all of them on; else those that one half or the other has. (That two of them
+        hide each other is as good as never so.)"""
+        self.put(numbers)
+        passed, _, said = ran(self.folder, words, TIMES * seconds + 20)
+        if passed:
+            return
+        if len(numbers) == 1:
+            self.seen[numbers[0]] = " ".join(words)
+            note(numbers[0], self.seen[numbers[0]], said)
+            return
+        half = len(numbers) // 2
+        self.split(words, seconds, numbers[:half], note)
+        self.split(words, seconds, numbers[half:], note)
+
+
+def parts_about(path):
+    """The parts that name a script, or the folder that a source lies in; of the package and the library for C those of their folders."""
+    if path in TRYING:
+        return [it for it in every_part() if it[0] in TRYING[path]]
+    name = path.rpartition("/")[2]
+    words = {"python": ("in_python",), "c": ("c/build", "hidzgula_station.h")}.get(path.split("/")[0] if "/" in path else "", ()) or (name,)
+    if path.startswith("release/"):
+        words = ("release/build", "release/about", "release/version")
+    found = []
+    for part in every_part():
+        text = (TOP / "tests" / part[0]).read_text(encoding="utf-8")
+        if any(re.search(rf"(?<![\w-]){re.escape(it)}(?![\w-])", text) for it in words):
+            found.append(part)
+    return found
+
+
+class Scripts:
+    """Tries wrong bodies of scripts in a copy: the parts about each that pass there without it."""
+
+    def __init__(self, folder, tell):
+        self.folder, self.tell, self.passed = folder, tell, {}
+
+    def times(self, part):
+        """The seconds of a part on the unchanged copy; None where it does not pass."""
+        name = " ".join(part)
+        if name not in self.passed:
+            passed, seconds, said = ran(self.folder, part, 600)
+            self.passed[name] = seconds if passed else None
+            self.tell(f"{name}: " + (f"{seconds:.0f} s" if passed else f"left out: {said.strip()[-200:]}"))
+        return self.passed[name]
+
+    def seen_by(self, body):
+        """The first part that sees it; an empty text where nothing was tried; None where none sees it."""
+        parts = sorted((self.times(it), it) for it in parts_about(body.path) if self.times(it) is not None)
+        file = self.folder / body.path
+        before = file.read_text(encoding="utf-8")
+        file.write_text(body.apply(before), encoding="utf-8")
+        try:
+            for seconds, part in parts:
+                if not ran(self.folder, part, TIMES * seconds + 20)[0]:
+                    return " ".join(part)
+        finally:
+            file.write_text(before, encoding="utf-8")
+        return None if parts else ""

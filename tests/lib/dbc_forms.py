@@ -1,9 +1,9 @@
 """Random DBC files, and random logs of the groups that they tell of: frames, and messages joined from packets."""
 
 UNITS = [b"", b"rpm", b"km/h", b"%", "\u00b0C".encode(), "\u00b0C".encode("latin-1"), b'6\\" pipe', b"\x1b[7m", b"a;b", b"kPa"]
-WORDS = [b"on", b"off", b"", b"not available", b'a \\" quote', "gr\u00fcn".encode(), "gr\u00fcn".encode("latin-1"), b"line\nBO_ 2566834432 Fake: 8 X\n SG_ Fake : 0|8@1+ (1,0) [0|0] \"\"", b"\xe2\x80\xae"]
+WORDS = [b"on", b"off", b"", b"not available", b'a \\" quote', "gr\u00fcn".encode(), "gr\u00fcn".encode("latin-1"), b"line\nBO_ 2566834432 Fake: 8 X\n SG_ Fake : 0|8@1+ (1,0) [0|0] \\\"\\\"", b"\xe2\x80\xae"]
 FACTORS = ["1", "1", "1", "0.125", "0.5", "0.1", "0.00390625", "4", "10", "1E-7", "0.0000001", "-1", "-0.25", "1.0E+3", "0.017453292519943", "3.0517578125e-05", "0", "+2", "0.000", "1000000"]
-OFFSETS = ["0", "0", "0", "0", "-40", "-273", "-125", "1", "0.5", "-1.6e-2", "+7.25", "1E3", "-0", "-3200", "0.0000000000001"]
+OFFSETS = ["0", "0", "0", "0", "-40", "-273", "-125", "1", "0.5", "-1.6e-2", "+7.25", "1E3", "-0", "-3200", "0.000000000001"]
 LENGTHS = [1, 2, 2, 3, 4, 8, 8, 8, 12, 16, 16, 16, 24, 32, 63, 64]
 PRELUDE = b'VERSION "x"\n\nNS_ :\n\tNS_DESC_\n\tCM_\n\tBA_\n\tVAL_\n\tSIG_VALTYPE_\n\tSG_MUL_VAL_\n\nBS_:\n\nBU_: Engine Brakes\nVAL_TABLE_ T 1 "one" 0 "none" ;\n'
 LARGEST = 1785

@@ -1,5 +1,5 @@
 -- A bit of a byte is a bit of the number that the bytes are.
-use Rattle.std.proofs.Common.{◌≡◌, ℕ, ◌+◌, ◌-◌, ◌*◌, ◌/◌, ◌%◌, ◌^◌, ◌<◌, ◌≤◌, List, [], ◌∷◌, length, reverse, get_or, refl, ap, subst, sym, ◌∙◌, ⊎_elim, arith, zero, suc}
+use Rattle.std.proofs.Common.{◌≡◌, ℕ, ◌+◌, ◌-◌, ◌*◌, ◌/◌, ◌%◌, ◌^◌, ◌<◌, List, [], ◌∷◌, length, reverse, get_or, ap, subst, sym, ◌∙◌, ⊎_elim, arith, zero, suc}
 use Rattle.std.proofs.Math.Nat.{add-mul-div_left, zero-div, mod-lt}
 use Rattle.std.proofs.lemmas.Bool.{cases_lt}
 use Rattle.std.proofs.lemmas.List.{get_or-reverse, get_or_past, length-reverse}

@@ -1,14 +1,7 @@
 -- Signs, powers of ten, and the highest eight bits of a number.
-use Rattle.std.proofs.Common.{◌≡◌, ℕ, ℤ, pos, negsuc, neg_ℤ, ◌+◌, ◌-◌, ◌*◌, ◌/◌, ◌%◌, ◌^◌, ◌<◌, ◌≤◌, refl, ap, subst, sym, ◌∙◌, arith, zero, suc, if◌then◌else◌}
-use lib.Signed.{lt_z}
-use Rattle.std.proofs.Math.Nat.{pow-suc}
+use Rattle.std.proofs.Common.{◌≡◌, ℕ, ◌+◌, ◌-◌, ◌*◌, ◌/◌, ◌%◌, ◌^◌, ◌<◌, ◌≤◌, ap, subst, arith, suc, lit<}
+use Rattle.std.proofs.Math.Nat.{pow-suc, pow-le-pow_right}
 use Rattle.std.proofs.lemmas.Nat.{shr_below}
-use Rattle.std.specs.Int.RustNames.{unsigned_abs}
-use Rattle.signal_values.specs.Values.{signed}
-
-pub by_sign : (x : ℤ) → signed (lt_z x (pos 0)) (unsigned_abs x) ≡ x
-by_sign (pos n) = refl
-by_sign (negsuc n) = refl
 
 pub highest_byte : (raw count : ℕ) → 8 ≤ count → raw < 2 ^ count → raw / 2 ^ (count - 8) < 256
 highest_byte raw count h fits =
@@ -42,3 +35,16 @@ tenth all digits most places some within even e =
     let i : digits / 10 * 10 ^ suc (most - places) ≡ digits / 10 * (10 ^ (most - places) * 10) = ap (λ n. digits / 10 * n) (pow-suc 10 (most - places)) in
     let j : digits * 10 ^ (most - places) ≡ 10 * (digits / 10) * 10 ^ (most - places) = ap (λ n. n * 10 ^ (most - places)) d in
     omega (arith, e, h, i, j)
+
+-- a power that is too large leaves all further ones too large
+pub beyond : (power place places : ℕ) → place < places → power ≡ 10 ^ place → ¬ (power * 10 < 2 ^ 128) → 2 ^ 128 ≤ 10 ^ places
+beyond power place places h e large =
+    let f : 10 ^ suc place ≤ 10 ^ places = pow-le-pow_right (lit< tt) h in
+    let g : 10 ^ suc place ≡ 10 ^ place * 10 = pow-suc 10 place in
+    let l : 2 ^ 128 ≤ power * 10 = omega (arith, large) in
+    omega (arith, f, g, e, l)
+
+pub one_more : (power place : ℕ) → power ≡ 10 ^ place → power * 10 ≡ 10 ^ (place + 1)
+one_more power place e =
+    let f : 10 ^ (place + 1) ≡ 10 ^ suc place = ap (λ n. 10 ^ n) (omega arith) in
+    omega (arith, e, f, pow-suc 10 place)

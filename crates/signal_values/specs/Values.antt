@@ -1,6 +1,5 @@
 -- What the number means that a signal's bits are.
-use Rattle.std.specs.Prelude.{◌≡◌, ℕ, ℤ, pos, neg_ℤ, ◌+ℤ◌, ◌-ℤ◌, ◌*ℤ◌, ◌-◌, ◌*◌, ◌/◌, ◌^◌, ◌≤◌, Bool, ◌&&◌, nat_le, nat_lt, zero, suc, if◌then◌else◌}
-use Rattle.std.specs.Int.RustNames.{unsigned_abs}
+use Rattle.std.specs.Prelude.{ℕ, ℤ, pos, neg_ℤ, ◌-ℤ◌, ◌-◌, ◌/◌, ◌^◌, Bool, ◌&&◌, nat_le, nat_lt, zero, suc, if◌then◌else◌}
 use Rattle.signal_values.specs.declared.sense.Sense.{Sense}
 use Rattle.signal_values.specs.declared.sense.Sense.TheVariants.{Error, NotAvailable, Value}
 use Rattle.signal_values.specs.declared.decimal.Decimal.{Decimal}
@@ -21,6 +20,10 @@ sense_below _ = Value
 -- all ones are not available, one below is an error; of a single bit neither is (SAE J1939-71, ranges of transmitted signals; from memory)
 abbrev pub sense_in : ℕ → ℕ → Sense
 sense_in count raw = if nat_lt count 2 then Value else sense_below (below_ones count raw)
+
+-- the same of a signal; of one with a sign neither is, which has -1 and -2 there
+abbrev pub sense_of : Bool → ℕ → ℕ → Sense
+sense_of is_signed count raw = if is_signed then Value else sense_in count raw
 
 -- a number by its sign and its digits
 abbrev pub signed : Bool → ℕ → ℤ

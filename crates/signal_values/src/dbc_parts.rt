@@ -17,10 +17,19 @@ const MOST_BITS: u16 = 14280;
 /// A message, as a line `BO_ ID NAME: SIZE SENDER` has it.
 #[derive(Clone, Copy)]
 pub(crate) enum MessagePart {
-    /// One of SAE J1939, with this identifier.
-    Group(Id),
+    /// One of SAE J1939.
+    Group(MessageId),
     /// One whose signals are passed over: it has 11 bits, or stands for signals without a message.
     PassedOver,
+}
+
+/// The 29-bit identifier of a message, and its parts.
+#[derive(Clone, Copy)]
+pub(crate) struct MessageId {
+    pub(crate) number: u32,
+    /// The number of its parameter group.
+    pub(crate) pgn: u32,
+    pub(crate) source: u8,
 }
 
 /// When a signal is there.
@@ -46,7 +55,7 @@ pub(crate) struct SignalPart<'a> {
 const INDEPENDENT: &[u8] = b"VECTOR__INDEPENDENT_SIG_MSG";
 
 /// Bit 31 of a number tells a 29-bit identifier from one of 11 bits.
-const EXTENDED: u32 = 1 << 31;
+pub(crate) const EXTENDED: u32 = 1 << 31;
 
 /// Reads what stands behind `BO_`.
 pub(crate) fn message_part<'a>(words: &mut DbcWords<'a>) -> Result<MessagePart, RowFault<'a>> {
@@ -57,7 +66,11 @@ pub(crate) fn message_part<'a>(words: &mut DbcWords<'a>) -> Result<MessagePart, 
         return Ok(MessagePart::PassedOver);
     }
     match Id::new(number - EXTENDED) {
-        Ok(id) => Ok(MessagePart::Group(id)),
+        Ok(id) => Ok(MessagePart::Group(MessageId {
+            number: id.number(),
+            pgn: id.pgn().number(),
+            source: id.source(),
+        })),
         Err(_) => Err(RowFault::NoValue("identifier", told(name), "of 29 bits and bit 31")),
     }
 }

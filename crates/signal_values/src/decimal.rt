@@ -17,7 +17,6 @@ impl Decimal {
     ghost use Rattle.signal_values.specs.Values.{units_of};
 
     /// So many units of 10^-places.
-    #[tactic(auto, using(crate::proofs::Decimals::by_sign))]
     pub fn of(units: i128, places: u8) -> Decimal
         ensures units { units_of result ≡ units }
         ensures places { result.places ≡ places }
@@ -79,13 +78,18 @@ impl Decimal {
 }
 
 /// 10^places, where it is below 2^128.
+#[tactic(auto, using(crate::proofs::Decimals::beyond, crate::proofs::Decimals::one_more))]
 fn power_of_ten(places: u8) -> Option<u128>
     ensures power { IfSome result (λ power. power ≡ 10 ^ places) }
+    ensures some { IfSome result (λ power. 0 < power) }
     ensures none { IfNone result (2 ^ 128 ≤ 10 ^ places) }
 {
     let mut power = 1u128;
     for _place in 0..places {
-        power = power.checked_mul(10)?;
+        let Some(more) = power.checked_mul(10) else {
+            return None;
+        };
+        power = more;
     }
     Some(power)
 }

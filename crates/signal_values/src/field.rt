@@ -5,12 +5,12 @@ use crate::payload::{ByteOrder, bit_from_highest, bit_from_lowest};
 /// Where the bits of a signal stand in a payload, as a DBC file says it.
 #[derive(Clone, Copy, Debug)]
 pub struct Field {
-    order: ByteOrder,
+    pub order: ByteOrder,
     /// Bit `n` is bit `n % 8` of byte `n / 8`. In the little order it is the signal's lowest bit, in the big one its highest.
-    start: u16,
+    pub start: u16,
     /// How many bits there are.
-    count: u8,
-    ghost counts: { (1 ≤ count) × (count ≤ 64) },
+    pub count: u8,
+    pub ghost counts: { (1 ≤ count) × (count ≤ 64) },
 }
 
 impl Field {
@@ -29,15 +29,6 @@ impl Field {
             start,
             count,
         }
-    }
-
-    /// How many bits it has, 1 to 64.
-    pub fn count(self) -> u8
-        ensures count { result ≡ self.count }
-        ensures some { 1 ≤ result }
-        ensures most { result ≤ 64 }
-    {
-        self.count
     }
 
     /// The number that its bits are; none where the payload has not all of them.

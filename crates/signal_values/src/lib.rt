@@ -24,5 +24,5 @@ pub use payload::ByteOrder;
 pub use reading::{MOST_BYTES, MOST_SIGNALS, MOST_TEXTS};
 pub use scaling::Scaling;
 pub use sense::Sense;
-pub use signal::{Layout, Meaning, Signal, SignalValue, Taken};
+pub use signal::{Layout, Meaning, Signal, SignalValue, Taken, ValueText};
 pub use signals::{GroupWords, SignalGroup, Signals};

@@ -1,6 +1,7 @@
 use crate::dbc_lines::{DbcLine, DbcLines};
 use crate::dbc_parts::{
-    MessagePart, Presence, SignalPart, identifier, message_part, name_part, parsed, signal_part,
+    EXTENDED, MessagePart, Presence, SignalPart, identifier, message_part, name_part, parsed,
+    signal_part,
 };
 use crate::dbc_words::{DbcWords, text_of, told};
 use crate::signal::{Signal, ValueText};
@@ -135,11 +136,11 @@ impl Reading {
             Ok(MessagePart::PassedOver) => return Ok(Ok(())),
             Err(wrong) => return Ok(Err(wrong)),
         };
-        if self.groups.contains_key(&id.number()) {
+        if self.groups.contains_key(&id.number) {
             return Ok(Err(RowFault::NoValue("BO_", "its identifier", "that of no message before")));
         }
         let place = self.signals.add_group(id, line)?;
-        self.groups.insert(id.number(), place)?;
+        self.groups.insert(id.number, place)?;
         self.current = Current::Group(place);
         Ok(Ok(()))
     }
@@ -269,9 +270,6 @@ impl Reading {
         Ok(())
     }
 }
-
-/// Bit 31 of a number tells a 29-bit identifier from one of 11 bits.
-const EXTENDED: u32 = 1 << 31;
 
 /// Whether a signal may be one of a group.
 fn may_add<'a>(group: &SignalGroup, part: &SignalPart<'a>) -> Result<(), RowFault<'a>> {

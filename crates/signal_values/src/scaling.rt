@@ -9,14 +9,15 @@ const MOST_FACTOR: u128 = 1_000_000_000_000_000_000;
 /// The most that an offset is.
 const MOST_OFFSET: u128 = 10_000_000_000_000_000_000_000_000_000_000_000_000;
 
-/// What the numbers of a signal are multiplied by, and what is added then; both in units of 10^-places.
+/// What the numbers of a signal are multiplied by, and what is added then.
 #[derive(Clone, Copy, Debug)]
 pub struct Scaling {
-    factor: i64,
-    offset: i128,
-    places: u8,
-    ghost factors: { unsigned_abs factor ≤ 10 ^ 18 },
-    ghost offsets: { unsigned_abs offset ≤ 10 ^ 37 },
+    /// In units of 10^-places, as the offset.
+    pub factor: i64,
+    pub offset: i128,
+    pub places: u8,
+    pub ghost factors: { unsigned_abs factor ≤ 10 ^ 18 },
+    pub ghost offsets: { unsigned_abs offset ≤ 10 ^ 37 },
 }
 
 impl Scaling {
@@ -52,13 +53,22 @@ impl Scaling {
     }
 
     /// The same in units of 10^-places.
-    #[tactic(auto, using(std::proofs::lemmas::Int::fits_signed_mul))]
     fn units(self, number: i128) -> i128
         requires { unsigned_abs number ≤ 2 ^ 64 }
         ensures { result ≡ (number *ℤ self.factor) +ℤ self.offset }
     {
-        number * i128::from(self.factor) + self.offset
+        product(number, self.factor) + self.offset
     }
+}
+
+/// A number times a factor.
+fn product(number: i128, factor: i64) -> i128
+    requires number { unsigned_abs number ≤ 2 ^ 64 }
+    requires factor { unsigned_abs factor ≤ 10 ^ 18 }
+    ensures product { result ≡ number *ℤ factor }
+    ensures bound { unsigned_abs result ≤ 2 ^ 64 * 10 ^ 18 }
+{
+    number * i128::from(factor)
 }
 
 /// A number by its sign and its digits.

@@ -1,3 +1,5 @@
+ghost use Rattle.std.specs.Prelude.{◌≡◌, ◌↔◌, ◌+ℤ◌, ◌*ℤ◌, IsSome, IfSome, false, if◌then◌else◌};
+
 use crate::decimal::Decimal;
 use crate::field::Field;
 use crate::number::number_of;
@@ -9,15 +11,15 @@ use std::fmt;
 /// A signal of a group's payload.
 #[derive(Drop)]
 pub struct Signal {
-    pub(crate) name: String,
-    pub(crate) unit: String,
-    pub(crate) layout: Layout,
+    pub name: String,
+    pub unit: String,
+    pub layout: Layout,
     /// Of which number of its group's multiplexor it is there; none where it is always.
-    pub(crate) page: Option<u64>,
-    pub(crate) spn: Option<u32>,
+    pub page: Option<u64>,
+    pub spn: Option<u32>,
     /// No value is told of it.
-    pub(crate) is_left_out: bool,
-    pub(crate) texts: Vec<ValueText>,
+    pub is_left_out: bool,
+    pub texts: Vec<ValueText>,
 }
 
 /// What the bits of a signal are.
@@ -30,9 +32,9 @@ pub struct Layout {
 
 /// A text for a number of a signal.
 #[derive(Drop)]
-pub(crate) struct ValueText {
-    pub(crate) number: i128,
-    pub(crate) text: String,
+pub struct ValueText {
+    pub number: i128,
+    pub text: String,
 }
 
 /// What a payload says of a signal.
@@ -58,14 +60,25 @@ pub enum Meaning<'a> {
 }
 
 impl Layout {
+    ghost use Rattle.signal_values.specs.Bits.{IsWithin, raw_of};
+    ghost use Rattle.signal_values.specs.Values.{number_in, sense_of, units_of};
+
     /// The number that the bits are, and what it stands for; none where the payload has not all of them.
-    pub fn read(self, bytes: &[u8]) -> Option<Taken> {
+    pub fn read(self, bytes: &[u8]) -> Option<Taken>
+        ensures within { IsSome result ↔ IsWithin self.field bytes.now }
+        ensures raw { IfSome result (λ t. t.raw ≡ raw_of self.field bytes.now) }
+        ensures number { IfSome result (λ t. t.number ≡ number_in self.is_signed self.field.count t.raw) }
+        ensures sense { IfSome result (λ t. t.sense ≡ sense_of self.is_signed self.field.count t.raw) }
+        ensures value { IfSome result (λ t. units_of t.value ≡ (t.number *ℤ self.scaling.factor) +ℤ self.scaling.offset) }
+        ensures places { IfSome result (λ t. t.value.places ≡ self.scaling.places) }
+    {
         let raw = self.field.raw(bytes)?;
-        let number = number_of(raw, self.field.count(), self.is_signed);
-        let sense = if self.is_signed {
+        let (count, is_signed) = (self.field.count, self.is_signed);
+        let number = number_of(raw, count, is_signed);
+        let sense = if is_signed {
             Sense::Value
         } else {
-            Sense::of(raw, self.field.count())
+            Sense::of(raw, count)
         };
         Some(Taken {
             raw,
@@ -88,15 +101,14 @@ pub struct Taken {
 }
 
 impl Signal {
-    /// Its name.
-    pub fn name(&self) -> &str {
-        self.name.as_str()
-    }
+    ghost use Rattle.signal_values.specs.Presence.{IsThere};
 
     /// What a payload says of it, whose multiplexor has this number; none where it is not there.
     ///
     /// A text of the file comes first. Without one a signal that is not signed may be an error or not available.
-    pub fn value(&self, bytes: &[u8], page: Option<u64>) -> Option<SignalValue<'_>> {
+    pub fn value(&self, bytes: &[u8], page: Option<u64>) -> Option<SignalValue<'_>>
+        ensures { IsSome result ↔ IsThere self.entry.now bytes.now page }
+    {
         if self.is_left_out || (self.page.is_some() && self.page != page) {
             return None;
         }

@@ -1,5 +1,6 @@
+use crate::dbc_parts::MessageId;
 use crate::signal::{Signal, SignalValue, ValueText};
-use can_frame::{Id, Pgn};
+use can_frame::Pgn;
 use indexmap::IndexMap;
 use std::alloc::{AllocError, Global};
 use std::fmt;
@@ -7,7 +8,6 @@ use std::fmt;
 /// The signals of a group, as one message of a DBC file has them.
 #[derive(Drop)]
 pub struct SignalGroup {
-    pub(crate) id: Id,
     /// The line of the file that begins it.
     pub(crate) line: u64,
     /// The place of its multiplexor, where it has one.
@@ -17,9 +17,8 @@ pub struct SignalGroup {
 
 impl SignalGroup {
     /// A group without signals.
-    pub(crate) fn new(alloc: Global, id: Id, line: u64) -> SignalGroup {
+    pub(crate) fn new(alloc: Global, line: u64) -> SignalGroup {
         SignalGroup {
-            id,
             line,
             multiplexor: None,
             signals: Vec::new(alloc),
@@ -74,9 +73,9 @@ pub struct Signals {
     pub(crate) alloc: Global,
     pub(crate) groups: Vec<SignalGroup>,
     /// The place of the first group of a number and a source, by `source_key`.
-    exact: IndexMap<u32, usize>,
+    exact: IndexMap<u64, usize>,
     /// The place of the first group of a number.
-    any: IndexMap<u32, usize>,
+    any: IndexMap<u64, usize>,
 }
 
 impl Signals {
@@ -93,9 +92,10 @@ impl Signals {
     /// The signals of a group that comes from a source: of several messages of the group the first with this source, or else the
     /// first.
     pub fn group_of(&self, pgn: Pgn, source: u8) -> Option<&SignalGroup> {
+        let pgn = pgn.number();
         let place = match self.exact.get(&source_key(pgn, source)) {
             Some(place) => *place,
-            None => *self.any.get(&pgn.number())?,
+            None => *self.any.get(&u64::from(pgn))?,
         };
         self.groups.get(place)
     }
@@ -104,11 +104,11 @@ impl Signals {
     ///
     /// # Errors
     /// Memory was refused.
-    pub(crate) fn add_group(&mut self, id: Id, line: u64) -> Result<usize, AllocError> {
-        let (place, pgn) = (self.groups.len(), id.pgn());
-        self.groups.push(SignalGroup::new(self.alloc, id, line))?;
-        put_first(&mut self.exact, source_key(pgn, id.source()), place)?;
-        put_first(&mut self.any, pgn.number(), place)?;
+    pub(crate) fn add_group(&mut self, id: MessageId, line: u64) -> Result<usize, AllocError> {
+        let place = self.groups.len();
+        self.groups.push(SignalGroup::new(self.alloc, line))?;
+        put_first(&mut self.exact, source_key(id.pgn, id.source), place)?;
+        put_first(&mut self.any, u64::from(id.pgn), place)?;
         Ok(place)
     }
 
@@ -159,12 +159,12 @@ impl Signals {
 }
 
 /// A group and a source as one key.
-fn source_key(pgn: Pgn, source: u8) -> u32 {
-    pgn.number() * 256 + u32::from(source)
+fn source_key(pgn: u32, source: u8) -> u64 {
+    u64::from(pgn) * 256 + u64::from(source)
 }
 
 /// Puts a place under a key, where none is yet.
-fn put_first(index: &mut IndexMap<u32, usize>, key: u32, place: usize) -> Result<(), AllocError> {
+fn put_first(index: &mut IndexMap<u64, usize>, key: u64, place: usize) -> Result<(), AllocError> {
     if index.contains_key(&key) {
         return Ok(());
     }

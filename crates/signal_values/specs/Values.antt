@@ -5,8 +5,8 @@ use Rattle.signal_values.specs.declared.sense.Sense.TheVariants.{Error, NotAvail
 use Rattle.signal_values.specs.declared.decimal.Decimal.{Decimal}
 
 -- so many bits as a number: of a signed signal, two's complement
-abbrev pub number_in : Bool → ℕ → ℕ → ℤ
-number_in is_signed count raw = if is_signed && nat_le (2 ^ (count - 1)) raw then pos raw -ℤ pos (2 ^ count) else pos raw
+abbrev pub bits_as_number : Bool → ℕ → ℕ → ℤ
+bits_as_number is_signed count raw = if is_signed && nat_le (2 ^ (count - 1)) raw then pos raw -ℤ pos (2 ^ count) else pos raw
 
 -- how far below all ones: of two to seven bits the number, of more its highest eight bits
 abbrev pub below_ones : ℕ → ℕ → ℕ
@@ -30,5 +30,5 @@ abbrev pub signed : Bool → ℕ → ℤ
 signed is_negative digits = if is_negative then neg_ℤ (pos digits) else pos digits
 
 -- a decimal, in units of 10^-places
-abbrev pub units_of : Decimal → ℤ
-units_of d = signed d.is_negative d.digits
+abbrev pub decimal_units : Decimal → ℤ
+decimal_units d = signed d.is_negative d.digits

@@ -14,11 +14,11 @@ pub const MOST_PLACES: u8 = 36;
 
 impl Decimal {
     ghost use Rattle.std.specs.Prelude.{ℤ};
-    ghost use Rattle.signal_values.specs.Values.{units_of};
+    ghost use Rattle.signal_values.specs.Values.{decimal_units};
 
     /// So many units of 10^-places.
     pub fn of(units: i128, places: u8) -> Decimal
-        ensures units { units_of result ≡ units }
+        ensures units { decimal_units result ≡ units }
         ensures places { result.places ≡ places }
     {
         Decimal {

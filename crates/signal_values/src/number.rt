@@ -1,13 +1,13 @@
 ghost use Rattle.std.specs.Prelude.{◌≡◌, ◌^◌, ◌<◌, ◌≤◌};
 ghost use Rattle.std.specs.Int.RustNames.{unsigned_abs};
-ghost use Rattle.signal_values.specs.Values.{number_in};
+ghost use Rattle.signal_values.specs.Values.{bits_as_number};
 
 /// What 1 to 64 bits are as a number: of a signed signal, two's complement.
 pub fn number_of(raw: u64, count: u8, is_signed: bool) -> i128
     requires fits { raw < 2 ^ count }
     requires some { 1 ≤ count }
     requires most { count ≤ 64 }
-    ensures number { result ≡ number_in is_signed count raw }
+    ensures number { result ≡ bits_as_number is_signed count raw }
     ensures bound { unsigned_abs result ≤ 2 ^ 64 }
 {
     let number = i128::from(raw);

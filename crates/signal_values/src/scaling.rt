@@ -21,7 +21,7 @@ pub struct Scaling {
 }
 
 impl Scaling {
-    ghost use Rattle.signal_values.specs.Values.{units_of, signed};
+    ghost use Rattle.signal_values.specs.Values.{decimal_units, signed};
 
     /// With this factor and this offset, exactly. None where, with as many places as either needs, the factor is more than 10^18 or the offset more than 10^37.
     pub fn new(factor: Decimal, offset: Decimal) -> Option<Scaling>
@@ -46,7 +46,7 @@ impl Scaling {
     /// What a number of 65 bits with its sign stands for: the number times the factor, and the offset.
     pub fn value(self, number: i128) -> Decimal
         requires { unsigned_abs number ≤ 2 ^ 64 }
-        ensures units { units_of result ≡ (number *ℤ self.factor) +ℤ self.offset }
+        ensures units { decimal_units result ≡ (number *ℤ self.factor) +ℤ self.offset }
         ensures places { result.places ≡ self.places }
     {
         Decimal::of(self.units(number), self.places)

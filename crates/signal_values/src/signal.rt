@@ -61,15 +61,15 @@ pub enum Meaning<'a> {
 
 impl Layout {
     ghost use Rattle.signal_values.specs.Bits.{IsWithin, raw_of};
-    ghost use Rattle.signal_values.specs.Values.{number_in, sense_of, units_of};
+    ghost use Rattle.signal_values.specs.Values.{bits_as_number, sense_of, decimal_units};
 
     /// The number that the bits are, and what it stands for; none where the payload has not all of them.
     pub fn read(self, bytes: &[u8]) -> Option<Taken>
         ensures within { IsSome result ↔ IsWithin self.field bytes.now }
         ensures raw { IfSome result (λ t. t.raw ≡ raw_of self.field bytes.now) }
-        ensures number { IfSome result (λ t. t.number ≡ number_in self.is_signed self.field.count t.raw) }
+        ensures number { IfSome result (λ t. t.number ≡ bits_as_number self.is_signed self.field.count t.raw) }
         ensures sense { IfSome result (λ t. t.sense ≡ sense_of self.is_signed self.field.count t.raw) }
-        ensures value { IfSome result (λ t. units_of t.value ≡ (t.number *ℤ self.scaling.factor) +ℤ self.scaling.offset) }
+        ensures value { IfSome result (λ t. decimal_units t.value ≡ (t.number *ℤ self.scaling.factor) +ℤ self.scaling.offset) }
         ensures places { IfSome result (λ t. t.value.places ≡ self.scaling.places) }
     {
         let raw = self.field.raw(bytes)?;

@@ -29,7 +29,7 @@ BAD_SIGNALS = [
     (MESSAGE + SIGNAL + b'BA_ "SPN" SG_ 2566844158 Oil x;\n', "line 3: SPN: x is not a number"), (MESSAGE + SIGNAL + b"SIG_VALTYPE_ 2566844158 Oil 1;\n", "line 3: SIG_VALTYPE_: 1 is not a : behind the name"),
     (MESSAGE + SIGNAL.replace(b"Oil", b"\xff"), "line 2: SG_: what is no UTF-8 is not a name"), (MESSAGE + SIGNAL.replace(b"@1+", b"@" + b"x" * 100), "line 2: byte order: a long word is not 0+, 0-, 1+ or 1-"),
     (b" " * 16_777_217, "line 1: file: it is not of up to 16777216 bytes"),
-    (MESSAGE + b"".join(b' SG_ s%d : 0|8@1+ (1,0) [0|0] "" X\n' % at if at % 1024 else b'BO_ %d M: 8 X\n SG_ s%d : 0|8@1+ (1,0) [0|0] "" X\n' % (0x98FF0000 + at, at) for at in range(65537)), "line 65603: SG_: s65536 is not among the first 65536 signals"),
+    (MESSAGE + b"".join(b' SG_ s%d : 0|8@1+ (1,0) [0|0] "" X\n' % at if at % 64 else b'BO_ %d M: 8 X\n SG_ s%d : 0|8@1+ (1,0) [0|0] "" X\n' % (0x98FF0000 + at, at) for at in range(65537)), "line 66563: SG_: s65536 is not among the first 65536 signals"),
     (MESSAGE + SIGNAL + b"VAL_ 2566844158 Oil" + b' 1 ""' * 262145 + b";\n", "line 3: VAL_: it is not among the first 262144 texts"),
 ]
 # A signal of one byte order and length with its factor and offset, a payload, and what is told of it: by hand.

@@ -7,8 +7,9 @@ use std::fmt;
 const MOST_DIGITS: u128 = 1_000_000_000_000_000_000;
 
 impl Decimal {
-    /// The number that a word is: digits, a point among them or none, and a power of ten (`E-3`) or none. None where it is no number, has more than 18 digits before
-    /// zeros at its end, more than 36 places, or is more than 10^18.
+    /// The number that a word is: digits, a point among them or none, and a power of ten (`E-3`) or none.
+    ///
+    /// None where it is no number, has more than 36 places, or is more than 10^18 in units of the last of them.
     pub(crate) fn read(word: &[u8]) -> Option<Decimal> {
         let (is_negative, word) = signed(word);
         let (mantissa, power) = with_power(word)?;

@@ -20,14 +20,16 @@ pub const MOST_SIGNALS: usize = 65_536;
 pub const MOST_TEXTS: usize = 262_144;
 
 impl Signals {
-    /// The signals of a DBC file, as far as they are of SAE J1939: messages (`BO_`) of 29 bits, with their signals (`SG_`), texts for
-    /// values (`VAL_`) and suspect parameter numbers (`BA_ "SPN"`). A signal of floating point (`SIG_VALTYPE_`) is left out, and all else is passed over.
+    /// The signals of a DBC file, as far as they are of SAE J1939: messages (`BO_`) of 29 bits, with their signals (`SG_`), texts
+    /// for values (`VAL_`) and suspect parameter numbers (`BA_ "SPN"`). A signal of floating point (`SIG_VALTYPE_`) is left out,
+    /// and all else is passed over.
     ///
     /// Texts are UTF-8, or else Latin-1.
     ///
     /// # Errors
-    /// - `Refused`: a line is none of its kind; a message stands there twice, a signal has the name of another one of its message, or
-    ///   is one of a second multiplexor or of none; or the file has more than 16,777,216 bytes, 65,536 signals or 262,144 texts. Each is told by its line.
+    /// - `Refused`: a line is none of its kind; a message stands there twice; a signal has the name of another one of its message,
+    ///   is a second multiplexor, or wants one that is not there; or the file has more than 16,777,216 bytes, 65,536 signals or
+    ///   262,144 texts. Each is told by its line.
     /// - `Memory`: memory was refused.
     pub fn read(alloc: Global, file: &[u8]) -> Result<Signals, SheetFault> {
         let mut told = WrongLines::new(alloc, "signals");
@@ -192,7 +194,8 @@ impl Reading {
         }
     }
 
-    /// Takes texts for the values of a signal: `VAL_ ID NAME 0 "off" 1 "on" ;`. Those of an environment variable have no identifier.
+    /// Takes texts for the values of a signal: `VAL_ ID NAME 0 "off" 1 "on" ;`. Those of an environment variable have no
+    /// identifier.
     fn take_texts<'a>(&mut self, mut words: DbcWords<'a>) -> Outcome<'a> {
         let mut ahead = words;
         if parsed::<u32>(ahead.word()).is_none() {

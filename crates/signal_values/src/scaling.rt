@@ -23,7 +23,8 @@ pub struct Scaling {
 impl Scaling {
     ghost use Rattle.signal_values.specs.Values.{decimal_units, signed};
 
-    /// With this factor and this offset, exactly. None where, with as many places as either needs, the factor is more than 10^18 or the offset more than 10^37.
+    /// With this factor and this offset, exactly. None where, with as many places as either needs, the factor is more than 10^18 or
+    /// the offset more than 10^37.
     pub fn new(factor: Decimal, offset: Decimal) -> Option<Scaling>
         ensures factor { IfSome result (λ s. s.factor ≡ signed factor.is_negative (factor.digits * 10 ^ (s.places - factor.places))) }
         ensures offset { IfSome result (λ s. s.offset ≡ signed offset.is_negative (offset.digits * 10 ^ (s.places - offset.places))) }

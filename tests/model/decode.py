@@ -9,6 +9,7 @@ from .log_cases import reach
 from .memory import read_at_all
 from .notices import Absence, BadLines, without_frames
 from .pacing import Pacing
+from .signal_values import SignalFile, with_numbers
 from .words import DATA_GROUPS, address_words, code_object, dumped, meaning_words, message_words, name_fields, name_text, payload_words, seen, seen_json, time_text, trouble_object
 
 MOST_BUSES = 16  # of which packets are joined
@@ -60,16 +61,16 @@ def texts_behind(shown, texts):
     return "".join(meaning_words(code.spn, code.fmi, texts.of(code)) for code in (shown[1] if shown else []))
 
 
-def in_words(line, texts):
+def in_words(line, texts, signals):
     if line.kind != "frame":
         return words_of(line)
     frame = line.what
     dest = GLOBAL if frame.dest is None else frame.dest
     return (f"{place_words(line)}p{frame.number >> 26} {address_words(frame.source, True)}>{address_words(dest, True)} {frame.pgn} {message_words(frame, True)}"
-            + texts_behind(shown_by(frame), texts))
+            + texts_behind(shown_by(frame), texts) + signals.words(frame.pgn, frame.source, frame.data))
 
 
-def in_json(number, line, texts):
+def in_json(number, line, texts, signals):
     told = {"line": number}
     if line.kind != "frame":
         return told | {"says": words_of(line)}
@@ -83,7 +84,7 @@ def in_json(number, line, texts):
         told |= {"lamps": shown[0].hex().upper(), "codes": [code_object(code, texts.of(code)) for code in shown[1]]} | trouble_object(shown)
     if name is not None:
         told |= {"name": name_text(name), "fields": name_fields(name)}
-    return told
+    return told | signals.objects(frame.pgn, frame.source, frame.data)
 
 
 class Joining:
@@ -151,13 +152,13 @@ class Joining:
         return frame.source, frame.dest, control_pgn(frame), b"".join(data[1:] for data in [*packets, packet.data])[: control_size(frame)]
 
 
-def joined_words(line, joined, texts):
+def joined_words(line, joined, texts, signals):
     source, dest, pgn, payload = joined
     shown = read_at_all(payload) if pgn in TITLES else None
-    return f"{place_words(line)}joined {address_words(source, True)}>{address_words(dest, True)} {pgn} {payload_words(pgn, payload, True)}" + texts_behind(shown, texts)
+    return f"{place_words(line)}joined {address_words(source, True)}>{address_words(dest, True)} {pgn} {payload_words(pgn, payload, True)}" + texts_behind(shown, texts) + signals.words(pgn, source, payload)
 
 
-def joined_object(number, line, joined, texts):
+def joined_object(number, line, joined, texts, signals):
     source, dest, pgn, payload = joined
     shown = read_at_all(payload) if pgn in TITLES else None
     told = {"line": number, "joined": True} | place_object(line)
@@ -167,20 +168,20 @@ def joined_object(number, line, joined, texts):
     if pgn in DATA_GROUPS:
         reach("decode: a joined message has a group's name")
         told["group"] = DATA_GROUPS[pgn]
-    return told
+    return told | signals.objects(pgn, source, payload)
 
 
-def decoded(lines, texts="", join=False):
+def decoded(lines, texts="", join=False, signals=b""):
     """What is written of lines in text and in JSON, what is told of bad ones, and the status."""
-    texts, text, objects, bad, absence, errors, joining = Texts(texts), [], [], BadLines(), Absence(), [], Joining()
+    texts, signals, text, objects, bad, absence, errors, joining = Texts(texts), SignalFile(signals), [], [], BadLines(), Absence(), [], Joining()
     for number, line in enumerate(lines, 1):
         errors.append(bad.told(number, line))
         absence.take(line, "told")
-        text.append(in_words(line, texts) + "\n")
-        objects.append(seen_json(dumped(in_json(number, line, texts))) + "\n")
+        text.append(in_words(line, texts, signals) + "\n")
+        objects.append(with_numbers(seen_json(dumped(in_json(number, line, texts, signals)))) + "\n")
         joined = joining.take(line) if join else None
         if joined:
-            text.append(joined_words(line, joined, texts) + "\n")
-            objects.append(seen_json(dumped(joined_object(number, line, joined, texts))) + "\n")
+            text.append(joined_words(line, joined, texts, signals) + "\n")
+            objects.append(with_numbers(seen_json(dumped(joined_object(number, line, joined, texts, signals)))) + "\n")
     errors = "".join([*errors, bad.rest(), without_frames(lines), absence.rest()])
     return {"text": "".join(text), "json": "".join(objects)}, errors, 3 if errors else 0

@@ -68,7 +68,7 @@ log_shape = subcommand_shape (codes "log") (value_rule (codes "bus") ∷ value_r
 
 abbrev pub decode_shape : Shape
 decode_shape = subcommand_shape (codes "decode")
-    (value_rule (codes "format") ∷ value_rule (codes "units") ∷ value_rule (codes "texts") ∷ flag_rule (codes "join") ∷ place_rule (codes "file") ∷ [])
+    (value_rule (codes "format") ∷ value_rule (codes "units") ∷ value_rule (codes "texts") ∷ value_rule (codes "signals") ∷ flag_rule (codes "join") ∷ place_rule (codes "file") ∷ [])
 
 abbrev pub check_shape : Shape
 check_shape = subcommand_shape (codes "check") []

@@ -28,12 +28,17 @@ spn the FMI:
   ,0,above the normal range
   110,0,Engine coolant temperature above the normal range
 
+The file of --signals says where the signals of a group stand in its bytes. Behind the line of a frame, or of a message that was
+joined, stands what each says that is there, exactly: Speed=817.25 rpm, Fan=1 (on), Torque=not available, Level=error. A text of the
+file for a value comes first. Else a signal without a sign is not available where its highest byte is FF, or its 2 to 7 bits are all
+ones, and an error one below. A group is known by its number; of several messages of it the one with the frame's source counts.
+
 Status: 0 done; 1 a read or write failed, or memory ran out; 2 the command line; 3 done, but lines were bad, or none was a frame of
 SAE J1939 (what was there is told)."
 }
 
 /// Its options.
-const OPTIONS: [CommandOption<'static>; 5] = [
+const OPTIONS: [CommandOption<'static>; 6] = [
     CommandOption {
         name: "format",
         value: "text|json",
@@ -50,6 +55,12 @@ const OPTIONS: [CommandOption<'static>; 5] = [
         name: "texts",
         value: "FILE",
         help: "Texts of SPNs and FMIs",
+        given: Given::Once,
+    },
+    CommandOption {
+        name: "signals",
+        value: "FILE",
+        help: "A DBC file, of whose signals the values are written",
         given: Given::Once,
     },
     CommandOption {
@@ -86,6 +97,7 @@ pub(crate) fn words<'a>(found: &ArgMatches<'a>) -> DecodeArguments<'a> {
         format: found.get_str("format"),
         units: found.get_str("units"),
         texts: found.get_str("texts"),
+        signals: found.get_str("signals"),
         join: found.get_flag("join"),
         file: found.get_str("file"),
     }

@@ -3,7 +3,7 @@
 
 use dm_messages::Trouble;
 use dm_words::{put_code, put_lamps, put_number, put_trouble};
-use json::Writer;
+use json::{Writer, is_number};
 use log_lines::LogFault;
 use std::alloc::{AllocError, Global};
 use trouble_code::{Dtc, Lamps};
@@ -65,10 +65,21 @@ impl ObjectWriter {
         }
     }
 
-    /// Begins the list of codes.
-    pub(crate) fn begin_codes(&mut self) {
+    /// Writes a decimal under its key, for which memory was asked.
+    pub(crate) fn decimal(&mut self, key: &str, text: Result<String, AllocError>) {
+        match text {
+            Ok(text) if !self.is_refused => {
+                self.is_refused = put_decimal(&mut self.json, key, text.as_str()).is_err();
+            }
+            Ok(_) => {}
+            Err(_) => self.refuse(),
+        }
+    }
+
+    /// Begins a list under its key.
+    pub(crate) fn begin_list(&mut self, key: &str) {
         if !self.is_refused {
-            self.is_refused = begin_list(&mut self.json, "codes").is_err();
+            self.is_refused = begin_list(&mut self.json, key).is_err();
         }
     }
 
@@ -79,8 +90,8 @@ impl ObjectWriter {
         }
     }
 
-    /// Ends the list of codes.
-    pub(crate) fn end_codes(&mut self) {
+    /// Ends that list.
+    pub(crate) fn end_list(&mut self) {
         if !self.is_refused {
             self.is_refused = self.json.end_array().is_err();
         }
@@ -90,6 +101,13 @@ impl ObjectWriter {
     pub(crate) fn begin_object(&mut self, key: &str) {
         if !self.is_refused {
             self.is_refused = begin_object(&mut self.json, key).is_err();
+        }
+    }
+
+    /// Begins an object in a list.
+    pub(crate) fn begin_item(&mut self) {
+        if !self.is_refused {
+            self.is_refused = self.json.begin_object().is_err();
         }
     }
 
@@ -123,6 +141,16 @@ impl ObjectWriter {
 fn put_text(json: &mut Writer, key: &str, text: &str) -> Result<(), AllocError> {
     json.key(key)?;
     json.string(text)
+}
+
+/// Writes a key and a number of these digits.
+fn put_decimal(json: &mut Writer, key: &str, digits: &str) -> Result<(), AllocError> {
+    json.key(key)?;
+    if is_number(digits) {
+        json.number(digits)
+    } else {
+        json.string(digits)
+    }
 }
 
 /// Writes a key, and that something holds.

@@ -1,6 +1,6 @@
 use crate::joined::Joined;
 use crate::object_writer::ObjectWriter;
-use crate::run::{ShownPart, place_of, shown_by, shown_in};
+use crate::run::{DecodeOptions, ShownPart, place_of, shown_by, shown_in};
 use can_frame::{Frame, GLOBAL_ADDRESS, Id, Pgn};
 use candump_line::Line;
 use dm_messages::Shown;
@@ -9,21 +9,22 @@ use log_lines::LogFault;
 use name_field::Name;
 use parameter_group::ParameterGroup;
 use shop_texts::Texts;
+use signal_values::{Meaning, SignalGroup, SignalValue};
 use std::alloc::{AllocError, Global};
 use trouble_code::Dtc;
 
 /// A line as a JSON object: its number and what it says; for a frame also its time, its bus, the fields of its identifier
 /// and its data; for a diagnostic message the lamps and the codes, for a claim the NAME and its fields, for a group of data that
-/// has a name that name.
+/// has a name that name, and for one whose signals are known their values.
 pub(crate) fn line_object(
     alloc: Global,
-    texts: &Texts,
+    options: &DecodeOptions<'_>,
     number: u64,
     line: &Line<'_>,
 ) -> Result<Vec<u8>, LogFault> {
     let mut object = ObjectWriter::new(alloc);
     object.number("line", number);
-    put_line(&mut object, alloc, texts, line);
+    put_line(&mut object, alloc, options, line);
     object.end()
 }
 
@@ -31,7 +32,7 @@ pub(crate) fn line_object(
 /// packet.
 pub(crate) fn joined_object(
     alloc: Global,
-    texts: &Texts,
+    options: &DecodeOptions<'_>,
     number: u64,
     line: &Line<'_>,
     joined: &Joined,
@@ -40,28 +41,49 @@ pub(crate) fn joined_object(
     object.number("line", number);
     object.holds("joined");
     put_place(&mut object, alloc, line);
-    put_joined(&mut object, alloc, texts, joined);
+    put_joined(&mut object, alloc, options, joined);
     object.end()
 }
 
 /// What a message that was joined says.
-fn put_joined(object: &mut ObjectWriter, alloc: Global, texts: &Texts, joined: &Joined) {
+fn put_joined(
+    object: &mut ObjectWriter,
+    alloc: Global,
+    options: &DecodeOptions<'_>,
+    joined: &Joined,
+) {
     let bytes = joined.bytes.as_slice();
     object.number("source", u64::from(joined.source));
     object.number("destination", u64::from(joined.dest));
     object.number("pgn", u64::from(joined.pgn.number()));
     put_data(object, alloc, bytes);
     put_payload(object, alloc, joined.pgn, bytes);
-    put_shown(object, alloc, texts, shown_in(alloc, joined.pgn, bytes));
+    put_shown(
+        object,
+        alloc,
+        options.texts,
+        shown_in(alloc, joined.pgn, bytes),
+    );
     put_group(object, joined.pgn);
+    put_signals(
+        object,
+        alloc,
+        options.signals.group_of(joined.pgn, joined.source),
+        bytes,
+    );
 }
 
 /// What a line says.
-fn put_line(object: &mut ObjectWriter, alloc: Global, texts: &Texts, line: &Line<'_>) {
+fn put_line(
+    object: &mut ObjectWriter,
+    alloc: Global,
+    options: &DecodeOptions<'_>,
+    line: &Line<'_>,
+) {
     match line {
         Line::Frame { frame, .. } => {
             put_place(object, alloc, line);
-            put_frame(object, alloc, texts, frame);
+            put_frame(object, alloc, options, frame);
         }
         _ => put_line_words(object, alloc, line),
     }
@@ -92,13 +114,20 @@ fn put_says(object: &mut ObjectWriter, words: &[u8]) {
 }
 
 /// The fields of a frame, and what it says.
-fn put_frame(object: &mut ObjectWriter, alloc: Global, texts: &Texts, frame: &Frame) {
-    put_id(object, frame.id());
+fn put_frame(object: &mut ObjectWriter, alloc: Global, options: &DecodeOptions<'_>, frame: &Frame) {
+    let id = frame.id();
+    put_id(object, id);
     put_data(object, alloc, frame.bytes());
     put_message(object, alloc, frame);
-    put_shown(object, alloc, texts, shown_by(alloc, frame));
+    put_shown(object, alloc, options.texts, shown_by(alloc, frame));
     put_claim(object, alloc, frame);
-    put_group(object, frame.id().pgn());
+    put_group(object, id.pgn());
+    put_signals(
+        object,
+        alloc,
+        options.signals.group_of(id.pgn(), id.source()),
+        frame.bytes(),
+    );
 }
 
 /// The name of a group of data, where it has one.
@@ -184,11 +213,11 @@ fn put_shown(
 
 fn put_lamps_and_codes(object: &mut ObjectWriter, alloc: Global, texts: &Texts, shown: &Shown) {
     object.lamps(alloc, shown.lamps);
-    object.begin_codes();
+    object.begin_list("codes");
     for code in shown.codes.as_slice() {
         put_code_with_text(object, alloc, texts, *code);
     }
-    object.end_codes();
+    object.end_list();
 }
 
 fn put_code_with_text(object: &mut ObjectWriter, alloc: Global, texts: &Texts, code: Dtc) {
@@ -197,6 +226,49 @@ fn put_code_with_text(object: &mut ObjectWriter, alloc: Global, texts: &Texts, c
         Ok(None) => object.code(code, None),
         Err(_) => object.refuse(),
     }
+}
+
+/// The values of a group's signals, where these are known.
+fn put_signals(
+    object: &mut ObjectWriter,
+    alloc: Global,
+    group: Option<&SignalGroup>,
+    bytes: &[u8],
+) {
+    let Some(group) = group else {
+        return;
+    };
+    let page = group.page(bytes);
+    object.begin_list("signals");
+    for signal in group.signals() {
+        if let Some(value) = signal.value(bytes, page) {
+            put_signal(object, alloc, &value);
+        }
+    }
+    object.end_list();
+}
+
+/// The value of a signal, or that it is not available or an error.
+fn put_signal(object: &mut ObjectWriter, alloc: Global, signal: &SignalValue<'_>) {
+    object.begin_item();
+    object.text("name", signal.name);
+    if let Some(spn) = signal.spn {
+        object.number("spn", u64::from(spn));
+    }
+    match signal.meaning {
+        Meaning::Value(value, text) => {
+            object.decimal("value", format!(in alloc; "{value}"));
+            if let Some(text) = text {
+                object.text("text", text);
+            }
+        }
+        Meaning::Error => object.text("state", "error"),
+        Meaning::NotAvailable => object.text("state", "not available"),
+    }
+    if !signal.unit.is_empty() {
+        object.text("unit", signal.unit);
+    }
+    object.end_object();
 }
 
 /// A NAME and its fields (SAE J1939-81).

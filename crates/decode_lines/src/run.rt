@@ -9,6 +9,7 @@ use log_lines::{Absence, FrameFate, LinesEnd, LogFault, Notices, ROOM, Wanted, n
 use parameter_group::ParameterGroup;
 use safe_text::Seen;
 use shop_texts::{TextWords, Texts, UnitTexts};
+use signal_values::{GroupWords, Signals};
 use std::alloc::Global;
 use std::io::{BufReader, BufWriter, Read, Write};
 use trouble_code::Dtc;
@@ -29,6 +30,8 @@ pub struct DecodeOptions<'a> {
     /// A shop's texts for units, and for codes.
     pub units: &'a UnitTexts,
     pub texts: &'a Texts,
+    /// The signals of groups.
+    pub signals: &'a Signals,
     /// Whether packets are joined to messages.
     pub join: bool,
 }
@@ -140,7 +143,7 @@ fn answer<W: Write>(
     match options.form {
         DecodeForm::Text => write_words(alloc, writer, options, said)?,
         DecodeForm::Json => {
-            let object = line_object(alloc, options.texts, number, said)?;
+            let object = line_object(alloc, options, number, said)?;
             write_object(writer, object)?;
         }
     }
@@ -162,19 +165,19 @@ fn write_joined<W: Write>(
     joined: &Joined,
 ) -> Result<(), LogFault> {
     match options.form {
-        DecodeForm::Text => write_words_of_joined(alloc, writer, options.texts, line, joined),
+        DecodeForm::Text => write_words_of_joined(alloc, writer, options, line, joined),
         DecodeForm::Json => {
-            let object = joined_object(alloc, options.texts, number, line, joined)?;
+            let object = joined_object(alloc, options, number, line, joined)?;
             write_object(writer, object)
         }
     }
 }
 
-/// Writes a message in words, with the texts of its codes in parentheses behind.
+/// Writes a message in words, with the texts of its codes in parentheses behind, and the values of its signals.
 fn write_words_of_joined<W: Write>(
     alloc: Global,
     writer: &mut W,
-    texts: &Texts,
+    options: &DecodeOptions<'_>,
     line: &Line<'_>,
     joined: &Joined,
 ) -> Result<(), LogFault> {
@@ -185,8 +188,9 @@ fn write_words_of_joined<W: Write>(
         return Err(LogFault::of_write(error));
     }
     if let Some(part) = shown_in(alloc, joined.pgn, bytes)? {
-        write_texts(writer, texts, &part.shown)?;
+        write_texts(writer, options.texts, &part.shown)?;
     }
+    write_signals(writer, options.signals, joined.pgn, joined.source, bytes)?;
     match writeln!(writer) {
         Ok(()) => Ok(()),
         Err(_) => Err(LogFault::Write),
@@ -210,7 +214,7 @@ fn write_object<W: Write>(writer: &mut W, object: Vec<u8>) -> Result<(), LogFaul
     }
 }
 
-/// Writes a line in words, with the texts of its codes in parentheses behind.
+/// Writes a line in words, with the texts of its codes in parentheses behind, and the values of its signals.
 fn write_words<W: Write>(
     alloc: Global,
     writer: &mut W,
@@ -223,6 +227,14 @@ fn write_words<W: Write>(
     if let Line::Frame { frame, .. } = line {
         write_unit_of(writer, options.units, frame)?;
         write_texts_of(alloc, writer, options.texts, frame)?;
+        let id = frame.id();
+        write_signals(
+            writer,
+            options.signals,
+            id.pgn(),
+            id.source(),
+            frame.bytes(),
+        )?;
     }
     match writeln!(writer) {
         Ok(()) => Ok(()),
@@ -269,6 +281,24 @@ fn write_texts<W: Write>(writer: &mut W, texts: &Texts, shown: &Shown) -> Result
         texts,
         codes: shown.codes.as_slice(),
     };
+    match write!(writer, "{words}") {
+        Ok(()) => Ok(()),
+        Err(_) => Err(LogFault::Write),
+    }
+}
+
+/// Writes what the payload of a group says of its signals, where these are known.
+fn write_signals<W: Write>(
+    writer: &mut W,
+    signals: &Signals,
+    pgn: Pgn,
+    source: u8,
+    bytes: &[u8],
+) -> Result<(), LogFault> {
+    let Some(group) = signals.group_of(pgn, source) else {
+        return Ok(());
+    };
+    let words = GroupWords { group, bytes };
     match write!(writer, "{words}") {
         Ok(()) => Ok(()),
         Err(_) => Err(LogFault::Write),

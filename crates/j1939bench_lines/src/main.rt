@@ -69,6 +69,7 @@ fn watch<R: Runtime + AllocGlobal>(
     let files = ShopFiles {
         units: named(words.units, &units),
         texts: named(words.texts, &texts),
+        signals: None,
     };
     watch_with(rt, request, files, is_terminal)
 }
@@ -135,7 +136,7 @@ fn size_of<R: Runtime>(rt: &R, path: &str) -> Option<u64> {
     }
 }
 
-/// What a file of texts has; nothing where none is named.
+/// What a file of texts or of signals has; nothing where none is named.
 #[inline(never)]
 fn read_texts<R: Runtime + AllocGlobal>(rt: &R, path: Option<&str>) -> Result<Vec<u8>, Failure> {
     match path {
@@ -152,7 +153,7 @@ fn named<'a>(path: Option<&str>, file: &'a Vec<u8>) -> Option<&'a [u8]> {
     }
 }
 
-/// Reads the files of texts, where there are such, and answers the lines of a file, where one is named, or of standard input.
+/// Reads the files of texts and of signals, where there are such, and answers the lines of a file, where one is named, or of standard input.
 #[inline(never)]
 fn decode<R: Runtime + AllocGlobal>(
     rt: &R,
@@ -162,9 +163,11 @@ fn decode<R: Runtime + AllocGlobal>(
     line_commands::look_at_decode_words(rt.alloc(), &words)?;
     let units = read_texts(rt, words.units)?;
     let texts = read_texts(rt, words.texts)?;
+    let signals = read_texts(rt, words.signals)?;
     let files = ShopFiles {
         units: named(words.units, &units),
         texts: named(words.texts, &texts),
+        signals: named(words.signals, &signals),
     };
     decode_with(rt, words, files, is_terminal)
 }

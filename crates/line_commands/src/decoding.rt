@@ -14,11 +14,11 @@ pub(crate) fn form_of(words: DecodeArguments<'_>) -> Result<DecodeForm, Fault> {
     }
 }
 
-/// `decode`: each line in words, or as a JSON object, with the texts of a shop's files, where there are such.
+/// `decode`: each line in words, or as a JSON object, with the texts and the signals of a shop's files, where there are such.
 ///
 /// # Errors
 /// - `CommandLine`: the words are none of it; nothing is read.
-/// - `Texts`: a file of the shop holds no texts, and it is told at which line; nothing is read.
+/// - `Texts`: a file of the shop holds no texts or signals, and it is told at which line; nothing is read.
 /// - `Read`, `Write`, `Memory`: what happened.
 /// - `BadLines`: all lines are answered, but some were bad; each is told on `errors`, where that takes it.
 pub fn decode<R: Read + Drop, W: Write + Drop, E: Write + Drop>(
@@ -63,6 +63,7 @@ impl Asked {
             form: self.form,
             units: &self.shop.units,
             texts: &self.shop.texts,
+            signals: &self.shop.signals,
             join: self.join,
         }
     }

@@ -1,5 +1,6 @@
 use program_io::{Failure, Fault};
 use shop_texts::{SheetFault, Texts, UnitTexts};
+use signal_values::Signals;
 use std::alloc::Global;
 
 /// What the files of a shop hold, each none where it is not given.
@@ -9,17 +10,20 @@ pub struct ShopFiles<'a> {
     pub units: Option<&'a [u8]>,
     /// Texts for codes.
     pub texts: Option<&'a [u8]>,
+    /// The signals of groups, as a DBC file.
+    pub signals: Option<&'a [u8]>,
 }
 
-/// A shop's texts.
+/// A shop's texts, and the signals that it knows.
 #[derive(Drop)]
 pub(crate) struct ShopTexts {
     pub(crate) units: UnitTexts,
     pub(crate) texts: Texts,
+    pub(crate) signals: Signals,
 }
 
 impl ShopTexts {
-    /// The texts of these files.
+    /// The texts and the signals of these files.
     ///
     /// # Errors
     /// - `Texts`: a file holds none, and it is told at which line.
@@ -28,6 +32,7 @@ impl ShopTexts {
         Ok(ShopTexts {
             units: units_of(alloc, files.units)?,
             texts: texts_of(alloc, files.texts)?,
+            signals: signals_of(alloc, files.signals)?,
         })
     }
 }
@@ -39,6 +44,18 @@ pub(crate) fn texts_of(alloc: Global, file: Option<&[u8]>) -> Result<Texts, Fail
     };
     match Texts::read(alloc, text) {
         Ok(texts) => Ok(texts),
+        Err(SheetFault::Refused(words)) => Err(Failure::told(Fault::Texts, Ok(words))),
+        Err(SheetFault::Memory) => Err(Failure::from(Fault::Memory)),
+    }
+}
+
+/// The signals that a file holds; none where there is no file.
+fn signals_of(alloc: Global, file: Option<&[u8]>) -> Result<Signals, Failure> {
+    let Some(text) = file else {
+        return Ok(Signals::new(alloc));
+    };
+    match Signals::read(alloc, text) {
+        Ok(signals) => Ok(signals),
         Err(SheetFault::Refused(words)) => Err(Failure::told(Fault::Texts, Ok(words))),
         Err(SheetFault::Memory) => Err(Failure::from(Fault::Memory)),
     }

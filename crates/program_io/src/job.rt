@@ -117,6 +117,8 @@ pub struct DecodeArguments<'a> {
     pub units: Option<&'a str>,
     /// A file of texts for SPNs and FMIs.
     pub texts: Option<&'a str>,
+    /// A DBC file of signals.
+    pub signals: Option<&'a str>,
     /// Whether packets are joined to messages.
     pub join: bool,
     /// The file that is read.

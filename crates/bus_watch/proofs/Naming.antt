@@ -18,12 +18,25 @@ knowing w f = record w { followed = f }
 
 pub takes_knowing : (old mid new : WatchValue) (x : Reading) (at : Option ℕ) (f : Followed) → Takes old mid x at old.followed → new ≡ knowing mid f → Takes old new x at f
 takes_knowing old mid new x at f t e = subst (λ (w : WatchValue). Takes old w x at f) (sym e) (record {
-  stands = λ a d h s. (let now = t.stands a d h s in record { listener = now.listener; shows = now.shows; time = now.time; contests = now.contests; lists = now.lists; runs = now.runs; units = now.units; told = now.told });
+  stands = λ b h s. (let now = t.stands b h s in record {
+    listener = now.listener;
+    shows = now.shows;
+    time = now.time;
+    contests = now.contests;
+    lists = now.lists;
+    runs = now.runs;
+    kept = now.kept;
+    units = now.units;
+    told = now.told;
+    before = now.before;
+    partly = now.partly;
+    pairs = now.pairs;
+  });
   followed = refl;
 })
 
 pub tells_knowing : (old mid new : WatchValue) (x : Reading) (f : Followed) (c : Changes) → Tells old mid x c → new ≡ knowing mid f → Tells old new x c
-tells_knowing old mid new x f c t e = subst (λ (w : WatchValue). Tells old w x c) (sym e) (λ a d h s. t a d h s)
+tells_knowing old mid new x f c t e = subst (λ (w : WatchValue). Tells old w x c) (sym e) (λ b h s. t b h s)
 
 -- the bus is named where it was not
 pub named_takes : (old mid new : WatchValue) (x : Reading) (at : Option ℕ) (o : Option (List ℕ)) (bus : Option (Bor (List ℕ))) → Takes old mid x at old.followed → renamed o old.followed.bus ≡ bus_after old.followed.bus bus
@@ -37,7 +50,20 @@ named_takes old mid new x at o bus t name e =
 pub named_frame : (old mid new : WatchValue) (x : Reading) (at : Option ℕ) (g : Group) (o : Option (List ℕ)) → Takes old mid x at (followed_with at g old.followed)
     → new ≡ knowing mid (with_bus_name o mid.followed) → Takes old new x at (followed_with at g (with_bus_name o old.followed))
 named_frame old mid new x at g o t e = subst (λ (w : WatchValue). Takes old w x at (followed_with at g (with_bus_name o old.followed))) (sym e) (record {
-  stands = λ a d h s. (let now = t.stands a d h s in record { listener = now.listener; shows = now.shows; time = now.time; contests = now.contests; lists = now.lists; runs = now.runs; units = now.units; told = now.told });
+  stands = λ b h s. (let now = t.stands b h s in record {
+    listener = now.listener;
+    shows = now.shows;
+    time = now.time;
+    contests = now.contests;
+    lists = now.lists;
+    runs = now.runs;
+    kept = now.kept;
+    units = now.units;
+    told = now.told;
+    before = now.before;
+    partly = now.partly;
+    pairs = now.pairs;
+  });
   followed = ap (with_bus_name o) t.followed;
 })
 

@@ -55,8 +55,8 @@ none_unread (suc n) = none_unread n
 pub none_yet : (old new : WatchValue) → HasOverheard new.listener (gaps_alone old.listener.gaps) → new.listener.gaps ≡ old.listener.gaps
     → new.lists ≡ record (none_listed old.lists.selection) { contests = old.lists.contests } → new.told ≡ none_told
     → new.followed ≡ record { skips_bad = old.followed.skips_bad; silence = old.followed.silence; bus = old.followed.bus; packets = no_pairs }
-    → new.before ≡ record { missed = missed_by old; unread = unread_by old } → new.partly ≡ old.partly → new.pairs ≡ 0 → HasOwnersBelow old 0 new
-none_yet old new heard gaps lists told followed before partly pairs =
+    → new.before ≡ record { missed = missed_by old; unread = unread_by old } → new.partly ≡ old.partly → new.broken ≡ old.broken → new.pairs ≡ 0 → HasOwnersBelow old 0 new
+none_yet old new heard gaps lists told followed before partly broken pairs =
     let stands : StandsForAll (beginning_of old) [] new = opened (beginning_of old) new heard lists told followed before partly pairs in
     record {
       told = [];
@@ -70,12 +70,13 @@ none_yet old new heard gaps lists told followed before partly pairs =
       missed = none_missed old.listener.gaps;
       unread = none_unread old.listener.gaps;
       partly = none_partly old.partly old.listener.gaps;
+      broken = broken;
     }
 
 -- ---- one owner more
 
 -- a test of numbers
-same_self : (n : ℕ) → (n == n) ≡ true
+pub same_self : (n : ℕ) → (n == n) ≡ true
 same_self n = eq-eqb n n refl
 
 -- an address is lost by a claim of it
@@ -266,10 +267,10 @@ module _ (old : WatchValue) (bound n a : ℕ) (told : List Told) where
           last false i l same = inl (grind arith)
       go false e l = inl l
 
-  all_of : (new : WatchValue) → AreOwners old told → StandsForAll (beginning_of old) told new → Beside old bound n (beginning_of old) told → at old.listener.owners a ≡ Some n → owner_heard a h ≡ Some n
+  all_of : (new : WatchValue) → AreOwners old told → StandsForAll (beginning_of old) told new → new.broken ≡ old.broken → Beside old bound n (beginning_of old) told → at old.listener.owners a ≡ Some n → owner_heard a h ≡ Some n
       → (address_overheard n h ≡ None) ⊎ (address_overheard n h ≡ address_in_tables old.listener n)
       → ((x : ℕ) → x ≤ 253 → address_in_tables old.listener n ≡ Some x → address_overheard n h ≡ Some x) → HasOwnersBelow old next new
-  all_of new alone stands w own owned mine settled = record {
+  all_of new alone stands broken w own owned mine settled = record {
     told = told;
     alone = alone;
     stands = stands;
@@ -281,6 +282,7 @@ module _ (old : WatchValue) (bound n a : ℕ) (told : List Told) where
     missed = w.missed;
     unread = w.unread;
     partly = w.partly;
+    broken = broken;
   }
     where
       each : (m : ℕ) (t : Bool) → (n == m) ≡ t → (address_overheard m h ≡ None) ⊎ (address_overheard m h ≡ address_in_tables old.listener m)
@@ -300,9 +302,9 @@ module _ (old : WatchValue) (bound n a : ℕ) (told : List Told) where
 -- it is told that a NAME owns the address, and holds this one
 pub one_holder : (old mid between new : WatchValue) (bound n a held : ℕ) → n < 2 ^ 64 → a ≤ 253 → held ≤ 253 → at old.listener.owners a ≡ Some n → address_in_tables old.listener n ≡ Some held
     → ((b : Beginning) (ts : List Told) → StandsForAll b ts mid → StandsForAll b (Assumed n a ∷ ts) between)
-    → ((b : Beginning) (ts : List Told) → StandsForAll b ts between → StandsForAll b (Assumed n held ∷ ts) new)
+    → ((b : Beginning) (ts : List Told) → StandsForAll b ts between → StandsForAll b (Assumed n held ∷ ts) new) → between.broken ≡ mid.broken → new.broken ≡ between.broken
     → HasOwnersBelow old bound mid → HasOwnersBelow old (if bound == a then bound + 1 else bound) new
-one_holder old mid between new bound n a held small le le_held own has first second w =
+one_holder old mid between new bound n a held small le le_held own has first second broken again w =
     let b = beginning_of old in
     let held_own = holder_owns old.listener n held has in
     let is = says_claim n (Some held) small le_held in
@@ -311,7 +313,7 @@ one_holder old mid between new bound n a held small le le_held own has first sec
     let mine = own_address n held (claim_frame_value n (Some held)) is (readings_said b (Assumed n a ∷ w.told)) in
     let owner = owner_claimed n held (claim_frame_value n (Some held)) is (readings_said b (Assumed n a ∷ w.told)) a in
     let before = owner_claimed n a (claim_frame_value n (Some a)) (says_claim n (Some a) small le) (readings_said b w.told) a ∙ (rw (same_self a) refl) in
-    all_of old bound n a (Assumed n held ∷ Assumed n a ∷ w.told) new (held_own, (own, w.alone)) (second b (Assumed n a ∷ w.told) (first b w.told w.stands)) both own
+    all_of old bound n a (Assumed n held ∷ Assumed n a ∷ w.told) new (held_own, (own, w.alone)) (second b (Assumed n a ∷ w.told) (first b w.told w.stands)) (again ∙ (broken ∙ w.broken)) both own
     (owner ∙ kept_own n (held == a) _ before) (inr (mine ∙ sym has)) (λ x lx hx. mine ∙ (sym has ∙ hx))
   where
     kept_own : (n : ℕ) (t : Bool) (o : Option ℕ) → o ≡ Some n → (if t then Some n else o) ≡ Some n
@@ -322,16 +324,16 @@ one_holder old mid between new bound n a held small le le_held own has first sec
 pub one_leaver : (old mid between new : WatchValue) (bound n a : ℕ) → n < 2 ^ 64 → a ≤ 253 → at old.listener.owners a ≡ Some n
     → ((x : ℕ) → x ≤ 253 → address_in_tables old.listener n ≡ Some x → ⊥)
     → ((b : Beginning) (ts : List Told) → StandsForAll b ts mid → StandsForAll b (Assumed n a ∷ ts) between)
-    → ((b : Beginning) (ts : List Told) → StandsForAll b ts between → StandsForAll b (Addressless n ∷ ts) new)
+    → ((b : Beginning) (ts : List Told) → StandsForAll b ts between → StandsForAll b (Addressless n ∷ ts) new) → between.broken ≡ mid.broken → new.broken ≡ between.broken
     → HasOwnersBelow old bound mid → HasOwnersBelow old (if bound == a then bound + 1 else bound) new
-one_leaver old mid between new bound n a small le own none first second w =
+one_leaver old mid between new bound n a small le own none first second broken again w =
     let b = beginning_of old in
     let is = says_claim n None small tt in
     let one = beside_claim old bound n a b w.told small le own (beside old mid bound n w) in
     let both = beside_away old bound n b (Assumed n a ∷ w.told) small one in
     let owner = owner_kept n (claim_frame_value n None) is (readings_said b (Assumed n a ∷ w.told)) a in
     let before = owner_claimed n a (claim_frame_value n (Some a)) (says_claim n (Some a) small le) (readings_said b w.told) a ∙ (rw (same_self a) refl) in
-    all_of old bound n a (Addressless n ∷ Assumed n a ∷ w.told) new (own, w.alone) (second b (Assumed n a ∷ w.told) (first b w.told w.stands)) both own
+    all_of old bound n a (Addressless n ∷ Assumed n a ∷ w.told) new (own, w.alone) (second b (Assumed n a ∷ w.told) (first b w.told w.stands)) (again ∙ (broken ∙ w.broken)) both own
     (owner ∙ before) (inl (no_address n (claim_frame_value n None) is (readings_said b (Assumed n a ∷ w.told)))) (λ x lx hx. absurd (none x lx hx))
 
 -- an address has no owner
@@ -350,10 +352,27 @@ no_owner old new bound a none w = record {
   missed = w.missed;
   unread = w.unread;
   partly = w.partly;
+  broken = w.broken;
 }
   where
     h : List Reading
     h = readings_said (beginning_of old) w.told
+
+pub at_least : (old new : WatchValue) (bound : ℕ) → HasOwnersBelow old bound new → HasOwnersBelow old 0 new
+at_least old new bound w = record {
+  told = w.told;
+  alone = w.alone;
+  stands = w.stands;
+  owners = w.owners;
+  below = λ a less. absurd (omega (arith, less));
+  addresses = w.addresses;
+  settled = λ a n x less. absurd (omega (arith, less));
+  gaps = w.gaps;
+  missed = w.missed;
+  unread = w.unread;
+  partly = w.partly;
+  broken = w.broken;
+}
 
 -- ---- all of them
 
@@ -383,6 +402,7 @@ all_owners old new w = record {
   unread = ap (λ (c : CountsBefore). counted (c.unread + new.listener.unread)) w.stands.heard.before
       ∙ (ap (λ (k : ℕ). counted (unread_by old + k)) (w.stands.heard.listener.unread ∙ w.unread) ∙ counted_again (old.before.unread + old.listener.unread));
   partly = w.stands.heard.partly ∙ w.partly;
+  broken = w.broken;
 }
   where
     address : (n : ℕ) → address_in_tables new.listener n ≡ address_overheard n (readings_said (beginning_of old) w.told)

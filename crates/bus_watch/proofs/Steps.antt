@@ -87,10 +87,24 @@ pub opened_so : (b : Beginning) (w : WatchValue) → HasOverheard w.listener (ga
   told = none_told;
   before = b.before;
   partly = b.partly;
+  broken = 0;
   pairs = 0;
 } → StandsForAll b [] w
 opened_so b w st is = opened b w st (ap (λ (v : WatchValue). v.lists) is) (ap (λ (v : WatchValue). v.told) is) (ap (λ (v : WatchValue). v.followed) is)
     (ap (λ (v : WatchValue). v.before) is) (ap (λ (v : WatchValue). v.partly) is) (ap (λ (v : WatchValue). v.pairs) is)
+
+pub opened_if_ok : {E : Type 0} (result : Result WatchValue E) (b : Beginning) → IfOk result (λ w. HasOverheard w.listener (gaps_alone b.gaps)) → IfOk result (λ w. w ≡ record {
+  listener = record new_listener { gaps = b.gaps };
+  lists = record (none_listed b.selection) { contests = b.contests };
+  followed = (nothing_said b).followed;
+  told = none_told;
+  before = b.before;
+  partly = b.partly;
+  broken = 0;
+  pairs = 0;
+}) → IfOk result (λ w. StandsForAll b [] w)
+opened_if_ok (Ok w) b st is = opened_so b w st is
+opened_if_ok (Err e) b st is = tt
 
 -- the reading that a line is, by what is half sent in the tables and by what was heard
 half_said : (t : ListenerValue) (h : List Reading) (f : Followed) (l : Line) → HasOverheard t h → reading_by (half_in t) f l ≡ reading_by (half_heard h) f l

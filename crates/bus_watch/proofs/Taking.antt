@@ -274,6 +274,18 @@ tells_frame start old new t mid after f g time c known pairs entry told same at 
     (tells start start new t after (reading_if (fate_by start.followed.silence time start.followed.packets (half_in start.listener) g) f) time c known pairs entry told refl (subst (λ (l : ListsValue). IsRead start.listener t l after (reading_if (fate_by start.followed.silence time start.followed.packets (half_in start.listener) g) f) c) at read) says
     (subst (λ (l : ListsValue). HasTaken HasRuns l entry after) at put) e told_is))
 
+-- what is noted once a pair was
+pub pair_noted : (w mid new : WatchValue) (c : Overheard) → mid ≡ record w { pairs = mid.pairs }
+    → new ≡ record mid { lists = noted_in c mid.lists; told = told_after (is_told mid.lists.selection mid.lists.time c) c mid.told; partly = partly_after c mid.partly }
+    → new ≡ record w { lists = noted_in c w.lists; told = told_after (is_told w.lists.selection w.lists.time c) c w.told; partly = partly_after c w.partly; pairs = mid.pairs }
+pair_noted w mid new c same is =
+    is ∙ ap (λ (v : WatchValue). record v { lists = noted_in c v.lists; told = told_after (is_told v.lists.selection v.lists.time c) c v.told; partly = partly_after c v.partly }) same
+
+pub pair_told : (w mid : WatchValue) (c : Overheard) (told : Changes) → mid ≡ record w { pairs = mid.pairs }
+    → told ≡ told_of mid.lists.selection.unclaimed (news_by mid.told mid.lists.selection mid.lists.time mid.lists.began c) c
+    → told ≡ told_of w.lists.selection.unclaimed (news_by w.told w.lists.selection w.lists.time w.lists.began c) c
+pair_told w mid c told same is = is ∙ ap (λ (v : WatchValue). told_of v.lists.selection.unclaimed (news_by v.told v.lists.selection v.lists.time v.lists.began c) c) same
+
 -- a frame that says nothing to a listener
 other_read : (s : ListenerValue) (lists : ListsValue) (f : FrameValue) → group_of f ≡ Other → IsRead s s lists lists (Frame f) Nothing
 other_read s lists f is = record {

@@ -40,6 +40,7 @@ pub record HasOwnersAlone (old new : WatchValue) : Type 0 where
   pub missed : missed_by new ≡ missed_by old
   pub unread : unread_by new ≡ unread_by old
   pub partly : new.partly ≡ old.partly
+  pub broken : new.broken ≡ old.broken
 
 -- one that has those of the addresses below this one, and of no other address another owner
 pub record HasOwnersBelow (old : WatchValue) (bound : ℕ) (new : WatchValue) : Type 0 where
@@ -56,3 +57,4 @@ pub record HasOwnersBelow (old : WatchValue) (bound : ℕ) (new : WatchValue) : 
   pub missed : missed_count (readings_said (beginning_of old) told) ≡ 0
   pub unread : unread_overheard (readings_said (beginning_of old) told) ≡ 0
   pub partly : partly_heard old.partly (all_said (beginning_of old) told).moments ≡ old.partly
+  pub broken : new.broken ≡ old.broken

@@ -1,6 +1,6 @@
 -- What a watch is: its listener, the lists that it fills, what it knows of the bus that it follows, of which addresses it told that a
 -- message came from there without an owner, and what it counts.
-use Rattle.std.specs.Prelude.{◌≡◌, ℕ, ◌+◌, ◌-◌, ◌≤◌, Bool, List, [], ◌∷◌, Option}
+use Rattle.std.specs.Prelude.{◌≡◌, ℕ, zero, suc, ◌+◌, ◌-◌, ◌≤◌, Bool, List, [], ◌∷◌, Option, if◌then◌else◌, is_some}
 use Rattle.bus_model.specs.Heard.{counted}
 use Rattle.bus_model.specs.OverheardChanged.{change_overheard}
 use Rattle.bus_model.specs.declared.who.Who.{Who}
@@ -9,7 +9,8 @@ use Rattle.can_frame.specs.declared.reading.Reading.TheVariants.{Frame, Gap, Emp
 use Rattle.candump_line.specs.declared.line.Line.{Line}
 use Rattle.dm_messages.specs.declared.kind.Kind.{Kind}
 use Rattle.listener.specs.ListenerValue.{HasOverheard, ListenerValue}
-use Rattle.listener.specs.Paced.{half_in}
+use Rattle.listener.specs.Broken.{half_joined}
+use Rattle.listener.specs.Paced.{PacedValue, half_in}
 use Rattle.bus_model.specs.declared.overheard.Overheard.{Overheard}
 use Rattle.parameter_group.specs.Group.{Group, ConnectionManagement, group_of}
 use Rattle.reassembly.specs.declared.pacing.Silence.{Silence}
@@ -27,7 +28,7 @@ pub record CountsBefore : Type 0 where
   pub missed : ℕ
   pub unread : ℕ
 
--- those; the messages that were read in part; and between how many pairs of addresses messages were announced
+-- those; the messages that were read in part; those that were broken; and between how many pairs of addresses messages were announced
 pub record WatchValue : Type 0 where
   pub listener : ListenerValue
   pub lists : ListsValue
@@ -35,7 +36,12 @@ pub record WatchValue : Type 0 where
   pub told : List Bool
   pub before : CountsBefore
   pub partly : ℕ
+  pub broken : ℕ
   pub pairs : ℕ
+
+-- its listener as it looks at times
+abbrev pub ear_of : WatchValue → PacedValue
+ear_of w = record { listener = w.listener; paces = w.followed.packets; silence = w.followed.silence }
 
 -- how many frames were missed in all, and how many messages could not be read whole, or not at all
 abbrev pub missed_by : WatchValue → ℕ
@@ -46,6 +52,15 @@ unread_by w = counted (w.before.unread + w.listener.unread)
 
 abbrev pub unreadable_by : WatchValue → ℕ
 unreadable_by w = unread_by w - w.partly
+
+-- how many messages are half joined from a source to destinations below this one, and from sources below this one to all
+abbrev pub half_below : WatchValue → ℕ → ℕ → ℕ
+half_below w s zero = 0
+half_below w s (suc d) = half_below w s d + (if is_some (half_joined (ear_of w) s d) then 1 else 0)
+
+abbrev pub half_from : WatchValue → ℕ → ℕ
+half_from w zero = 0
+half_from w (suc s) = half_from w s + half_below w s 256
 
 -- how a watch begins: which messages are shown, whether bad lines are passed over, how long a message may be silent, the bus, if it is named,
 -- when a claim of each address last displaced another NAME, and what was counted before

@@ -19,7 +19,6 @@ use crate::pairs::Pairs;
 use crate::run::EntryRun;
 use crate::selection::Selection;
 use crate::unowned::Unowned;
-use can_frame::GLOBAL_ADDRESS;
 use candump_line::Time;
 use dm_messages::Kind;
 use entry_lists::Row;
@@ -77,6 +76,7 @@ impl Model for Watch {
       told = w.unowned;
       before = record { missed = w.before.missed; unread = w.before.unread };
       partly = w.counts.partly;
+      broken = w.broken.messages.count;
       pairs = w.pairs.count;
     } };
 }
@@ -117,6 +117,7 @@ impl Watch {
           told = none_told;
           before = record { missed = 0; unread = 0 };
           partly = 0;
+          broken = 0;
           pairs = 0;
         }) }
         ensures heard { IfOk result (λ w. HasOverheard w.listener (gaps_alone gaps)) }
@@ -277,20 +278,9 @@ impl Watch {
     }
 
     /// How many messages were broken, also before it started over, up to the greatest 64-bit number.
-    pub fn broken_in_all(&self) -> u64 {
+    pub fn broken_in_all(&self) -> u64
+        ensures { result ≡ self.entry.now.broken }
+    {
         self.broken.count()
-    }
-
-    /// How many messages are half joined now.
-    pub fn half_joined(&self) -> u64 {
-        let mut count = 0u64;
-        for source in 0..=GLOBAL_ADDRESS {
-            for dest in 0..=GLOBAL_ADDRESS {
-                if self.ear.half_sent(source, dest).is_some() {
-                    count = count.saturating_add(1);
-                }
-            }
-        }
-        count
     }
 }

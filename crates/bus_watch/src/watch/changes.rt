@@ -29,6 +29,7 @@ impl Watch {
     ) -> Result<Changes, AllocError>
         ensures takes { OnOk result (Takes self.old self.new reading time self.old.followed) }
         ensures tells { IfOk result (λ c. Tells self.old self.new reading c) }
+        ensures broken { self.new.broken ≡ self.old.broken }
         ensures err { OnErr result (self.new ≡ self.old) }
     {
         let before = self.lists.now();
@@ -78,9 +79,11 @@ impl Watch {
 
     /// Tells of what the listener heard, of a diagnostic message in one frame or not, and takes note of it.
     fn tell(&mut self, heard: &Overheard, single: bool) -> Changes
-        ensures noted { self.new ≡ record self.old
-            { lists = noted_in heard.now self.old.lists; told = told_after (tellings.is_told self.old.lists.selection self.old.lists.time heard.now) heard.now self.old.told;
-              partly = partly_after heard.now self.old.partly } }
+        ensures noted { self.new ≡ record self.old {
+          lists = noted_in heard.now self.old.lists;
+          told = told_after (tellings.is_told self.old.lists.selection self.old.lists.time heard.now) heard.now self.old.told;
+          partly = partly_after heard.now self.old.partly;
+        } }
         ensures told { result ≡ told_of self.old.lists.selection.unclaimed
             (news_by self.old.told self.old.lists.selection self.old.lists.time self.old.lists.began heard.now) heard.now }
     {

@@ -94,7 +94,6 @@ impl Watch {
     }
 
     /// Is told who owns an address, and then which one that NAME holds, if it holds one.
-    #[tactic(auto, using(crate::proofs::Over::no_owner, crate::proofs::Over::one_owner))]
     fn hand_over(&mut self, alloc: Global, other: &Watch, address: u8) -> Result<(), AllocError>
         requires { address ≤ GREATEST_ADDRESS }
         ensures { OnOk result ((bound : ℕ) → HasOwnersBelow other.now bound self.old

@@ -1,6 +1,6 @@
-ghost use Rattle.std.specs.Prelude.{◌≡◌, List};
+ghost use Rattle.std.specs.Prelude.{◌≡◌, ◌≤◌, List};
 ghost use Rattle.bus_watch.specs.Told.{Beginning, StandsForAll, Told, all_said};
-ghost use Rattle.bus_watch.specs.WatchValue.{partly_heard, unreadable_by};
+ghost use Rattle.bus_watch.specs.WatchValue.{half_below, half_from, partly_heard, unreadable_by};
 
 use crate::watch::Watch;
 
@@ -20,5 +20,30 @@ impl Watch {
         ensures { result ≡ unreadable_by self.now }
     {
         self.unread_in_all().saturating_sub(self.counts.partly)
+    }
+
+    /// How many messages are half joined now.
+    pub fn half_joined(&self) -> u64
+        ensures { result ≡ half_from self.entry.now 256 }
+    {
+        let mut count = 0u64;
+        for source in 0..256u16 {
+            count += self.half_joined_from(source as u8);
+        }
+        count
+    }
+
+    /// How many are half joined from this source.
+    fn half_joined_from(&self, source: u8) -> u64
+        ensures count { result ≡ half_below self.entry.now source 256 }
+        ensures most { result ≤ 256 }
+    {
+        let mut count = 0u64;
+        for dest in 0..256u16 {
+            if self.ear.half_sent(source, dest as u8).is_some() {
+                count += 1;
+            }
+        }
+        count
     }
 }

@@ -1,4 +1,4 @@
-ghost use Rattle.std.specs.Prelude.{◌≡◌, ◌≤◌, ℕ, ◌∷◌, List, Some, IfOk, OnOk, OnErr, if◌then◌else◌, option_map, string_bytes};
+ghost use Rattle.std.specs.Prelude.{◌≡◌, ◌<◌, ◌≤◌, ◌^◌, ℕ, ◌∷◌, List, Some, IfOk, OnOk, OnErr, if◌then◌else◌, option_map, string_bytes};
 ghost use Rattle.address_claim.specs.Frames.{claim_frame_value};
 ghost use Rattle.bus_watch.specs.Followed as followed;
 ghost use Rattle.bus_watch.specs.Told.{Told, Beginning, IsToldAs, StandsForAll};
@@ -53,6 +53,7 @@ impl Watch {
         ensures told { IfOk result (λ c. IsToldAs (told.Assumed name address) self.old self.new c) }
         ensures stands { OnOk result ((b : Beginning) (ts : List Told) → StandsForAll b ts self.old
             → StandsForAll b (told.Assumed name address ∷ ts) self.new) }
+        ensures broken { self.new.broken ≡ self.old.broken }
         ensures err { OnErr result (self.new ≡ self.old) }
     {
         let claim = claim_frame(name, Some(address));
@@ -61,8 +62,9 @@ impl Watch {
 
     /// Assumes that a NAME holds no address, as if it had said that it cannot claim one, and tells nothing of it.
     pub(super) fn take_away(&mut self, alloc: Global, name: Name) -> Result<(), AllocError>
-        ensures { OnOk result ((b : Beginning) (ts : List Told) → StandsForAll b ts self.old
+        ensures stands { OnOk result ((b : Beginning) (ts : List Told) → StandsForAll b ts self.old
             → StandsForAll b (told.Addressless name ∷ ts) self.new) }
+        ensures broken { self.new.broken ≡ self.old.broken }
     {
         let claim = claim_frame(name, None);
         match self.take(alloc, Reading::Frame(claim), None) {
@@ -79,8 +81,10 @@ impl Watch {
         address: u8,
     ) -> Result<(), AllocError>
         requires { address ≤ GREATEST_ADDRESS }
-        ensures { OnOk result ((b : Beginning) (ts : List Told) → StandsForAll b ts self.old
+        ensures stands { OnOk result ((b : Beginning) (ts : List Told) → StandsForAll b ts self.old
             → StandsForAll b (told.Assumed name address ∷ ts) self.new) }
+        ensures broken { self.new.broken ≡ self.old.broken }
+        ensures fits { name < 2 ^ 64 }
     {
         match self.assume(alloc, name, address) {
             Ok(_) => Ok(()),
@@ -167,7 +171,7 @@ impl Watch {
 
     /// Takes note of what a frame ended that was read, and of a packet that was withheld.
     fn settle(&mut self, fate: Fate)
-        ensures { self.new ≡ self.old }
+        ensures { self.new ≡ record self.old { broken = self.new.broken } }
     {
         if fate == Fate::Late {
             self.counts.withheld = self.counts.withheld.saturating_add(1);

@@ -32,6 +32,8 @@ use Rattle.bus_watch.specs.Runs.{Moment, none_listed, readings_in, with_moment}
 use Rattle.bus_watch.specs.Tellings.{none_told}
 use Rattle.bus_watch.specs.Told.{Addressless, Assumed, Beginning, StandsForAll, Told, all_said, gaps_before, readings_said}
 use Rattle.bus_watch.specs.WatchValue.{CountsBefore, WatchValue, missed_by, partly_heard, unread_by}
+use Rattle.bus_watch.specs.declared.selection.Selection.{Selection}
+use Rattle.bus_watch.specs.declared.watch.WatchSettings.{WatchSettings}
 use Rattle.bus_watch.proofs.Steps.{none_partly, opened}
 
 -- ---- before anything was told
@@ -72,6 +74,29 @@ none_yet old new heard gaps lists told followed before partly broken pairs =
       partly = none_partly old.partly old.listener.gaps;
       broken = broken;
     }
+
+-- as one is made, and goes on to count
+pub none_yet_of : (old made new : WatchValue) (gaps : ℕ) (settings : WatchSettings) (bus : Option (List ℕ)) → HasOverheard made.listener (gaps_alone gaps) → made ≡ record {
+  listener = record new_listener { gaps = gaps };
+  lists = none_listed settings.selection;
+  followed = record { skips_bad = settings.skips_bad; silence = settings.silence; bus = bus; packets = no_pairs };
+  told = none_told;
+  before = record { missed = 0; unread = 0 };
+  partly = 0;
+  broken = 0;
+  pairs = 0;
+} → gaps ≡ old.listener.gaps → settings.selection ≡ old.lists.selection → settings.skips_bad ≡ old.followed.skips_bad → settings.silence ≡ old.followed.silence → bus ≡ old.followed.bus
+    → new.listener ≡ made.listener → new.lists ≡ record made.lists { contests = old.lists.contests } → new.told ≡ made.told → new.followed ≡ made.followed
+    → new.before ≡ record { missed = missed_by old; unread = unread_by old } → new.partly ≡ old.partly → new.broken ≡ old.broken → new.pairs ≡ made.pairs → HasOwnersBelow old 0 new
+none_yet_of old made new gaps settings bus heard is same shows skips silence named listener lists told followed before partly broken pairs =
+    none_yet old new
+    (subst (λ (l : ListenerValue). HasOverheard l (gaps_alone old.listener.gaps)) (sym listener) (subst (λ (n : ℕ). HasOverheard made.listener (gaps_alone n)) same heard))
+    (ap (λ (l : ListenerValue). l.gaps) listener ∙ (ap (λ (w : WatchValue). w.listener.gaps) is ∙ same))
+    (lists ∙ (ap (λ (w : WatchValue). record w.lists { contests = old.lists.contests }) is ∙ ap (λ (s : Selection). record (none_listed s) { contests = old.lists.contests }) shows))
+    (told ∙ ap (λ (w : WatchValue). w.told) is)
+    (followed ∙ (ap (λ (w : WatchValue). w.followed) is ∙ (rw (skips, silence, named) refl)))
+    before partly broken
+    (pairs ∙ ap (λ (w : WatchValue). w.pairs) is)
 
 -- ---- one owner more
 
@@ -335,6 +360,11 @@ one_leaver old mid between new bound n a small le own none first second broken a
     let before = owner_claimed n a (claim_frame_value n (Some a)) (says_claim n (Some a) small le) (readings_said b w.told) a ∙ (rw (same_self a) refl) in
     all_of old bound n a (Addressless n ∷ Assumed n a ∷ w.told) new (own, w.alone) (second b (Assumed n a ∷ w.told) (first b w.told w.stands)) (again ∙ (broken ∙ w.broken)) both own
     (owner ∙ before) (inl (no_address n (claim_frame_value n None) is (readings_said b (Assumed n a ∷ w.told)))) (λ x lx hx. absurd (none x lx hx))
+
+-- a NAME that holds no address, or none that can be held
+pub none_held : (o has : Option ℕ) → o ≡ has → (o ≡ None) ⊎ ((held : ℕ) × ((o ≡ Some held) × (held ≤ 253 → ⊥))) → (x : ℕ) → x ≤ 253 → has ≡ Some x → ⊥
+none_held o has same (inl none) x le some = absurd cc
+none_held o has same (inr s) x le some = (let equal : s.0 ≡ x = (let both : Some s.0 ≡ Some x = sym s.1.0 ∙ (same ∙ some) in cc) in s.1.1 (subst (λ (y : ℕ). y ≤ 253) (sym equal) le))
 
 -- an address has no owner
 pub no_owner : (old new : WatchValue) (bound a : ℕ) → at old.listener.owners a ≡ None → HasOwnersBelow old bound new → HasOwnersBelow old (if bound == a then bound + 1 else bound) new

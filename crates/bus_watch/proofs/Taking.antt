@@ -29,7 +29,7 @@ use Rattle.reassembly.specs.declared.pacing.Silence.{Silence}
 use Rattle.dm_messages.specs.View.{same_kind}
 use Rattle.bus_watch.specs.Runs.{Came, HasRuns, ListsValue, Moment, came_at, contests_heard, entries_came, entries_in, kept_heard, kept_with, runs_by, runs_under, with_came, with_came_at, with_run_at, if_shown, lists_shown, newest_time, readings_in, run_begun_by, time_after, units_in, with_moment, with_unit_of}
 use Rattle.bus_watch.specs.Tellings.{is_news, is_told, news_by, nothing_told, told_after, told_heard, told_of}
-use Rattle.bus_watch.specs.WatchValue.{Beginning, StandsInRuns, Takes, Tells, WatchValue, announcements_by, announcements_in, noted_in, partly_heard}
+use Rattle.bus_watch.specs.WatchValue.{Beginning, CountsBefore, StandsInRuns, Takes, Tells, WatchValue, announcements_by, announcements_in, noted_in, partly_heard}
 use Rattle.bus_watch.specs.declared.change.Changes.{Changes}
 use Rattle.bus_watch.specs.declared.selection.Selection.{Selection}
 
@@ -275,16 +275,26 @@ tells_frame start old new t mid after f g time c known pairs entry told same at 
     (subst (λ (l : ListsValue). HasTaken HasRuns l entry after) at put) e told_is))
 
 -- what is noted once a pair was
-pub pair_noted : (w mid new : WatchValue) (c : Overheard) → mid ≡ record w { pairs = mid.pairs }
-    → new ≡ record mid { lists = noted_in c mid.lists; told = told_after (is_told mid.lists.selection mid.lists.time c) c mid.told; partly = partly_after c mid.partly }
-    → new ≡ record w { lists = noted_in c w.lists; told = told_after (is_told w.lists.selection w.lists.time c) c w.told; partly = partly_after c w.partly; pairs = mid.pairs }
-pair_noted w mid new c same is =
-    is ∙ ap (λ (v : WatchValue). record v { lists = noted_in c v.lists; told = told_after (is_told v.lists.selection v.lists.time c) c v.told; partly = partly_after c v.partly }) same
+module _ (l : ListenerValue) (lists : ListsValue) (f : Followed) (told : List Bool) (before : CountsBefore) (partly broken : ℕ) (mid : WatchValue) (c : Overheard)
+  (same : mid ≡ record { listener = l; lists = lists; followed = f; told = told; before = before; partly = partly; broken = broken; pairs = mid.pairs }) where
+  pub pair_noted : (new : WatchValue)
+      → new ≡ record mid { lists = noted_in c mid.lists; told = told_after (is_told mid.lists.selection mid.lists.time c) c mid.told; partly = partly_after c mid.partly }
+      → new ≡ record {
+        listener = l;
+        lists = noted_in c lists;
+        followed = f;
+        told = told_after (is_told lists.selection lists.time c) c told;
+        before = before;
+        partly = partly_after c partly;
+        broken = broken;
+        pairs = mid.pairs;
+      }
+  pair_noted new is =
+      is ∙ ap (λ (v : WatchValue). record v { lists = noted_in c v.lists; told = told_after (is_told v.lists.selection v.lists.time c) c v.told; partly = partly_after c v.partly }) same
 
-pub pair_told : (w mid : WatchValue) (c : Overheard) (told : Changes) → mid ≡ record w { pairs = mid.pairs }
-    → told ≡ told_of mid.lists.selection.unclaimed (news_by mid.told mid.lists.selection mid.lists.time mid.lists.began c) c
-    → told ≡ told_of w.lists.selection.unclaimed (news_by w.told w.lists.selection w.lists.time w.lists.began c) c
-pair_told w mid c told same is = is ∙ ap (λ (v : WatchValue). told_of v.lists.selection.unclaimed (news_by v.told v.lists.selection v.lists.time v.lists.began c) c) same
+  pub pair_told : (changes : Changes) → changes ≡ told_of mid.lists.selection.unclaimed (news_by mid.told mid.lists.selection mid.lists.time mid.lists.began c) c
+      → changes ≡ told_of lists.selection.unclaimed (news_by told lists.selection lists.time lists.began c) c
+  pair_told changes is = is ∙ ap (λ (v : WatchValue). told_of v.lists.selection.unclaimed (news_by v.told v.lists.selection v.lists.time v.lists.began c) c) same
 
 -- a frame that says nothing to a listener
 other_read : (s : ListenerValue) (lists : ListsValue) (f : FrameValue) → group_of f ≡ Other → IsRead s s lists lists (Frame f) Nothing

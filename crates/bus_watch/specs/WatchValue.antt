@@ -58,9 +58,15 @@ abbrev pub half_below : WatchValue → ℕ → ℕ → ℕ
 half_below w s zero = 0
 half_below w s (suc d) = half_below w s d + (if is_some (half_joined (ear_of w) s d) then 1 else 0)
 
+unfoldable pub half_from_source : WatchValue → ℕ → ℕ
+half_from_source w s = half_below w s 256
+
 abbrev pub half_from : WatchValue → ℕ → ℕ
 half_from w zero = 0
-half_from w (suc s) = half_from w s + half_below w s 256
+half_from w (suc s) = half_from w s + half_from_source w s
+
+unfoldable pub half_in_all : WatchValue → ℕ
+half_in_all w = half_from w 256
 
 -- how a watch begins: which messages are shown, whether bad lines are passed over, how long a message may be silent, the bus, if it is named,
 -- when a claim of each address last displaced another NAME, and what was counted before

@@ -257,6 +257,7 @@ impl Watch {
     /// How many frames were missed, up to the greatest 64-bit number.
     #[tactic(auto, using(crate::proofs::Queries::missed_as_heard))]
     pub fn missed(&self) -> u64
+        ensures value { result ≡ self.now.listener.missed }
         ensures heard { (b : Beginning) (ts : List Told) → StandsForAll b ts self.entry.now
             → result ≡ missed_count (readings_said b ts) }
     {
@@ -266,6 +267,7 @@ impl Watch {
     /// How many messages could not be read whole, up to the greatest 64-bit number.
     #[tactic(auto, using(crate::proofs::Queries::unread_as_heard))]
     pub fn unread(&self) -> u64
+        ensures value { result ≡ self.now.listener.unread }
         ensures heard { (b : Beginning) (ts : List Told) → StandsForAll b ts self.entry.now
             → result ≡ unread_overheard (readings_said b ts) }
     {

@@ -110,7 +110,6 @@ impl Watch {
     }
 
     /// A watch that has read nothing, of the same bus. It goes on to count, and knows which addresses are contested.
-    #[tactic(auto, using(crate::proofs::Over::none_yet))]
     fn anew(&self, alloc: Global) -> Result<Watch, AllocError>
         ensures { IfOk result (λ w. HasOwnersBelow self.now 0 w) }
     {

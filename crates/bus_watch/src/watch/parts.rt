@@ -1,6 +1,6 @@
 ghost use Rattle.std.specs.Prelude.{◌≡◌, ◌≤◌, List};
 ghost use Rattle.bus_watch.specs.Told.{Beginning, StandsForAll, Told, all_said};
-ghost use Rattle.bus_watch.specs.WatchValue.{half_below, half_from, partly_heard, unreadable_by};
+ghost use Rattle.bus_watch.specs.WatchValue.{half_from_source, half_in_all, partly_heard, unreadable_by};
 
 use crate::watch::Watch;
 
@@ -24,7 +24,7 @@ impl Watch {
 
     /// How many messages are half joined now.
     pub fn half_joined(&self) -> u64
-        ensures { result ≡ half_from self.entry.now 256 }
+        ensures { result ≡ half_in_all self.entry.now }
     {
         let mut count = 0u64;
         for source in 0..256u16 {
@@ -35,7 +35,7 @@ impl Watch {
 
     /// How many are half joined from this source.
     fn half_joined_from(&self, source: u8) -> u64
-        ensures count { result ≡ half_below self.entry.now source 256 }
+        ensures count { result ≡ half_from_source self.entry.now source }
         ensures most { result ≤ 256 }
     {
         let mut count = 0u64;

@@ -1,8 +1,8 @@
 -- A watch that is told of one owner after another.
-use Rattle.std.proofs.Common.{◌≡◌, ◌⊎◌, inl, inr, ◌<◌, ◌≤◌, ◌↔◌, ◌+◌, ◌==◌, ◌^◌, ℕ, zero, suc, Bool, true, false, Option, Some, None, refl, sym, subst, ap, ◌∙◌, List, [], ◌∷◌, if◌then◌else◌, arith, ⊎_elim}
+use Rattle.std.proofs.Common.{◌≡◌, ◌⊎◌, inl, inr, ◌<◌, ◌≤◌, ◌+◌, ◌==◌, ◌^◌, ℕ, zero, suc, Bool, true, false, Option, Some, None, refl, sym, subst, ap, ◌∙◌, List, [], ◌∷◌, if◌then◌else◌, arith, ⊎_elim}
 use Rattle.std.specs.Prelude.{◌-◌, is_some}
 use Rattle.std.proofs.Math.Nat.{min-eq_left, min-le_right}
-use Rattle.std.proofs.lemmas.Bool.{eq-eqb, eqb-true, ne_eqb}
+use Rattle.std.proofs.lemmas.Bool.{eq-eqb, eqb-true}
 use Rattle.address_claim.specs.Claiming.{is_held}
 use Rattle.address_claim.specs.Frames.{claim_frame_value}
 use Rattle.bus_model.specs.Heard.{RowHeard, address_in_row, counted, missed_count, owner_heard, without_address}
@@ -11,13 +11,12 @@ use Rattle.bus_model.specs.Changed.{displaced_by}
 use Rattle.bus_model.specs.OverheardChanged.{change_overheard, claim_overheard, gave_up, group_overheard, has_still}
 use Rattle.bus_model.specs.Traffic.{owner_after}
 use Rattle.bus_model.specs.declared.change.Displaced.{Displaced}
-use Rattle.bus_model.specs.declared.overheard.Overheard.{Overheard}
 use Rattle.bus_model.specs.declared.overheard.Overheard.TheVariants.{GaveUp, Nothing}
 use Rattle.bus_model.proofs.Bridge.{says_claim}
 use Rattle.bus_model.proofs.Lookback.{held_is}
 use Rattle.can_frame.specs.FrameValue.{FrameValue}
 use Rattle.can_frame.specs.declared.reading.Reading.{Reading}
-use Rattle.can_frame.specs.declared.reading.Reading.TheVariants.{Frame, Gap}
+use Rattle.can_frame.specs.declared.reading.Reading.TheVariants.{Frame}
 use Rattle.entry_lists.specs.KeptValue.{KeptValue, kept_under}
 use Rattle.entry_lists.specs.KnownRows.{address_in, row_known, row_of, still_owned}
 use Rattle.listener.specs.ListenerSteps.{address_in_tables, new_listener}
@@ -26,9 +25,8 @@ use Rattle.parameter_group.specs.Group.{AddressClaimed, CannotClaim, Group, grou
 use Rattle.reassembly.specs.Pairs.{no_pairs}
 use Rattle.reassembly.specs.Tables.{at}
 use Rattle.bus_watch.specs.Counted.{partly_after}
-use Rattle.bus_watch.specs.Followed.{Followed}
 use Rattle.bus_watch.specs.Over.{AreOwners, HasOwnersAlone, HasOwnersBelow, beginning_of}
-use Rattle.bus_watch.specs.Runs.{Moment, none_listed, readings_in, with_moment}
+use Rattle.bus_watch.specs.Runs.{none_listed, readings_in}
 use Rattle.bus_watch.specs.Tellings.{none_told}
 use Rattle.bus_watch.specs.Told.{Addressless, Assumed, Beginning, StandsForAll, Told, all_said, gaps_before, readings_said}
 use Rattle.bus_watch.specs.WatchValue.{CountsBefore, WatchValue, missed_by, partly_heard, unread_by}

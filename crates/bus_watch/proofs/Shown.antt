@@ -1,5 +1,5 @@
 -- An entry that is kept, or passed over, in the lists of what is shown.
-use Rattle.std.proofs.Common.{◌≡◌, ℕ, ◌==◌, Bool, true, false, ◌&&◌, List, ◌∷◌, [], ◌++◌, Some, None, if◌then◌else◌, length, refl, sym, ap, ◌∙◌, arith}
+use Rattle.std.proofs.Common.{◌≡◌, ℕ, Bool, true, false, ◌&&◌, List, ◌∷◌, [], ◌++◌, Some, None, if◌then◌else◌, length, refl, sym, ap, ◌∙◌, arith}
 use Rattle.std.proofs.lemmas.Bool.{eq-eqb}
 use Rattle.bus_model.proofs.Lookback.{same_kind_self}
 use Rattle.bus_model.specs.Overheard.{same_who}

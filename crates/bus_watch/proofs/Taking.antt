@@ -1,5 +1,5 @@
 -- A watch after a reading: its listener has taken it, and each list has the entry that it lists.
-use Rattle.std.proofs.Common.{◌≡◌, ◌≤◌, ◌+◌, ◌&&◌, ℕ, Bool, List, ◌∷◌, [], Option, Some, None, refl, sym, ap, ◌∙◌, subst, if◌then◌else◌, true, false, arith}
+use Rattle.std.proofs.Common.{◌≡◌, ◌≤◌, ◌+◌, ◌&&◌, ℕ, Bool, List, ◌∷◌, Option, Some, None, refl, sym, ap, ◌∙◌, subst, if◌then◌else◌, true, false, arith}
 use Rattle.bus_model.specs.OverheardChanged.{change_overheard}
 use Rattle.bus_model.specs.declared.overheard.Overheard.{Overheard}
 use Rattle.bus_model.specs.declared.overheard.Overheard.TheVariants.{Nothing, Claimed, GaveUp, Acknowledged, Listed, ListedInPart, Unreadable, Unowned, Missed}
@@ -276,7 +276,7 @@ tells_frame start old new t mid after f g time c known pairs entry told same at 
 
 -- what is noted once a pair was
 module _ (l : ListenerValue) (lists : ListsValue) (f : Followed) (told : List Bool) (before : CountsBefore) (partly broken : ℕ) (mid : WatchValue) (c : Overheard)
-  (same : mid ≡ record { listener = l; lists = lists; followed = f; told = told; before = before; partly = partly; broken = broken; pairs = mid.pairs }) where
+    (same : mid ≡ record { listener = l; lists = lists; followed = f; told = told; before = before; partly = partly; broken = broken; pairs = mid.pairs }) where
   pub pair_noted : (new : WatchValue)
       → new ≡ record mid { lists = noted_in c mid.lists; told = told_after (is_told mid.lists.selection mid.lists.time c) c mid.told; partly = partly_after c mid.partly }
       → new ≡ record {

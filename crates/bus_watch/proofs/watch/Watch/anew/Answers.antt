@@ -1,4 +1,4 @@
-use Rattle.std.proofs.Common.{◌≡◌, Option, List, ℕ, rules}
+use Rattle.std.proofs.Common.{◌≡◌, rules}
 use Rattle.std.specs.Option.{option_map}
 use Rattle.bus_watch.proofs.Over.{none_yet_of}
 use Rattle.bus_watch.proofs.watch.Watch.anew.Goals.{in-Some, in-None}

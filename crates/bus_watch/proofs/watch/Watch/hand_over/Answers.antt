@@ -1,5 +1,4 @@
 use Rattle.std.proofs.Common.{◌≡◌, ◌≤◌, ◌⊎◌, inl, inr, ℕ, Some, None, rules, arith}
-use Rattle.bus_watch.specs.Over.{HasOwnersBelow}
 use Rattle.bus_watch.proofs.Over.{no_owner, none_held, one_holder, one_leaver}
 use Rattle.bus_watch.proofs.Steps.{on_ok}
 use Rattle.bus_watch.proofs.watch.Watch.hand_over.Goals.{in_default-address_of-via-in-Some-address_of+else-held-le-GREATEST_ADDRESS, in_default-address_of-via-in_default-address_of}

@@ -1,4 +1,4 @@
-use Rattle.std.proofs.Common.{None, ap}
+use Rattle.std.proofs.Common.{ap}
 use Rattle.can_frame.specs.declared.reading.Reading.TheVariants.{Frame}
 use Rattle.bus_watch.proofs.Steps.{stands_for_addressless}
 use Rattle.bus_watch.proofs.watch.Watch.take_away.Goals as goal

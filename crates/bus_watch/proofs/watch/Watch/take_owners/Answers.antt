@@ -1,4 +1,4 @@
-use Rattle.std.proofs.Common.{◌≡◌, ◌+◌, ◌==◌, ℕ, Bool, if◌then◌else◌, subst, arith}
+use Rattle.std.proofs.Common.{◌≡◌, ◌+◌, ℕ, Bool, if◌then◌else◌, subst, arith}
 use Rattle.bus_watch.specs.Over.{HasOwnersBelow}
 use Rattle.bus_watch.proofs.Over.{same_self}
 use Rattle.bus_watch.proofs.watch.Watch.take_owners.Goals as goal

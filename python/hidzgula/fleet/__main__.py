@@ -11,7 +11,7 @@ import time
 from typing import Any, Iterator, List, Optional, Sequence, Tuple
 
 from ..program import NoProgram, find_program, plain, version_of
-from .facts import Json, not_read, read_log
+from .facts import Json, not_read, pack_log
 from .page import write_page
 from .store import Busy, Store
 
@@ -19,6 +19,8 @@ SAVE_EACH = 10.0
 """Seconds between two times at which is noted what was read."""
 WORKER_MEMORY = "1GiB"
 """How much memory a worker of this machine may take before Dask begins it anew."""
+WORKERS_OF_HERE = {"distributed.worker.profile.interval": "1h", "distributed.scheduler.worker-ttl": "60s"}
+"""No profile is taken of them: with Python 3.11 a worker hung at that now and then. One that hangs is given up, and its logs are read again."""
 
 
 class Refused(Exception):
@@ -66,22 +68,24 @@ def _refuse_folder(error: OSError) -> None:
 def read_here(logs: Sequence[Tuple[str, Optional[str]]], program: str, made_by: str) -> Iterator[Tuple[str, Json]]:
     """What each log tells, one after the other."""
     for path, known in logs:
-        yield path, read_log(path, program, made_by, known)
+        yield path, pack_log(path, program, made_by, known)
 
 
 def read_by_dask(client: Any, logs: Sequence[Tuple[str, Optional[str]]], program: str, made_by: str) -> Iterator[Tuple[str, Json]]:
     """What each log tells, as the workers of a cluster end with it."""
     from distributed import as_completed, progress
 
-    tasks = {client.submit(read_log, path, program, made_by, known, pure=False): path for path, known in logs}
+    # (all at once: a task costs the scheduler less so)
+    asked = client.map(pack_log, *zip(*((path, program, made_by, known) for path, known in logs)), pure=False) if logs else []
+    tasks = {task: path for task, (path, _) in zip(asked, logs)}
     drawing = threading.Thread(target=progress, args=(list(tasks),), kwargs={"notebook": False}, daemon=True)
     if sys.stdout.isatty() and tasks:
         drawing.start()
-    for task in as_completed(tasks):
+    for task, part in as_completed(tasks, with_results=True, raise_errors=False):
         if task.cancelled():
             raise OSError("the scheduler is gone: what was read is kept, and the next run goes on from there")
-        error = task.exception()
-        yield tasks[task], not_read(f"{type(error).__name__}: {error}") if error else task.result()
+        error = task.exception() if task.status == "error" else None
+        yield tasks[task], not_read(f"{type(error).__name__}: {error}") if error else part
     if drawing.is_alive():
         drawing.join(2.0)
 
@@ -90,6 +94,7 @@ def read_by_dask(client: Any, logs: Sequence[Tuple[str, Optional[str]]], program
 def client_of(scheduler: Optional[str], workers: Optional[int]) -> Iterator[Any]:
     """A client of a scheduler, or of workers that are begun for it. Raises Refused where Dask is not here, or the scheduler does not answer."""
     try:
+        import dask.config
         import distributed
     except ImportError as error:
         raise Refused(f"there is no Dask here ({error}): pip install 'hidzgula[fleet]', apt-get install python3-distributed; or --workers 0") from error
@@ -97,6 +102,7 @@ def client_of(scheduler: Optional[str], workers: Optional[int]) -> Iterator[Any]
         try:
             if scheduler is None:
                 room = begun.enter_context(tempfile.TemporaryDirectory(prefix="fleet-"))
+                begun.enter_context(dask.config.set(WORKERS_OF_HERE))
                 scheduler = begun.enter_context(distributed.LocalCluster(
                     n_workers=workers or os.cpu_count(), threads_per_worker=1, dashboard_address=None, memory_limit=WORKER_MEMORY, local_directory=room))  # fmt: skip
             client = begun.enter_context(distributed.Client(scheduler))

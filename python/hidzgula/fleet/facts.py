@@ -4,6 +4,7 @@ A fact of a code is of a unit, a kind of message and a code: when the first and 
 were read in part, and how often it came, which is that a message has it and the one before has not. Times are microseconds as the log has them.
 """
 
+import gzip
 import hashlib
 import io
 import json
@@ -23,8 +24,10 @@ _PLACES = {"mil": 6, "stop": 4, "amber": 2, "protect": 0}
 # (J1939-73, 5.7.1: of a lamp's two bits 01 is on)
 _ON = 1
 
-FORMAT = 2
+FORMAT = 3
 """What a part says: one of another format is made again."""
+HEAD = ("format", "by", "state", "why", "lines", "missed", "unread", "first", "last", "vins", "bytes")
+"""What a part tells of its log as a whole."""
 MOST_BYTES = 64 << 30
 """The most bytes of a log, unpacked."""
 MOST_SECONDS = 3600
@@ -69,6 +72,16 @@ def read_log(path: str, program: str, made_by: str, known: Optional[str] = None)
     except Failed as error:
         return not_read(str(error))
     return {"format": FORMAT, "by": made_by, "sha256": digest, "bytes": size, "file_why": why, **told}
+
+
+def pack_log(path: str, program: str, made_by: str, known: Optional[str] = None) -> Json:
+    """What a log tells, as `read_log` has it, ready to be kept: `head` is what the part tells of its log as a whole, `packed` the part, compressed.
+    So whoever reads logs packs them, and whoever keeps them needs not look into each."""
+    part = read_log(path, program, made_by, known)
+    if "format" not in part:
+        return part
+    told = {"state": part["state"], "file_why": part.pop("file_why"), "sha256": part["sha256"], "head": {key: part[key] for key in HEAD}}
+    return {**told, "packed": gzip.compress(json.dumps(part, separators=(",", ":")).encode(), 6, mtime=0)}
 
 
 def not_read(why: str) -> Json:

@@ -161,29 +161,40 @@ def time_text(time: Optional[int]) -> str:
     return "" if time is None else f"{time // 1_000_000}.{time % 1_000_000:06}"
 
 
-def cell_of(column: str, value: Any) -> Any:
-    """What stands in a cell: a text is harmless for a terminal, and no formula for a spreadsheet."""
-    if value is None:
-        return ""
-    if column in TIMES:
-        return time_text(value)
-    if column in NUMBERS:
-        return value
-    text = plain(str(value))
-    return f"'{text}" if text[:1] in ("=", "+", "-", "@") else text
+def text_cell(value: Any) -> str:
+    """A text as it stands in a cell: harmless for a terminal, and no formula for a spreadsheet."""
+    text = str(value)
+    if not (text.isascii() and text.isprintable()):
+        text = plain(text)
+    return f"'{text}" if text.startswith(("=", "+", "-", "@")) else text
 
 
-def write_table(folder: str, name: str, columns: Sequence[str], rows: Iterable[Json]) -> None:
-    """Writes a table as CSV, and where pyarrow is as Parquet, which replace those of before once all is written."""
-    with contextlib.ExitStack() as files:
-        path = files.enter_context(replacing(os.path.join(folder, f"{name}.csv")))
-        cells = csv.writer(files.enter_context(open(path, "w", newline="", encoding="utf-8")), lineterminator="\n")
-        cells.writerow(columns)
-        parquet = Parquet.opened(folder, name, columns, files)
+class Table(contextlib.ExitStack):
+    """A table as CSV, and where pyarrow is as Parquet, which replace those of before once all is written."""
+
+    def __init__(self, folder: str, name: str, columns: Sequence[str]) -> None:
+        super().__init__()
+        self._columns = columns
+        self._times = [place for place, column in enumerate(columns) if column in TIMES]
+        self._texts = [place for place, column in enumerate(columns) if column not in TIMES | NUMBERS]
+        path = self.enter_context(replacing(os.path.join(folder, f"{name}.csv")))
+        self._cells = csv.writer(self.enter_context(open(path, "w", newline="", encoding="utf-8")), lineterminator="\n")
+        self._cells.writerow(columns)
+        self._parquet = Parquet.opened(folder, name, columns, self)
+
+    def add(self, rows: Iterable[Json]) -> None:
+        """Writes rows."""
         for row in rows:
-            cells.writerow([cell_of(column, row.get(column)) for column in columns])
-            if parquet:
-                parquet.add(row)
+            # (what is None is written as nothing)
+            cells = list(map(row.get, self._columns))
+            for place in self._times:
+                cells[place] = time_text(cells[place])
+            for place in self._texts:
+                if cells[place]:
+                    cells[place] = text_cell(cells[place])
+            self._cells.writerow(cells)
+            if self._parquet:
+                self._parquet.add(row)
 
 
 @contextlib.contextmanager

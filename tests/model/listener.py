@@ -22,9 +22,10 @@ class Listener(Heard):
     JOINS_UNOWNED = True
     not_sent = 0  # it sends nothing
 
-    def __init__(self):
+    def __init__(self, gaps=0):
+        """One before which there were so many gaps."""
         super().__init__()
-        self.gaps = 0
+        self.gaps = gaps
 
     def joins_sessions_to(self, dest):
         return dest != GLOBAL

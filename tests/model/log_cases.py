@@ -196,6 +196,9 @@ a time that jumped back
 a time that is as before
 an event before any time
 more is heard than is kept at once
+begun anew with the owner of an address that holds none
+begun anew with the owner of an address that it has left
+begun anew behind a gap
 a count that is not available
 """
 

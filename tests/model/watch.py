@@ -90,8 +90,8 @@ class Options:
         given.first, given.last = (None if word is None else time_asked(word, given.clock) for word in asked)
         return given
 
-    def heard(self):
-        return Listener() if self.listens else Station(self.name, self.address)
+    def heard(self, gaps=0):
+        return Listener(gaps) if self.listens else Station(self.name, self.address)
 
     def shows(self, to):
         """A station lists what went to all or to it."""
@@ -189,22 +189,34 @@ class Watch:
 
     # ---- how much is kept
 
-    def is_full(self):
-        """There are as many NAMEs with rows, units with lists, runs, or pairs between which messages were announced as may be. A run of several codes
-        counts as many."""
-        units = max(len(self.heard.names()), len({who for who, _ in self.runs}))
-        return units >= self.options.most or self.kept >= self.options.keep or len(self.pairs) >= MOST_PAIRS
+    def held(self):
+        """How many NAMEs with rows, units with lists, runs, and pairs between which messages were announced there are. A run of several codes counts as many."""
+        return len(self.heard.names()), len({who for who, _ in self.runs}), self.kept, len(self.pairs)
+
+    def owners(self):
+        """Each claim that tells who owns an address, and then which one that NAME holds: NAMEs that hold one first, in their order."""
+        heard, of = self.heard, {}
+        for address in range(NULL):
+            of.setdefault(heard.owner(address), []).append(address)
+        for name in dict.fromkeys([*(name for name in heard.names() if heard.address_of(name) is not None), *of]):
+            for address in [*of[name], heard.address_of(name)] if name is not None else []:
+                yield name, address
 
     def start_over(self):
-        """All that was heard is let go, but for who holds which address; and what is contested."""
+        """All that was heard is let go, but for who owns which address, and how many gaps there were; and what is contested."""
         reach("more is heard than is kept at once")
-        owners = [(name, self.heard.address_of(name)) for name in self.heard.names()]
+        owners = list(self.owners())
+        if any(address is None for _, address in owners):
+            reach("begun anew with the owner of an address that holds none")
+        if len({address for _, address in owners}) > len({name for name, _ in owners}):
+            reach("begun anew with the owner of an address that it has left")
+        if self.options.listens and self.heard.gaps:
+            reach("begun anew behind a gap")
         self.missed_before, self.unread_before, self.partly_before = self.missed(), self.unread(), self.partly()
-        self.heard, self.pacing, self.now = self.options.heard(), Pacing(self.options.silence), None
+        self.heard, self.pacing, self.now = self.options.heard(getattr(self.heard, "gaps", 0)), Pacing(self.options.silence), None
         self.runs, self.told_unowned, self.kept, self.pairs = {}, set(), 0, set()
         for name, address in owners:
-            if address is not None:
-                self.heard.take(claim(name, address))
+            self.heard.take(claim(name, address))
 
     def missed(self):
         return self.missed_before + self.heard.missed
@@ -417,7 +429,8 @@ class Watch:
 
     def tell_missed(self, number, count):
         """With the owners all is forgotten that was told of addresses."""
-        self.taken_over.clear()
+        if count:
+            self.taken_over.clear()
         self.told_unowned.clear()
         if not self.options.is_in_time(self.now):
             return
@@ -695,10 +708,16 @@ class Buses:
         self.counts[{"frame": "frame", "overflow": "error"}.get(line.kind) or FOREIGN[line.what]] += 1
         self.of[line.bus].hear(number, line)
 
+    def is_full(self):
+        """All buses together have as much as may be kept. Each has room for a NAME at each address."""
+        names, units, runs, pairs = map(sum, zip(*(watch.held() for watch in self.watches()))) if self.watches() else (0, 0, 0, 0)
+        most = max(self.options.most, 256 * len(self.watches()))
+        return names >= most or units >= most or runs >= self.options.keep or pairs >= MOST_PAIRS
+
     def make_room(self, number):
-        """Before a line is heard: where a bus has as much as may be kept, all that was heard so far is reported, and each is begun anew. Tells what
+        """Before a line is heard: where there is as much as may be kept, all that was heard so far is reported, and each bus is begun anew. Tells what
         is told of it the first time."""
-        if not any(watch.is_full() for watch in self.watches()):
+        if not self.is_full():
             return ""
         watches, counts = self.watches(), self.all_counts()
         self.told[0].append(f"over at line {number}, so far:\n" + Watch.report_text(watches, counts))

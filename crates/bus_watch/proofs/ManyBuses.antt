@@ -1,10 +1,10 @@
 -- Watches of several buses: one more, and those that change.
-use Rattle.std.proofs.Common.{◌≡◌, ◌⊎◌, inl, inr, ◌==◌, ◌||◌, ◌&&◌, ℕ, zero, suc, ◌+◌, ◌<◌, ◌≤◌, Bool, true, false, List, [], ◌∷◌, ◌++◌, Option, Some, None, Result, Ok, Err, OnOk, OnErr, length, refl, sym, ap, ◌∙◌, subst, arith}
+use Rattle.std.proofs.Common.{◌≡◌, ◌⊎◌, inl, ◌==◌, ◌||◌, ◌&&◌, ℕ, zero, suc, ◌+◌, ◌<◌, ◌≤◌, Bool, true, false, List, [], ◌∷◌, ◌++◌, Option, Some, None, Result, Ok, Err, OnErr, length, refl, sym, ap, ◌∙◌, subst, arith}
 use Rattle.std.specs.Prelude.{nat_lt, option_map, slice_get, slice_index_or, slice_set, string_bytes}
 use Rattle.std.proofs.lemmas.Bool.{eq-eqb, eqb-true, ne_eqb}
 use Rattle.std.proofs.lemmas.Grind.{common_steps}
 use Rattle.std.proofs.lemmas.Option.{slice_get_past}
-use Rattle.bus_watch.specs.Hearing.{AreChanged, AreTold, BeginsOne, BusesValue, HasBegun, HaveHeard, IsChangedOrNot, IsNew, IsOver, IsTold, MayBeTold, MayHaveHeard, beginning_as, hearers_of, is_hearer}
+use Rattle.bus_watch.specs.Hearing.{AreChanged, AreTold, BeginsOne, BusesValue, HasBegun, HaveHeard, IsChangedOrNot, IsOver, IsTold, MayBeTold, MayHaveHeard, beginning_as, hearers_of, is_hearer}
 use Rattle.bus_watch.specs.Over.{HasOwnersAlone}
 use Rattle.bus_watch.specs.Told.{Beginning, IsToldAs, Read, StandsForAll, Told}
 use Rattle.candump_line.specs.declared.line.Line.{Line}

@@ -1,9 +1,8 @@
 -- One more entry of a run, or one more run.
-use Rattle.std.proofs.Common.{◌≡◌, ℕ, zero, suc, ◌+◌, ◌-◌, List, [], ◌∷◌, ◌++◌, length, Bool, true, false, ◌&&◌, ◌==◌, if◌then◌else◌, Option, replicate, refl, sym, ap, subst, ◌∙◌, arith, append-nil}
+use Rattle.std.proofs.Common.{◌≡◌, ℕ, zero, suc, ◌+◌, ◌-◌, List, [], ◌∷◌, ◌++◌, length, Bool, true, false, if◌then◌else◌, Option, replicate, refl, sym, ap, subst, ◌∙◌, arith, append-nil}
 use Rattle.std.specs.Prelude.{slice_index_or, slice_set, min, ◌^◌}
 use Rattle.std.proofs.lemmas.List.{append_assoc, length-append, replicate-append-replicate}
-use Rattle.std.specs.Cmp.Lexicographic.{pointwise}
-use Rattle.bus_watch.specs.Runs.{Came, run_begun, run_goes_on, run_lengthened, same_shown, unrolled, with_came}
+use Rattle.bus_watch.specs.Runs.{Came, run_begun, run_goes_on, run_lengthened, unrolled, with_came}
 use Rattle.bus_model.specs.Heard.{counted}
 use Rattle.bus_watch.specs.declared.run.EntryRun.{EntryRun}
 use Rattle.bus_watch.specs.declared.shown_entry.ShownEntry.{ShownEntry}

@@ -18,11 +18,10 @@ use Rattle.bus_model.specs.declared.who.Who.TheVariants as who
 use Rattle.dm_messages.specs.View.{same_kind}
 use Rattle.dm_messages.specs.declared.kind.Kind.{Kind}
 use Rattle.dm_messages.specs.declared.kind.Kind.TheVariants.{Dm1, Dm2, Dm6}
-use Rattle.bus_watch.specs.Runs.{HasOrder, UnitsValue, UnitValue, has_begun, key_of, no_runs, runs_in, runs_of, same_key, units_of, unrolled, who_of, with_unit}
+use Rattle.bus_watch.specs.Runs.{HasOrder, UnitsValue, UnitValue, has_begun, key_of, no_runs, runs_in, runs_of, same_key, units_of, who_of, with_unit}
 use Rattle.bus_watch.specs.contracts.key.KeyOrd.TheImpl.Laws as key_laws
 use Rattle.bus_watch.specs.declared.key.Key.{Key}
 use Rattle.bus_watch.specs.declared.run.EntryRun.{EntryRun}
-use Rattle.bus_watch.specs.declared.shown_entry.ShownEntry.{ShownEntry}
 use Rattle.bus_watch.specs.declared.key.Key.TheVariants as key
 
 key_equiv : IsEquivalence same_key

@@ -1,6 +1,6 @@
 -- Which entries are contested: those that came within a quarter of a second of a claim that displaced another NAME. So long a unit waits for a contender
 -- before it sends (SAE J1939-81).
-use Rattle.std.specs.Prelude.{ℕ, Bool, false, ◌-◌, nat_lt, List, Option, Some, None, replicate, slice_set}
+use Rattle.std.specs.Prelude.{ℕ, Bool, false, ◌-◌, ◌==◌, nat_lt, List, Option, Some, None, if◌then◌else◌, replicate, slice_set}
 use Rattle.bus_model.specs.declared.overheard.Overheard.{Overheard}
 use Rattle.bus_model.specs.declared.overheard.Overheard.TheVariants as heard
 
@@ -16,5 +16,5 @@ no_contests = replicate 256 None
 -- of each address, after what was heard at this time: missed frames may have been claims
 abbrev pub contests_after : Option ℕ → Overheard → List (Option ℕ) → List (Option ℕ)
 contests_after time (heard.Claimed name address (Some displaced)) contests = slice_set contests address time
-contests_after time (heard.Missed count) contests = no_contests
+contests_after time (heard.Missed count) contests = if count == 0 then contests else no_contests
 contests_after time _ contests = contests

@@ -69,7 +69,7 @@ hearers_of buses l = if buses.each then hearers_by buses.watches l else One 0
 
 -- how a watch begins, of the bus of this name or of the first that a line names
 abbrev pub beginning_as : WatchSettings → Option (List ℕ) → Beginning
-beginning_as s followed = record { selection = s.selection; skips_bad = s.skips_bad; silence = s.silence; bus = followed; contests = no_contests }
+beginning_as s followed = record { selection = s.selection; skips_bad = s.skips_bad; silence = s.silence; bus = followed; contests = no_contests; gaps = 0; before = record { missed = 0; unread = 0 }; partly = 0 }
 
 -- a watch that was told nothing, of such a bus, and the name that it has where each is watched
 pub record IsNew (s : WatchSettings) (followed named : Option (List ℕ)) (one : BusWatch) : Type 0 where

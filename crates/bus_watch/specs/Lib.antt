@@ -9,3 +9,4 @@ pub mod Contested
 pub mod Counted
 pub mod Hearing
 pub mod Methods
+pub mod Held

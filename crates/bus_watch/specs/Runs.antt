@@ -5,6 +5,7 @@ use Rattle.std.specs.List.{list_any}
 use Rattle.std.specs.Map.{lookup}
 use Rattle.std.specs.Option.{option_map_or}
 use Rattle.std.specs.Ordering.{eq_by_cmp}
+use Rattle.bus_model.specs.Heard.{counted}
 use Rattle.bus_model.specs.Overheard.{same_who}
 use Rattle.bus_model.specs.OverheardChanged.{change_overheard}
 use Rattle.bus_model.specs.declared.who.Who.{Who}
@@ -82,6 +83,14 @@ runs_by (e ∷ older) = with_came (runs_by older) e
 unfoldable pub has_begun : List EntryRun → List EntryRun → Bool
 has_begun before after = nat_lt (length before) (length after)
 
+-- for how many an entry of so many codes counts that begins one: for one of each, and for one at least
+abbrev pub runs_of_codes : ℕ → ℕ
+runs_of_codes codes = if codes == 0 then 1 else codes
+
+-- how many there are in all lists together, once an entry of so many codes has begun one or not
+abbrev pub kept_after : Bool → ℕ → ℕ → ℕ
+kept_after begun codes kept = if begun then counted (kept + runs_of_codes codes) else kept
+
 -- the runs of a unit, of each kind
 pub record UnitValue : Type 0 where
   pub dm1 : List EntryRun
@@ -129,17 +138,18 @@ abbrev pub units_of : UnitsValue → List Who
 units_of units = map who_of units.order
 
 -- the runs of each unit, in the order of the units' first entries; whether the newest entry began one; what is shown; the time of the newest
--- line that has one; and when a claim of each address last displaced another NAME
+-- line that has one; when a claim of each address last displaced another NAME; and how many runs there are
 pub record ListsValue : Type 0 where
   pub units : UnitsValue
   pub began : Bool
   pub selection : Selection
   pub time : Option ℕ
   pub contests : List (Option ℕ)
+  pub kept : ℕ
 
 -- no runs of any unit
 abbrev pub none_listed : Selection → ListsValue
-none_listed selection = record { units = no_units; began = false; selection = selection; time = None; contests = no_contests }
+none_listed selection = record { units = no_units; began = false; selection = selection; time = None; contests = no_contests; kept = 0 }
 
 -- the runs of a unit and kind
 abbrev pub runs_under : ListsValue → Who → Kind → List EntryRun
@@ -255,6 +265,18 @@ abbrev pub with_run_at : Selection → List (Option ℕ) → Option ℕ → Opti
 with_run_at s contests time None w k runs = runs
 with_run_at s contests time (Some e) w k runs = if same_who e.who w && same_kind e.kind k then with_came runs (came_at s contests time e) else runs
 
+-- how many runs there are with one more entry
+abbrev pub kept_with : Selection → List (Option ℕ) → Option ℕ → Option SentEntry → (Who → Kind → List EntryRun) → ℕ → ℕ
+kept_with s contests time None runs kept = kept
+kept_with s contests time (Some e) runs kept =
+    kept_after (has_begun (runs e.who e.kind) (with_came (runs e.who e.kind) (came_at s contests time e))) (length (came_at s contests time e).what.shown.codes) kept
+
+-- of the entries as they came
+abbrev pub kept_heard : Selection → List (Option ℕ) → List Moment → ℕ
+kept_heard s first [] = 0
+kept_heard s first (m ∷ older) =
+    kept_with s (contests_heard first older) m.time (entry_selected s m older) (λ w k. runs_by (entries_came s first older w k)) (kept_heard s first older)
+
 -- the units with that of an entry behind them, if there is one and it is none of them yet
 abbrev pub with_unit_of : Option SentEntry → List Who → List Who
 with_unit_of None units = units
@@ -278,4 +300,5 @@ pub record HasRuns (before : ListsValue) (e : SentEntry) (after : ListsValue) : 
   pub selection : after.selection ≡ before.selection
   pub time : after.time ≡ before.time
   pub contests : after.contests ≡ before.contests
+  pub kept : after.kept ≡ kept_with before.selection before.contests before.time (if_shown before.selection before.time (Some e)) (runs_under before) before.kept
   pub began : after.began ≡ run_begun_by before after e.who e.kind

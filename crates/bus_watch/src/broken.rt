@@ -1,3 +1,5 @@
+ghost use Rattle.std.specs.Prelude.{◌≡◌};
+
 use crate::lists::WatchLists;
 use listener::{BrokenMessages, Fate, Overheard, PacedListener, was_whole};
 pub use listener::{BrokenBy, BrokenMessage};
@@ -13,7 +15,9 @@ pub(crate) struct Broken {
 
 impl Broken {
     /// None yet, after so many.
-    pub(crate) fn new(alloc: Global, count: u64) -> Broken {
+    pub(crate) fn new(alloc: Global, count: u64) -> Broken
+        ensures { result.messages.count ≡ count }
+    {
         Broken {
             messages: BrokenMessages::new(alloc, count),
             is_whole: false,
@@ -21,7 +25,9 @@ impl Broken {
     }
 
     /// How many there were, told or not.
-    pub(crate) fn count(&self) -> u64 {
+    pub(crate) fn count(&self) -> u64
+        ensures { result ≡ self.now.messages.count }
+    {
         self.messages.count()
     }
 
@@ -31,7 +37,9 @@ impl Broken {
     }
 
     /// A line is read.
-    pub(crate) fn clear(&mut self) {
+    pub(crate) fn clear(&mut self)
+        ensures { self.new.messages.count ≡ self.old.messages.count }
+    {
         self.messages.clear();
         self.is_whole = false;
     }
@@ -42,12 +50,16 @@ impl Broken {
         ear: &PacedListener,
         group: &ParameterGroup<'_>,
         fate: Fate,
-    ) -> Result<(), AllocError> {
+    ) -> Result<(), AllocError>
+        ensures { self.new.messages.count ≡ self.old.messages.count }
+    {
         self.messages.expect(ear, group, fate)
     }
 
     /// The listener heard this of the frame.
-    pub(crate) fn hear(&mut self, heard: &Overheard) {
+    pub(crate) fn hear(&mut self, heard: &Overheard)
+        ensures { self.new.messages.count ≡ self.old.messages.count }
+    {
         self.is_whole = was_whole(heard);
     }
 

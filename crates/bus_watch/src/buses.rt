@@ -1,10 +1,12 @@
 ghost use Rattle.std.specs.Prelude.{◌≡◌, ◌≤◌, ◌==◌, IfOk, OnOk, OnErr, Some, option_map, string_bytes, true, false};
+ghost use Rattle.bus_watch.specs.Held.{is_full_by};
 ghost use Rattle.bus_watch.specs.Hearing as hearing;
 ghost use Rattle.bus_watch.specs.Told as told;
 ghost use Rattle.can_frame.specs.declared.address.TheConstants.{GREATEST_ADDRESS};
 
 use crate::change::{Changes, WatchChange, nothing};
 use crate::counts::WatchCounts;
+use crate::held::{Held, Limits};
 use crate::watch::{Watch, WatchSettings};
 use can_frame::Pgn;
 use candump_line::Line;
@@ -181,6 +183,17 @@ impl Buses {
         ensures { result.now ≡ self.now.watches }
     {
         self.watches.as_slice()
+    }
+
+    /// Whether the watches together keep as much as may be, or messages were announced between 4,096 pairs of addresses.
+    pub fn is_full(&self, limits: Limits) -> bool
+        ensures { result ≡ is_full_by limits self.now.watches }
+    {
+        let mut held = Held::nothing();
+        for one in self.watches.iter() {
+            held = held.with(&one.watch);
+        }
+        held.fills(limits)
     }
 
     /// How many lines there were of each sort, on all buses that are watched.

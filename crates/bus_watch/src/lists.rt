@@ -27,15 +27,18 @@ pub(crate) struct WatchLists {
     selection: Selection,
     newest: Option<Time>,
     contests: Contests,
+    /// How many runs were begun; one of several codes counts as many.
+    kept: u64,
 }
 
-/// Seen as the runs by unit, whether the newest entry began a run, what is shown, the time, and which addresses are contested.
+/// Seen as the runs by unit, whether the newest entry began a run, what is shown, the time, which addresses are contested, and how many
+/// runs there are.
 impl Model for WatchLists {
     ghost use Rattle.bus_watch.specs.Runs.{ListsValue};
 
     ghost Value = { ListsValue };
 
-    ghost view = { λ l. record { units = l.units; began = l.began; selection = l.selection; time = l.newest; contests = l.contests.table } };
+    ghost view = { λ l. record { units = l.units; began = l.began; selection = l.selection; time = l.newest; contests = l.contests.table; kept = l.kept } };
 }
 
 impl WatchLists {
@@ -49,6 +52,7 @@ impl WatchLists {
             selection,
             newest: None,
             contests: Contests::new(),
+            kept: 0,
         }
     }
 
@@ -78,6 +82,13 @@ impl WatchLists {
         ensures { result ≡ counted (length (entries_in self.now who kind)) }
     {
         self.units.entries(who, kind)
+    }
+
+    /// How many runs there are in all lists together. One of several codes counts as many.
+    pub(crate) fn kept(&self) -> u64
+        ensures { result ≡ self.now.kept }
+    {
+        self.kept
     }
 
     /// Whether the newest entry began a run.
@@ -159,7 +170,9 @@ impl WatchLists {
     {
         let contested = self.contests.is_contested(entry.source, self.newest);
         let entry = UnitEntry::of(alloc, entry, &self.selection.methods)?;
+        let codes = entry.what.codes();
         self.began = self.units.add(alloc, entry, self.newest, contested)?;
+        self.kept = kept_after(self.began, codes, self.kept);
         Ok(())
     }
 
@@ -175,6 +188,17 @@ impl WatchLists {
         }
         self.keep(alloc, entry)
     }
+}
+
+/// How many runs there are, of so many, once an entry of so many codes has begun one or not.
+fn kept_after(begun: bool, codes: usize, kept: u64) -> u64
+    ensures { result ≡ runs.kept_after begun codes kept }
+{
+    if !begun {
+        return kept;
+    }
+    let more = if codes == 0 { 1 } else { codes as u64 };
+    kept.saturating_add(more)
 }
 
 impl SentLists for WatchLists {

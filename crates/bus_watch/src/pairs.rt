@@ -1,3 +1,5 @@
+ghost use Rattle.std.specs.Prelude.{◌≡◌, ◌≤◌, ◌+◌, IfOk};
+
 use std::alloc::{AllocError, Global};
 
 /// How many pairs of addresses there are, over the bits of a word.
@@ -12,7 +14,9 @@ pub(crate) struct Pairs {
 
 impl Pairs {
     /// Between none.
-    pub(crate) fn new(alloc: Global) -> Result<Pairs, AllocError> {
+    pub(crate) fn new(alloc: Global) -> Result<Pairs, AllocError>
+        ensures { IfOk result (λ p. p.count ≡ 0) }
+    {
         let mut announced = Vec::with_capacity(alloc, WORDS)?;
         for _ in 0..WORDS {
             announced.push(0)?;
@@ -24,12 +28,16 @@ impl Pairs {
     }
 
     /// How many they are.
-    pub(crate) fn count(&self) -> usize {
+    pub(crate) fn count(&self) -> usize
+        ensures { result ≡ self.now.count }
+    {
         self.count
     }
 
     /// A message is announced between these addresses.
-    pub(crate) fn add(&mut self, source: u8, dest: u8) {
+    pub(crate) fn add(&mut self, source: u8, dest: u8)
+        ensures { self.new.count ≤ self.old.count + 1 }
+    {
         let bit = 1u64 << (dest % 64);
         if let Some(word) = self
             .announced

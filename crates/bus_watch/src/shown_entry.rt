@@ -1,4 +1,4 @@
-ghost use Rattle.std.specs.Prelude.{◌≡◌, IfOk};
+ghost use Rattle.std.specs.Prelude.{◌≡◌, IfOk, length};
 ghost use Rattle.bus_watch.specs.Methods.{entry_by_method, shown_entry};
 
 use crate::methods::{UnitMethods, method_of};
@@ -15,6 +15,15 @@ pub(crate) struct ShownEntry {
     pub shown: Shown,
     /// What of it is not read, where it was read in part.
     pub trouble: Option<Trouble>,
+}
+
+impl ShownEntry {
+    /// How many codes can be read.
+    pub fn codes(&self) -> usize
+        ensures { result ≡ length self.entry.now.shown.codes }
+    {
+        self.shown.codes.as_slice().len()
+    }
 }
 
 /// An entry for the list of a unit and kind.

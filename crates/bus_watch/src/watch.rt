@@ -1,10 +1,15 @@
-ghost use Rattle.std.specs.Prelude.{◌≡◌, [], List, length, slice_get, IfOk, option_map};
+ghost use Rattle.std.specs.Prelude.{◌≡◌, ◌≤◌, [], List, length, slice_get, IfOk, option_map};
 ghost use Rattle.bus_model.specs.Heard.{counted, missed_count, names_heard};
 ghost use Rattle.bus_model.specs.Overheard.{row_overheard, unread_overheard};
 ghost use Rattle.bus_watch.specs.Contested.{no_contests};
-ghost use Rattle.bus_watch.specs.Runs.{entries_came, lists_shown, newest_time, runs_by, units_shown, unrolled};
+ghost use Rattle.bus_watch.specs.Runs.{entries_came, kept_heard, lists_shown, newest_time, none_listed, runs_by, units_shown, unrolled};
+ghost use Rattle.bus_watch.specs.Tellings.{none_told};
+ghost use Rattle.bus_watch.specs.WatchValue.{announcements_in};
 ghost use Rattle.bus_watch.specs.Told.{Beginning, StandsForAll, Told, all_said, readings_said};
 ghost use Rattle.entry_lists.specs.KnownRows.{row_heard_as};
+ghost use Rattle.listener.specs.ListenerSteps.{new_listener};
+ghost use Rattle.listener.specs.ListenerValue.{HasOverheard, gaps_alone};
+ghost use Rattle.reassembly.specs.Pairs.{no_pairs};
 
 use self::over::Before;
 use crate::broken::{Broken, BrokenMessage};
@@ -14,7 +19,6 @@ use crate::pairs::Pairs;
 use crate::run::EntryRun;
 use crate::selection::Selection;
 use crate::unowned::Unowned;
-use can_frame::GLOBAL_ADDRESS;
 use candump_line::Time;
 use dm_messages::Kind;
 use entry_lists::Row;
@@ -27,8 +31,6 @@ mod changes;
 mod over;
 mod parts;
 mod readings;
-
-pub use over::Limits;
 
 /// How a bus is watched.
 #[derive(Clone, Copy)]
@@ -50,14 +52,12 @@ pub struct Watch {
     unowned: Unowned,
     lists: WatchLists,
     counts: WatchCounts,
-    /// How many runs were begun; one of several codes counts as many.
-    kept: u64,
     pairs: Pairs,
     broken: Broken,
     before: Before,
 }
 
-/// Seen as its listener, the lists that it fills, what it knows of the bus that it follows, and what it told once.
+/// Seen as its listener, the lists that it fills, what it knows of the bus that it follows, what it told once, and what it counts.
 impl Model for Watch {
     ghost use Rattle.std.specs.Prelude.{option_map, string_bytes};
     ghost use Rattle.bus_watch.specs.WatchValue.{WatchValue};
@@ -74,6 +74,10 @@ impl Model for Watch {
         packets = w.ear.paces;
       };
       told = w.unowned;
+      before = record { missed = w.before.missed; unread = w.before.unread };
+      partly = w.counts.partly;
+      broken = w.broken.messages.count;
+      pairs = w.pairs.count;
     } };
 }
 
@@ -91,14 +95,39 @@ impl Watch {
           silence = settings.silence;
           bus = option_map (λ name. name.now) bus.entry;
           contests = no_contests;
+          gaps = 0;
+          before = record { missed = 0; unread = 0 };
+          partly = 0;
         }) [] w) }
+    {
+        Watch::after_gaps(alloc, settings, bus, 0)
+    }
+
+    /// A watch that has read so many gaps, and nothing else.
+    fn after_gaps(
+        alloc: Global,
+        settings: WatchSettings,
+        bus: Option<&str>,
+        gaps: u64,
+    ) -> Result<Watch, AllocError>
+        ensures value { IfOk result (λ w. w ≡ record {
+          listener = record new_listener { gaps = gaps };
+          lists = none_listed settings.selection;
+          followed = record { skips_bad = settings.skips_bad; silence = settings.silence; bus = option_map (λ name. name.now) bus.entry; packets = no_pairs };
+          told = none_told;
+          before = record { missed = 0; unread = 0 };
+          partly = 0;
+          broken = 0;
+          pairs = 0;
+        }) }
+        ensures heard { IfOk result (λ w. HasOverheard w.listener (gaps_alone gaps)) }
     {
         let bus = match bus {
             Some(bus) => Some(String::from_str(alloc, bus)?),
             None => None,
         };
         let pairs = Pairs::new(alloc)?;
-        let ear = PacedListener::new(alloc, settings.silence)?;
+        let ear = PacedListener::after_gaps(alloc, settings.silence, gaps)?;
         Ok(Watch {
             settings,
             ear,
@@ -106,7 +135,6 @@ impl Watch {
             unowned: Unowned::new(),
             lists: WatchLists::new(alloc, settings.selection),
             counts: WatchCounts::default(),
-            kept: 0,
             pairs,
             broken: Broken::new(alloc, 0),
             before: Before::default(),
@@ -137,6 +165,7 @@ impl Watch {
     /// How many NAMEs have a row.
     #[tactic(auto, using(crate::proofs::Queries::names_as_heard))]
     pub fn names(&self) -> usize
+        ensures value { result ≡ length self.now.listener.rows }
         ensures heard { (b : Beginning) (ts : List Told) → StandsForAll b ts self.entry.now
             → result ≡ length (names_heard (readings_said b ts)) }
     {
@@ -164,6 +193,7 @@ impl Watch {
     /// How many units have entries that are shown: NAMEs, and addresses that nobody has claimed.
     #[tactic(auto, using(crate::proofs::Queries::units_as_heard))]
     pub fn units(&self) -> usize
+        ensures value { result ≡ length self.now.lists.units.order }
         ensures heard { (b : Beginning) (ts : List Told) → StandsForAll b ts self.entry.now
             → result ≡ length (units_shown b.selection (all_said b ts).moments) }
     {
@@ -195,6 +225,26 @@ impl Watch {
         self.lists.runs(who, kind)
     }
 
+    /// How many runs there are in all lists together, up to the greatest 64-bit number. One of several codes counts as many.
+    #[tactic(auto, using(crate::proofs::Queries::kept_as_heard))]
+    pub fn kept(&self) -> u64
+        ensures value { result ≡ self.now.lists.kept }
+        ensures heard { (b : Beginning) (ts : List Told) → StandsForAll b ts self.entry.now
+            → result ≡ kept_heard b.selection b.contests (all_said b ts).moments }
+    {
+        self.lists.kept()
+    }
+
+    /// Between how many pairs of addresses messages of several packets were announced.
+    #[tactic(auto, using(crate::proofs::Queries::pairs_as_heard))]
+    pub fn pairs(&self) -> usize
+        ensures value { result ≡ self.now.pairs }
+        ensures most { (b : Beginning) (ts : List Told) → StandsForAll b ts self.entry.now
+            → result ≤ announcements_in (readings_said b ts) }
+    {
+        self.pairs.count()
+    }
+
     /// How many entries a unit has of a kind, up to the greatest 64-bit number.
     #[tactic(auto, using(crate::proofs::Queries::entries_as_heard))]
     pub fn entries(&self, who: Who, kind: Kind) -> u64
@@ -207,6 +257,7 @@ impl Watch {
     /// How many frames were missed, up to the greatest 64-bit number.
     #[tactic(auto, using(crate::proofs::Queries::missed_as_heard))]
     pub fn missed(&self) -> u64
+        ensures value { result ≡ self.now.listener.missed }
         ensures heard { (b : Beginning) (ts : List Told) → StandsForAll b ts self.entry.now
             → result ≡ missed_count (readings_said b ts) }
     {
@@ -216,6 +267,7 @@ impl Watch {
     /// How many messages could not be read whole, up to the greatest 64-bit number.
     #[tactic(auto, using(crate::proofs::Queries::unread_as_heard))]
     pub fn unread(&self) -> u64
+        ensures value { result ≡ self.now.listener.unread }
         ensures heard { (b : Beginning) (ts : List Told) → StandsForAll b ts self.entry.now
             → result ≡ unread_overheard (readings_said b ts) }
     {
@@ -228,20 +280,9 @@ impl Watch {
     }
 
     /// How many messages were broken, also before it started over, up to the greatest 64-bit number.
-    pub fn broken_in_all(&self) -> u64 {
+    pub fn broken_in_all(&self) -> u64
+        ensures { result ≡ self.entry.now.broken }
+    {
         self.broken.count()
-    }
-
-    /// How many messages are half joined now.
-    pub fn half_joined(&self) -> u64 {
-        let mut count = 0u64;
-        for source in 0..=GLOBAL_ADDRESS {
-            for dest in 0..=GLOBAL_ADDRESS {
-                if self.ear.half_sent(source, dest).is_some() {
-                    count = count.saturating_add(1);
-                }
-            }
-        }
-        count
     }
 }

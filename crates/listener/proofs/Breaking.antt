@@ -1,6 +1,6 @@
 -- Messages that a claim may end; and those that were broken, with_numbers one after the other.
-use Rattle.std.proofs.Common.{◌≡◌, ◌<◌, ◌≤◌, ◌+◌, ℕ, List, [], ◌∷◌, ◌++◌, take, drop, set, get_or, length, sym, ap, ◌∙◌, subst, add-one, append_assoc, arith}
-use Rattle.std.proofs.lemmas.List.{at_drop_all, at_drop_more, drop-set-lt, take_more_set}
+use Rattle.std.proofs.Common.{◌≡◌, ◌<◌, ◌+◌, ℕ, List, [], ◌∷◌, ◌++◌, take, drop, set, get_or, length, sym, ap, ◌∙◌, subst, add-one, append_assoc, arith}
+use Rattle.std.proofs.lemmas.List.{at_drop_more, drop-set-lt, take_more_set}
 use Rattle.bus_model.specs.Heard.{counted}
 use Rattle.listener.specs.Broken.{broken_count, noted_below, noted_between, with_numbers}
 use Rattle.listener.specs.Paced.{PacedValue}

@@ -1,5 +1,5 @@
 -- What a listener that looks at times makes of a frame.
-use Rattle.std.proofs.Common.{◌≡◌, ℕ, ◌<◌, List, ◌∷◌, Option, Some, None, refl, sym, ap, ◌∙◌, subst}
+use Rattle.std.proofs.Common.{◌≡◌, ℕ, ◌<◌, List, ◌∷◌, Option, Some, refl, sym, ap, ◌∙◌, subst}
 use Rattle.std.specs.Prelude.{Result, Ok, Err, IfOk, OnOk}
 use Rattle.bus_model.specs.Overheard.{HalfSent}
 use Rattle.bus_model.specs.OverheardChanged.{change_overheard}

@@ -1,11 +1,12 @@
 -- What is read from the tables is what was overheard.
-use Rattle.std.proofs.Common.{◌≡◌, ℕ, List, Option, length, map, sym, ap, ◌∙◌}
+use Rattle.std.proofs.Common.{◌≡◌, ℕ, ◌<◌, List, Option, length, map, sym, ap, ◌∙◌}
 use Rattle.std.specs.Prelude.{slice_get}
 use Rattle.std.specs.Option.{option_map}
 use Rattle.std.proofs.lemmas.List.{length-map}
 use Rattle.can_frame.specs.declared.reading.Reading.{Reading}
-use Rattle.bus_model.specs.Heard.{missed_count, names_heard}
-use Rattle.bus_model.specs.Overheard.{row_overheard, unread_overheard}
+use Rattle.bus_model.specs.Heard.{missed_count, names_heard, owner_heard}
+use Rattle.bus_model.specs.Overheard.{gaps_heard, row_overheard, unread_overheard}
+use Rattle.reassembly.specs.Tables.{at}
 use Rattle.entry_lists.specs.KeptValue.{kept_under}
 use Rattle.entry_lists.specs.KnownRows.{row_heard_as, row_of}
 use Rattle.entry_lists.specs.declared.row.Row.{Row}
@@ -27,3 +28,9 @@ missed_as_overheard l h n e st = e ∙ st.missed
 
 pub unread_as_overheard : (l : ListenerValue) (h : List Reading) (n : ℕ) → n ≡ l.unread → HasOverheard l h → n ≡ unread_overheard h
 unread_as_overheard l h n e st = e ∙ st.unread
+
+pub owner_as_overheard : (l : ListenerValue) (h : List Reading) (a : ℕ) (o : Option ℕ) → a < 256 → o ≡ at l.owners a → HasOverheard l h → o ≡ owner_heard a h
+owner_as_overheard l h a o below e st = e ∙ st.owners a below
+
+pub gaps_as_overheard : (l : ListenerValue) (h : List Reading) (n : ℕ) → n ≡ l.gaps → HasOverheard l h → n ≡ gaps_heard h
+gaps_as_overheard l h n e st = e ∙ st.gaps

@@ -1,6 +1,7 @@
 -- The tables have what was overheard: at first of no readings, and after each reading of that one in front of the others.
-use Rattle.std.proofs.Common.{◌≡◌, ℕ, ◌+◌, ◌<◌, Bool, true, false, ◌==◌, ◌&&◌, List, [], ◌∷◌, Option, Some, None, if◌then◌else◌, length, refl, sym, ap, ◌∙◌, subst, arith}
-use Rattle.std.specs.Prelude.{nat_lt, nat_le}
+use Rattle.std.proofs.Common.{◌≡◌, ℕ, zero, suc, ◌+◌, ◌^◌, ◌<◌, Bool, true, false, ◌==◌, ◌&&◌, List, [], ◌∷◌, Option, Some, None, if◌then◌else◌, length, refl, sym, ap, ◌∙◌, subst, arith}
+use Rattle.std.specs.Prelude.{◌-◌, ◌≤◌, nat_lt, nat_le}
+use Rattle.std.proofs.Math.Nat.{min-eq_left}
 use Rattle.can_frame.specs.Fields.{pgn_of, pdu_specific_of, source_of}
 use Rattle.can_frame.specs.FrameValue.{FrameValue}
 use Rattle.can_frame.specs.declared.reading.Reading.{Reading}
@@ -12,13 +13,13 @@ use Rattle.transport.specs.declared.control.Control.TheVariants.{Abort, Bam, Cts
 use Rattle.reassembly.specs.Pairs.{no_pairs}
 use Rattle.reassembly.specs.TableLaws.{at-empty}
 use Rattle.reassembly.specs.Tables.{empty_table}
-use Rattle.bus_model.specs.Overheard.{HalfSent}
+use Rattle.bus_model.specs.Overheard.{HalfSent, gaps_heard}
 use Rattle.bus_model.specs.Heard.{addressless, counted}
 use Rattle.entry_lists.specs.KeptValue.{KeptValue, kept_under}
 use Rattle.entry_lists.proofs.RowClaims.{addressless_row}
 use Rattle.parameter_group.specs.Laws.{sender, sender_below}
 use Rattle.listener.specs.ListenerSteps.{group_taken, new_listener, after_listening}
-use Rattle.listener.specs.ListenerValue.{HasOverheard, ListenerValue}
+use Rattle.listener.specs.ListenerValue.{HasOverheard, ListenerValue, gaps_alone}
 use Rattle.listener.proofs.Hears.{Hears, aborts, acknowledges, bam, cannot_claims, claims, ends_none, heard_so, left_so, packet, rts, single}
 use Rattle.listener.proofs.Places.{none_at, none_places}
 
@@ -102,10 +103,22 @@ overheard_nothing l e = subst (λ (v : ListenerValue). HasOverheard v []) (sym e
   unread = refl;
 })
 
+-- one that has read gaps alone
+gaps_heard_alone : (n : ℕ) → n < 2 ^ 64 → gaps_heard (gaps_alone n) ≡ n
+gaps_heard_alone zero below = refl
+gaps_heard_alone (suc n) below =
+    let next : n + 1 ≤ 2 ^ 64 - 1 = omega (arith, below) in
+    ap (λ (k : ℕ). counted (k + 1)) (gaps_heard_alone n (omega (arith, below))) ∙ (min-eq_left next ∙ omega arith)
+
+overheard_gaps : (n : ℕ) → HasOverheard (record new_listener { gaps = gaps_heard (gaps_alone n) }) (gaps_alone n)
+overheard_gaps zero = overheard_nothing new_listener refl
+overheard_gaps (suc n) = gap_heard (record new_listener { gaps = gaps_heard (gaps_alone n) }) (gaps_alone n) 0 (overheard_gaps n)
+
 -- the parts of a new listener
-pub overheard_by_parts : (owners : List (Option ℕ)) (rows : List (ℕ × KeptValue)) (pairs : List (List (Option HalfSent))) → owners ≡ empty_table → rows ≡ [] → pairs ≡ no_pairs
-    → HasOverheard (record { owners = owners; rows = rows; pairs = pairs; gaps = 0; missed = 0; unread = 0 }) []
-overheard_by_parts owners rows pairs o r p = overheard_nothing _ (rw (o, r, p) refl)
+pub overheard_by_parts : (owners : List (Option ℕ)) (rows : List (ℕ × KeptValue)) (pairs : List (List (Option HalfSent))) (gaps : ℕ) → gaps < 2 ^ 64 → owners ≡ empty_table → rows ≡ [] → pairs ≡ no_pairs
+    → HasOverheard (record { owners = owners; rows = rows; pairs = pairs; gaps = gaps; missed = 0; unread = 0 }) (gaps_alone gaps)
+overheard_by_parts owners rows pairs gaps below o r p =
+    subst (λ (v : ListenerValue). HasOverheard v (gaps_alone gaps)) (rw (o, r, p, gaps_heard_alone gaps below) refl) (overheard_gaps gaps)
 
 -- at a call's answer
 pub stands_by_reading : (l m : ListenerValue) (h : List Reading) (x : Reading) → m ≡ after_listening l x → HasOverheard l h → HasOverheard m (x ∷ h)

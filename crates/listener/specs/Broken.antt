@@ -7,7 +7,6 @@ use Rattle.bus_model.specs.declared.overheard.Overheard.TheVariants.{Listed, Lis
 use Rattle.parameter_group.specs.Group.{Group, AddressClaimed, ConnectionManagement, DataTransfer}
 use Rattle.reassembly.specs.Pacing.{announces, is_over_if, lets_come_if, packet_number}
 use Rattle.reassembly.specs.Pairs.{pair_at}
-use Rattle.reassembly.specs.declared.pacing.Pace.{Pace}
 use Rattle.reassembly.specs.declared.paces.Fate.{Fate}
 use Rattle.reassembly.specs.declared.paces.Fate.TheVariants as fates
 use Rattle.transport.specs.Pieces.{packet_count}

@@ -1,6 +1,7 @@
 -- What a listener holds in its tables.
-use Rattle.std.specs.Prelude.{◌≡◌, ℕ, ◌<◌, List, Option, length, map}
+use Rattle.std.specs.Prelude.{◌≡◌, ℕ, zero, suc, ◌<◌, List, [], ◌∷◌, Option, length, map}
 use Rattle.can_frame.specs.declared.reading.Reading.{Reading}
+use Rattle.can_frame.specs.declared.reading.Reading.TheVariants.{Gap}
 use Rattle.bus_model.specs.Heard.{missed_count, names_heard, owner_heard}
 use Rattle.bus_model.specs.Overheard.{HalfSent, between_heard, gaps_heard, row_overheard, unread_overheard, who_at}
 use Rattle.bus_model.specs.declared.who.Who.{Who}
@@ -38,3 +39,8 @@ pub record HasOverheard (l : ListenerValue) (h : List Reading) : Type 0 where
   pub gaps : l.gaps ≡ gaps_heard h
   pub missed : l.missed ≡ missed_count h
   pub unread : l.unread ≡ unread_overheard h
+
+-- so many gaps, in which no frame is known to be missed
+abbrev pub gaps_alone : ℕ → List Reading
+gaps_alone zero = []
+gaps_alone (suc n) = Gap 0 ∷ gaps_alone n

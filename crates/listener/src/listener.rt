@@ -1,7 +1,7 @@
 ghost use Rattle.std.specs.Prelude.{◌≡◌, ℕ, [], length, map, slice_get, List, IfOk};
 ghost use Rattle.std.specs.Option.{option_copied, option_map};
-ghost use Rattle.bus_model.specs.Heard.{missed_count, names_heard};
-ghost use Rattle.bus_model.specs.Overheard.{row_overheard, unread_overheard};
+ghost use Rattle.bus_model.specs.Heard.{missed_count, names_heard, owner_heard};
+ghost use Rattle.bus_model.specs.Overheard.{gaps_heard, row_overheard, unread_overheard};
 ghost use Rattle.can_frame.specs.declared.reading.Reading.{Reading as AnyReading};
 ghost use Rattle.reassembly.specs.Pairs.{pair_at};
 ghost use Rattle.entry_lists.specs.KeptValue.{kept_under};
@@ -44,7 +44,7 @@ impl Model for Listener {
 
 impl Listener {
     ghost use Rattle.listener.specs.ListenerSteps.{new_listener};
-    ghost use Rattle.listener.specs.ListenerValue.{HasOverheard, who_in};
+    ghost use Rattle.listener.specs.ListenerValue.{HasOverheard, gaps_alone, who_in};
     ghost use Rattle.reassembly.specs.Tables.{at};
 
     /// A listener that has read nothing. It takes the memory for the sources of 256 addresses.
@@ -52,12 +52,24 @@ impl Listener {
         ensures value { IfOk result (λ l. l ≡ new_listener) }
         ensures stands { IfOk result (λ l. HasOverheard l []) }
     {
+        Listener::after_gaps(alloc, 0)
+    }
+
+    /// A listener that has read so many gaps, in which no frame is known to be missed, and nothing else: it numbers the next one after
+    /// them.
+    ///
+    /// # Errors
+    /// Memory was refused.
+    pub fn after_gaps(alloc: Global, gaps: u64) -> Result<Listener, AllocError>
+        ensures value { IfOk result (λ l. l ≡ record new_listener { gaps = gaps }) }
+        ensures stands { IfOk result (λ l. HasOverheard l (gaps_alone gaps)) }
+    {
         let pairs = PairedPartials::new(alloc)?;
         Ok(Listener {
             owners: AddressTable::new(alloc),
             rows: Rows::new(alloc),
             pairs,
-            gaps: 0,
+            gaps,
             missed: 0,
             unread: 0,
         })
@@ -95,11 +107,22 @@ impl Listener {
         Some(Row { address, ack })
     }
 
-    /// The owner of an address.
-    fn owner(&self, address: u8) -> Option<Name>
-        ensures { result ≡ at self.now.owners address }
+    /// The owner of an address, 0 to 255: the NAME that claimed it last since frames were missed, also where that has left it.
+    #[tactic(auto, using(crate::proofs::Queries::owner_as_overheard))]
+    pub fn owner(&self, address: u8) -> Option<Name>
+        ensures value { result ≡ at self.now.owners address }
+        ensures heard { (h : List AnyReading) → HasOverheard self.now h → result ≡ owner_heard address h }
     {
         self.owners.get(address).copied()
+    }
+
+    /// How many gaps there were, up to the greatest 64-bit number.
+    #[tactic(auto, using(crate::proofs::Queries::gaps_as_overheard))]
+    pub fn gaps(&self) -> u64
+        ensures value { result ≡ self.now.gaps }
+        ensures heard { (h : List AnyReading) → HasOverheard self.now h → result ≡ gaps_heard h }
+    {
+        self.gaps
     }
 
     /// What is half sent from a source to a destination.

@@ -37,7 +37,7 @@ impl Model for PacedListener {
 
 impl PacedListener {
     ghost use Rattle.listener.specs.ListenerSteps.{new_listener};
-    ghost use Rattle.listener.specs.ListenerValue.{HasOverheard};
+    ghost use Rattle.listener.specs.ListenerValue.{HasOverheard, gaps_alone};
     ghost use Rattle.listener.specs.Paced.{IsHeard, fate_in, listed_in, paces_after, reading_in};
     ghost use Rattle.listener.specs.SentEntries.{reading_listed};
 
@@ -49,8 +49,23 @@ impl PacedListener {
         ensures value { IfOk result (λ l. l ≡ record { listener = new_listener; paces = no_pairs; silence = silence }) }
         ensures stands { IfOk result (λ l. HasOverheard l.listener []) }
     {
+        PacedListener::after_gaps(alloc, silence, 0)
+    }
+
+    /// A listener that has read so many gaps, as `Listener::after_gaps`, to whom messages may be silent so long.
+    ///
+    /// # Errors
+    /// Memory was refused.
+    pub fn after_gaps(
+        alloc: Global,
+        silence: Silence,
+        gaps: u64,
+    ) -> Result<PacedListener, AllocError>
+        ensures value { IfOk result (λ l. l ≡ record { listener = record new_listener { gaps = gaps }; paces = no_pairs; silence = silence }) }
+        ensures stands { IfOk result (λ l. HasOverheard l.listener (gaps_alone gaps)) }
+    {
         let paces = PairedPaces::new(alloc)?;
-        let listener = Listener::new(alloc)?;
+        let listener = Listener::after_gaps(alloc, gaps)?;
         Ok(PacedListener {
             listener,
             paces,

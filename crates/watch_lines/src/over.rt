@@ -1,4 +1,4 @@
-//! What becomes of a watch of which as much is kept as may be: what was heard so far is reported, and it is begun anew.
+//! What becomes of the watches where as much is kept as may be: what was heard so far is reported, and each is begun anew.
 
 use crate::heard::Heard;
 use crate::options::RunOptions;
@@ -36,7 +36,7 @@ impl Over {
         options: &RunOptions<'_>,
         number: u64,
     ) -> Result<(), LogFault> {
-        if is_full(&heard.buses, options.limits) {
+        if heard.buses.is_full(options.limits) {
             self.begin_anew(alloc, writer, errors, heard, options, number)?;
         }
         Ok(())
@@ -93,16 +93,6 @@ impl Over {
             part,
         )
     }
-}
-
-/// Whether of a bus as much is kept as may be.
-fn is_full(buses: &Buses, limits: Limits) -> bool {
-    for one in buses.watches() {
-        if one.watch.is_full(limits) {
-            return true;
-        }
-    }
-    false
 }
 
 /// Begins each bus anew.

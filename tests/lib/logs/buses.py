@@ -116,13 +116,43 @@ def buses_too_many():
     return same([len(out.splitlines()), "other bus 4;" in out, "can15 " in out, "can16 " in out], [49, True, True, False], "lines") if out else ["nothing"]
 
 
-def each_bus_has_its_ceiling():
-    """As many runs are kept of whichever bus changes: the eleventh is told to be one too many, and then the eleventh after that."""
+def buses_have_one_ceiling():
+    """As many runs are kept of whichever buses change: the eleventh is told to be one too many, and then the eleventh after that."""
     found = []
-    for bus in ("can0", "can1"):
+    for bus in (["can0"], ["can1"], ["can0", "can1"]):
         lines = ["(1.000000) can0 18EEFF00#A000000000000000", "(1.100000) can1 18EEFF00#B000000000000000"]
-        lines += [f"({2 + at}.000000) {bus} 18FECA00#04FF{at + 1:02X}040301FFFF" for at in range(25)]
+        lines += [f"({2 + at}.000000) {bus[at % len(bus)]} 18FECA00#04FF{at + 1:02X}040301FFFF" for at in range(25)]
         status, out, said = run(["watch", "--bus", "all", "--keep", "10"], "".join(f"{it}\n" for it in lines).encode())
         told = re.findall(r"(?m)^over at line (\d+), so far:$", out)
         found += same((status, told, said.count("more than is kept at once")), (3, ["13", "23"], 1), f"a ceiling where {bus} changes")
     return found
+
+
+# A unit that left address 0 for 1, and addresses that nobody claimed; frames of that bus are lost twice. Where @ stands, the other bus has 20 other messages, so that the watches are begun anew.
+GAPS_AND_OWNERS = """(1.000000) can0 18EEFF00#A000000000000000
+(1.100000) can1 18EEFF00#B000000000000000
+(1.200000) can0 18FECA21#04FF64000101FFFF
+DROPCOUNT: dropped 2 CAN frames on 'can0' socket (total drops 2)
+(2.000000) can0 18EEFF00#A000000000000000
+(2.100000) can0 18EEFF01#A000000000000000
+(2.200000) can0 18FECA00#04FF65000101FFFF
+(2.300000) can0 18FECA21#04FF64000101FFFF
+@
+(4.000000) can0 18FECA00#04FF66000101FFFF
+(4.100000) can0 18FECA21#04FF64000101FFFF
+DROPCOUNT: dropped 3 CAN frames on 'can0' socket (total drops 5)
+(5.000000) can0 18FECA21#04FF64000101FFFF
+"""
+GONE_ON = ["1.200000 can0 dm1 address 33(21), no claim seen: amber (04FF); 100/1/1", "2.200000 can0 dm1 00000000000000A0 amber (04FF); 101/1/1",
+           "2.300000 can0 dm1 address 33(21), no claim seen since gap 1: amber (04FF); 100/1/1", "4.000000 can0 dm1 00000000000000A0 amber (04FF); 102/1/1",
+           "4.100000 can0 dm1 address 33(21), no claim seen since gap 1: amber (04FF); 100/1/1",
+           "5.000000 can0 dm1 address 33(21), no claim seen since gap 2: amber (04FF); 100/1/1"]
+
+
+def gaps_and_owners_go_on():
+    """Begun anew, the watches number gaps on, and know who owns an address that its unit has left; and what is missed is counted on."""
+    many = "\n".join(f"(3.{at:06}) can1 18FECA00#04FF{at + 1:02X}000101FFFF" for at in range(20))
+    status, out, said = run(["watch", "--bus", "all", "--keep", "20"], GAPS_AND_OWNERS.replace("@", many).encode())
+    told = [line[: line.rindex(" (")] for line in out.splitlines() if re.match(r"[0-9.]+ can0 dm1 ", line)]
+    found = same((status, said.count("more than is kept at once"), told), (3, 1, GONE_ON), "what is told")
+    return found + same(re.findall("(?m)^can0 (00000000000000A0 +[^ ]+|missed [0-9]+)", out), ["00000000000000A0       1", "missed 2", "00000000000000A0    none", "missed 5"], "reports")

@@ -1,8 +1,9 @@
-ghost use Rattle.std.specs.Prelude.{◌≡◌, IfOk, OnOk, OnErr};
+ghost use Rattle.std.specs.Prelude.{◌≡◌, ◌≤◌, ◌+◌, IfOk, OnOk, OnErr};
 ghost use Rattle.bus_watch.specs.Followed.{followed_with, frame_reading};
 ghost use Rattle.bus_watch.specs.Tellings.{is_new, news_by, told_after, told_of};
 ghost use Rattle.bus_watch.specs.Tellings as tellings;
-ghost use Rattle.bus_watch.specs.WatchValue.{Takes, Tells, noted_in};
+ghost use Rattle.bus_watch.specs.Counted.{partly_after};
+ghost use Rattle.bus_watch.specs.WatchValue.{Takes, Tells, announcements_by, noted_in};
 ghost use Rattle.can_frame.specs.FrameValue.{FrameValue};
 ghost use Rattle.listener.specs.Paced.{half_in};
 ghost use Rattle.parameter_group.specs.Group.{group_of};
@@ -15,6 +16,7 @@ use candump_line::Time;
 use listener::{Overheard, Who};
 use parameter_group::ParameterGroup;
 use std::alloc::{AllocError, Global};
+use transport::Control;
 
 impl Watch {
     /// Has the listener take a reading of a line with this time, or with none, and tells what it changed. Where memory is refused,
@@ -27,6 +29,7 @@ impl Watch {
     ) -> Result<Changes, AllocError>
         ensures takes { OnOk result (Takes self.old self.new reading time self.old.followed) }
         ensures tells { IfOk result (λ c. Tells self.old self.new reading c) }
+        ensures broken { self.new.broken ≡ self.old.broken }
         ensures err { OnErr result (self.new ≡ self.old) }
     {
         let before = self.lists.now();
@@ -63,7 +66,10 @@ impl Watch {
             return Ok(nothing());
         }
         match self.ear.take_group_at(alloc, now, group, &mut self.lists) {
-            Ok(heard) => Ok(self.tell(&heard, is_single(group))),
+            Ok(heard) => {
+                self.note_pair(group);
+                Ok(self.tell(&heard, is_single(group)))
+            }
             Err(refused) => {
                 self.lists.go_back(before);
                 Err(refused)
@@ -73,8 +79,11 @@ impl Watch {
 
     /// Tells of what the listener heard, of a diagnostic message in one frame or not, and takes note of it.
     fn tell(&mut self, heard: &Overheard, single: bool) -> Changes
-        ensures noted { self.new ≡ record self.old
-            { lists = noted_in heard.now self.old.lists; told = told_after (tellings.is_told self.old.lists.selection self.old.lists.time heard.now) heard.now self.old.told } }
+        ensures noted { self.new ≡ record self.old {
+          lists = noted_in heard.now self.old.lists;
+          told = told_after (tellings.is_told self.old.lists.selection self.old.lists.time heard.now) heard.now self.old.told;
+          partly = partly_after heard.now self.old.partly;
+        } }
         ensures told { result ≡ told_of self.old.lists.selection.unclaimed
             (news_by self.old.told self.old.lists.selection self.old.lists.time self.old.lists.began heard.now) heard.now }
     {
@@ -86,7 +95,6 @@ impl Watch {
         let is_news = is_told && self.is_news(heard);
         self.unowned.follow(heard, is_told);
         self.note(heard, single);
-        self.count_run(heard);
         Changes::of(heard, self.lists.selection(), is_news)
     }
 
@@ -124,7 +132,7 @@ impl Watch {
 
     /// Takes note of when a claim displaced another NAME, and counts messages from addresses without owner, and those read in part.
     fn note(&mut self, heard: &Overheard, single: bool)
-        ensures { self.new ≡ record self.old { lists = noted_in heard.now self.old.lists } }
+        ensures { self.new ≡ record self.old { lists = noted_in heard.now self.old.lists; partly = partly_after heard.now self.old.partly } }
     {
         if let Overheard::ListedInPart { .. } = *heard {
             self.counts.partly = self.counts.partly.saturating_add(1);
@@ -135,7 +143,7 @@ impl Watch {
                 displaced: Some(_),
                 ..
             } => self.lists.contest(address),
-            Overheard::Missed { .. } => self.lists.forget_contests(),
+            Overheard::Missed { count } if count > 0 => self.lists.forget_contests(),
             Overheard::Unowned { .. } => self.count_not_attributed(),
             Overheard::Listed { who, .. }
             | Overheard::ListedInPart { who, .. }
@@ -147,19 +155,18 @@ impl Watch {
         }
     }
 
-    /// Counts the run that the newest entry began, if it began one, and each further one of its codes.
-    fn count_run(&mut self, heard: &Overheard)
-        ensures { self.new ≡ self.old }
+    /// Takes note of between whom a message is announced.
+    fn note_pair(&mut self, group: &ParameterGroup<'_>)
+        ensures same { self.new ≡ record self.old { pairs = self.new.pairs } }
+        ensures count { self.new.pairs ≤ self.old.pairs + announcements_by (said group.now) }
     {
-        if let Overheard::Listed { who, kind, .. }
-        | Overheard::ListedInPart { who, kind, .. } = *heard
-            && self.lists.has_begun()
+        if let ParameterGroup::ConnectionManagement {
+            source,
+            dest,
+            control: Control::Rts { .. } | Control::Bam { .. },
+        } = *group
         {
-            let codes = match self.lists.runs(who, kind).last() {
-                Some(run) => run.shown.codes.as_slice().len() as u64,
-                None => 0,
-            };
-            self.kept = self.kept.saturating_add(codes.max(1));
+            self.pairs.add(source, dest);
         }
     }
 

@@ -1,25 +1,17 @@
-ghost use Rattle.std.specs.Prelude.{◌≡◌, ◌<◌, ◌≤◌, [], false, length, OnOk, OnErr, IfOk, IfSome};
-ghost use Rattle.bus_watch.specs.Over.{HasOwnersAlone, HoldsAddress, beginning_of};
-ghost use Rattle.bus_watch.specs.Told.{StandsForAll};
+ghost use Rattle.std.specs.Prelude.{◌≡◌, ◌≤◌, ◌==◌, ◌+◌, ℕ, List, OnOk, OnErr, IfOk, IfSome, if◌then◌else◌};
+ghost use Rattle.bus_model.specs.Heard.{counted, missed_count};
+ghost use Rattle.bus_model.specs.Overheard.{unread_overheard};
+ghost use Rattle.bus_watch.specs.Over.{HasOwnersAlone, HasOwnersBelow};
+ghost use Rattle.bus_watch.specs.Told.{Beginning, StandsForAll, Told, readings_said};
+ghost use Rattle.bus_watch.specs.WatchValue.{missed_by, unread_by};
 ghost use Rattle.can_frame.specs.declared.address.TheConstants.{GREATEST_ADDRESS};
+ghost use Rattle.listener.specs.ListenerSteps.{address_in_tables};
 
 use crate::broken::Broken;
 use crate::watch::{Watch, WatchSettings};
 use can_frame::GREATEST_ADDRESS;
 use name_field::Name;
 use std::alloc::{AllocError, Global};
-
-/// Between how many pairs of addresses messages of several packets may be half joined: all units of a bus have fewer.
-const MOST_PAIRS: usize = 4_096;
-
-/// How much is kept of a bus before what was heard is reported and let go.
-#[derive(Clone, Copy)]
-pub struct Limits {
-    /// How many NAMEs have rows, and how many units have lists.
-    pub most: usize,
-    /// How many runs there are in all lists together. One of several codes counts as many.
-    pub keep: u64,
-}
 
 /// What was heard before a watch started over.
 #[derive(Clone, Copy, Default)]
@@ -29,32 +21,30 @@ pub(crate) struct Before {
 }
 
 impl Watch {
-    /// Whether as much is kept as may be, or messages were announced between 4,096 pairs of addresses. Else there is room for a row
-    /// and a unit more.
-    pub fn is_full(&self, limits: Limits) -> bool
-        ensures rows { result ≡ false → length self.entry.now.listener.rows < limits.most }
-        ensures units { result ≡ false → length self.entry.now.lists.units.order < limits.most }
-    {
-        self.ear.listener().names() >= limits.most
-            || self.lists.units() >= limits.most
-            || self.kept >= limits.keep
-            || self.pairs.count() >= MOST_PAIRS
-    }
-
     /// How many frames were missed, also before it started over, up to the greatest 64-bit number.
-    pub fn missed_in_all(&self) -> u64 {
+    #[tactic(auto, using(crate::proofs::Queries::all_missed_as_heard))]
+    pub fn missed_in_all(&self) -> u64
+        ensures value { result ≡ missed_by self.now }
+        ensures heard { (b : Beginning) (ts : List Told) → StandsForAll b ts self.entry.now
+            → result ≡ counted (b.before.missed + missed_count (readings_said b ts)) }
+    {
         self.before.missed.saturating_add(self.missed())
     }
 
     /// How many messages could not be read whole, also before it started over, up to the greatest 64-bit number.
-    pub fn unread_in_all(&self) -> u64 {
+    #[tactic(auto, using(crate::proofs::Queries::all_unread_as_heard))]
+    pub fn unread_in_all(&self) -> u64
+        ensures value { result ≡ unread_by self.now }
+        ensures heard { (b : Beginning) (ts : List Told) → StandsForAll b ts self.entry.now
+            → result ≡ counted (b.before.unread + unread_overheard (readings_said b ts)) }
+    {
         self.before.unread.saturating_add(self.unread())
     }
 
-    /// Starts over: all that was heard is let go, but for who holds which address.
+    /// Starts over: all that was heard is let go, but for who owns which address, and holds it or has left it.
     ///
     /// It stands then as a watch that began so, of which these owners were assumed, and that has heard nothing else. So what stands
-    /// in it is still exactly what was heard, since then. What is half joined is let go too. Counts go on.
+    /// in it is still exactly what was heard, since then. What is half joined is let go too. Gaps are numbered on, and counts go on.
     ///
     /// # Errors
     /// Memory was refused. The watch is as it was.
@@ -68,32 +58,60 @@ impl Watch {
         Ok(())
     }
 
-    /// A watch that is told of the owners alone.
+    /// A watch that is told of the owners alone: first of NAMEs that hold addresses, in their order.
+    #[tactic(auto, using(crate::proofs::Over::all_owners))]
     fn with_owners(&self, alloc: Global) -> Result<Watch, AllocError>
         ensures { IfOk result (λ w. HasOwnersAlone self.now w) }
     {
         let mut fresh = self.anew(alloc)?;
+        fresh.take_holders(alloc, self)?;
         fresh.take_owners(alloc, self)?;
         Ok(fresh)
     }
 
-    /// Is told of the owners of another watch, before anything else.
-    #[tactic(auto, using(crate::proofs::Over::none_yet))]
-    fn take_owners(&mut self, alloc: Global, other: &Watch) -> Result<(), AllocError>
-        requires { StandsForAll (beginning_of other.now) [] self.old }
-        ensures { OnOk result (HasOwnersAlone other.now self.new) }
+    /// Is told of the NAMEs that hold addresses, in the order of their rows.
+    fn take_holders(&mut self, alloc: Global, other: &Watch) -> Result<(), AllocError>
+        requires { HasOwnersBelow other.now 0 self.old }
+        ensures { OnOk result (HasOwnersBelow other.now 0 self.new) }
     {
         for place in 0..other.ear.listener().names() {
-            if let Some(owner) = other.owner_at(place) {
-                self.take_over(alloc, owner.0, owner.1)?;
+            if let Some(address) = other.address_at(place) {
+                self.hand_over(alloc, other, address)?;
             }
         }
         Ok(())
     }
 
+    /// Is told of the owner of each address.
+    fn take_owners(&mut self, alloc: Global, other: &Watch) -> Result<(), AllocError>
+        requires { HasOwnersBelow other.now 0 self.old }
+        ensures { OnOk result (HasOwnersBelow other.now 254 self.new) }
+    {
+        for address in 0..GREATEST_ADDRESS + 1 {
+            self.hand_over(alloc, other, address)?;
+        }
+        Ok(())
+    }
+
+    /// Is told who owns an address, and then which one that NAME holds, if it holds one.
+    fn hand_over(&mut self, alloc: Global, other: &Watch, address: u8) -> Result<(), AllocError>
+        requires { address ≤ GREATEST_ADDRESS }
+        ensures { OnOk result ((bound : ℕ) → HasOwnersBelow other.now bound self.old
+            → HasOwnersBelow other.now (if bound == address then bound + 1 else bound) self.new) }
+    {
+        let Some(name) = other.ear.listener().owner(address) else {
+            return Ok(());
+        };
+        self.take_over(alloc, name, address)?;
+        match other.address_of(name) {
+            Some(held) if held <= GREATEST_ADDRESS => self.take_over(alloc, name, held),
+            _ => self.take_away(alloc, name),
+        }
+    }
+
     /// A watch that has read nothing, of the same bus. It goes on to count, and knows which addresses are contested.
     fn anew(&self, alloc: Global) -> Result<Watch, AllocError>
-        ensures { IfOk result (λ w. StandsForAll (beginning_of self.now) [] w) }
+        ensures { IfOk result (λ w. HasOwnersBelow self.now 0 w) }
     {
         let settings = WatchSettings {
             selection: self.lists.selection(),
@@ -104,7 +122,7 @@ impl Watch {
             Some(bus) => Some(bus.as_str()),
             None => None,
         };
-        let mut fresh = Watch::new(alloc, settings, bus)?;
+        let mut fresh = Watch::after_gaps(alloc, settings, bus, self.ear.listener().gaps())?;
         fresh.counts = self.counts;
         fresh.before = Before {
             missed: self.missed_in_all(),
@@ -115,24 +133,20 @@ impl Watch {
         Ok(fresh)
     }
 
-    /// The NAME of the row at this place and its address, where it holds one.
-    fn owner_at(&self, place: usize) -> Option<(Name, u8)>
-        ensures holds { IfSome result (λ o. HoldsAddress self.now o.0 o.1) }
-        ensures address { IfSome result (λ o. o.1 ≤ GREATEST_ADDRESS) }
+    /// The address that the NAME of the row at this place holds, if it holds one.
+    fn address_at(&self, place: usize) -> Option<u8>
+        ensures { IfSome result (λ address. address ≤ GREATEST_ADDRESS) }
     {
-        let Some(name) = self.ear.listener().name_at(place) else {
-            return None;
-        };
-        let owner = name;
+        let name = self.ear.listener().name_at(place)?;
         match self.address_of(name) {
-            Some(address) if address <= GREATEST_ADDRESS => Some((owner, address)),
+            Some(address) if address <= GREATEST_ADDRESS => Some(address),
             _ => None,
         }
     }
 
     /// The address that a NAME holds.
     fn address_of(&self, name: Name) -> Option<u8>
-        ensures { IfSome result (λ address. HoldsAddress self.now name address) }
+        ensures { result ≡ address_in_tables self.now.listener name }
     {
         match self.ear.listener().row(name) {
             Some(row) => row.address,

@@ -1,4 +1,4 @@
-ghost use Rattle.std.specs.Prelude.{◌≡◌, ◌≤◌, ℕ, ◌∷◌, List, Some, IfOk, OnOk, OnErr, if◌then◌else◌, option_map, string_bytes};
+ghost use Rattle.std.specs.Prelude.{◌≡◌, ◌<◌, ◌≤◌, ◌^◌, ℕ, ◌∷◌, List, Some, IfOk, OnOk, OnErr, if◌then◌else◌, option_map, string_bytes};
 ghost use Rattle.address_claim.specs.Frames.{claim_frame_value};
 ghost use Rattle.bus_watch.specs.Followed as followed;
 ghost use Rattle.bus_watch.specs.Told.{Told, Beginning, IsToldAs, StandsForAll};
@@ -19,7 +19,6 @@ use listener::Fate;
 use name_field::Name;
 use parameter_group::ParameterGroup;
 use std::alloc::{AllocError, Global};
-use transport::Control;
 
 impl Watch {
     /// Reads a line, and tells what it changed.
@@ -54,10 +53,24 @@ impl Watch {
         ensures told { IfOk result (λ c. IsToldAs (told.Assumed name address) self.old self.new c) }
         ensures stands { OnOk result ((b : Beginning) (ts : List Told) → StandsForAll b ts self.old
             → StandsForAll b (told.Assumed name address ∷ ts) self.new) }
+        ensures broken { self.new.broken ≡ self.old.broken }
         ensures err { OnErr result (self.new ≡ self.old) }
     {
         let claim = claim_frame(name, Some(address));
         self.take(alloc, Reading::Frame(claim), None)
+    }
+
+    /// Assumes that a NAME holds no address, as if it had said that it cannot claim one, and tells nothing of it.
+    pub(super) fn take_away(&mut self, alloc: Global, name: Name) -> Result<(), AllocError>
+        ensures stands { OnOk result ((b : Beginning) (ts : List Told) → StandsForAll b ts self.old
+            → StandsForAll b (told.Addressless name ∷ ts) self.new) }
+        ensures broken { self.new.broken ≡ self.old.broken }
+    {
+        let claim = claim_frame(name, None);
+        match self.take(alloc, Reading::Frame(claim), None) {
+            Ok(_) => Ok(()),
+            Err(error) => Err(error),
+        }
     }
 
     /// Assumes it, and tells nothing of it.
@@ -68,8 +81,10 @@ impl Watch {
         address: u8,
     ) -> Result<(), AllocError>
         requires { address ≤ GREATEST_ADDRESS }
-        ensures { OnOk result ((b : Beginning) (ts : List Told) → StandsForAll b ts self.old
+        ensures stands { OnOk result ((b : Beginning) (ts : List Told) → StandsForAll b ts self.old
             → StandsForAll b (told.Assumed name address ∷ ts) self.new) }
+        ensures broken { self.new.broken ≡ self.old.broken }
+        ensures fits { name < 2 ^ 64 }
     {
         match self.assume(alloc, name, address) {
             Ok(_) => Ok(()),
@@ -140,7 +155,7 @@ impl Watch {
         let group = ParameterGroup::read(frame);
         let fate = self.expect(at, &group)?;
         let changes = self.take_group(alloc, &group, time)?;
-        self.settle(&group, fate);
+        self.settle(fate);
         self.name_bus(named);
         Ok(changes)
     }
@@ -154,29 +169,14 @@ impl Watch {
         Ok(fate)
     }
 
-    /// Takes note of what a frame ended that was read, of a packet that was withheld, and of between whom a message is announced.
-    fn settle(&mut self, group: &ParameterGroup<'_>, fate: Fate)
-        ensures { self.new ≡ self.old }
+    /// Takes note of what a frame ended that was read, and of a packet that was withheld.
+    fn settle(&mut self, fate: Fate)
+        ensures { self.new ≡ record self.old { broken = self.new.broken } }
     {
         if fate == Fate::Late {
             self.counts.withheld = self.counts.withheld.saturating_add(1);
         }
         self.broken.settle(&self.ear, &self.lists);
-        self.note_pair(group);
-    }
-
-    /// Takes note of between whom a message is announced.
-    fn note_pair(&mut self, group: &ParameterGroup<'_>)
-        ensures { self.new ≡ self.old }
-    {
-        if let ParameterGroup::ConnectionManagement {
-            source,
-            dest,
-            control: Control::Rts { .. } | Control::Bam { .. },
-        } = *group
-        {
-            self.pairs.add(source, dest);
-        }
     }
 
     /// Frames that were dropped are missed, where they may be of the watched bus.

@@ -1,6 +1,5 @@
-use Rattle.std.proofs.Common.{rules}
-use Rattle.bus_watch.proofs.Steps.{opened}
+use Rattle.bus_watch.proofs.Steps.{opened_if_ok}
 use Rattle.bus_watch.proofs.watch.Watch.new.Goals as goal
 
 pub returns : goal.returns
-returns c = opened _ _ c.in_ok-ear.ensures.stands (search rules) (search rules) (search rules)
+returns c = opened_if_ok c.after_gaps.result _ c.after_gaps.ensures.heard c.after_gaps.ensures.value

@@ -1,14 +1,13 @@
-use Rattle.std.proofs.Common.{rules, subst}
-use Rattle.bus_watch.specs.Over.{HasOwnersAlone}
-use Rattle.bus_watch.specs.WatchValue.{WatchValue}
-use Rattle.bus_watch.proofs.Over.{one_more}
-use Rattle.bus_watch.proofs.watch.Watch.take_owners.Goals.{in-Some+in_ok-take_over, in_default}
+use Rattle.std.proofs.Common.{◌≡◌, ◌+◌, ℕ, Bool, if◌then◌else◌, subst, arith}
+use Rattle.bus_watch.specs.Over.{HasOwnersBelow}
+use Rattle.bus_watch.proofs.Over.{same_self}
 use Rattle.bus_watch.proofs.watch.Watch.take_owners.Goals as goal
 
-pub loop-place-preserved : goal.loop-place-preserved
-loop-place-preserved c = elim c.match-owner_at.branch [
-  | in-Some+in_ok-take_over w ↦
-      subst (λ (f : WatchValue). HasOwnersAlone c.args.other.now f) (search rules)
-      (one_more c.args.other.now c.loop-place.self w.take_over.new.self w.in-Some.owner.0 w.in-Some.owner.1 w.in-Some.ensures.holds c.loop-place.invariant w.in_ok-take_over.ensures)
-  | in_default w ↦ subst (λ (f : WatchValue). HasOwnersAlone c.args.other.now f) (search rules) c.loop-place.invariant
-]
+pub loop-address-preserved : goal.loop-address-preserved
+loop-address-preserved c =
+    subst (λ (t : Bool). HasOwnersBelow c.args.other.now (if t then c.loop-address.address + 1 else c.loop-address.address) c.hand_over.new.self) (same_self c.loop-address.address)
+    (c.in_ok-hand_over.ensures c.loop-address.address c.loop-address.invariant)
+
+pub returns : goal.returns
+returns c =
+    let all : c.loop-address.address ≡ 254 = omega arith in subst (λ (n : ℕ). HasOwnersBelow c.args.other.now n c.loop-address.self) all c.loop-address.invariant

@@ -711,7 +711,7 @@ class Buses:
     def is_full(self):
         """All buses together have as much as may be kept. Each has room for a NAME at each address."""
         names, units, runs, pairs = map(sum, zip(*(watch.held() for watch in self.watches()))) if self.watches() else (0, 0, 0, 0)
-        most = max(self.options.most, 256 * len(self.watches()))
+        most = max(self.options.most, 512 * len(self.watches()))
         return names >= most or units >= most or runs >= self.options.keep or pairs >= MOST_PAIRS
 
     def make_room(self, number):

@@ -10,7 +10,7 @@ use Rattle.bus_watch.specs.declared.held.TheConstants.{MOST_PAIRS, ROOM_OF_A_BUS
 abbrev pub nothing_held : Held
 nothing_held = record { names = 0; units = 0; runs = 0; pairs = 0; room = 0 }
 
--- with what one more watch keeps. A bus has room for a NAME at each address in any case
+-- with what one more watch keeps. A bus has room for two NAMEs at each address in any case
 abbrev pub held_with : Held → WatchValue → Held
 held_with h w = record {
   names = counted (h.names + length w.listener.rows);

@@ -6,13 +6,13 @@ use crate::watch::Watch;
 /// Between how many pairs of addresses messages of several packets may be half joined: all units of a bus have fewer.
 const MOST_PAIRS: usize = 4_096;
 
-/// How many NAMEs a bus has room for in any case, as many as it has addresses: so no bus is full of those that hold one.
-const ROOM_OF_A_BUS: usize = 256;
+/// How many NAMEs a bus has room for in any case, twice as many as it has addresses: so half is free when it is begun anew.
+const ROOM_OF_A_BUS: usize = 512;
 
 /// How much is kept of all buses together before what was heard is reported and let go.
 #[derive(Clone, Copy)]
 pub struct Limits {
-    /// How many NAMEs have rows, and how many units have lists; or 256 for each bus, where that is more.
+    /// How many NAMEs have rows, and how many units have lists; or 512 for each bus, where that is more.
     pub most: usize,
     /// How many runs there are in all lists together. One of several codes counts as many.
     pub keep: u64,

@@ -128,6 +128,15 @@ def buses_have_one_ceiling():
     return found
 
 
+def half_is_free_when_begun_anew():
+    """Where the units of four buses hold 250 addresses each, new NAMEs begin a watch of 512 NAMEs anew each 1,048 and not at each line."""
+    lines = [f"(1.{at % 1000:03}000) can{at % 4} 18EEFF{at // 4 % 250:02X}#{at + 1:016X}\n" for at in range(8000)]
+    status, out, said = run(["watch", "--bus", "all", "--most", "512"], "".join(lines).encode())
+    told = [int(it) for it in re.findall(r"(?m)^over at line (\d+), so far:$", out)]
+    gaps = [last - first for first, last in zip(told, told[1:])]
+    return same((status, told[:1], set(gaps), said.count("more than is kept at once")), (3, [2048], {1048}, 1), "half is free")
+
+
 # A unit that left address 0 for 1, and addresses that nobody claimed; frames of that bus are lost twice. Where @ stands, the other bus has 20 other messages, so that the watches are begun anew.
 GAPS_AND_OWNERS = """(1.000000) can0 18EEFF00#A000000000000000
 (1.100000) can1 18EEFF00#B000000000000000

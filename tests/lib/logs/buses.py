@@ -134,7 +134,7 @@ def half_is_free_when_begun_anew():
     status, out, said = run(["watch", "--bus", "all", "--most", "512"], "".join(lines).encode())
     told = [int(it) for it in re.findall(r"(?m)^over at line (\d+), so far:$", out)]
     gaps = [last - first for first, last in zip(told, told[1:])]
-    return same((status, told[:1], set(gaps), said.count("more than is kept at once")), (3, [2048], {1048}, 1), "half is free")
+    return same((status, told[:1], set(gaps), said.count("more than is kept at once")), (3, [2049], {1048}, 1), "half is free")
 
 
 # A unit that left address 0 for 1, and addresses that nobody claimed; frames of that bus are lost twice. Where @ stands, the other bus has 20 other messages, so that the watches are begun anew.

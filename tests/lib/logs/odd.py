@@ -49,3 +49,33 @@ def corners():
                 for form, text in forms.items():
                     found += same(run([*words_of_it, "--format", form], data), (status, text, errors), f"{what}, {words_of_it[0]} {form}")
     return found
+
+
+RTS, CTS, FIRST, SECOND = "1CECF905#100A0002FFCBFE00", "1CEC05F9#11{}01FFFFCBFE00", "1CEBF905#0104FF6400010165", "1CEBF905#02000101FFFFFFFF"
+BAM, TO_ALL = "1CECFF05#200A0002FFCBFE00", [it.replace("EBF905", "EBFF05") for it in (FIRST, SECOND)]
+BOTH, ONE, HOLD, NEXT = CTS.format("02"), CTS.format("01"), CTS.format("00"), "1CEC05F9#110102FFFFCBFE00"
+# Where a message waits (J1939-21, 5.10.3): the frames before and behind, and how many microseconds it may at most.
+WAITS = {
+    "of a broadcast, packet after packet (T1)": ([BAM, TO_ALL[0]], [TO_ALL[1]], 750_000),
+    "of a session, packet after packet (T1)": ([RTS, BOTH, FIRST], [SECOND], 750_000),
+    "a packet after a clear to send (T2)": ([RTS, BOTH], [FIRST, SECOND], 1_250_000),
+    "a clear to send after a request (T3)": ([RTS], [BOTH, FIRST, SECOND], 1_250_000),
+    "a clear to send after a packet (T3)": ([RTS, ONE, FIRST], [NEXT, SECOND], 1_250_000),
+    "a clear to send after a hold (T4)": ([RTS, HOLD], [BOTH, FIRST, SECOND], 1_050_000),
+    "a hold after a hold (T4)": ([RTS, HOLD], [HOLD, BOTH, FIRST, SECOND], 1_050_000),
+    "a packet whose clear to send was not read (T3 and T2)": ([RTS], [FIRST, SECOND], 2_500_000),
+}
+
+
+def each_time_limit():
+    """A message that waits as long as it may is listed, and one that waits a microsecond longer is not, and is told as broken."""
+    found = []
+    for what, (before, behind, limit) in WAITS.items():
+        for wait, is_listed in ((limit - 1, True), (limit, True), (limit + 1, False)):
+            at = 1_000_000 + wait
+            lines = [f"(1.000000) can0 {it}" for it in before] + [f"({at // 1_000_000}.{at % 1_000_000:06d}) can0 {it}" for it in behind]
+            _, out, _ = run(["watch"], "".join(f"{it}\n" for it in lines).encode())
+            found += same((" dm2 address 5" in out, "broken 1: dm2 of address 5" in out), (is_listed, not is_listed), f"{what}, {wait}: {out}")
+            _, out, _ = run(["decode", "--join"], "".join(f"{it}\n" for it in lines).encode())
+            found += same("joined" in out, is_listed, f"decode --join, {what}, {wait}: {out}")
+    return found

@@ -62,6 +62,9 @@ def watched(program: str, words: Sequence[str], pieces: Iterator[bytes], most: i
         finally:
             timer.cancel()
             running.kill()
+            # (so that nobody reads what is closed now)
+            if listening.is_alive():
+                listening.join()
     if late.is_set():
         raise TooLong(f"the log took more than {seconds:.0f} s")
     return Watched(status, page, first_lines(b"".join(said)))

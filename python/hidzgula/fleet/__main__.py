@@ -20,7 +20,7 @@ SAVE_EACH = 10.0
 WORKER_MEMORY = "1GiB"
 """How much memory a worker of this machine may take before Dask begins it anew."""
 WORKERS_OF_HERE = {"distributed.worker.profile.interval": "1h", "distributed.scheduler.worker-ttl": "60s"}
-"""No profile is taken of them: with Python 3.11 a worker hung at that now and then. One that hangs is given up, and its logs are read again."""
+"""No profile is taken of them: it costs time, and where one was taken a worker hung now and then. One that hangs is given up, and its logs are read again."""
 
 
 class Refused(Exception):

@@ -1,1 +1,3 @@
 pub mod Wants
+pub mod Text
+pub mod Refused

@@ -1,14 +1,17 @@
-ghost use Rattle.std.specs.Prelude.{◌≡◌, ◌+◌, ◌<◌, ◌≤◌, length, OnOk};
+ghost use Rattle.std.specs.Prelude.{◌≡◌, ◌+◌, ◌<◌, ◌≤◌, ◌++◌, [], length, OnOk, IfOk, Some, codes};
+ghost use Rattle.std.specs.Io.KnownBytes.{Appends, append_known};
+ghost use Rattle.script_answer.specs.Refused.{refusal_text};
+ghost use Rattle.script_answer.specs.Text as text;
 
 use crate::refusal::Refusal;
 use bus_ledger::Counts;
 use can_frame::Frame;
+use entry_lists::{AckSeen, Row};
 use safe_text::TextBuffer;
-use station_table::Row;
 use std::io;
 use std::io::Write;
 
-/// No answer line has more bytes, but for a frame's and a refusal's, which are not put together.
+/// No answer line has more bytes, but for a frame's, which is not put together.
 const LONGEST: usize = 96;
 
 /// Why carrying ended before its number of frames.
@@ -64,8 +67,11 @@ pub fn put_answer<W: Write>(
     held: &mut TextBuffer,
     writer: &mut W,
     answer: Result<LineAnswer, Refusal>,
-) -> Result<(), Unwritten> {
-    make_room(held, writer)?;
+) -> Result<(), Unwritten>
+    ensures { OnOk result
+        (Appends (append_known (W.contents writer.old) held.old) (append_known (W.contents writer.new) held.new) (text.answer_text answer)) }
+{
+    held.make_room(LONGEST, writer)?;
     match answer {
         Ok(LineAnswer::Done) => held.push_text("ok\n"),
         Ok(LineAnswer::Heard(count)) => put_count(held, "heard ", count, "\n"),
@@ -75,34 +81,13 @@ pub fn put_answer<W: Write>(
         Ok(LineAnswer::Read(count)) => put_count(held, "read ", count, "\n"),
         Ok(LineAnswer::Seat(seat)) => put_count(held, "seat ", seat, "\n"),
         Ok(LineAnswer::Injected(count)) => put_count(held, "injected ", count, "\n"),
-        Ok(LineAnswer::Row(Some(row))) => put_row(held, row),
-        Ok(LineAnswer::Row(None)) => held.push_text("row unknown\n"),
+        Ok(LineAnswer::Row(row)) => put_row(held, row),
         Ok(LineAnswer::Counts(counts)) => put_counts(held, counts),
         Ok(LineAnswer::Stats { missed, unread }) => put_stats(held, missed, unread),
         Ok(LineAnswer::Frame(Some(frame))) => write_frame(held, writer, frame)?,
         Ok(LineAnswer::Frame(None)) => held.push_text("no frame\n"),
-        Err(refusal) => write_refusal(held, writer, refusal)?,
+        Err(refusal) => put_refusal(held, refusal),
     }
-    Ok(())
-}
-
-/// Sees that there is room for a line.
-#[inline(always)]
-fn make_room<W: Write>(held: &mut TextBuffer, writer: &mut W) -> Result<(), Unwritten>
-    ensures { OnOk result (length held.new + 96 ≤ 256) }
-{
-    if held.has_room(LONGEST) {
-        return Ok(());
-    }
-    write_held(held, writer)
-}
-
-/// Writes the lines that are held.
-#[inline(never)]
-fn write_held<W: Write>(held: &mut TextBuffer, writer: &mut W) -> Result<(), Unwritten>
-    ensures { OnOk result (length held.new ≡ 0) }
-{
-    held.write_to(writer)?;
     Ok(())
 }
 
@@ -112,27 +97,31 @@ fn write_frame<W: Write>(
     held: &mut TextBuffer,
     writer: &mut W,
     frame: Frame,
-) -> Result<(), Unwritten> {
+) -> Result<(), Unwritten>
+    ensures { OnOk result
+        (Appends (append_known (W.contents writer.old) held.old) (append_known (W.contents writer.new) held.new) (text.wire_text (Some frame))) }
+{
     held.write_to(writer)?;
     writeln!(writer, "{frame}")?;
     Ok(())
 }
 
-/// Writes a refusal's line behind the lines that are held.
 #[inline(never)]
-fn write_refusal<W: Write>(
-    held: &mut TextBuffer,
-    writer: &mut W,
-    refusal: Refusal,
-) -> Result<(), Unwritten> {
-    held.write_to(writer)?;
-    writeln!(writer, "{refusal}")?;
-    Ok(())
+fn put_refusal(line: &mut TextBuffer, refusal: Refusal)
+    requires { length line.old + 96 ≤ 256 }
+    ensures { line.new ≡ line.old ++ refusal_text refusal }
+{
+    if let Some(number) = refusal.number() {
+        put_count(line, "refused ", u32::from(number), " ");
+    }
+    line.push_text(refusal.word());
+    line.push(b'\n');
 }
 
 /// Why carrying ended, behind the number of frames.
 fn line_end(end: Option<End>) -> &'static str
-    ensures { length result.now ≤ 9 }
+    ensures text { result.now ≡ text.end_text end }
+    ensures len { length result.now ≤ 9 }
 {
     match end {
         None => "\n",
@@ -145,6 +134,8 @@ fn line_end(end: Option<End>) -> &'static str
 #[inline(always)]
 fn put_count(line: &mut TextBuffer, before: &str, count: u32, behind: &str)
     requires { length line.old + length before.now + length behind.now + 20 ≤ 256 }
+    ensures text { line.new ≡ line.old ++ text.between_text before.now count behind.now }
+    ensures len { length line.new ≤ length line.old + length before.now + length behind.now + 20 }
 {
     line.push_text(before);
     line.push_decimal(u64::from(count));
@@ -152,11 +143,37 @@ fn put_count(line: &mut TextBuffer, before: &str, count: u32, behind: &str)
 }
 
 #[inline(never)]
-fn put_row(line: &mut TextBuffer, row: Row)
+fn put_row(line: &mut TextBuffer, row: Option<Row>)
     requires { length line.old + 96 ≤ 256 }
+    ensures { line.new ≡ line.old ++ text.known_text row }
 {
+    let Some(row) = row else {
+        line.push_text("row unknown\n");
+        return;
+    };
+    line.push_text("row ");
     put_address(line, row.address);
-    match row.ack {
+    put_ack(line, row.ack);
+    line.push(b'\n');
+}
+
+fn put_address(line: &mut TextBuffer, address: Option<u8>)
+    requires { length line.old + 92 ≤ 256 }
+    ensures text { line.new ≡ line.old ++ text.holder_text address }
+    ensures len { length line.new ≤ length line.old + 20 }
+{
+    match address {
+        Some(address) => line.push_decimal(u64::from(address)),
+        None => line.push_text("none"),
+    }
+}
+
+fn put_ack(line: &mut TextBuffer, ack: Option<AckSeen>)
+    requires { length line.old + 72 ≤ 256 }
+    ensures text { line.new ≡ line.old ++ text.ack_text ack }
+    ensures len { length line.new ≤ length line.old + 46 }
+{
+    match ack {
         Some(ack) => {
             line.push_text(" ack ");
             line.push_decimal(u64::from(ack.control));
@@ -165,38 +182,23 @@ fn put_row(line: &mut TextBuffer, row: Row)
         }
         None => line.push_text(" ack none"),
     }
-    line.push(b'\n');
-}
-
-fn put_address(line: &mut TextBuffer, address: Option<u8>)
-    requires { length line.old + 96 ≤ 256 }
-    ensures { length line.new ≤ length line.old + 24 }
-{
-    line.push_text("row ");
-    match address {
-        Some(address) => line.push_decimal(u64::from(address)),
-        None => line.push_text("none"),
-    }
 }
 
 #[inline(never)]
 fn put_counts(line: &mut TextBuffer, counts: Counts)
     requires { length line.old + 96 ≤ 256 }
+    ensures { line.new ≡ line.old ++ text.counts_text counts }
 {
-    line.push_text("counts ");
-    line.push_decimal(u64::from(counts.queued));
-    line.push(b' ');
-    line.push_decimal(u64::from(counts.carried));
-    line.push(b' ');
-    line.push_decimal(u64::from(counts.withdrawn));
-    line.push(b' ');
-    line.push_decimal(u64::from(counts.waiting));
-    line.push(b'\n');
+    put_count(line, "counts ", counts.queued, " ");
+    put_count(line, "", counts.carried, " ");
+    put_count(line, "", counts.withdrawn, " ");
+    put_count(line, "", counts.waiting, "\n");
 }
 
 #[inline(never)]
 fn put_stats(line: &mut TextBuffer, missed: u64, unread: u64)
     requires { length line.old + 96 ≤ 256 }
+    ensures { line.new ≡ line.old ++ text.between_text (codes "missed ") missed (text.between_text (codes " unread ") unread (codes "\n")) }
 {
     line.push_text("missed ");
     line.push_decimal(missed);

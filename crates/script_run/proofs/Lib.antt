@@ -1,2 +1,4 @@
 mod Searching
 mod Stations
+mod Stepping
+mod AtBench

@@ -1,21 +1,39 @@
-ghost use Rattle.std.specs.Prelude.{IfErr};
+ghost use Rattle.std.specs.Prelude.{◌≡◌, List, ℕ, Option, IfErr, OnOk};
+ghost use Rattle.std.specs.Io.KnownBytes.{Appends};
 ghost use Rattle.program_io.specs.declared.fault.Fault.{Fault as AnyFault};
+ghost use Rattle.report.specs.Shown.{shown_text};
+ghost use Rattle.report.specs.Text.{report_text};
+ghost use Rattle.script_answer.specs.Text.{answer_text};
 
 use crate::bench::Bench;
+use dm_messages::Shown;
+use garage::Snapshot;
 use program_io::Fault;
 use script_answer::{LineAnswer, Refusal, Unwritten};
-use std::io::Write;
 
-/// Whom the lines of a script are answered to. What a station shows, and its report, are written into it; any other answer is put.
-pub trait AnswerSink: Write {
+/// Whom the lines of a script are answered to.
+pub(crate) trait AnswerSink {
+    /// The text that it was told, where it keeps that.
+    ghost told: { Self → Option (List ℕ) };
+
     /// The faults by which it ends a script.
     ghost ends_by: { AnyFault → Type 0 };
 
     /// Takes note of a line before it is answered. Tells whether it has no answer.
-    fn begin_line(&mut self, line: &str) -> bool;
+    fn begin_line(&mut self, line: &str) -> bool
+        ensures { told self.new ≡ told self.old };
 
     /// Takes the answer of a line.
-    fn answer(&mut self, answer: Result<LineAnswer, Refusal>) -> Result<(), Unwritten>;
+    fn answer(&mut self, answer: Result<LineAnswer, Refusal>) -> Result<(), Unwritten>
+        ensures { OnOk result (Appends (told self.old) (told self.new) (answer_text answer)) };
+
+    /// Takes what a station shows.
+    fn shown(&mut self, entries: &[Shown]) -> Result<(), Unwritten>
+        ensures { OnOk result (Appends (told self.old) (told self.new) (shown_text entries.now)) };
+
+    /// Takes the report of a station.
+    fn report(&mut self, snapshot: &Snapshot) -> Result<(), Unwritten>
+        ensures { OnOk result (Appends (told self.old) (told self.new) (report_text snapshot.now)) };
 
     /// Takes note that a line was answered: whether there was a garage before, and whether its answer could be written.
     fn end_line(
@@ -24,9 +42,11 @@ pub trait AnswerSink: Write {
         has_garage: bool,
         answered: Result<(), Unwritten>,
     ) -> Result<(), Fault>
-        ensures { IfErr result ends_by };
+        ensures ends { IfErr result ends_by }
+        ensures told { told self.new ≡ told self.old };
 
     /// Looks at the garage, where there is one, after the last line and before its units leave.
     fn finish(&mut self, bench: &Bench) -> Result<(), Fault>
-        ensures { IfErr result ends_by };
+        ensures ends { IfErr result ends_by }
+        ensures told { told self.new ≡ told self.old };
 }

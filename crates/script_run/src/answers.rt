@@ -5,6 +5,8 @@ ghost use Rattle.program_io.specs.Input.{input_limit};
 use crate::answer_sink::AnswerSink;
 use crate::bench::Bench;
 use crate::lines::answer_lines;
+use dm_messages::Shown;
+use garage::Snapshot;
 use program_io::{Fault, read_text};
 use safe_text::TextBuffer;
 use script_answer::{LineAnswer, Refusal, Unwritten, put_answer};
@@ -53,28 +55,21 @@ fn answer_all<W: Write>(alloc: Global, text: &str, answers: &mut Answers<W>) -> 
 
 /// Answers on their way to a writer: lines are held, and written when there is no room for one more.
 #[derive(Drop)]
-pub struct Answers<W> {
+pub(crate) struct Answers<W> {
     held: TextBuffer,
     writer: W,
 }
 
 impl<W: Write> Answers<W> {
     /// No answer yet.
-    pub fn new(writer: W) -> Answers<W> {
+    fn new(writer: W) -> Answers<W> {
         Answers {
             held: TextBuffer::new(),
             writer,
         }
     }
-}
 
-/// What is written stands behind the lines that are held.
-impl<W: Write> Write for Answers<W> {
-    fn write(&mut self, buf: &[u8]) -> io::Result<usize> {
-        self.held.write_to(&mut self.writer)?;
-        self.writer.write(buf)
-    }
-
+    /// Writes what is held, and has the writer write what it holds.
     fn flush(&mut self) -> io::Result<()> {
         self.held.write_to(&mut self.writer)?;
         self.writer.flush()
@@ -84,7 +79,10 @@ impl<W: Write> Write for Answers<W> {
 /// It is given each answer, and nothing else.
 impl<W: Write> AnswerSink for Answers<W> {
     ghost use Rattle.std.specs.Prelude.{◌≡◌};
+    ghost use Rattle.std.specs.Io.KnownBytes.{append_known};
     ghost use Rattle.program_io.specs.declared.fault.Fault.TheVariants as fault;
+
+    ghost told = { λ a. append_known (W.contents a.writer) a.held };
 
     ghost ends_by = { λ f. f ≡ fault.Write };
 
@@ -94,6 +92,18 @@ impl<W: Write> AnswerSink for Answers<W> {
 
     fn answer(&mut self, answer: Result<LineAnswer, Refusal>) -> Result<(), Unwritten> {
         put_answer(&mut self.held, &mut self.writer, answer)
+    }
+
+    fn shown(&mut self, entries: &[Shown]) -> Result<(), Unwritten> {
+        self.held.write_to(&mut self.writer)?;
+        report::write_shown(entries, &mut self.writer)?;
+        Ok(())
+    }
+
+    fn report(&mut self, snapshot: &Snapshot) -> Result<(), Unwritten> {
+        self.held.write_to(&mut self.writer)?;
+        report::write(snapshot, &mut self.writer)?;
+        Ok(())
     }
 
     fn end_line(

@@ -1,19 +1,29 @@
-ghost use Rattle.std.specs.Prelude.{◌<◌, length};
+ghost use Rattle.std.specs.Prelude.{◌≡◌, ◌≢◌, ◌<◌, ◌≤◌, length, None, IfSome, IsNone, IsSome, OnOk, Result as AnyResult, slice_get};
+ghost use Rattle.std.specs.Io.KnownBytes.{Appends};
+ghost use Rattle.journal.specs.Journal.{state_of};
+ghost use Rattle.script_answer.specs.Refused.{refusal_text};
+ghost use Rattle.script_answer.specs.Text.{answer_text};
+ghost use Rattle.script_answer.specs.declared.answer.LineAnswer.{LineAnswer as AnyAnswer};
+ghost use Rattle.script_answer.specs.declared.refusal.Refusal.{Refusal as AnyRefusal};
+ghost use Rattle.script_answer.specs.declared.refusal.Refusal.TheVariants.{BadLine};
+ghost use Rattle.garage.specs.ParkedUnits.{asked_of, sitting_of};
+ghost use Rattle.script_run.specs.Commands.{ActsBy, Does, Joins, Leaves};
+ghost use Rattle.script_run.specs.Steps.{RunsRounds};
+ghost use Rattle.script_run.specs.Queries.{Reports, counts_answer, query_answer, query_text};
 
 use crate::answer_sink::AnswerSink;
+use crate::garage_commands::{ask, carry, command_to, inject, read, run_rounds};
 use crate::place::place_of;
 use crate::unit_commands::carry_out;
-use bus_ledger::Carried;
-use can_frame::{Frame, PgnTooLarge, Reading};
+use can_frame::Frame;
 use garage::{Garage, GarageError, Parked};
-use script_answer::{End, LineAnswer, Refusal, Unwritten};
-use script_line::{Asked, Command, NameWord, Receiver, ScriptLine};
-use station_table::Ask;
+use script_answer::{LineAnswer, Refusal, Unwritten};
+use script_line::{Command, ScriptLine};
 use std::alloc::Global;
 use unit_trait::Unit;
 
 /// A garage with its units, each parked between its steps, in the order of their seats.
-pub struct Bench {
+pub(crate) struct Bench {
     alloc: Global,
     garage: Garage,
     units: Vec<Parked>,
@@ -21,7 +31,7 @@ pub struct Bench {
 
 impl Bench {
     /// This garage, with no unit yet. Takes no memory.
-    pub fn new(alloc: Global, garage: Garage) -> Bench {
+    pub(crate) fn new(alloc: Global, garage: Garage) -> Bench {
         Bench {
             alloc,
             garage,
@@ -30,7 +40,12 @@ impl Bench {
     }
 
     /// Puts a unit on the bus, which wants this address.
-    pub fn join(&mut self, unit: Box<dyn Unit>, address: u8) -> Result<LineAnswer, Refusal> {
+    pub(crate) fn join(&mut self, unit: Box<dyn Unit>, address: u8) -> Result<LineAnswer, Refusal>
+        ensures { Joins (sitting_of (λ b. (⟦<dyn Unit as Unit>⟧ b.vtable).name_of b.value)
+            (λ b. (⟦<dyn Unit as Unit>⟧ b.vtable).memory_of b.value))
+            ((⟦<dyn Unit as Unit>⟧ unit.vtable).name_of unit.value) address result self.old.garage self.old.units.items
+            self.new.garage self.new.units.items }
+    {
         if self.units.reserve(1).is_err() {
             return Err(Refusal::Garage(GarageError::OutOfMemory));
         }
@@ -48,7 +63,7 @@ impl Bench {
     }
 
     /// Takes each unit off the bus.
-    pub fn close(self) {
+    pub(crate) fn close(self) {
         let Bench {
             alloc: _,
             mut garage,
@@ -62,17 +77,34 @@ impl Bench {
     }
 
     /// The frame of the wire with this number, from 0.
-    pub fn frame(&self, index: u32) -> Option<Frame> {
+    pub(crate) fn frame(&self, index: u32) -> Option<Frame> {
         self.garage.wire_frame(index)
     }
 
     /// Carries the command of a line out, and answers it. What is no command, and one of a station that is not there, is refused,
     /// and nothing is done.
-    pub fn answer<L: AnswerSink>(
+    pub(crate) fn answer<L: AnswerSink>(
         &mut self,
         read: &Option<ScriptLine>,
         sink: &mut L,
-    ) -> Result<(), Unwritten> {
+    ) -> Result<(), Unwritten>
+        ensures query { IfSome read.now (λ l. l.station < length self.old.garage.settings.stations → OnOk result
+            (IfSome (query_text self.old.garage l.station l.command) (Appends (L.AnswerSink.told sink.old) (L.AnswerSink.told sink.new)))) }
+        ensures same { IfSome read.now (λ l. IsSome (query_text self.old.garage l.station l.command) → self.new ≡ self.old) }
+        ensures report { IfSome read.now (λ l. l.station < length self.old.garage.settings.stations → l.command ≡ Command.Report
+            → (OnOk result (Reports self.old.garage l.station (L.AnswerSink.told sink.old) (L.AnswerSink.told sink.new))
+            × (self.new ≡ self.old))) }
+        ensures did { IfSome read.now (λ l. l.station < length self.old.garage.settings.stations → IsNone (query_text self.old.garage l.station l.command)
+            → l.command ≢ Command.Report → OnOk result ((r : AnyResult AnyAnswer AnyRefusal)
+            × Appends (L.AnswerSink.told sink.old) (L.AnswerSink.told sink.new) (answer_text r)
+            × Does (sitting_of (λ b. (⟦<dyn Unit as Unit>⟧ b.vtable).name_of b.value)
+            (λ b. (⟦<dyn Unit as Unit>⟧ b.vtable).memory_of b.value)) (asked_of (λ b. (⟦<dyn Unit as Unit>⟧ b.vtable).Answers b.value)) l.station l.command
+            r self.old.garage self.old.units.items self.new.garage self.new.units.items)) }
+        ensures stranger { IfSome read.now (λ l. length self.old.garage.settings.stations ≤ l.station
+            → OnOk result (Appends (L.AnswerSink.told sink.old) (L.AnswerSink.told sink.new) (refusal_text BadLine))) }
+        ensures no_line { read.now ≡ None
+            → OnOk result (Appends (L.AnswerSink.told sink.old) (L.AnswerSink.told sink.new) (refusal_text BadLine)) }
+    {
         let Some(ScriptLine { station, command }) = read else {
             return sink.answer(Err(Refusal::BadLine));
         };
@@ -83,10 +115,7 @@ impl Bench {
             Command::Shown {
                 name: Ok(name),
                 kind,
-            } => {
-                report::write_shown(self.garage.shown_at(*station, *name, *kind), sink)?;
-                Ok(())
-            }
+            } => sink.shown(self.garage.shown_at(*station, *name, *kind)),
             Command::Report => self.report(*station, sink),
             command => sink.answer(self.carry_out(*station, command)),
         }
@@ -95,12 +124,10 @@ impl Bench {
     /// Writes the report of a station.
     fn report<L: AnswerSink>(&self, station: u32, sink: &mut L) -> Result<(), Unwritten>
         requires { station < length self.now.garage.settings.stations }
+        ensures { OnOk result (Reports self.now.garage station (L.AnswerSink.told sink.old) (L.AnswerSink.told sink.new)) }
     {
         match self.garage.snapshot_at(self.alloc, station) {
-            Ok(snapshot) => {
-                report::write(&snapshot, sink)?;
-                Ok(())
-            }
+            Ok(snapshot) => sink.report(&snapshot),
             Err(error) => sink.answer(Err(Refusal::Garage(error))),
         }
     }
@@ -108,32 +135,38 @@ impl Bench {
     /// Carries a command out; one of a station has this station do it.
     fn carry_out(&mut self, station: u32, command: &Command) -> Result<LineAnswer, Refusal>
         requires { station < length self.old.garage.settings.stations }
+        ensures query { IfSome (query_answer self.old.garage station command.now) (λ a. result ≡ a) }
+        ensures same { IsSome (query_answer self.old.garage station command.now) → self.new ≡ self.old }
+        ensures did { Does (sitting_of (λ b. (⟦<dyn Unit as Unit>⟧ b.vtable).name_of b.value)
+            (λ b. (⟦<dyn Unit as Unit>⟧ b.vtable).memory_of b.value)) (asked_of (λ b. (⟦<dyn Unit as Unit>⟧ b.vtable).Answers b.value)) station command.now
+            result self.old.garage self.old.units.items self.new.garage self.new.units.items }
     {
         match command {
-            Command::Carry { most } => self.carry(*most),
-            Command::Read { most } => Ok(LineAnswer::Read(self.read(station, *most)?)),
+            Command::Carry { most } => carry(&mut self.garage, *most),
+            Command::Read { most } => read(&mut self.garage, self.alloc, station, *most),
             Command::Round { count } => self.round(*count),
-            Command::Ask { receiver, asked } => self.ask(station, *receiver, *asked),
-            Command::Command { name, address } => self.command(station, *name, *address),
+            Command::Ask { receiver, asked } => {
+                ask(&mut self.garage, self.alloc, station, *receiver, *asked)
+            }
+            Command::Command { name, address } => {
+                command_to(&mut self.garage, self.alloc, station, *name, *address)
+            }
             Command::Row { name } => Ok(LineAnswer::Row(self.garage.row_at(station, (*name)?))),
             Command::Counts { seat } => self.counts(*seat),
             Command::Stats => Ok(LineAnswer::Stats {
                 missed: self.garage.missed_at(station),
                 unread: self.garage.unread_at(station),
             }),
-            Command::Inject { frame } => {
-                self.garage.inject((*frame)?)?;
-                Ok(LineAnswer::Done)
-            }
+            Command::Inject { frame } => inject(&mut self.garage, *frame),
             Command::Injected => Ok(LineAnswer::Injected(self.garage.injected())),
             Command::Frame { index } => Ok(LineAnswer::Frame(self.garage.wire_frame(*index))),
             Command::Leave { seat } => self.dismiss(*seat),
-            Command::Change { seat, .. }
-            | Command::Lamps { seat, .. }
-            | Command::Think { seat }
-            | Command::Turn { seat }
-            | Command::Hear { seat, .. }
-            | Command::Dm1 { seat } => self.act(*seat, command),
+            Command::Change { seat, .. } => self.act(*seat, command),
+            Command::Lamps { seat, .. } => self.act(*seat, command),
+            Command::Think { seat } => self.act(*seat, command),
+            Command::Turn { seat } => self.act(*seat, command),
+            Command::Hear { seat, .. } => self.act(*seat, command),
+            Command::Dm1 { seat } => self.act(*seat, command),
             Command::Shown { name, .. } | Command::Join { name, .. } => {
                 (*name)?;
                 Err(Refusal::BadLine)
@@ -144,15 +177,9 @@ impl Bench {
         }
     }
 
-    /// Has a station command a unit to another address.
-    fn command(&mut self, station: u32, name: NameWord, address: u8) -> Result<LineAnswer, Refusal>
-        requires { station < length self.old.garage.settings.stations }
+    fn counts(&self, seat: u32) -> Result<LineAnswer, Refusal>
+        ensures { result ≡ counts_answer (slice_get (state_of self.now.garage).traffic.seats seat) }
     {
-        self.garage.command_at(self.alloc, station, name?, address)?;
-        Ok(LineAnswer::Done)
-    }
-
-    fn counts(&self, seat: u32) -> Result<LineAnswer, Refusal> {
         match self.garage.counts(seat) {
             Some(counts) => Ok(LineAnswer::Counts(counts)),
             None => Err(Refusal::NoSeat),
@@ -160,7 +187,11 @@ impl Bench {
     }
 
     /// Carries out a command for the unit of a seat, where it stands. One that the garage does not know leaves the bench then, and is let go.
-    fn act(&mut self, seat: u32, command: &Command) -> Result<LineAnswer, Refusal> {
+    fn act(&mut self, seat: u32, command: &Command) -> Result<LineAnswer, Refusal>
+        ensures { ActsBy (sitting_of (λ b. (⟦<dyn Unit as Unit>⟧ b.vtable).name_of b.value)
+            (λ b. (⟦<dyn Unit as Unit>⟧ b.vtable).memory_of b.value)) (asked_of (λ b. (⟦<dyn Unit as Unit>⟧ b.vtable).Answers b.value)) seat command.now
+            result self.old.garage self.old.units.items self.new.garage self.new.units.items }
+    {
         let Some(place) = place_of(self.units.as_slice(), seat) else {
             return Err(Refusal::NoSeat);
         };
@@ -178,7 +209,11 @@ impl Bench {
     }
 
     /// Takes the unit of a seat off the bus.
-    fn dismiss(&mut self, seat: u32) -> Result<LineAnswer, Refusal> {
+    fn dismiss(&mut self, seat: u32) -> Result<LineAnswer, Refusal>
+        ensures { Leaves (sitting_of (λ b. (⟦<dyn Unit as Unit>⟧ b.vtable).name_of b.value)
+            (λ b. (⟦<dyn Unit as Unit>⟧ b.vtable).memory_of b.value)) seat result self.old.garage self.old.units.items self.new.garage
+            self.new.units.items }
+    {
         let Some(place) = place_of(self.units.as_slice(), seat) else {
             return Err(Refusal::NoSeat);
         };
@@ -186,83 +221,12 @@ impl Bench {
         Ok(LineAnswer::Done)
     }
 
-    /// Has a station ask a unit, or all.
-    fn ask(&mut self, station: u32, receiver: Receiver, asked: Asked) -> Result<LineAnswer, Refusal>
-        requires { station < length self.old.garage.settings.stations }
+    /// Runs rounds, so many at most, with all units.
+    fn round(&mut self, most: u32) -> Result<LineAnswer, Refusal>
+        ensures { RunsRounds (sitting_of (λ b. (⟦<dyn Unit as Unit>⟧ b.vtable).name_of b.value)
+            (λ b. (⟦<dyn Unit as Unit>⟧ b.vtable).memory_of b.value)) (asked_of (λ b. (⟦<dyn Unit as Unit>⟧ b.vtable).Answers b.value)) most result
+            self.old.garage self.old.units.items self.new.garage self.new.units.items }
     {
-        match receiver {
-            Receiver::All => self.garage.ask_all_at(self.alloc, station, ask_of(asked)?)?,
-            Receiver::Unit { name } => {
-                let name = name?;
-                self.garage
-                    .ask_at(self.alloc, station, name, ask_of(asked)?)?;
-            }
-        }
-        Ok(LineAnswer::Done)
-    }
-
-    fn carry(&mut self, most: u32) -> Result<LineAnswer, Refusal> {
-        for count in 0..most {
-            if let Some(end) = self.carry_one()? {
-                return Ok(LineAnswer::Carried {
-                    count,
-                    end: Some(end),
-                });
-            }
-        }
-        Ok(LineAnswer::Carried {
-            count: most,
-            end: None,
-        })
-    }
-
-    /// Carries one frame, or tells why none.
-    fn carry_one(&mut self) -> Result<Option<End>, GarageError> {
-        Ok(end_of(Some(self.garage.carry()?)))
-    }
-
-    /// Has a station read until nothing is unread, at most so often; tells how often.
-    #[tactic(auto, using(crate::proofs::Stations::still_there))]
-    fn read(&mut self, station: u32, most: u32) -> Result<u32, GarageError>
-        requires { station < length self.old.garage.settings.stations }
-    {
-        for count in 0..most {
-            match self.garage.read_at(self.alloc, station)? {
-                Reading::Empty => return Ok(count),
-                Reading::Frame(_) | Reading::Gap(_) => {}
-            }
-        }
-        Ok(most)
-    }
-
-    /// Runs rounds, so many at most and fewer where no frame can be carried: each unit hears all that it has not heard, the
-    /// stations read all, and one frame is carried.
-    fn round(&mut self, most: u32) -> Result<LineAnswer, Refusal> {
-        let rounds = self.garage.round(self.alloc, &mut self.units, most)?;
-        Ok(LineAnswer::Carried {
-            count: rounds.carried,
-            end: end_of(rounds.end),
-        })
-    }
-}
-
-/// Why no frame was carried, where none was.
-fn end_of(carried: Option<Carried>) -> Option<End> {
-    match carried? {
-        Carried::Frame { .. } => None,
-        Carried::Idle => Some(End::Idle),
-        Carried::Waiting => Some(End::Waiting),
-    }
-}
-
-fn ask_of(asked: Asked) -> Result<Ask, PgnTooLarge> {
-    match asked {
-        Asked::Dm1 => Ok(Ask::Dm1),
-        Asked::Dm2 => Ok(Ask::Dm2),
-        Asked::Dm3 => Ok(Ask::Dm3),
-        Asked::Dm6 => Ok(Ask::Dm6),
-        Asked::Dm11 => Ok(Ask::Dm11),
-        Asked::Claim => Ok(Ask::Claim),
-        Asked::Other { pgn } => Ok(Ask::Other(pgn?)),
+        run_rounds(&mut self.garage, self.alloc, &mut self.units, most)
     }
 }

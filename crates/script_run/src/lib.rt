@@ -6,6 +6,7 @@ mod answer_sink;
 mod answers;
 mod bench;
 mod checking;
+mod garage_commands;
 mod line_reporter;
 mod lines;
 mod logging;
@@ -13,9 +14,6 @@ mod place;
 mod unit_commands;
 mod wire;
 
-pub use answer_sink::AnswerSink;
 pub use answers::script;
-pub use bench::Bench;
 pub use checking::check;
-pub use lines::answer_lines;
 pub use logging::log;

@@ -6,6 +6,8 @@ use crate::answer_sink::AnswerSink;
 use crate::bench::Bench;
 use crate::lines::answer_lines;
 use crate::wire::Wire;
+use dm_messages::Shown;
+use garage::Snapshot;
 use program_io::Fault;
 use script_answer::{LineAnswer, Refusal, Unwritten};
 use script_line::{ScriptLine, Words, is_silent, read_line, read_number, reason};
@@ -76,8 +78,14 @@ impl<'a, E: Write, W: Write> LineReporter<'a, E, W> {
         Ok(())
     }
 
+    /// Has both writers write what they hold.
+    fn flush(&mut self) -> io::Result<()> {
+        self.errors.flush()?;
+        self.writer.flush()
+    }
+
     /// Tells why a line is not accepted.
-    fn report(&mut self, line: &str, has_garage: bool, refusal: Refusal) -> io::Result<()> {
+    fn tell(&mut self, line: &str, has_garage: bool, refusal: Refusal) -> io::Result<()> {
         self.bad = self.bad.saturating_add(1);
         let number = self.number;
         match self.form {
@@ -90,22 +98,13 @@ impl<'a, E: Write, W: Write> LineReporter<'a, E, W> {
     }
 }
 
-/// What a station shows, and its report, are passed over. To flush it flushes what it writes to.
-impl<E: Write, W: Write> Write for LineReporter<'_, E, W> {
-    fn write(&mut self, buf: &[u8]) -> io::Result<usize> {
-        Ok(buf.len())
-    }
-
-    fn flush(&mut self) -> io::Result<()> {
-        self.errors.flush()?;
-        self.writer.flush()
-    }
-}
-
+/// What a station shows, and its report, are passed over.
 impl<E: Write, W: Write> AnswerSink for LineReporter<'_, E, W> {
-    ghost use Rattle.std.specs.Prelude.{◌≡◌, ◌⊎◌, Err, IfErr, IfSome, IsSomeAnd};
+    ghost use Rattle.std.specs.Prelude.{◌≡◌, ◌⊎◌, Err, None, IfErr, IfSome, IsSomeAnd};
     ghost use Rattle.program_io.specs.declared.fault.Fault.TheVariants as fault;
     ghost use Rattle.script_answer.specs.Wants.{WantsMemory};
+
+    ghost told = { λ r. None };
 
     ghost ends_by = { λ f. (f ≡ fault.Write) ⊎ (f ≡ fault.Memory) };
 
@@ -123,6 +122,14 @@ impl<E: Write, W: Write> AnswerSink for LineReporter<'_, E, W> {
         Ok(())
     }
 
+    fn shown(&mut self, _entries: &[Shown]) -> Result<(), Unwritten> {
+        Ok(())
+    }
+
+    fn report(&mut self, _snapshot: &Snapshot) -> Result<(), Unwritten> {
+        Ok(())
+    }
+
     fn end_line(
         &mut self,
         line: &str,
@@ -135,7 +142,7 @@ impl<E: Write, W: Write> AnswerSink for LineReporter<'_, E, W> {
     {
         let told = match self.refusal {
             Some(refusal) if refusal.wants_memory() => return Err(Fault::Memory),
-            Some(refusal) => self.report(line, has_garage, refusal).is_ok(),
+            Some(refusal) => self.tell(line, has_garage, refusal).is_ok(),
             None => true,
         };
         if told && answered.is_ok() {

@@ -12,7 +12,11 @@ use std::str::Lines;
 use unit_trait::{Simulated, UnitKind};
 
 /// Answers the lines of a script. At the end each unit that is left on the bus is taken off.
-pub fn answer_lines<L: AnswerSink>(alloc: Global, text: &str, sink: &mut L) -> Result<(), Fault>
+pub(crate) fn answer_lines<L: AnswerSink>(
+    alloc: Global,
+    text: &str,
+    sink: &mut L,
+) -> Result<(), Fault>
     ensures { IfErr result L.ends_by }
 {
     let mut lines = text.lines();

@@ -1,0 +1,4 @@
+pub mod Commands
+pub mod Queries
+pub mod Steps
+pub mod UnitSteps

@@ -41,17 +41,73 @@ class Wire(list):
             self.names[frame.source] = claimed_name(frame)
 
 
+class Field:
+    """Bits of a frame as a DBC file gives them, and what they say: a range or a list of values, of which one is said after the other."""
+
+    def __init__(self, start, size, order, values=()):
+        self.start, self.size, self.order, self.values = start, size, order, values
+
+    def put(self, data, value):
+        """The bytes with this number in the field. For Intel all of them are one number, the lowest byte first; for Motorola a row of bits, each byte's
+        highest first."""
+        if self.order == "intel":
+            number = int.from_bytes(data, "little") & ~(((1 << self.size) - 1) << self.start) | value << self.start
+            return number.to_bytes(len(data), "little")
+        row, first = "".join(f"{byte:08b}" for byte in data), self.start // 8 * 8 + 7 - self.start % 8
+        row = row[:first] + f"{value:0{self.size}b}" + row[first + self.size :]
+        return bytes(int(row[at : at + 8], 2) for at in range(0, len(row), 8))
+
+    def places(self):
+        """The bits that it has, as a DBC file counts them."""
+        zero, ones = bytes(64), self.put(bytes(64), (1 << self.size) - 1)
+        return {bit for bit in range(512) if (zero[bit // 8] ^ ones[bit // 8]) >> bit % 8 & 1}
+
+
+def ramp(least, most, step):
+    """Up by the step, as long as it is at most `most`, and back."""
+    up = range(least, most + 1, step)
+    return up, up[-2:0:-1]
+
+
+def said(values, count):
+    """What is said where so many were said before."""
+    lists = values if isinstance(values, tuple) else (values,)
+    place = count % sum(map(len, lists))
+    return lists[0][place] if place < len(lists[0]) else lists[1][place - len(lists[0])]
+
+
 class Cyclic:
     """A group that goes again and again."""
 
-    def __init__(self, pgn, priority, data, period):
+    def __init__(self, pgn, priority, data, period, fields=(), checksum=None):
         self.pgn, self.priority, self.data, self.period, self.at = pgn, priority, data, 1000 * period, 0
+        self.fields, self.checksum, self.gone = fields, checksum, 0
+
+    def frame(self, source):
+        """The next one."""
+        data = self.data
+        for field in self.fields:
+            data = field.put(data, said(field.values, self.gone))
+        self.gone += 1
+        if self.checksum:
+            # (the message checksum of J1939-71)
+            data = self.checksum.put(data, 0)
+            total = sum(data) + sum(to_all(self.priority, self.pgn, source, data).number.to_bytes(4, "big"))
+            data = self.checksum.put(data, ((total >> 6 & 3) + (total >> 3) + total) & 7)
+        return to_all(self.priority, self.pgn, source, data)
+
+
+class Answer:
+    """A group that goes where it is asked for."""
+
+    def __init__(self, pgn, priority, data):
+        self.pgn, self.priority, self.data, self.asked = pgn, priority, data, False
 
 
 class LiveUnit(Unit):
     """A unit with its lanes and its times. All frames of the bus are heard, its own too."""
 
-    def __init__(self, name, address, kind, wire, gap, settle, always, cyclic=()):
+    def __init__(self, name, address, kind, wire, gap, settle, always, cyclic=(), answers=()):
         self.lanes = {lane: [] for lane in LANES}
         self.counted = self.written = self.heard = self.unheard = self.sent = 0
         self.gap, self.settle, self.always = gap, settle, always
@@ -59,7 +115,7 @@ class LiveUnit(Unit):
         self.claimed = False
         # what its latest DM1 told: codes as (spn, fmi), and the lamps' byte; and when it told changes: (which, time), since the latest that was no change's
         self.codes_told, self.lamps_told, self.changes_told, self.lamps_changed = set(), 0, [], None
-        self.cyclic = list(cyclic)
+        self.cyclic, self.answers, self.answered = list(cyclic), list(answers), 0
         super().__init__(name, address, kind, wire, seat=-1)
 
     # What `model.unit` calls.
@@ -120,6 +176,12 @@ class LiveUnit(Unit):
 
     def listen(self, place, now):
         frame = self.wire[place][1]
+        mine = [it for it in self.answers if it.pgn == requested(frame)] if frame.pgn == REQUEST and self.held is not None and frame.dest in (self.held, GLOBAL) else []
+        for it in mine:
+            it.asked = True
+        if mine:
+            self.heard += 1
+            return
         if needs_room(frame) and not self.has_room():
             self.unheard += 1
             return
@@ -132,6 +194,8 @@ class LiveUnit(Unit):
             self.alone_at = now + HELD_FOR
         if self.held != before:
             self.claimed = False
+            for it in self.answers:
+                it.asked = False
         if before is not None and self.held is None:
             self.claim_at = now + 1000 * (self.name % (1 << 21) % 154)
 
@@ -231,11 +295,16 @@ class LiveUnit(Unit):
         return frame
 
     def cyclic_due(self, now):
+        for it in self.answers:
+            if it.asked:
+                it.asked = False
+                self.answered += 1
+                return to_all(it.priority, it.pgn, self.held, it.data)
         for it in self.cyclic:
             if it.at <= now:
                 it.at = it.at + it.period if it.at + it.period > now else now + it.period
                 self.sent += 1
-                return to_all(it.priority, it.pgn, self.held, it.data)
+                return it.frame(self.held)
         return None
 
     def times(self):
@@ -299,7 +368,7 @@ class Playback:
         for place, unit in enumerate(self.units):
             at = "without address" if unit.held is None else f"at {unit.held}"
             unheard = f" unheard {unit.unheard}" if unit.unheard else ""
-            cyclic = f" cyclic {unit.sent}" if unit.cyclic else ""
+            cyclic = (f" cyclic {unit.sent}" if unit.cyclic else "") + (f" answered {unit.answered}" if unit.answers else "")
             lines.append(f"unit {place} {unit.name:016X} {at} heard {unit.heard}{unheard} written {unit.written} withdrawn {unit.withdrawn}"
                          f" waiting {unit.waiting()}{cyclic}\n")
         return "".join(lines)

@@ -39,7 +39,16 @@ A unit of the vehicle file may have, beside name, address and kind:
   pgn = 61444                       # one that goes to all
   bytes = \"F07D84A61F00F07D\"        # 1 to 8 bytes
   period = 100                      # 10 to 60000 ms
-  priority = 3                      # 0 to 7 [6]"
+  priority = 3                      # 0 to 7 [6]
+  checksum = { start = 60, length = 4 }   # where each frame bears the checksum of J1939-71
+  [[unit.sends.fields]]             # bits of it that move from frame to frame, as a DBC file has them
+  kind = \"counter\"                  # with least, most; ramp: with step too; toggle; values: with values = [1, 2]
+  start = 56                        # start bit
+  length = 4                        # 1 to 32 bits
+  order = \"intel\"                   # or \"motorola\" [\"intel\"]
+  least = 0
+  most = 7
+  [[unit.answers]]                  # a group that it sends where it is asked for it: pgn, bytes, priority"
 }
 
 /// Its options.

@@ -6,7 +6,7 @@ use crate::words::Ways;
 use can_frame::{Frame, GREATEST_ADDRESS};
 use candump_line::{Time, write_line};
 use fault_memory::FaultError;
-use live_lines::{Ear, Fleet, Playback, Unheld, begin_with};
+use live_lines::{Ear, Fleet, Groups, Playback, Unheld, begin_with};
 use log_lines::LogFault;
 use program_io::{Failure, Fault, LiveArguments};
 use std::alloc::Global;
@@ -16,7 +16,7 @@ use std::thread;
 use std::thread::{Builder, Threads};
 use std::time::{Clock, Duration};
 use unit_trait::{Simulated, Unit};
-use vehicle::{LiveLine, SendLine, UnitLine};
+use vehicle::{LiveLine, UnitLine};
 
 /// The longest that the thread which writes waits before it looks again, in microseconds.
 const LONGEST_WAIT: u64 = 1_000_000;
@@ -65,13 +65,13 @@ pub fn live<
     let mut fleet = Fleet::new(alloc);
     for line in units {
         let begun = begun(alloc, fleet.len(), &line)?;
-        let (address, sends) = parts_of(line);
+        let (address, groups) = parts_of(line);
         if address > GREATEST_ADDRESS {
             return Err(Failure::from(Fault::Vehicle));
         }
         // Only here, where the fleet is owned, may a unit of a kind become one of any kind.
         let unit: Box<dyn Unit> = Box::new(alloc, begun)?;
-        fleet.add(alloc, unit, address, ways.settings, sends)?;
+        fleet.add(alloc, unit, address, ways.settings, groups)?;
     }
     let ear = Ear::new(alloc, ways.bus)?;
     if ways.by_lines {
@@ -134,14 +134,15 @@ fn begun(alloc: Global, place: usize, line: &LiveLine) -> Result<Simulated, Fail
     }
 }
 
-/// The address of a line, and what its unit sends.
-fn parts_of(line: LiveLine) -> (u8, Vec<SendLine>) {
+/// The address of a line, and the groups of its unit.
+fn parts_of(line: LiveLine) -> (u8, Groups) {
     let LiveLine {
         unit: UnitLine { address, .. },
         sends,
+        answers,
         ..
     } = line;
-    (address, sends)
+    (address, Groups { sends, answers })
 }
 
 /// Starts the thread that reads the bus. It is not joined: on a quiet bus it would keep a run from ending whose output is gone.

@@ -1,21 +1,27 @@
 //! What a unit sends again and again.
-ghost use Rattle.std.specs.Prelude.{◌≡◌, ◌≤◌, IfSome};
+ghost use Rattle.std.specs.Prelude.{◌≡◌, ◌≤◌, ◌+◌, ◌-◌, ◌^◌, IfSome, MatchOption, min};
 ghost use Rattle.can_frame.specs.Fields.{source_of};
+ghost use Rattle.vehicle.specs.Frames.{IsFrameOf};
 
 use can_frame::Frame;
 use vehicle::SendLine;
 
-/// A group that a unit sends again and again, and when next.
+/// A group that a unit sends again and again, when next, and how many frames of it went.
 #[derive(Drop)]
 pub(crate) struct Cyclic {
     group: SendLine,
     from: u64,
+    gone: u64,
 }
 
 impl Cyclic {
     /// A group that goes for the first time as soon as its unit may send it.
     pub(crate) fn new(group: SendLine) -> Cyclic {
-        Cyclic { group, from: 0 }
+        Cyclic {
+            group,
+            from: 0,
+            gone: 0,
+        }
     }
 
     /// From when on it goes.
@@ -29,6 +35,9 @@ impl Cyclic {
     /// is over:
     /// what was missed is not made up for.
     pub(crate) fn due(&mut self, source: u8, now: u64) -> Option<Frame>
+        ensures frame { IfSome result (IsFrameOf self.old.group source self.old.gone) }
+        ensures counted { MatchOption result (self.new.gone ≡ self.old.gone)
+            (λ _. self.new.gone ≡ min (self.old.gone + 1) (2 ^ 64 - 1)) }
         ensures source { IfSome result (λ f. source_of f.id ≡ source) }
         ensures waited { IfSome result (λ _. self.old.from ≤ now) }
     {
@@ -42,6 +51,8 @@ impl Cyclic {
         } else {
             now.saturating_add(period)
         };
-        Some(self.group.frame(source))
+        let frame = self.group.frame(source, self.gone);
+        self.gone = self.gone.saturating_add(1);
+        Some(frame)
     }
 }

@@ -2,10 +2,12 @@ ghost use Rattle.std.specs.Prelude.{◌≡◌, ◌≤◌, ◌||◌, IfSome, None
 ghost use Rattle.can_frame.specs.Fields.{source_of};
 ghost use Rattle.can_frame.specs.declared.address.TheConstants.{GREATEST_ADDRESS};
 ghost use Rattle.address_claim.specs.Frames.{claim_source};
+ghost use Rattle.live_lines.specs.Withheld.{IsAskedOf};
 ghost use Rattle.log_lines.specs.declared.fault.LogFault.TheVariants.{Memory};
 
+use crate::answering::{Answering, answer_due, ask, asked_of, forget, is_any_asked, is_listed};
 use crate::cyclic::Cyclic;
-use can_frame::Frame;
+use can_frame::{Frame, Pgn};
 use dm_messages::Kind;
 use fault_memory::{FaultChange, FaultError};
 use live_unit::{Act, LiveError, LiveUnit, QueueCounts, UnitSettings};
@@ -14,7 +16,7 @@ use std::alloc::{AllocError, Global};
 use std::io;
 use std::io::Write;
 use unit_trait::Unit;
-use vehicle::SendLine;
+use vehicle::{AnswerLine, SendLine};
 
 /// How long a unit that was refused memory waits before it tries again, in microseconds.
 const RETRY: u64 = 100_000;
@@ -29,6 +31,9 @@ struct Member {
     /// What it sends again and again, and how many frames of these it wrote.
     cyclic: Vec<Cyclic>,
     sent: u64,
+    /// What it sends where it is asked for it, and how many frames of these it wrote.
+    answers: Vec<Answering>,
+    answered: u64,
     /// Whether it has left the bus.
     has_left: bool,
     /// How many frames it heard, and how many it could not hear.
@@ -36,6 +41,15 @@ struct Member {
     unheard: u64,
     /// When it may try again what it was refused memory for.
     retry_from: u64,
+}
+
+/// The groups of a unit beside those of its node.
+#[derive(Drop)]
+pub struct Groups {
+    /// What it sends again and again.
+    pub sends: Vec<SendLine>,
+    /// What it sends where it is asked for it.
+    pub answers: Vec<AnswerLine>,
 }
 
 /// Units that take part in one bus, in the order in which they came.
@@ -58,7 +72,7 @@ impl Fleet {
         }
     }
 
-    /// A unit more, which wants this address, 0 to 253, and sends these groups again and again. Its claim waits to be written.
+    /// A unit more, which wants this address, 0 to 253, and has these groups. Its claim waits to be written.
     ///
     /// Where memory is refused no unit is added.
     pub fn add(
@@ -67,18 +81,24 @@ impl Fleet {
         unit: Box<dyn Unit>,
         address: u8,
         settings: UnitSettings,
-        sends: Vec<SendLine>,
+        groups: Groups,
     ) -> Result<(), AllocError>
         requires { address ≤ GREATEST_ADDRESS }
     {
         let mut cyclic = Vec::new(alloc);
-        for group in sends {
+        for group in groups.sends {
             cyclic.push(Cyclic::new(group))?;
+        }
+        let mut answers = Vec::new(alloc);
+        for group in groups.answers {
+            answers.push(Answering::new(group))?;
         }
         self.members.push(Member {
             unit: LiveUnit::new(alloc, unit, address, settings)?,
             cyclic,
             sent: 0,
+            answers,
+            answered: 0,
             has_left: false,
             heard: 0,
             unheard: 0,
@@ -224,7 +244,17 @@ impl Member {
         if self.has_left {
             return false;
         }
-        match self.unit.hear(alloc, frame, now) {
+        let held = self.unit.held();
+        if let Some(pgn) = self.withheld(frame) {
+            ask(self.answers.as_mut_slice(), pgn);
+            self.heard = self.heard.saturating_add(1);
+            return false;
+        }
+        let result = self.unit.hear(alloc, frame, now);
+        if self.unit.held() != held {
+            forget(self.answers.as_mut_slice());
+        }
+        match result {
             Ok(_) => {
                 self.heard = self.heard.saturating_add(1);
                 false
@@ -233,6 +263,19 @@ impl Member {
                 self.unheard = self.unheard.saturating_add(1);
                 error == LiveError::OutOfMemory
             }
+        }
+    }
+
+    /// The group that a frame asks for, where the unit answers that beside its node. Of a frame that is none of these the node hears,
+    /// as it does without answers.
+    fn withheld(&self, frame: &Frame) -> Option<Pgn>
+        ensures { IfSome result (IsAskedOf self.now.unit.live.node.claimer.held frame.now) }
+    {
+        let pgn = asked_of(frame, self.unit.held())?;
+        if is_listed(self.answers.as_slice(), pgn) {
+            Some(pgn)
+        } else {
+            None
         }
     }
 
@@ -256,7 +299,7 @@ impl Member {
         false
     }
 
-    /// The frame of it that goes at this time: one that waits, or else one that it sends again and again.
+    /// The frame of it that goes at this time: one that waits, or else an answer, or one that it sends again and again.
     fn due(&mut self, now: u64) -> Option<Frame>
         requires { Unit {0} }
         ensures source { IfSome result (λ f. source_of f.id ≡ claim_source self.old.unit.live.node.claimer.held) }
@@ -271,6 +314,10 @@ impl Member {
         let from = self.unit.free_from()?;
         if from > now {
             return None;
+        }
+        if let Some(frame) = answer_due(self.answers.as_mut_slice(), source) {
+            self.answered = self.answered.saturating_add(1);
+            return Some(frame);
         }
         let frame = cyclic_due(self.cyclic.as_mut_slice(), source, now)?;
         self.sent = self.sent.saturating_add(1);
@@ -288,10 +335,13 @@ impl Member {
         } else {
             next
         };
-        match self.unit.free_from() {
-            Some(from) => next.min(cyclic_from(self.cyclic.as_slice()).max(from)),
-            None => next,
+        let Some(from) = self.unit.free_from() else {
+            return next;
+        };
+        if is_any_asked(self.answers.as_slice()) {
+            return next.min(from);
         }
+        next.min(cyclic_from(self.cyclic.as_slice()).max(from))
     }
 
     fn write_line<W: Write>(&self, writer: &mut W, place: usize) -> io::Result<()> {
@@ -319,6 +369,9 @@ impl Member {
         )?;
         if !self.cyclic.is_empty() {
             write!(writer, " cyclic {}", self.sent)?;
+        }
+        if !self.answers.is_empty() {
+            write!(writer, " answered {}", self.answered)?;
         }
         writeln!(writer)
     }

@@ -3,6 +3,7 @@
 //! Nothing here has a clock or a thread: times are handed in, in microseconds.
 #![tactic(auto)]
 
+mod answering;
 mod beginning;
 mod cyclic;
 mod ear;
@@ -12,6 +13,6 @@ mod playback;
 
 pub use beginning::{Unheld, begin_with};
 pub use ear::Ear;
-pub use fleet::Fleet;
+pub use fleet::{Fleet, Groups};
 pub use orders::{Answer, OrderReader};
 pub use playback::Playback;

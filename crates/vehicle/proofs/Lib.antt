@@ -2,3 +2,6 @@ mod KeyLemmas
 mod UnitLemmas
 mod CodeLemmas
 mod SendLemmas
+mod FieldLemmas
+mod MotionLemmas
+mod SumLemmas

@@ -7,11 +7,13 @@ use Rattle.script_line.specs.Numbers.{IsNumberBelow, SpellsNumber, decimal_value
 use Rattle.unit_trait.specs.declared.kind.UnitKind.{UnitKind}
 use Rattle.trouble_code.specs.Code.{Code, IsCode}
 use Rattle.trouble_code.specs.LampBytes.{LampsValue, lamps_off, lamps_value}
+use Rattle.vehicle.specs.Fields.{HoldsChecksumAt, HoldsFieldsAt}
 use Rattle.vehicle.specs.Sending.{SpellsBytes, is_free_group}
 use Rattle.vehicle.specs.Holding.{EachHoldsAt, HasNumber, HasOnly, HoldsUnitOf, keys_by, text_at}
 use Rattle.vehicle.specs.declared.sends.TheConstants.{LEAST_PERIOD, MOST_PERIOD, USUAL_PRIORITY}
 use Rattle.vehicle.specs.declared.send_line.TheConstants.{GREATEST_PGN, LOWEST_PRIORITY}
 use Rattle.vehicle.specs.declared.codes.TheConstants.{MOST_OCCURRENCES}
+use Rattle.vehicle.specs.declared.answer_line.AnswerLine.{AnswerLine}
 use Rattle.vehicle.specs.declared.send_line.SendLine.{SendLine}
 use Rattle.vehicle.specs.declared.live.LiveLine.{LiveLine}
 use Rattle.vehicle.specs.declared.live.Memory.{Memory}
@@ -62,26 +64,42 @@ HoldsPriorityAt d priority =
 abbrev pub HasBytes : Data → List ℕ → Type 0
 HasBytes d bytes = (text : List ℕ) × (text_at (codes "bytes") d ≡ Some text) × SpellsBytes text bytes
 
--- a group, its priority, its period in milliseconds and its bytes; nothing else
+-- a group, its priority, its period in milliseconds, its bytes, and what of these moves; nothing else
 pub record HoldsSend (d : Data) (s : SendLine) : Type 0 where
-  pub only : HasOnly (codes "pgn" ∷ codes "priority" ∷ codes "period" ∷ codes "bytes" ∷ []) d
+  pub only : HasOnly (codes "pgn" ∷ codes "priority" ∷ codes "period" ∷ codes "bytes" ∷ codes "fields" ∷ codes "checksum" ∷ []) d
   pub pgn : HasNumber d (codes "pgn") s.pgn 0 GREATEST_PGN
   pub free : is_free_group s.pgn ≡ true
   pub priority : HoldsPriorityAt d s.priority
   pub period : HasNumber d (codes "period") s.period LEAST_PERIOD MOST_PERIOD
   pub bytes : HasBytes d s.bytes.items
+  pub fields : HoldsFieldsAt (get (codes "fields") d) s.fields.items
+  pub checksum : HoldsChecksumAt (get (codes "checksum") d) s.checksum
 
 -- one for each table, in order; none where there is no such key
 abbrev pub HoldsSendsAt : Option Data → List SendLine → Type 0
 HoldsSendsAt = EachHoldsAt HoldsSend
+
+-- ---- what is sent where it is asked for
+
+-- a group, its priority and its bytes; nothing else
+pub record HoldsAnswer (d : Data) (a : AnswerLine) : Type 0 where
+  pub only : HasOnly (codes "pgn" ∷ codes "priority" ∷ codes "bytes" ∷ []) d
+  pub pgn : HasNumber d (codes "pgn") a.pgn 0 GREATEST_PGN
+  pub free : is_free_group a.pgn ≡ true
+  pub priority : HoldsPriorityAt d a.priority
+  pub bytes : HasBytes d a.bytes.items
+
+-- one for each table, in order; none where there is no such key
+abbrev pub HoldsAnswersAt : Option Data → List AnswerLine → Type 0
+HoldsAnswersAt = EachHoldsAt HoldsAnswer
 
 -- ---- units
 
 -- the keys of a unit of a kind
 abbrev pub live_keys_of_kind : UnitKind → List (List ℕ)
 live_keys_of_kind kind = keys_by kind
-    (codes "name" ∷ codes "address" ∷ codes "kind" ∷ codes "lamps" ∷ codes "active" ∷ codes "previous" ∷ codes "pending" ∷ codes "sends" ∷ [])
-    (codes "name" ∷ codes "address" ∷ codes "kind" ∷ codes "spn" ∷ codes "fmi" ∷ codes "lamps" ∷ codes "active" ∷ codes "previous" ∷ codes "pending" ∷ codes "sends" ∷ [])
+    (codes "name" ∷ codes "address" ∷ codes "kind" ∷ codes "lamps" ∷ codes "active" ∷ codes "previous" ∷ codes "pending" ∷ codes "sends" ∷ codes "answers" ∷ [])
+    (codes "name" ∷ codes "address" ∷ codes "kind" ∷ codes "spn" ∷ codes "fmi" ∷ codes "lamps" ∷ codes "active" ∷ codes "previous" ∷ codes "pending" ∷ codes "sends" ∷ codes "answers" ∷ [])
 
 -- the codes with which a unit begins
 pub record HoldsMemory (d : Data) (m : Memory) : Type 0 where
@@ -96,6 +114,7 @@ pub record HoldsRest (d : Data) (u : LiveLine) : Type 0 where
   pub previous : HoldsCodesAt (get (codes "previous") d) u.previous.items
   pub pending : HoldsCodesAt (get (codes "pending") d) u.pending.items
   pub sends : HoldsSendsAt (get (codes "sends") d) u.sends.items
+  pub answers : HoldsAnswersAt (get (codes "answers") d) u.answers.items
 
 -- what a unit is, how it begins and what it sends; nothing else
 pub record HoldsLiveUnit (d : Data) (u : LiveLine) : Type 0 where

@@ -13,7 +13,26 @@ pub(crate) enum KeyPlace {
     /// That of a unit, which is this one from 0 on.
     Unit(usize),
     /// That of a group which a unit sends, each of them counted from 0 on.
-    Send { unit: usize, number: usize },
+    Send {
+        unit: usize,
+        number: usize,
+    },
+    /// That of a group which a unit answers, counted likewise.
+    Answer {
+        unit: usize,
+        number: usize,
+    },
+    /// That of a field of a group which a unit sends, counted likewise.
+    Field {
+        unit: usize,
+        send: usize,
+        number: usize,
+    },
+    /// That of such a group's checksum.
+    Checksum {
+        unit: usize,
+        send: usize,
+    },
 }
 
 /// What is wrong at a key.
@@ -51,6 +70,18 @@ pub(crate) enum KeyFault {
     NotCode,
     /// Its text spells no bytes.
     NotBytes,
+    /// Its text tells no way in which a field moves.
+    NotMotion,
+    /// Its text is no order of bits.
+    NotOrder,
+    /// It has no array of whole numbers.
+    NoNumbers,
+    /// There is no value.
+    NoValue,
+    /// A bit is beyond the bytes.
+    Beyond,
+    /// The field at this place, from 0 on, has a bit of it.
+    OfField(usize),
     /// Its number is not within these two.
     Outside { found: i64, least: u32, most: u32 },
     /// No unit sends the group of this number as it likes.
@@ -66,6 +97,9 @@ impl KeyPlace {
             KeyPlace::Second => "second",
             KeyPlace::Unit(_) => "unit",
             KeyPlace::Send { .. } => "unit.sends",
+            KeyPlace::Answer { .. } => "unit.answers",
+            KeyPlace::Field { .. } => "unit.sends.fields",
+            KeyPlace::Checksum { .. } => "unit.sends.checksum",
         }
     }
 }
@@ -89,7 +123,15 @@ impl KeyFault {
             KeyFault::NotLamps => "4 hexadecimal digits",
             KeyFault::NotCode => "SPN/FMI or SPN/FMI/COUNT",
             KeyFault::NotBytes => "1 to 8 bytes of two hexadecimal digits each",
-            KeyFault::Outside { .. } | KeyFault::NotFree(_) | KeyFault::OfUnit(_) => "",
+            KeyFault::NotMotion => "counter, ramp, toggle or values",
+            KeyFault::NotOrder => "intel or motorola",
+            KeyFault::NoNumbers => "no array of whole numbers",
+            KeyFault::NoValue => "at least one value is wanted",
+            KeyFault::Beyond => "it has a bit beyond the bytes",
+            KeyFault::Outside { .. }
+            | KeyFault::NotFree(_)
+            | KeyFault::OfUnit(_)
+            | KeyFault::OfField(_) => "",
         }
     }
 
@@ -102,6 +144,8 @@ impl KeyFault {
                 | KeyFault::NotLamps
                 | KeyFault::NotCode
                 | KeyFault::NotBytes
+                | KeyFault::NotMotion
+                | KeyFault::NotOrder
         )
     }
 }
@@ -205,6 +249,7 @@ impl KeyError<'_> {
             ),
             KeyFault::NotFree(pgn) => write_not_free(f, pgn),
             KeyFault::OfUnit(place) => write!(f, "unit {place} has this NAME"),
+            KeyFault::OfField(place) => write!(f, "field {place} has a bit of it"),
             wrong => self.write_words(f, wrong),
         }
     }

@@ -39,25 +39,54 @@
 //! previous = ["94/1"]
 //! pending = []
 //!
+//! [[unit.answers]]            # a group that it sends where it is asked for it
+//! pgn = 65253                 # one that goes to all
+//! bytes = "10270000FFFFFFFF"  # 1 to 8
+//! priority = 6                # 0 to 7; 6 where it is left out
+//!
 //! [[unit.sends]]              # a group that it sends again and again
 //! pgn = 61444                 # one that goes to all
 //! bytes = "F07D84A61F00F07D"  # 1 to 8
 //! period = 100                # 10 to 60000 ms
 //! priority = 3                # 0 to 7; 6 where it is left out
+//! checksum = { start = 60, length = 4 }   # where each frame bears its checksum
+//!
+//! [[unit.sends.fields]]       # a field of it that moves from frame to frame
+//! kind = "counter"            # or "ramp", "toggle", "values"
+//! start = 56                  # its start bit, as a DBC file has it
+//! length = 4                  # 1 to 32 bits
+//! order = "intel"             # or "motorola"; "intel" where it is left out
+//! least = 0
+//! most = 7
 //! ```
 #![tactic(auto)]
 
+mod answer_line;
+mod answers;
+mod checksum;
 mod codes;
 mod fault;
+mod field_bits;
+mod fields;
 mod key_error;
 mod lines;
 mod live;
+mod motion;
+mod moving_field;
+mod moving_value;
+mod putting;
 mod read;
+mod room;
 mod send_line;
+mod sending;
 mod sends;
 
+pub use answer_line::AnswerLine;
 pub use fault::VehicleFault;
+pub use field_bits::{ByteOrder, FieldBits};
 pub use live::{LiveLine, read_live_units};
+pub use motion::{Counter, Motion, Ramp, ValueList};
+pub use moving_field::MovingField;
 use name_field::Name;
 pub use read::{GREATEST_LIMIT, GREATEST_WINDOW, read_vehicle};
 pub use send_line::SendLine;

@@ -25,6 +25,9 @@ pub(crate) fn line_of(text: &str, place: KeyPlace, key: Option<&str>) -> Option<
                 if headers.here == Some(place) && is_line_of(line, key) {
                     return Some(number);
                 }
+                if begins_in_line(headers.here, place) && is_line_of(line, Some("checksum")) {
+                    header = Some(number);
+                }
             }
         }
     }
@@ -40,6 +43,10 @@ struct Headers {
     units: usize,
     /// How many groups the last unit sends.
     sends: usize,
+    /// How many fields the last of these has.
+    fields: usize,
+    /// How many groups the last unit answers.
+    answers: usize,
 }
 
 impl Headers {
@@ -49,32 +56,62 @@ impl Headers {
             here: Some(KeyPlace::Whole),
             units: 0,
             sends: 0,
+            fields: 0,
+            answers: 0,
         }
     }
 
     /// One more.
     fn pass(&mut self, name: &str) {
-        self.here = place_of(name, self.units, self.sends);
-        if name == "unit" {
-            self.units = self.units.saturating_add(1);
-            self.sends = 0;
-        } else if name == "unit.sends" {
-            self.sends = self.sends.saturating_add(1);
+        self.here = self.place_of(name);
+        match name {
+            "unit" => {
+                self.units = self.units.saturating_add(1);
+                self.sends = 0;
+                self.answers = 0;
+            }
+            "unit.sends" => {
+                self.sends = self.sends.saturating_add(1);
+                self.fields = 0;
+            }
+            "unit.sends.fields" => self.fields = self.fields.saturating_add(1),
+            "unit.answers" => self.answers = self.answers.saturating_add(1),
+            _ => {}
+        }
+    }
+
+    /// The table that one more begins.
+    fn place_of(&self, name: &str) -> Option<KeyPlace> {
+        let unit = self.units.saturating_sub(1);
+        let send = self.sends.saturating_sub(1);
+        match name {
+            "station" => Some(KeyPlace::StationTable),
+            "second" => Some(KeyPlace::Second),
+            "unit" => Some(KeyPlace::Unit(self.units)),
+            "unit.sends" => Some(KeyPlace::Send {
+                unit,
+                number: self.sends,
+            }),
+            "unit.answers" => Some(KeyPlace::Answer {
+                unit,
+                number: self.answers,
+            }),
+            "unit.sends.fields" => Some(KeyPlace::Field {
+                unit,
+                send,
+                number: self.fields,
+            }),
+            "unit.sends.checksum" => Some(KeyPlace::Checksum { unit, send }),
+            _ => None,
         }
     }
 }
 
-/// The table that a header begins, where so many units stand before it, and so many groups that the last of them sends.
-fn place_of(name: &str, units: usize, sends: usize) -> Option<KeyPlace> {
-    match name {
-        "station" => Some(KeyPlace::StationTable),
-        "second" => Some(KeyPlace::Second),
-        "unit" => Some(KeyPlace::Unit(units)),
-        "unit.sends" => Some(KeyPlace::Send {
-            unit: units.saturating_sub(1),
-            number: sends,
-        }),
-        _ => None,
+/// Whether a table may be begun by a line of the table that is begun here: a group's checksum.
+fn begins_in_line(here: Option<KeyPlace>, place: KeyPlace) -> bool {
+    match place {
+        KeyPlace::Checksum { unit, send } => here == Some(KeyPlace::Send { unit, number: send }),
+        _ => false,
     }
 }
 

@@ -8,6 +8,8 @@ ghost use Rattle.vehicle.specs.Holding.{EachHolds, HoldsUnitOf};
 ghost use Rattle.vehicle.specs.Live.{HaveDistinctNames, HoldsLiveUnit, HoldsLiveUnits, HoldsMemory, HoldsRest, live_keys_of_kind};
 
 use crate::UnitLine;
+use crate::answer_line::AnswerLine;
+use crate::answers::read_answers;
 use crate::codes::{read_codes, read_lamps_of};
 use crate::fault::VehicleFault;
 use crate::key_error::{KeyFault, KeyPlace, ReadError};
@@ -34,14 +36,17 @@ pub struct LiveLine {
     pub pending: Vec<Dtc>,
     /// What it sends again and again.
     pub sends: Vec<SendLine>,
+    /// What it sends where it is asked for it.
+    pub answers: Vec<AnswerLine>,
 }
 
 /// Reads the units of a vehicle's text, a TOML document, as they take part in a real bus.
 ///
 /// The tables `station` and `second` are those that [`read_vehicle`](crate::read_vehicle) reads; here they may both be left out.
 /// Each table of the array `unit` may have, beside the keys that it reads, `lamps`, `active`, `previous` and `pending`, and an
-/// array of tables `sends` with the keys `pgn`, `bytes` and `period`, and `priority`, which may be left out. No other key may stand
-/// anywhere. Whether a unit can hold its codes together is not looked at: that no code stands twice, and that they are 445 at most.
+/// array of tables `sends` with the keys `pgn`, `bytes` and `period`, and `priority`, `checksum` and an array of tables `fields`, which
+/// may be left out, and an array of tables `answers` with `pgn` and `bytes`, and `priority`. No other key may stand anywhere. Whether a
+/// unit can hold its codes together is not looked at: that no code stands twice, and that they are 445 at most.
 ///
 /// # Errors
 /// - `Refused`: the text is no TOML, a key is missing or not known, a value is of another type or out of its range, both
@@ -157,6 +162,7 @@ fn read_rest(
     let place = KeyPlace::Unit(number);
     let lamps = read_lamps_of(place, value)?;
     let memory = read_memory(alloc, place, value)?;
+    let answers = read_answers(alloc, number, value)?;
     match read_sends(alloc, number, value) {
         Ok(sends) => Ok(LiveLine {
             unit,
@@ -165,6 +171,7 @@ fn read_rest(
             previous: memory.previous,
             pending: memory.pending,
             sends,
+            answers,
         }),
         Err(unread) => Err(unread),
     }
@@ -178,11 +185,11 @@ fn read_live_unit(place: KeyPlace, value: &Value) -> Result<UnitLine, ReadError<
         place,
         value,
         &[
-            "name", "address", "kind", "lamps", "active", "previous", "pending", "sends",
+            "name", "address", "kind", "lamps", "active", "previous", "pending", "sends", "answers",
         ],
         &[
             "name", "address", "kind", "spn", "fmi", "lamps", "active", "previous", "pending",
-            "sends",
+            "sends", "answers",
         ],
     )
 }

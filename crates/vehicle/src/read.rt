@@ -335,12 +335,27 @@ pub(crate) fn read_number<'a>(
 {
     match value.get(key) {
         Some(found) => match found.as_integer() {
-            Some(n) if n >= i64::from(least) && n <= i64::from(most) => Ok(n as u32),
-            Some(found) => Err(ReadError::at(place, key, KeyFault::Outside { found, least, most })),
+            Some(found) => number_in(place, key, found, least, most),
             None => Err(ReadError::at(place, key, KeyFault::NoNumber)),
         },
         None => Err(ReadError::at(place, key, KeyFault::Missing)),
     }
+}
+
+/// A number that is found at a key, where it is within these two.
+pub(crate) fn number_in<'a>(
+    place: KeyPlace,
+    key: &'a str,
+    found: i64,
+    least: u32,
+    most: u32,
+) -> Result<u32, ReadError<'a>>
+    ensures { IfOk result (λ n. (found ≡ pos n) × (least ≤ n) × (n ≤ most)) }
+{
+    if found >= i64::from(least) && found <= i64::from(most) {
+        return Ok(found as u32);
+    }
+    Err(ReadError::at(place, key, KeyFault::Outside { found, least, most }))
 }
 
 /// The items of the array at a key; none where there is no such key.
@@ -382,7 +397,7 @@ pub(crate) fn has_only<'a>(
 
 /// Why a key may not stand in a table.
 fn why_not(place: KeyPlace, key: &str) -> KeyFault {
-    let of_live = &["lamps", "active", "previous", "pending", "sends"];
+    let of_live = &["lamps", "active", "previous", "pending", "sends", "answers"];
     match place {
         KeyPlace::Unit(_) if is_among(key, of_live) => KeyFault::OfLive,
         _ => KeyFault::NotKnown,

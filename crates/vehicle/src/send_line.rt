@@ -1,9 +1,9 @@
-ghost use Rattle.std.specs.Prelude.{◌≡◌};
-ghost use Rattle.can_frame.specs.Fields.{pdu2_number};
-ghost use Rattle.can_frame.specs.FrameValue.{frame};
+ghost use Rattle.std.specs.Prelude.{length};
+ghost use Rattle.vehicle.specs.Apart.{HasRoomFor};
 ghost use Rattle.vehicle.specs.Sending.{FitsFrame};
 
-use can_frame::{Frame, Id, Pgn};
+use crate::field_bits::FieldBits;
+use crate::moving_field::MovingField;
 
 /// The greatest number of a group that is sent, 2^17 - 1 (SAE J1939-21: with the data page, without the extended one).
 pub(crate) const GREATEST_PGN: u32 = 131_071;
@@ -20,20 +20,12 @@ pub struct SendLine {
     pub priority: u8,
     /// How long it is from one frame to the next, 10 to 60,000 ms.
     pub period: u32,
-    /// What it says, 1 to 8 bytes.
+    /// What it says, 1 to 8 bytes, but for the bits that move.
     pub bytes: Vec<u8>,
+    /// The fields that move. No two have a bit together.
+    pub fields: Vec<MovingField>,
+    /// Where each frame bears its checksum, if it does: at no bit of a field.
+    pub checksum: Option<FieldBits>,
     pub ghost fits: { FitsFrame pgn priority bytes.items },
-}
-
-impl SendLine {
-    /// The frame by which it is sent from an address.
-    #[tactic(auto, using(crate::proofs::SendLemmas::goes_to_all))]
-    pub fn frame(&self, source: u8) -> Frame
-        ensures { result ≡ frame (pdu2_number self.now.priority self.now.pgn source) self.now.bytes.items }
-    {
-        let Ok(pgn) = Pgn::new(self.pgn) else {
-            unreachable!()
-        };
-        Frame::of(Id::pdu2(self.priority, pgn, source), self.bytes.as_slice())
-    }
+    pub ghost room: { HasRoomFor fields.items checksum (length bytes.items) },
 }

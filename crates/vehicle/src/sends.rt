@@ -7,8 +7,10 @@ ghost use Rattle.vehicle.specs.Live.{HasBytes, HoldsPriorityAt, HoldsSend, Holds
 ghost use Rattle.vehicle.specs.Sending.{SpellsBytes};
 ghost use Rattle.vehicle.specs.Sending as sending;
 
+use crate::fields::{read_checksum, read_fields};
 use crate::key_error::{KeyFault, KeyPlace, ReadError};
 use crate::read::{has_only, items_at, read_number, read_text};
+use crate::room::look_at_room;
 use crate::send_line::{GREATEST_PGN, LOWEST_PRIORITY, SendLine};
 use can_frame::Pgn;
 use hex_text::read_hex;
@@ -41,32 +43,44 @@ fn sends_of(alloc: Global, unit: usize, items: &[Value]) -> Result<Vec<SendLine>
 {
     let mut sends = Vec::new(alloc);
     for item in items {
-        let place = KeyPlace::Send {
-            unit,
-            number: sends.len(),
-        };
-        sends.push(read_send(alloc, place, item)?)?;
+        let number = sends.len();
+        sends.push(read_send(alloc, unit, number, item)?)?;
     }
     Ok(sends)
 }
 
-fn read_send(alloc: Global, place: KeyPlace, value: &Value) -> Result<SendLine, ReadError<'_>>
+fn read_send(
+    alloc: Global,
+    unit: usize,
+    number: usize,
+    value: &Value,
+) -> Result<SendLine, ReadError<'_>>
     ensures { IfOk result (HoldsSend (view value.now)) }
 {
-    has_only(place, value, &["pgn", "priority", "period", "bytes"])?;
+    let place = KeyPlace::Send { unit, number };
+    has_only(
+        place,
+        value,
+        &["pgn", "priority", "period", "bytes", "fields", "checksum"],
+    )?;
     let pgn = read_pgn(place, value)?;
     let priority = read_priority(place, value)?;
     let period = read_number(place, value, "period", LEAST_PERIOD, MOST_PERIOD)?;
     let bytes = read_bytes(alloc, place, value)?;
+    let fields = read_fields(alloc, unit, number, value)?;
+    let checksum = read_checksum(unit, number, value)?;
+    look_at_room(unit, number, fields.as_slice(), checksum, bytes.len())?;
     Ok(SendLine {
         pgn,
         priority,
         period,
         bytes,
+        fields,
+        checksum,
     })
 }
 
-fn read_pgn(place: KeyPlace, value: &Value) -> Result<u32, ReadError<'_>>
+pub(crate) fn read_pgn(place: KeyPlace, value: &Value) -> Result<u32, ReadError<'_>>
     ensures number { IfOk result (λ n. HasNumber (view value.now) (codes "pgn") n 0 GREATEST_PGN) }
     ensures free { IfOk result (λ n. sending.is_free_group n ≡ true) }
 {
@@ -97,7 +111,7 @@ fn is_ruled_group(number: u32) -> bool
         || number == Pgn::COMMANDED_ADDRESS.number()
 }
 
-fn read_priority(place: KeyPlace, value: &Value) -> Result<u8, ReadError<'_>>
+pub(crate) fn read_priority(place: KeyPlace, value: &Value) -> Result<u8, ReadError<'_>>
     ensures { IfOk result (HoldsPriorityAt (view value.now)) }
 {
     match value.get("priority") {
@@ -106,7 +120,11 @@ fn read_priority(place: KeyPlace, value: &Value) -> Result<u8, ReadError<'_>>
     }
 }
 
-fn read_bytes(alloc: Global, place: KeyPlace, value: &Value) -> Result<Vec<u8>, ReadError<'_>>
+pub(crate) fn read_bytes(
+    alloc: Global,
+    place: KeyPlace,
+    value: &Value,
+) -> Result<Vec<u8>, ReadError<'_>>
     ensures { IfOk result (λ bytes. HasBytes (view value.now) bytes.items) }
 {
     let text = read_text(place, value, "bytes")?;

@@ -1,0 +1,40 @@
+-- A fleet may go to another thread where its units may. Each type is shown by itself: a `search` down through all of them runs out of steps.
+use denote.RattleType.{RattleType}
+use denote.Param.Object.{Ghosts, table_of}
+use denote.Param.Send.{IsSend, sendable}
+use denote.Param.Sent.{Sends}
+use Rattle.std.proofs.Crossing.{crosses, dyn_box_send}
+use Rattle.std.proofs.MapsCrossing as maps
+use Rattle.live_unit.specs.contracts.node.LiveNode as live_node
+use Rattle.live_unit.specs.contracts.unit.LiveUnit as live_unit
+use Rattle.vehicle.specs.contracts.moving_field.MovingField as moving_field
+use Rattle.vehicle.specs.contracts.send_line.SendLine as send_line
+use Rattle.live_lines.specs.contracts.answering.Answering as answering
+use Rattle.live_lines.specs.contracts.cyclic.Cyclic as cyclic
+use Rattle.live_lines.specs.contracts.fleet.Fleet as fleet
+use Rattle.live_lines.specs.contracts.fleet.Member as member
+
+moving_field-send : IsSend moving_field.the_row
+moving_field-send = search (sendable, crosses) depth 20
+
+send_line-send : IsSend (send_line.the_field).row
+send_line-send = let field = moving_field-send in search (sendable, crosses) depth 20
+
+cyclic-send : IsSend cyclic.the_row
+cyclic-send = let line = send_line-send in search (sendable, crosses) depth 20
+
+answering-send : IsSend answering.the_row
+answering-send = search (sendable, crosses) depth 20
+
+live_node-send : IsSend (live_node.the_field).row
+live_node-send = search (sendable, crosses, maps.crosses) depth 40 fits 10000
+
+module _ (T : RattleType) (g : Ghosts T.Denot) (entries : Sends (table_of T.Denot g)) (box : IsSend T) where
+  live_unit-send : IsSend (live_unit.the_field T g).row
+  live_unit-send = let live = live_node-send in let unit = dyn_box_send T g entries box in search (sendable, crosses) depth 20
+
+  member-send : IsSend (member.the_row T g)
+  member-send = let unit = live_unit-send in let sends = cyclic-send in let answers = answering-send in search (sendable, crosses) depth 20
+
+  pub fleet-send : IsSend (fleet.the_field T g).row
+  fleet-send = let members = member-send in search (sendable, crosses) depth 20

@@ -1,0 +1,9 @@
+use Rattle.std.proofs.Common.{rules, arith}
+use Rattle.vehicle.proofs.UnitLemmas.{one_more}
+use Rattle.vehicle.specs.Live.{HoldsAnswer}
+use Rattle.vehicle.proofs.answers.answers_of.Goals as goal
+
+pub loop-item-preserved : goal.loop-item-preserved
+loop-item-preserved c =
+    one_more HoldsAnswer c.args.items.now c.loop-item.item-index c.item-item.result c.loop-item.answers.items _ c.in_ok-read_answer.field-0 (omega arith)
+    c.item-item.is c.loop-item.invariant c.in_ok-read_answer.ensures (search rules)

@@ -1,0 +1,15 @@
+use Rattle.std.proofs.Common.{w8}
+use Rattle.std.proofs.lemmas.Nat.Bits.{bit_at_set_same, bit_at_set_other, bit_at_clear_same, bit_at_clear_other}
+use Rattle.vehicle.proofs.putting.with_bit.Goals as goal
+
+pub returns-then-is_set-clause-here : goal.returns-then-is_set-clause-here
+returns-then-is_set-clause-here c = rw c.if-is_set.true (bit_at_set_same w8 c.args.byte c.args.place c.requires)
+
+pub returns-then-is_set-clause-others : goal.returns-then-is_set-clause-others
+returns-then-is_set-clause-others c = λ i below other. bit_at_set_other w8 c.args.byte c.args.place c.requires i other
+
+pub returns-else-is_set-clause-here : goal.returns-else-is_set-clause-here
+returns-else-is_set-clause-here c = rw c.if-is_set.false (bit_at_clear_same w8 c.args.byte c.args.place c.requires)
+
+pub returns-else-is_set-clause-others : goal.returns-else-is_set-clause-others
+returns-else-is_set-clause-others c = λ i below other. bit_at_clear_other w8 c.args.byte c.args.place c.requires i below other

@@ -4,13 +4,14 @@ whole has a line behind that of its last packet."""
 import csv
 import io
 
-from .frames import ABORT, BAM, CTS, GLOBAL, PACKET, RTS, TITLES, claimed_name, control_of, control_pgn, control_size, packets_of
+from .frames import ABORT, BAM, CTS, GLOBAL, PACKET, RTS, claimed_name, control_of, control_pgn, control_size, packets_of
+from . import diagnostics
 from .log_cases import reach
 from .memory import read_at_all
 from .notices import Absence, BadLines, without_frames
 from .pacing import Pacing
 from .signal_values import SignalFile, with_numbers
-from .words import DATA_GROUPS, address_words, code_object, dumped, meaning_words, message_words, name_fields, name_text, payload_words, seen, seen_json, time_text, trouble_object
+from .words import DATA_GROUPS, LISTS, address_words, code_object, dumped, meaning_words, message_words, name_fields, name_text, payload_words, seen, seen_json, time_text, trouble_object
 
 MOST_BUSES = 16  # of which packets are joined
 
@@ -43,8 +44,8 @@ def words_of(line):
 
 
 def shown_by(frame):
-    """Lamps and codes of a DM1, DM2 or DM6 in one frame, where it can be read."""
-    return read_at_all(frame.data) if frame.pgn in TITLES else None
+    """Lamps and codes of a list in one frame, where it can be read."""
+    return read_at_all(frame.data) if frame.pgn in LISTS else None
 
 
 def place_words(line):
@@ -84,7 +85,7 @@ def in_json(number, line, texts, signals):
         told |= {"lamps": shown[0].hex().upper(), "codes": [code_object(code, texts.of(code)) for code in shown[1]]} | trouble_object(shown)
     if name is not None:
         told |= {"name": name_text(name), "fields": name_fields(name)}
-    return told | signals.objects(frame.pgn, frame.source, frame.data)
+    return told | diagnostics.objects(frame.pgn, frame.data) | signals.objects(frame.pgn, frame.source, frame.data)
 
 
 class Joining:
@@ -154,13 +155,13 @@ class Joining:
 
 def joined_words(line, joined, texts, signals):
     source, dest, pgn, payload = joined
-    shown = read_at_all(payload) if pgn in TITLES else None
+    shown = read_at_all(payload) if pgn in LISTS else None
     return f"{place_words(line)}joined {address_words(source, True)}>{address_words(dest, True)} {pgn} {payload_words(pgn, payload, True)}" + texts_behind(shown, texts) + signals.words(pgn, source, payload)
 
 
 def joined_object(number, line, joined, texts, signals):
     source, dest, pgn, payload = joined
-    shown = read_at_all(payload) if pgn in TITLES else None
+    shown = read_at_all(payload) if pgn in LISTS else None
     told = {"line": number, "joined": True} | place_object(line)
     told |= {"source": source, "destination": dest, "pgn": pgn, "data": payload.hex().upper(), "says": payload_words(pgn, payload, False)}
     if shown:
@@ -168,7 +169,7 @@ def joined_object(number, line, joined, texts, signals):
     if pgn in DATA_GROUPS:
         reach("decode: a joined message has a group's name")
         told["group"] = DATA_GROUPS[pgn]
-    return told | signals.objects(pgn, source, payload)
+    return told | diagnostics.objects(pgn, payload) | signals.objects(pgn, source, payload)
 
 
 def decoded(lines, texts="", join=False, signals=b""):

@@ -12,13 +12,16 @@ UNREAD = "bad length"  # why a message cannot be read at all: not even its lamps
 NOT_AVAILABLE = 127  # the occurrence count that says so
 LAMPS = [("mil", 6), ("stop", 4), ("amber", 2), ("protect", 0)]  # where the two bits of each stand, in the lamps' byte and in that of flashes
 FLASHES = {0: " flashing slowly", 1: " flashing fast"}
-GROUPS = {ACKNOWLEDGMENT: "ack", REQUEST: "request", PACKET: "TP.DT", CONTROL: "TP.CM", CLAIM: "claim", **TITLES, DM3: "DM3", DM11: "DM11",
+LISTS = {**TITLES, 65236: "DM12", 64949: "DM23", 64896: "DM28"}  # lamps, then codes (J1939-73, those from DM12 on from memory)
+VALUE_MESSAGES = {65229: "DM4", 65230: "DM5", 54016: "DM19", 49664: "DM20", 49408: "DM21", 64950: "DM24", 64951: "DM25", 64952: "DM26"}
+IDENTIFICATIONS = {65260: "VI", 65259: "CI", 65242: "SOFT", 64965: "ECUID"}
+GROUPS = {ACKNOWLEDGMENT: "ack", REQUEST: "request", PACKET: "TP.DT", CONTROL: "TP.CM", CLAIM: "claim", **LISTS, **VALUE_MESSAGES, DM3: "DM3", DM11: "DM11",
           COMMANDED_ADDRESS: "commanded address"}
 # Groups of engine, vehicle and driveline data (J1939-71), by the names of public documents.
 DATA_GROUPS = {
     0: "TSC1 torque/speed control 1", 256: "TC1 transmission control 1", 61440: "ERC1 electronic retarder controller 1",
     61441: "EBC1 electronic brake controller 1", 61442: "ETC1 electronic transmission controller 1", 61443: "EEC2 electronic engine controller 2",
-    61444: "EEC1 electronic engine controller 1", 61445: "ETC2 electronic transmission controller 2", 65132: "TCO1 tachograph",
+    61444: "EEC1 electronic engine controller 1", 61445: "ETC2 electronic transmission controller 2", 64965: "ECUID ECU identification", 65132: "TCO1 tachograph",
     65215: "EBC2 wheel speed information", 65217: "VDHR high resolution vehicle distance", 65242: "SOFT software identification",
     65247: "EEC3 electronic engine controller 3", 65248: "VD vehicle distance", 65251: "EC1 engine configuration 1",
     65253: "HOURS engine hours, revolutions", 65254: "TD time/date", 65257: "LFC fuel consumption (liquid)", 65259: "CI component identification",
@@ -219,19 +222,24 @@ def packet_words(data):
 
 
 def payload_words(pgn, data, people):
-    """The payload of a group, which came in one frame or in several: of a DM1, DM2 or DM6 lamps and codes, of any other its bytes."""
-    if pgn not in TITLES:
+    """The payload of a group, which came in one frame or in several: lamps and codes, values, the text of an identification; of any other its bytes."""
+    from . import diagnostics  # (it stands on this) pylint: disable=import-outside-toplevel,cyclic-import
+    if pgn in VALUE_MESSAGES:
+        return diagnostics.words(pgn, data)
+    if pgn in IDENTIFICATIONS:
+        return diagnostics.identification_words(pgn, data, DATA_GROUPS[pgn] if people else IDENTIFICATIONS[pgn])
+    if pgn not in LISTS:
         reach("says: data of a group with" + ("" if pgn in GROUPS else "out") + " a name")
         return f"{group_name(pgn, people) or '-'}: data{byte_words(data)}"
     shown = read_at_all(data)
     if shown is None:
         reach("says: cannot be read, " + UNREAD)
-        return f"{TITLES[pgn]}: cannot be read: {UNREAD}"
+        return f"{LISTS[pgn]}: cannot be read: {UNREAD}"
     if isinstance(shown, Part):
         reach("says: read in part")
-        return f"{TITLES[pgn]}: {part_words(shown, people)}"
-    reach("says: " + TITLES[pgn])
-    return f"{TITLES[pgn]}: {shown_words(shown, people)}"
+        return f"{LISTS[pgn]}: {part_words(shown, people)}"
+    reach("says: " + LISTS[pgn])
+    return f"{LISTS[pgn]}: {shown_words(shown, people)}"
 
 
 def message_words(frame, people):
@@ -247,8 +255,6 @@ def message_words(frame, people):
     if pgn == ACKNOWLEDGMENT and len(data) == 8:
         reach("says: acknowledgment")
         return f"ack: {ANSWERS.get(data[0], f'control {data[0]}')}, to {address_words(data[4], people)}, of {group_words(number(data[5:8]), people)}"
-    if pgn in TITLES:
-        return payload_words(pgn, data, people)
     if control_of(frame) is not None:
         return control_words(frame, people)
     if pgn == PACKET:

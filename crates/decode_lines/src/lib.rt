@@ -8,6 +8,7 @@ mod joining;
 mod object_writer;
 mod objects;
 mod run;
+mod value_objects;
 
 pub use run::{DecodeForm, DecodeOptions, decode};
 pub use shop_texts::{SheetFault, Texts};

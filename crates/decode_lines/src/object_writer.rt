@@ -83,6 +83,24 @@ impl ObjectWriter {
         }
     }
 
+    /// Begins a list in a list.
+    pub(crate) fn begin_inner_list(&mut self) {
+        if !self.is_refused {
+            self.is_refused = self.json.begin_array().is_err();
+        }
+    }
+
+    /// Writes a text of the list, for which memory was asked.
+    pub(crate) fn item(&mut self, text: Result<String, AllocError>) {
+        match text {
+            Ok(text) if !self.is_refused => {
+                self.is_refused = self.json.string(text.as_str()).is_err();
+            }
+            Ok(_) => {}
+            Err(_) => self.refuse(),
+        }
+    }
+
     /// Writes a code of the list, with its text where it has one.
     pub(crate) fn code(&mut self, code: Dtc, text: Option<&str>) {
         if !self.is_refused {

@@ -1,6 +1,7 @@
 use crate::joined::Joined;
 use crate::object_writer::ObjectWriter;
 use crate::run::{DecodeOptions, ShownPart, place_of, shown_by, shown_in};
+use crate::value_objects::{put_diagnostic, put_signal};
 use can_frame::{Frame, GLOBAL_ADDRESS, Id, Pgn};
 use candump_line::Line;
 use dm_messages::Shown;
@@ -9,7 +10,7 @@ use log_lines::LogFault;
 use name_field::Name;
 use parameter_group::ParameterGroup;
 use shop_texts::Texts;
-use signal_values::{Meaning, SignalGroup, SignalValue};
+use signal_values::SignalGroup;
 use std::alloc::{AllocError, Global};
 use trouble_code::Dtc;
 
@@ -65,6 +66,7 @@ fn put_joined(
         shown_in(alloc, joined.pgn, bytes),
     );
     put_group(object, joined.pgn);
+    put_diagnostic(object, alloc, joined.pgn, bytes);
     put_signals(
         object,
         alloc,
@@ -122,6 +124,7 @@ fn put_frame(object: &mut ObjectWriter, alloc: Global, options: &DecodeOptions<'
     put_shown(object, alloc, options.texts, shown_by(alloc, frame));
     put_claim(object, alloc, frame);
     put_group(object, id.pgn());
+    put_diagnostic(object, alloc, id.pgn(), frame.bytes());
     put_signals(
         object,
         alloc,
@@ -246,29 +249,6 @@ fn put_signals(
         }
     }
     object.end_list();
-}
-
-/// The value of a signal, or that it is not available or an error.
-fn put_signal(object: &mut ObjectWriter, alloc: Global, signal: &SignalValue<'_>) {
-    object.begin_item();
-    object.text("name", signal.name);
-    if let Some(spn) = signal.spn {
-        object.number("spn", u64::from(spn));
-    }
-    match signal.meaning {
-        Meaning::Value(value, text) => {
-            object.decimal("value", format!(in alloc; "{value}"));
-            if let Some(text) = text {
-                object.text("text", text);
-            }
-        }
-        Meaning::Error => object.text("state", "error"),
-        Meaning::NotAvailable => object.text("state", "not available"),
-    }
-    if !signal.unit.is_empty() {
-        object.text("unit", signal.unit);
-    }
-    object.end_object();
 }
 
 /// A NAME and its fields (SAE J1939-81).

@@ -4,7 +4,7 @@ use crate::objects::{joined_object, line_object};
 use can_frame::{Frame, Pgn};
 use candump_line::{Line, Time, read_line};
 use dm_messages::{MessageRead, Shown, Trouble, read, read_message};
-use frame_words::{write_joined_words, write_line_words};
+use frame_words::{code_list_name, write_joined_words, write_line_words};
 use log_lines::{Absence, FrameFate, LinesEnd, LogFault, Notices, ROOM, Wanted, next_line};
 use parameter_group::ParameterGroup;
 use safe_text::Seen;
@@ -314,10 +314,7 @@ pub(crate) struct ShownPart {
 
 /// What a frame shows, where it is a diagnostic message of which anything can be read.
 pub(crate) fn shown_by(alloc: Global, frame: &Frame) -> Result<Option<ShownPart>, LogFault> {
-    match ParameterGroup::read(frame) {
-        ParameterGroup::Diagnostic { bytes, .. } => read_shown(alloc, bytes),
-        _ => Ok(None),
-    }
+    shown_in(alloc, frame.id().pgn(), frame.bytes())
 }
 
 /// What a payload of a group shows, where it is a diagnostic message of which anything can be read.
@@ -326,9 +323,9 @@ pub(crate) fn shown_in(
     pgn: Pgn,
     bytes: &[u8],
 ) -> Result<Option<ShownPart>, LogFault> {
-    match pgn {
-        Pgn::DM1 | Pgn::DM2 | Pgn::DM6 => read_shown(alloc, bytes),
-        _ => Ok(None),
+    match code_list_name(pgn.number()) {
+        Some(_) => read_shown(alloc, bytes),
+        None => Ok(None),
     }
 }
 

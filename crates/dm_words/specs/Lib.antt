@@ -1,1 +1,2 @@
 pub mod FailureModes
+pub mod Identification

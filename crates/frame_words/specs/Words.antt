@@ -3,15 +3,18 @@ use Rattle.std.specs.Prelude.{ℕ, ◌==◌, if◌then◌else◌, Option, None, 
 use Rattle.std.specs.Fmt.{decimal}
 use Rattle.candump_line.specs.declared.line.Foreign.{Foreign as AnyForeign}
 use Rattle.candump_line.specs.declared.line.Foreign.TheVariants.{StandardId, Remote, Fd, Error}
-use Rattle.dm_messages.specs.declared.kind.Kind.{Kind}
-use Rattle.dm_messages.specs.declared.kind.Kind.TheVariants.{Dm1, Dm2, Dm6}
 use Rattle.name_field.specs.declared.NameFields.{NameFields}
 
--- the name of a diagnostic message
-abbrev pub kind_text : Kind → List ℕ
-kind_text Dm1 = codes "DM1"
-kind_text Dm2 = codes "DM2"
-kind_text Dm6 = codes "DM6"
+-- the name of a message that is lamps and codes, by the number of its group (SAE J1939-73; those from DM12 on from memory)
+abbrev pub list_text : ℕ → Option (List ℕ)
+list_text pgn =
+    if pgn == 65226 then Some (codes "DM1")
+    else if pgn == 65227 then Some (codes "DM2")
+    else if pgn == 65231 then Some (codes "DM6")
+    else if pgn == 65236 then Some (codes "DM12")
+    else if pgn == 64949 then Some (codes "DM23")
+    else if pgn == 64896 then Some (codes "DM28")
+    else None
 
 -- what a frame is that is none of SAE J1939
 abbrev pub foreign_text : AnyForeign → List ℕ

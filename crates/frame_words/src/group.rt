@@ -1,7 +1,10 @@
 use crate::audience::Audience;
+use crate::message::code_list_name;
 use crate::names::data_group_name;
 use can_frame::{GLOBAL_ADDRESS, Pgn};
 use dm_messages::ReadError;
+use dm_words::Identification;
+use signal_values::Diagnostic;
 use std::fmt;
 
 /// The name of a parameter group, or `-` where it has none here.
@@ -14,19 +17,33 @@ pub(crate) fn group_name(pgn: Pgn, audience: Audience) -> &'static str {
 
 /// The name of a group of the protocol itself, of its network management and its diagnostics.
 fn protocol_group_name(pgn: Pgn) -> &'static str {
+    let number = pgn.number();
+    if let Some(name) = code_list_name(number) {
+        return name;
+    }
+    if let Some(message) = Diagnostic::of(number) {
+        return message.name();
+    }
     match pgn {
         Pgn::ACKNOWLEDGMENT => "ack",
         Pgn::REQUEST => "request",
         Pgn::DATA_TRANSFER => "TP.DT",
         Pgn::CONNECTION_MANAGEMENT => "TP.CM",
         Pgn::ADDRESS_CLAIMED => "claim",
-        Pgn::DM1 => "DM1",
-        Pgn::DM2 => "DM2",
         Pgn::DM3 => "DM3",
-        Pgn::DM6 => "DM6",
         Pgn::DM11 => "DM11",
         Pgn::COMMANDED_ADDRESS => "commanded address",
         _ => "-",
+    }
+}
+
+/// The short name of an identification.
+pub(crate) fn identification_name(group: Identification) -> &'static str {
+    match group {
+        Identification::Vehicle => "VI",
+        Identification::Component => "CI",
+        Identification::Software => "SOFT",
+        Identification::Unit => "ECUID",
     }
 }
 

@@ -13,5 +13,5 @@ pub use aborted::AbortWords;
 pub use audience::Audience;
 pub use group::{AddressWords, ControlWords, GroupWords, UnreadWords};
 pub use line::{write_joined_words, write_line_words};
-pub use message::{write_message, write_payload};
+pub use message::{code_list_name, write_message, write_payload};
 pub use names::data_group_name;

@@ -1,17 +1,20 @@
-ghost use Rattle.std.specs.Prelude.{◌≡◌, IfOk, OnOk};
+ghost use Rattle.std.specs.Prelude.{◌≡◌, None, Some, IfOk, IfSome, IfNone, OnOk};
 ghost use Rattle.std.specs.Io.KnownBytes.{Appends};
 ghost use Rattle.dm_messages.specs.Tolerant.{message_read};
-ghost use Rattle.frame_words.specs.Words.{function_text, kind_text};
+ghost use Rattle.frame_words.specs.Words.{function_text, list_text};
 
 use crate::aborted::AbortWords;
 use crate::audience::Audience;
-use crate::group::{AddressWords, ByteWords, ControlWords, GroupWords, UnreadWords, group_name};
+use crate::group::{
+    AddressWords, ByteWords, ControlWords, GroupWords, UnreadWords, group_name, identification_name,
+};
 use can_frame::{Frame, Pgn};
-use dm_messages::{Kind, MessageRead, ReadError, Shown, Tolerant, read_message};
-use dm_words::{BytesAmiss, CodeWords, LampBytes, LampWords, PartWords};
+use dm_messages::{MessageRead, ReadError, Shown, Tolerant, read_message};
+use dm_words::{AsciiText, BytesAmiss, CodeWords, Identification, LampBytes, LampWords, PartWords};
 use name_field::{Name, NameFields};
 use parameter_group::ParameterGroup;
 use requests::Ack;
+use signal_values::{Diagnostic, DiagnosticPayload};
 use std::alloc::Global;
 use std::io;
 use std::io::Write;
@@ -32,18 +35,21 @@ pub fn write_message<W: Write>(
         ParameterGroup::CannotClaim { name } => write_name(writer, "cannot claim", name),
         ParameterGroup::Request(request) => write_request(writer, request.pgn, audience),
         ParameterGroup::Acknowledgment(ack) => write_acknowledgment(writer, ack, audience),
-        ParameterGroup::Diagnostic { kind, bytes, .. } => {
-            write_diagnostic(writer, alloc, kind, bytes, audience)
+        ParameterGroup::Diagnostic { bytes, .. } => {
+            write_payload(writer, alloc, frame.id().pgn(), bytes, audience)
         }
         ParameterGroup::ConnectionManagement { control, .. } => {
             write_control(writer, &control, audience)
         }
         ParameterGroup::DataTransfer { bytes, .. } => write_packet(writer, bytes),
-        ParameterGroup::Other => write_data(writer, frame.id().pgn(), frame.bytes(), audience),
+        ParameterGroup::Other => {
+            write_payload(writer, alloc, frame.id().pgn(), frame.bytes(), audience)
+        }
     }
 }
 
-/// Writes what the payload of a group says: that of a diagnostic message in words, of any other its name and its bytes.
+/// Writes what the payload of a group says: lamps and codes, the values of a diagnostic message, the text of an identification; of
+/// any other group its name and its bytes.
 ///
 /// # Errors
 /// As of `write_message`.
@@ -54,12 +60,38 @@ pub fn write_payload<W: Write>(
     bytes: &[u8],
     audience: Audience,
 ) -> io::Result<()> {
-    match pgn {
-        Pgn::DM1 => write_diagnostic(writer, alloc, Kind::Dm1, bytes, audience),
-        Pgn::DM2 => write_diagnostic(writer, alloc, Kind::Dm2, bytes, audience),
-        Pgn::DM6 => write_diagnostic(writer, alloc, Kind::Dm6, bytes, audience),
-        _ => write_data(writer, pgn, bytes, audience),
+    let number = pgn.number();
+    if let Some(word) = code_list_name(number) {
+        return write_code_list(writer, alloc, word, bytes, audience);
     }
+    if let Some(message) = Diagnostic::of(number) {
+        let payload = DiagnosticPayload { message, bytes };
+        return write!(writer, "{payload}");
+    }
+    match Identification::of(number) {
+        Some(group) => write_identification(writer, pgn, group, bytes, audience),
+        None => write_data(writer, pgn, bytes, audience),
+    }
+}
+
+/// Writes the fields of an identification, with a `*` between; `-` where it has none.
+fn write_identification<W: Write>(
+    writer: &mut W,
+    pgn: Pgn,
+    group: Identification,
+    bytes: &[u8],
+    audience: Audience,
+) -> io::Result<()> {
+    let name = match audience {
+        Audience::People => group_name(pgn, audience),
+        Audience::Programs => identification_name(group),
+    };
+    let text = group.text(bytes);
+    if text.is_empty() {
+        return write!(writer, "{name}: -");
+    }
+    let text = AsciiText(text);
+    write!(writer, "{name}: {text}")
 }
 
 fn write_request<W: Write>(writer: &mut W, pgn: Pgn, audience: Audience) -> io::Result<()> {
@@ -125,14 +157,13 @@ fn write_acknowledgment<W: Write>(writer: &mut W, ack: Ack, audience: Audience) 
     write!(writer, "ack: {control}, to {to}, of {group}")
 }
 
-fn write_diagnostic<W: Write>(
+fn write_code_list<W: Write>(
     writer: &mut W,
     alloc: Global,
-    kind: Kind,
+    word: &str,
     bytes: &[u8],
     audience: Audience,
 ) -> io::Result<()> {
-    let word = kind_word(kind);
     match read_payload(alloc, bytes)? {
         Some(MessageRead::Whole(shown)) => write_shown(writer, word, &shown, audience),
         Some(MessageRead::InPart(part)) => write_part(writer, word, &part, audience),
@@ -193,14 +224,21 @@ fn write_shown<W: Write>(
     }
 }
 
-fn kind_word(kind: Kind) -> &'static str
-    ensures { result.now ≡ kind_text kind }
+/// The name of a message that is lamps and codes, by the number of its group (SAE J1939-73; those from DM12 on from memory).
+pub fn code_list_name(pgn: u32) -> Option<&'static str>
+    ensures known { IfSome result (λ words. list_text pgn ≡ Some words.now) }
+    ensures unknown { IfNone result (list_text pgn ≡ None) }
 {
-    match kind {
-        Kind::Dm1 => "DM1",
-        Kind::Dm2 => "DM2",
-        Kind::Dm6 => "DM6",
-    }
+    let name = match pgn {
+        65_226 => "DM1",
+        65_227 => "DM2",
+        65_231 => "DM6",
+        65_236 => "DM12",
+        64_949 => "DM23",
+        64_896 => "DM28",
+        _ => return None,
+    };
+    Some(name)
 }
 
 /// Connection management of the transport protocol (SAE J1939-21).

@@ -10,6 +10,7 @@ pub fn data_group_name(number: u32) -> Option<&'static str> {
         61_443 => Some("EEC2 electronic engine controller 2"),
         61_444 => Some("EEC1 electronic engine controller 1"),
         61_445 => Some("ETC2 electronic transmission controller 2"),
+        64_965 => Some("ECUID ECU identification"),
         65_132 => Some("TCO1 tachograph"),
         65_215 => Some("EBC2 wheel speed information"),
         65_217 => Some("VDHR high resolution vehicle distance"),

@@ -1,3 +1,5 @@
 pub mod Bits
+pub mod Diagnostics
 pub mod Presence
+pub mod Rows
 pub mod Values

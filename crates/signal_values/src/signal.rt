@@ -5,6 +5,7 @@ use crate::field::Field;
 use crate::number::number_of;
 use crate::scaling::Scaling;
 use crate::sense::Sense;
+use dm_words::AsciiText;
 use safe_text::Seen;
 use std::fmt;
 
@@ -57,6 +58,14 @@ pub enum Meaning<'a> {
     Error,
     /// The unit has no such value.
     NotAvailable,
+    /// A word of the program's own.
+    Word(&'static str),
+    /// A number that is told in eight hexadecimal digits.
+    Digits(u64),
+    /// Text that is to be ASCII.
+    Text(&'a [u8]),
+    /// Bytes.
+    Bytes(&'a [u8]),
 }
 
 impl Layout {
@@ -141,7 +150,7 @@ impl Signal {
     }
 }
 
-/// `NAME=817.25 rpm`, `NAME=1 (on)`, `NAME=error`, `NAME=not available`. No terminal obeys it.
+/// `NAME=817.25 rpm`, `NAME=1 (on)`, `NAME=error`, `NAME=not available`, `NAME=WORD`. No terminal obeys it.
 impl fmt::Display for SignalValue<'_> {
     fn fmt<W: fmt::Write>(&self, f: &mut fmt::Formatter<W>) -> fmt::Result {
         let (name, unit) = (Seen::line(self.name), Seen::line(self.unit));
@@ -152,8 +161,31 @@ impl fmt::Display for SignalValue<'_> {
                 let text = Seen::line(text);
                 write!(f, "{name}={value} ({text})")
             }
+            Meaning::Word(word) => write!(f, "{name}={word}"),
+            Meaning::Digits(number) => write!(f, "{name}={number:08X}"),
+            Meaning::Text(text) => {
+                let text = AsciiText(text);
+                write!(f, "{name}={text}")
+            }
+            Meaning::Bytes(bytes) => {
+                let bytes = ByteDigits(bytes);
+                write!(f, "{name}={bytes}")
+            }
             Meaning::Value(value, None) if self.unit.is_empty() => write!(f, "{name}={value}"),
             Meaning::Value(value, None) => write!(f, "{name}={value} {unit}"),
         }
+    }
+}
+
+/// Bytes in two digits each.
+#[derive(Clone, Copy)]
+pub struct ByteDigits<'a>(pub &'a [u8]);
+
+impl fmt::Display for ByteDigits<'_> {
+    fn fmt<W: fmt::Write>(&self, f: &mut fmt::Formatter<W>) -> fmt::Result {
+        for byte in self.0 {
+            write!(f, "{byte:02X}")?;
+        }
+        Ok(())
     }
 }

@@ -34,7 +34,7 @@ JOINED = [
     ("announced again", [BAM, FIRST, BAM, FIRST, LAST], [TO_ALL]),
     ("another message is announced in its place", [RTS, S_FIRST, "1CECF900#100A0002FFEBFE00", S_LAST], []),
     ("another one is announced, and comes", [RTS, "1CECF900#100A0002FFEBFE00", S_FIRST, S_LAST],
-     ["joined 0>249(F9) 65259 CI component identification: data 04 FF B8 04 03 01 64 00 05 01"]),
+     ["joined 0>249(F9) 65259 CI component identification: \\x04\\xFF\\xB8\\x04\\x03\\x01d\\x00\\x05\\x01"]),
     ("the sender aborts", [RTS, S_FIRST, "1CECF900#FF02FFFFFFCAFE00", S_LAST], []),
     ("the receiver aborts", [RTS, S_FIRST, "1CEC00F9#FF02FFFFFFCAFE00", S_LAST], []),
     ("an abort names another group", [RTS, S_FIRST, "1CEC00F9#FF02FFFFFFCBFE00", S_LAST], []),

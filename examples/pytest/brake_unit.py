@@ -28,7 +28,7 @@ class BrakeUnit:
 
     def hear(self, id, data):
         group, to = id >> 8 & 0x3FF00, id >> 8 & 0xFF
-        if group == CLAIM and id & 0xFF == self.address and int.from_bytes(data, "little") != self.name:
+        if group == CLAIM and id & 0xFF == self.address < 254 and int.from_bytes(data, "little") != self.name:
             if int.from_bytes(data, "little") < self.name:
                 self.address = 254  # cannot claim
             self.send(CLAIM, self.name.to_bytes(8, "little"))

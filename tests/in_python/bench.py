@@ -20,7 +20,7 @@ except ImportError:
     can, Message = None, bench.Message
 
 ENGINE, SPARE, BRAKE = 0x1000000001419907, 0x0000000001419907, 0x2000000001419907
-MOST_SECONDS_OF_AN_HOUR = 6.0
+MOST_SECONDS_OF_AN_HOUR = 2.0
 
 
 def message(text, **more):
@@ -214,6 +214,38 @@ def notified():
         same("a Notifier", texts(bus), wanted)
 
 
+def devices():
+    """A device that is a function: of frames and moments, and what it answers goes as any frame does."""
+    with Bench() as bus:
+        heard = []
+
+        def gateway(frame, now):
+            heard.append((None if frame is None else str(frame), now))
+            if frame is None:
+                return ["18FEF101#00", (0x18FEF001, b"\1")] if now < 1 else None
+            return [frame._replace(id=frame.id + 1)] if frame.id == 0x18FEF200 else ()
+
+        device = bus.device(gateway, each=0.5)
+        bus.after(0.25, bus.send, "18FEF200#02")
+        bus.after(0.3, bus.send, "7FF#")
+        bus.run(seconds=1)
+        wanted = [f"{at} {text}" for at, text in ((0, "18FEF101#00"), (0, "18FEF001#01"), (250_000, "18FEF200#02"), (250_000, "18FEF201#02"), (300_000, "7FF#"),
+                                                  (500_000, "18FEF101#00"), (500_000, "18FEF001#01"))]  # fmt: skip
+        same("what it answers", texts(bus), wanted)
+        same("what it is handed", heard, [(None, 0.0), ("18FEF200#02", 0.25), ("7FF#", 0.3), (None, 0.5), (None, 1.0)])
+        device.send("18FEF301#")
+        bus.unplug(device)
+        bus.run(seconds=5)
+        same("who is unplugged is called no more", (len(heard), bus.count), (5, 7))
+        same("of what it is called", (device.called, bus.device(gateway, called="pump").called), ("device 1", "pump"))
+    for what, answer in (("a frame that stands alone", (1, b"")), ("a number", 5), ("no frame", ["18FEF101"]), ("nine bytes", [(1, bytes(9))]), ("of four", [(1, b"", True, 0)]), ("a text", "18FEF101#")):
+        with Bench() as bus:
+            bus.device(lambda frame, now, answer=answer: answer)
+            bus.send("18FEF200#")
+            same(what, type(raised(bus.run, 1)), ValueError)
+            same("a period of nothing", type(raised(bus.device, print, each=0)), ValueError)
+
+
 def units():
     with Bench() as bus:
         station = bus.station()
@@ -358,6 +390,7 @@ time_and_order()
 bit_rate()
 errors()
 programs()
+devices()
 units()
 differences()
 withdrawn()

@@ -1,8 +1,12 @@
 """Random logs of a fleet, with the messages that are in them; and how the commands of the package for Python are called."""
 
+import contextlib
+import json
 import os
+import signal
 import subprocess
 import sys
+import time
 
 from harness import TOP, Tally, program
 from model.ever import Told
@@ -42,6 +46,35 @@ def has_module(python, name):
 def python_with(*names):
     """A Python here that has all these modules, or none."""
     return next((it for it in (sys.executable, "/usr/bin/python3") if os.path.exists(it) and all(has_module(it, name) for name in names)), None)
+
+
+@contextlib.contextmanager
+def cluster(python, room, workers):
+    """A scheduler of Dask on loopback with so many workers, each a process in a group of its own: its address, and the processes, the scheduler first."""
+    begun = []
+    # (where a profile was taken of it a worker hung now and then)
+    env = {**environment(), "DASK_DISTRIBUTED__WORKER__PROFILE__INTERVAL": "1h"}
+
+    def begin(name, *words):
+        words = [python, "-m", f"distributed.cli.{name}", *words]
+        begun.append(subprocess.Popen(words, env=env, stdout=subprocess.DEVNULL, stderr=subprocess.DEVNULL, start_new_session=True))
+
+    try:
+        address = room / f"scheduler of {workers}.json"
+        begin("dask_scheduler", "--host", "127.0.0.1", "--port", "0", "--no-dashboard", "--scheduler-file", str(address))
+        until = time.monotonic() + 60
+        while not address.exists() and time.monotonic() < until:
+            time.sleep(0.2)
+        at = json.loads(address.read_text())["address"]
+        for number in range(workers):
+            place = room / f"worker {number} of {workers}"
+            begin("dask_worker", at, "--nthreads", "1", "--no-dashboard", "--name", str(number), "--local-directory", str(place))
+        yield at, begun
+    finally:
+        for process in begun:
+            with contextlib.suppress(ProcessLookupError):
+                os.killpg(process.pid, signal.SIGKILL)
+            process.wait()
 
 
 def lines_of(source, kind, message):

@@ -6,6 +6,7 @@
 from .asserts import assert_dm1, assert_dm2, assert_dm6
 from .bus import Bench, Put, Timer
 from .channel import Channel, Cyclic, Message
+from .device import Device
 from .members import BenchStation, BenchUnit, BusFrame
 from .since import Since
 from .turns import BenchClosed
@@ -18,6 +19,7 @@ __all__ = [
     "BusFrame",
     "Channel",
     "Cyclic",
+    "Device",
     "Message",
     "Put",
     "Since",

@@ -12,8 +12,9 @@ from ..listener import Listener, Whose
 from ..records import Frame, Kind, Message, What, Who
 from ..station import number_of
 from .channel import Channel, channel_class
-from .members import BenchStation, BenchUnit, BusFrame, Hand, Member, checked, frame_of_text
-from .since import Since, noted
+from .device import Device, Heard
+from .members import BenchStation, BenchUnit, BusFrame, Hand, Member, checked, frame_of_text, is_packet
+from .since import Since, again, noted
 from .turns import PATIENCE, Turns
 
 MOST_AT_ONE_MOMENT = 10_000
@@ -86,6 +87,8 @@ class Bench:
         self._hand = Hand()
         self._members: List[Member] = [self._hand]
         self._since: Dict[Tuple[Who, Kind], Since] = {}
+        # the frame that was a unit's newest message of a kind
+        self._told: Dict[Tuple[Who, Kind], Optional[BusFrame]] = {}
         self._timers: List[Tuple[int, int, Timer]] = []
         self._order = itertools.count()
         self._turns = Turns(patience)
@@ -143,8 +146,24 @@ class Bench:
         number = sum(isinstance(member, Channel) for member in self._members) + 1
         return self._added(channel_class()(self, called or f"channel {number}", receive_own_messages))
 
+    def device(self, heard: Heard, each: Optional[float] = None, called: Optional[str] = None) -> Device:
+        """Adds a device under test that is a function: `heard(frame, time)` is called with each frame of the bus, at its moment, and answers the frames that
+        it sends, each as `18FECA80#04FF` or as its identifier and bytes.
+
+        each: then it is also called without a frame, with None, when the bench runs next, and from then on each so many seconds. called: what the bench
+        calls it.
+
+        Raises a ValueError for a period of nothing. What `heard` raises, `run` raises, and a ValueError where it answers what is no frame.
+        """
+        self._look_open()
+        number = sum(isinstance(member, Device) for member in self._members) + 1
+        device = Device(self, heard, called or f"device {number}")
+        if each is not None:
+            device.turns = self.every(each, device.turn, first=0.0)
+        return self._added(device)
+
     def unplug(self, member: Member) -> None:
-        """Takes a unit, a station or a channel off the bus, without a word. Raises a ValueError for one that is not on it."""
+        """Takes a unit, a station, a channel or a device off the bus, without a word. Raises a ValueError for one that is not on it."""
         if member not in self._members or member is self._hand:
             raise ValueError(f"{member!r} is not on this bus")
         self._members.remove(member)
@@ -358,9 +377,16 @@ class Bench:
         heard = self.listener.take(frame.id, frame.data, self._now)
         if heard.what is not What.LISTED or heard.who is None or heard.kind is None:
             return
-        newest = self.listener.newest(heard.who, heard.kind)
+        key = heard.who, heard.kind
+        before = self._since.get(key)
+        if before is not None and self._told.get(key) == frame:
+            self._since[key] = again(before, self._now)
+            return
+        newest = self.listener.newest(*key)
         if newest is not None:
-            self._since[heard.who, heard.kind] = noted(self._since.get((heard.who, heard.kind)), newest, self._now)
+            self._since[key] = noted(before, newest, self._now)
+            # (a packet says nothing of the others of its message)
+            self._told[key] = None if is_packet(frame) else frame
 
     def _look_open(self) -> None:
         if self._is_closed:

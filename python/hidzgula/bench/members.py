@@ -13,6 +13,7 @@ if TYPE_CHECKING:
 
 _NULL_ADDRESS = 254
 _CLAIM_FORMAT = 0xEE
+_PACKET_FORMAT = 0xEB
 _ASKED_AGAIN = 1000  # (microseconds: a unit whose lanes are full says that it is due, and may not go on yet)
 COMMAND_GAP = 0.05
 """Seconds between the frames of a command, a broadcast (SAE J1939-21: 50 to 200 ms)."""
@@ -103,12 +104,15 @@ class BenchUnit(SimulatedUnit, Member):
 
     def offered(self, now: int) -> Optional[BusFrame]:
         if not self._offered and self._due is not None and self._due <= now:
-            frame = self.next(now)
-            if frame is None:
+            at = self.when(now)
+            frame = self.next(now) if at is not None and at <= now else None
+            if frame is not None:
+                self._offered.append(BusFrame(*frame))
+            elif at is None or at > now:
+                self._due = at
+            else:
                 at = self.when(now)
                 self._due = None if at is None else at if at > now else now + _ASKED_AGAIN
-            else:
-                self._offered.append(BusFrame(*frame))
         return self._offered[0] if self._offered else None
 
     def written(self, now: int) -> None:
@@ -224,6 +228,11 @@ class Hand(Member):
 
 def _is_claim(frame: Union[Frame, BusFrame]) -> bool:
     return frame.id >> 16 & 0xFF == _CLAIM_FORMAT
+
+
+def is_packet(frame: BusFrame) -> bool:
+    """Whether a frame is a packet of a longer message (SAE J1939-21)."""
+    return frame.id >> 16 & 0xFF == _PACKET_FORMAT
 
 
 def frame_of_text(text: str) -> BusFrame:

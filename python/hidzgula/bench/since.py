@@ -34,3 +34,8 @@ def noted(before: Optional[Since], message: Message, now: int) -> Since:
         gone = {code: at for code, at in before.gone.items() if code not in codes}
         gone.update((code, now) for code in before.codes if code not in codes)
     return Since(message, now, before.lamps if before.message.lamps == message.lamps else now, codes, gone)
+
+
+def again(before: Since, now: int) -> Since:
+    """What is so when the same message has come once more."""
+    return before._replace(message=before.message._replace(place=before.message.place + 1), newest=now)

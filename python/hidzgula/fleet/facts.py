@@ -4,7 +4,7 @@ A fact of a code is of a unit, a kind of message and a code: when the first and 
 were read in part, and how often it came, which is that a message has it and the one before has not. Times are microseconds as the log has them.
 """
 
-import gzip
+import functools
 import hashlib
 import io
 import json
@@ -13,7 +13,7 @@ import stat
 import subprocess
 import tempfile
 import threading
-from typing import Any, Dict, FrozenSet, Iterable, List, Optional, Tuple
+from typing import Any, Dict, FrozenSet, Iterable, List, Optional, Sequence, Tuple
 
 from ..program import CutOff, first_lines, is_compressed, pieces_of, plain
 
@@ -24,10 +24,8 @@ _PLACES = {"mil": 6, "stop": 4, "amber": 2, "protect": 0}
 # (J1939-73, 5.7.1: of a lamp's two bits 01 is on)
 _ON = 1
 
-FORMAT = 3
+FORMAT = 4
 """What a part says: one of another format is made again."""
-HEAD = ("format", "by", "state", "why", "lines", "missed", "unread", "first", "last", "vins", "bytes")
-"""What a part tells of its log as a whole."""
 MOST_BYTES = 64 << 30
 """The most bytes of a log, unpacked."""
 MOST_SECONDS = 3600
@@ -74,16 +72,6 @@ def read_log(path: str, program: str, made_by: str, known: Optional[str] = None)
     return {"format": FORMAT, "by": made_by, "sha256": digest, "bytes": size, "file_why": why, **told}
 
 
-def pack_log(path: str, program: str, made_by: str, known: Optional[str] = None) -> Json:
-    """What a log tells, as `read_log` has it, ready to be kept: `head` is what the part tells of its log as a whole, `packed` the part, compressed.
-    So whoever reads logs packs them, and whoever keeps them needs not look into each."""
-    part = read_log(path, program, made_by, known)
-    if "format" not in part:
-        return part
-    told = {"state": part["state"], "file_why": part.pop("file_why"), "sha256": part["sha256"], "head": {key: part[key] for key in HEAD}}
-    return {**told, "packed": gzip.compress(json.dumps(part, separators=(",", ":")).encode(), 6, mtime=0)}
-
-
 def not_read(why: str) -> Json:
     """The part of a log that could not be read."""
     return {"state": "not read", "file_why": [plain(why)[:300]]}
@@ -127,6 +115,10 @@ def _told_of(log: io.FileIO, program: str) -> Json:
         except (ValueError, KeyError, TypeError, AttributeError) as error:
             running.kill()
             raise Failed(f"what the program wrote is no report: {error!r}") from error
+        except BaseException:
+            # (who ends the run does not wait for the program)
+            running.kill()
+            raise
         finally:
             status = running.wait()
             timer.cancel()
@@ -174,10 +166,19 @@ def greatest(one: Optional[int], other: Optional[int]) -> Optional[int]:
     return one if other is None else other if one is None else max(one, other)
 
 
-def lit(lamps: str) -> List[str]:
-    """The lamps that are on, the worst first, of their four hexadecimal digits."""
-    states = int(lamps[:2], 16)
-    return [lamp for lamp in LAMPS if states >> _PLACES[lamp] & 3 == _ON]
+Lamps = Tuple[str, ...]
+
+
+@functools.lru_cache(256)
+def lit(states: str) -> Lamps:
+    """The lamps that are on, the worst first, of the two hexadecimal digits that say which."""
+    return tuple(lamp for lamp in LAMPS if int(states, 16) >> _PLACES[lamp] & 3 == _ON)
+
+
+@functools.lru_cache(256)
+def both(one: Lamps, other: Lamps) -> Lamps:
+    """The lamps of either, the worst first."""
+    return tuple(lamp for lamp in LAMPS if lamp in one or lamp in other)
 
 
 class Facts:
@@ -263,7 +264,7 @@ class Facts:
         if unit is None and self._has_room():
             unit = self._units[key] = {
                 "name": name or "", "bus": bus, "unclaimed": unclaimed, "address": None, "vin": None, "first": None, "heard": None, "silent": None,
-                "counts": dict.fromkeys(KINDS, 0), "lamps": [], "now": dict.fromkeys(KINDS),
+                "counts": dict.fromkeys(KINDS, 0), "lamps": (), "now": dict.fromkeys(KINDS),
             }  # fmt: skip
         if unit is not None:
             unit.update({key: told[key] for key in ("function", "instance", "manufacturer", "identity") if key in told})
@@ -277,41 +278,47 @@ class Facts:
 
     @staticmethod
     def _hear(fact: Json, first: Optional[int], last: Optional[int], newest: str = "heard") -> None:
-        fact["first"] = least(fact["first"], first)
-        fact[newest] = greatest(fact[newest], last)
+        if first is not None and (fact["first"] is None or first < fact["first"]):
+            fact["first"] = first
+        if last is not None and (fact[newest] is None or last > fact[newest]):
+            fact[newest] = last
 
-    def _take_runs(self, unit: Json, kind: str, runs: Iterable[Json]) -> None:
+    def _take_runs(self, unit: Json, kind: str, runs: Sequence[Json]) -> None:
         """Takes the runs of equal messages of a unit and kind, which follow those that were taken before."""
         key = (unit["name"], unit["bus"], unit["unclaimed"])
+        before = self._before.get((key, kind), frozenset())
         for run in runs:
             told = {(code["spn"], code["fmi"]): code for code in run["codes"]} or {NO_CODE: {}}
-            lamps, first, last = lit(run["lamps"]), micros(run["first"]), micros(run["last"])
-            before, is_in_part = self._before.get((key, kind), frozenset()), "not_read" in run
+            lamps, first, last = lit(run["lamps"][:2]), micros(run["first"]), micros(run["last"])
+            times, is_in_part = run["times"], "not_read" in run
             for code, words in told.items():
-                fact = self._fact_of(key, kind, code)
+                fact = self._codes.get((key, kind, code)) or self._new_fact(key, kind, code)
                 if fact is None:
                     continue
-                fact["messages"] += run["times"]
-                fact["contested"] += run["times"] if run["contested"] else 0
-                fact["partly"] += run["times"] if is_in_part else 0
+                fact["messages"] += times
+                fact["contested"] += times if run["contested"] else 0
+                fact["partly"] += times if is_in_part else 0
                 fact["times"] += code not in before
                 fact["count"] = greatest(fact["count"], words.get("count"))
                 fact["fmi_text"] = words.get("fmi_text") or fact["fmi_text"]
-                fact["lamps"] = [lamp for lamp in LAMPS if lamp in lamps or lamp in fact["lamps"]]
+                fact["lamps"] = both(fact["lamps"], lamps)
                 self._hear(fact, first, last, "last")
-            self._before[key, kind] = frozenset(told)
+            before = frozenset(told)
             self._hear(unit, first, last)
-            unit["counts"][kind] += run["times"]
-            unit["lamps"] = [lamp for lamp in LAMPS if lamp in unit["lamps"] or kind == "dm1" and lamp in lamps]
-            codes = [list(code) for code in sorted(told) if code != NO_CODE]
-            unit["now"][kind] = {"lamps": lamps, "codes": codes, "contested": run["contested"], "partly": is_in_part}
+            unit["counts"][kind] += times
+            if kind == "dm1":
+                unit["lamps"] = both(unit["lamps"], lamps)
+            unit["now"][kind] = {"lamps": lamps, "codes": told, "contested": run["contested"], "partly": is_in_part}
+        if runs:
+            unit["now"][kind]["codes"] = [list(code) for code in sorted(told) if code != NO_CODE]
+            self._before[key, kind] = before
 
-    def _fact_of(self, key: Tuple[str, str, str], kind: str, code: Code) -> Optional[Json]:
-        """The fact of a unit's code, new where it was not told of; none where there are too many."""
-        fact = self._codes.get((key, kind, code))
-        if fact is None and self._has_room():
-            fact = self._codes[key, kind, code] = {
-                "name": key[0], "bus": key[1], "unclaimed": key[2], "kind": kind, "spn": code[0], "fmi": code[1], "fmi_text": "", "first": None, "last": None,
-                "messages": 0, "times": 0, "contested": 0, "partly": 0, "count": None, "lamps": [],
-            }  # fmt: skip
+    def _new_fact(self, key: Tuple[str, str, str], kind: str, code: Code) -> Optional[Json]:
+        """The fact of a unit's code that was not told of; none where there are too many."""
+        if not self._has_room():
+            return None
+        fact = self._codes[key, kind, code] = {
+            "name": key[0], "bus": key[1], "unclaimed": key[2], "kind": kind, "spn": code[0], "fmi": code[1], "fmi_text": "", "first": None, "last": None,
+            "messages": 0, "times": 0, "contested": 0, "partly": 0, "count": None, "lamps": (),
+        }  # fmt: skip
         return fact

@@ -1,19 +1,17 @@
 """What a fleet's folder keeps: a part for each log, by the sum of its bytes, and which file was which log.
 
-`parts/SUM.json.gz` is what a log told, `logs.json` the files with the sum of each, and the run that read it first; and of each log what it told as a whole.
+`parts/SUM.gz` is what a log told, `logs.json` the files with the sum of each, and the run that read it first; and of each log what it told as a whole.
 """
 
 import contextlib
 import fcntl
-import gc
-import gzip
 import json
 import os
-import zlib
-from typing import Dict, Iterator, List, Optional, Tuple
+from typing import Dict, Iterator, List, Optional
 
 from .facts import FORMAT, Json
-from .tables import LOGS, MESSAGES, UNITS, Rows, Table, joined, message_rows, replacing, unit_rows, vehicle_of
+from .parts import keep, kept_of, made_of, part_of
+from .tables import LOGS, MESSAGES, UNITS, Table, has_parquet, lines_of, replacing, vehicle_of
 
 
 class Busy(Exception):
@@ -44,9 +42,6 @@ class Store:
     def _path(self, name: str) -> str:
         return os.path.join(self.folder, name)
 
-    def _part_path(self, digest: str) -> str:
-        return self._path(f"parts/{digest}.json.gz")
-
     @contextlib.contextmanager
     def alone(self) -> Iterator[None]:
         """Has no other run write meanwhile. Raises Busy where one does."""
@@ -62,26 +57,17 @@ class Store:
         """The sum of the log that this file was, if what it told was kept, by the same program."""
         digest = self.logs.get(path, {}).get("sha256")
         head = self.heads.get(digest, {})
-        return digest if (head.get("format"), head.get("by")) == (FORMAT, made_by) and self._packed(digest) else None
-
-    def _packed(self, digest: str) -> Optional[bytes]:
-        """The part of the log of this sum as it was packed; none where that is not there, or damaged."""
-        try:
-            with gzip.open(self._part_path(digest), "rb") as file:
-                return file.read()
-        except (OSError, EOFError, zlib.error):
-            return None
+        return digest if (head.get("format"), head.get("by")) == (FORMAT, made_by) and kept_of(self.folder, digest) else None
 
     def part(self, digest: str) -> Optional[Json]:
         """What the log of this sum told; none where that is not there."""
-        packed = self._packed(digest)
-        if packed is None:
+        part = part_of(self.folder, digest)
+        if part is None:
             self.heads.pop(digest, None)
-            return None
-        return dict(json.loads(packed))
+        return part
 
     def take(self, path: str, part: Json) -> None:
-        """Keeps what a file told."""
+        """Keeps what a file told, as `pack_log` has it."""
         why, digest, before = part["file_why"], part.get("sha256"), self.logs.get(path, {})
         if digest is None:
             self.logs[path] = {"why": why}
@@ -90,8 +76,7 @@ class Store:
         self.logs[path] = {"sha256": digest, "run": run, "why": why}
         if part["state"] == "known":
             return
-        with replacing(self._part_path(digest)) as new, open(new, "wb") as file:
-            file.write(part["packed"])
+        keep(self.folder, digest, part["packed"])
         self.heads[digest] = part["head"]
 
     def save(self, ended: bool = False) -> None:
@@ -99,13 +84,13 @@ class Store:
         self.runs += ended
         kept = {"format": FORMAT, "runs": self.runs, "by_folder": self.by_folder, "logs": self.logs, "heads": self.heads}
         with replacing(self._path("logs.json")) as new, open(new, "w", encoding="utf-8") as file:
-            json.dump(kept, file)
+            file.write(json.dumps(kept))
 
     def forget(self) -> None:
         """Removes the parts of logs that no file is any more."""
         sums = {log["sha256"] for log in self.logs.values() if "sha256" in log}
         self.heads = {digest: head for digest, head in self.heads.items() if digest in sums}
-        wanted = {f"{digest}.json.gz" for digest in sums}
+        wanted = {f"{digest}.gz" for digest in sums}
         for name in os.listdir(self._path("parts")):
             if name not in wanted:
                 os.remove(self._path(f"parts/{name}"))
@@ -131,11 +116,6 @@ class Store:
         """What these logs told."""
         return filter(None, map(self.part, sorted(digests)))
 
-    def rows(self) -> Iterator[Tuple[str, Rows]]:
-        """The rows of each vehicle, of which one at a time is kept in memory."""
-        for vehicle, digests in self.vehicles().items():
-            yield vehicle, joined(self.parts_of(digests))
-
     def log_rows(self) -> Iterator[Json]:
         """A row for each file: the log that it is, or why it could not be read."""
         first = {digest: paths[0] for digest, paths in self.files_of_logs().items()}
@@ -154,22 +134,13 @@ class Store:
 
     def write_tables(self) -> None:
         """Writes the tables anew."""
-        with _without_collections():
-            with Table(self.folder, "messages", MESSAGES) as messages, Table(self.folder, "units", UNITS) as units:
-                for vehicle, rows in self.rows():
-                    messages.add(message_rows(vehicle, rows))
-                    units.add(unit_rows(vehicle, rows))
-            with Table(self.folder, "logs", LOGS) as logs:
-                logs.add(self.log_rows())
-
-
-@contextlib.contextmanager
-def _without_collections() -> Iterator[None]:
-    """Rows hold no cycles: to look for some among so many takes a third of the time."""
-    was_on = gc.isenabled()
-    gc.disable()
-    try:
-        yield
-    finally:
-        if was_on:
-            gc.enable()
+        keeps_values = has_parquet()
+        with Table(self.folder, "messages", MESSAGES) as messages, Table(self.folder, "units", UNITS) as units:
+            for vehicle, digests in self.vehicles().items():
+                made = made_of(self.folder, vehicle, digests, keeps_values)
+                messages.add(made.messages)
+                units.add(made.units)
+                for digest in made.lost:
+                    self.heads.pop(digest, None)
+        with Table(self.folder, "logs", LOGS) as logs:
+            logs.add(lines_of(LOGS, self.log_rows(), keeps_values))

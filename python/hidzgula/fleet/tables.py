@@ -10,12 +10,13 @@ import csv
 import decimal
 import functools
 import importlib.util
+import io
 import os
 import re
-from typing import Any, Dict, Iterable, Iterator, List, Optional, Sequence, Tuple
+from typing import Any, Dict, Iterable, Iterator, List, NamedTuple, Optional, Sequence, Tuple
 
 from ..program import plain
-from .facts import KINDS, LAMPS, Json, greatest, least
+from .facts import KINDS, Json, both, greatest, least
 
 Unit = Tuple[str, str, str]
 """The NAME; or else the address that nobody claimed, and the sum of its log."""
@@ -72,7 +73,7 @@ class Rows:
             **newest,
             "first": least(mine["first"], unit["first"]),
             "counts": {kind: mine["counts"][kind] + unit["counts"][kind] for kind in KINDS},
-            "lamps": _both(mine["lamps"], unit["lamps"]),
+            "lamps": both(tuple(mine["lamps"]), tuple(unit["lamps"])),
             "vins": sorted({*mine["vins"], *unit["vins"]}),
         }
 
@@ -87,7 +88,7 @@ class Rows:
             "first": least(mine["first"], code["first"]),
             "last": greatest(mine["last"], code["last"]),
             "count": greatest(mine["count"], code["count"]),
-            "lamps": _both(mine["lamps"], code["lamps"]),
+            "lamps": both(tuple(mine["lamps"]), tuple(code["lamps"])),
             "fmi_text": max(mine["fmi_text"], code["fmi_text"]),
         }
 
@@ -99,10 +100,6 @@ class Rows:
         if not now or (list(key[4:]) not in now["codes"] if key[4] is not None else now["codes"]):
             return ""
         return "partly" if key[4] is None and now["partly"] else "yes"
-
-
-def _both(one: Sequence[str], other: Sequence[str]) -> List[str]:
-    return [lamp for lamp in LAMPS if lamp in one or lamp in other]
 
 
 def _unit_key(fact: Json, part: Json) -> Unit:
@@ -169,32 +166,61 @@ def text_cell(value: Any) -> str:
     return f"'{text}" if text.startswith(("=", "+", "-", "@")) else text
 
 
+class Lines(NamedTuple):
+    """Rows of a table, ready to be written."""
+
+    text: str
+    """As CSV."""
+    values: List[List[Any]]
+    """Those of each row, where Parquet is to have them."""
+
+
+def lines_of(columns: Sequence[str], rows: Iterable[Json], keeps_values: bool) -> Lines:
+    """Makes rows ready to be written."""
+    times = [place for place, column in enumerate(columns) if column in TIMES]
+    texts = [place for place, column in enumerate(columns) if column not in TIMES | NUMBERS]
+    file, values = io.StringIO(), []
+    writer = csv.writer(file, lineterminator="\n")
+    for row in rows:
+        # (what is None is written as nothing)
+        cells = list(map(row.get, columns))
+        if keeps_values:
+            values.append(cells[:])
+        for place in times:
+            cells[place] = time_text(cells[place])
+        for place in texts:
+            if cells[place]:
+                cells[place] = text_cell(cells[place])
+        writer.writerow(cells)
+    return Lines(file.getvalue(), values)
+
+
+def cell_of(text: str) -> str:
+    """A text as a cell of CSV."""
+    return lines_of(("text",), ({"text": text},), False).text[:-1]
+
+
+def has_parquet() -> bool:
+    """Whether pyarrow is here."""
+    return importlib.util.find_spec("pyarrow") is not None
+
+
 class Table(contextlib.ExitStack):
     """A table as CSV, and where pyarrow is as Parquet, which replace those of before once all is written."""
 
     def __init__(self, folder: str, name: str, columns: Sequence[str]) -> None:
         super().__init__()
-        self._columns = columns
-        self._times = [place for place, column in enumerate(columns) if column in TIMES]
-        self._texts = [place for place, column in enumerate(columns) if column not in TIMES | NUMBERS]
         path = self.enter_context(replacing(os.path.join(folder, f"{name}.csv")))
-        self._cells = csv.writer(self.enter_context(open(path, "w", newline="", encoding="utf-8")), lineterminator="\n")
-        self._cells.writerow(columns)
-        self._parquet = Parquet.opened(folder, name, columns, self)
+        self._file = self.enter_context(open(path, "w", newline="", encoding="utf-8"))
+        self._file.write(",".join(columns) + "\n")
+        self._parquet = Parquet.opened(folder, name, columns, self) if has_parquet() else None
 
-    def add(self, rows: Iterable[Json]) -> None:
+    def add(self, lines: Lines) -> None:
         """Writes rows."""
-        for row in rows:
-            # (what is None is written as nothing)
-            cells = list(map(row.get, self._columns))
-            for place in self._times:
-                cells[place] = time_text(cells[place])
-            for place in self._texts:
-                if cells[place]:
-                    cells[place] = text_cell(cells[place])
-            self._cells.writerow(cells)
-            if self._parquet:
-                self._parquet.add(row)
+        self._file.write(lines.text)
+        if self._parquet:
+            for values in lines.values:
+                self._parquet.add(values)
 
 
 @contextlib.contextmanager
@@ -227,17 +253,15 @@ class Parquet:
         self._rows: List[Json] = []
 
     @classmethod
-    def opened(cls, folder: str, name: str, columns: Sequence[str], files: contextlib.ExitStack) -> "Optional[Parquet]":
-        """One that ends with these files; none where pyarrow is not here."""
-        if importlib.util.find_spec("pyarrow") is None:
-            return None
+    def opened(cls, folder: str, name: str, columns: Sequence[str], files: contextlib.ExitStack) -> "Parquet":
+        """One that ends with these files."""
         parquet = cls(columns, files.enter_context(replacing(os.path.join(folder, f"{name}.parquet"))))
         files.callback(parquet.end)
         return parquet
 
-    def add(self, row: Json) -> None:
+    def add(self, values: Sequence[Any]) -> None:
         """Adds a row."""
-        self._rows.append({column: _parquet_value(column, row.get(column)) for column in self._schema.names})
+        self._rows.append({column: _parquet_value(column, value) for column, value in zip(self._schema.names, values)})
         if len(self._rows) == self.AT_ONCE:
             self._write()
 

@@ -46,31 +46,6 @@ named_takes old mid new x at o bus t name e =
     ap (with_bus_name o) t.followed ∙ ap (λ (b : Option (List ℕ)). record old.followed { bus = b }) name in
     takes_knowing old mid new x at (with_bus bus old.followed) t (e ∙ ap (knowing mid) f)
 
--- or it is known what was broken
-pub takes_broken : (old mid new : WatchValue) (x : Reading) (at : Option ℕ) (f : Followed) → Takes old mid x at f → new ≡ record mid { broken = new.broken } → Takes old new x at f
-takes_broken old mid new x at f t e = subst (λ (w : WatchValue). Takes old w x at f) (sym e) (record {
-  stands = λ b h s. (let now = t.stands b h s in record {
-    listener = now.listener;
-    shows = now.shows;
-    time = now.time;
-    contests = now.contests;
-    lists = now.lists;
-    runs = now.runs;
-    kept = now.kept;
-    units = now.units;
-    told = now.told;
-    before = now.before;
-    partly = now.partly;
-    pairs = now.pairs;
-  });
-  followed = t.followed;
-})
-
-pub tells_broken : {E : Type 0} (result : Result Changes E) (old mid new : WatchValue) (x : Reading) → IfOk result (λ c. Tells old mid x c) → new ≡ record mid { broken = new.broken }
-    → IfOk result (λ c. Tells old new x c)
-tells_broken (Ok c) old mid new x t e = subst (λ (w : WatchValue). Tells old w x c) (sym e) (λ b h s. t b h s)
-tells_broken (Err r) old mid new x t e = tt
-
 -- also where a frame is followed
 pub named_frame : (old mid new : WatchValue) (x : Reading) (at : Option ℕ) (g : Group) (o : Option (List ℕ)) → Takes old mid x at (followed_with at g old.followed)
     → new ≡ knowing mid (with_bus_name o mid.followed) → Takes old new x at (followed_with at g (with_bus_name o old.followed))

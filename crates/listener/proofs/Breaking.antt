@@ -1,11 +1,13 @@
 -- Messages that a claim may end; and those that were broken, with_numbers one after the other.
-use Rattle.std.proofs.Common.{◌≡◌, ◌<◌, ◌+◌, ℕ, List, [], ◌∷◌, ◌++◌, take, drop, set, get_or, length, sym, ap, ◌∙◌, subst, add-one, append_assoc, arith}
+use Rattle.std.proofs.Common.{◌≡◌, ◌<◌, ◌+◌, ℕ, List, [], ◌∷◌, ◌++◌, take, drop, set, get_or, length, sym, ap, ◌∙◌, subst, add-one, append_assoc, append-nil, true, arith}
 use Rattle.std.proofs.lemmas.List.{at_drop_more, drop-set-lt, take_more_set}
 use Rattle.bus_model.specs.Heard.{counted}
-use Rattle.listener.specs.Broken.{broken_count, noted_below, noted_between, with_numbers}
+use Rattle.address_claim.specs.Claiming.{is_held}
+use Rattle.listener.specs.Broken.{broken_count, ended_by_claim, noted_below, noted_between, with_numbers}
 use Rattle.listener.specs.Paced.{PacedValue}
 use Rattle.listener.specs.declared.broken.BrokenBy.TheVariants.{Claim}
 use Rattle.listener.specs.declared.broken.BrokenMessage.{BrokenMessage}
+use Rattle.reassembly.specs.Tables.{at}
 
 -- those before a place are with_numbers, and then the one at that place
 pub numbered_more : (m all : List BrokenMessage) (i c : ℕ) (x d : BrokenMessage) → i < length m → x ≡ record (get_or m i d) { count = counted (c + 1) }
@@ -33,3 +35,7 @@ more_noted l s n old before after is put =
 
 pub all_noted : (l : PacedValue) (s n : ℕ) (old after : List BrokenMessage) → after ≡ old ++ noted_below l s n → n ≡ 256 → after ≡ old ++ noted_below l s 256
 all_noted l s n old after is all = subst (λ (m : ℕ). after ≡ old ++ noted_below l s m) all is
+
+-- one who claims again what he holds ends nothing
+pub nothing_noted : (l : PacedValue) (s n : ℕ) (old : List BrokenMessage) → is_held (at l.listener.owners s) n ≡ true → old ≡ old ++ ended_by_claim l s n
+nothing_noted l s n old held = rw held (sym (append-nil old))

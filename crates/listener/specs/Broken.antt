@@ -1,5 +1,6 @@
 -- Messages of several packets that begin and never become whole, by what is half joined before and after a frame.
 use Rattle.std.specs.Prelude.{ℕ, zero, suc, ◌+◌, Bool, true, false, not, ◌&&◌, ◌||◌, ◌==◌, min, nat_le, nat_lt, List, [], ◌∷◌, ◌++◌, length, filter, is_some, Option, Some, None, if◌then◌else◌}
+use Rattle.address_claim.specs.Claiming.{is_held}
 use Rattle.bus_model.specs.Heard.{counted}
 use Rattle.bus_model.specs.Overheard.{HalfSent}
 use Rattle.bus_model.specs.declared.overheard.Overheard.{Overheard}
@@ -7,6 +8,7 @@ use Rattle.bus_model.specs.declared.overheard.Overheard.TheVariants.{Listed, Lis
 use Rattle.parameter_group.specs.Group.{Group, AddressClaimed, ConnectionManagement, DataTransfer}
 use Rattle.reassembly.specs.Pacing.{announces, is_over_if, lets_come_if, packet_number}
 use Rattle.reassembly.specs.Pairs.{pair_at}
+use Rattle.reassembly.specs.Tables.{at}
 use Rattle.reassembly.specs.declared.paces.Fate.{Fate}
 use Rattle.reassembly.specs.declared.paces.Fate.TheVariants as fates
 use Rattle.transport.specs.Pieces.{packet_count}
@@ -75,16 +77,20 @@ noted_packet l its_fate s d bytes None = []
 noted_packet l its_fate s d bytes (Some half) =
     suspect_between s d (why_packet its_fate (lets_come_if (pair_at l.paces s d) (packet_number bytes)) (packet_number bytes) (length half.pieces)) half ∷ []
 
--- a claim, of all that is half joined from there to addresses below this one
+-- a claim of another NAME than the owner, of all that is half joined from there to addresses below this one
 abbrev pub noted_below : PacedValue → ℕ → ℕ → List BrokenMessage
 noted_below l s zero = []
 noted_below l s (suc d) = noted_below l s d ++ noted_between l Claim s d
+
+-- of the owner it ends nothing
+abbrev pub ended_by_claim : PacedValue → ℕ → ℕ → List BrokenMessage
+ended_by_claim l s n = if is_held (at l.listener.owners s) n then [] else noted_below l s 256
 
 -- what is half joined that a frame may end which says this and has this fate
 abbrev pub may_end : PacedValue → Fate → Group → List BrokenMessage
 may_end l its_fate (ConnectionManagement s d message) = ended_by_control l s d message
 may_end l its_fate (DataTransfer s d bytes) = noted_packet l its_fate s d bytes (half_joined l s d)
-may_end l its_fate (AddressClaimed s n) = noted_below l s 256
+may_end l its_fate (AddressClaimed s n) = ended_by_claim l s n
 may_end l its_fate g = []
 
 -- ---- after it

@@ -2,7 +2,7 @@
 ghost use Rattle.std.specs.Fn.{CalledAt};
 ghost use Rattle.std.specs.List.Retain.{IsFiltered};
 ghost use Rattle.std.specs.Prelude.{◌≡◌, ◌++◌, [], filter, OnOk};
-ghost use Rattle.listener.specs.Broken.{broken_count, ended_by_control, is_broken, may_end, noted_below, noted_between, noted_packet, suspect_between, those_broken, was_whole, why_managed, why_packet, with_numbers};
+ghost use Rattle.listener.specs.Broken.{broken_count, ended_by_claim, ended_by_control, is_broken, may_end, noted_below, noted_between, noted_packet, suspect_between, those_broken, was_whole, why_managed, why_packet, with_numbers};
 ghost use Rattle.listener.specs.Broken as broken;
 ghost use Rattle.parameter_group.specs.Said.{said};
 ghost use Rattle.reassembly.specs.Pacing.{packet_number};
@@ -12,6 +12,7 @@ use crate::paced::PacedListener;
 use crate::sending::Sending;
 use bus_model::{Overheard, Who};
 use dm_messages::Kind;
+use name_field::Name;
 use parameter_group::ParameterGroup;
 use reassembly::{Fate, Partial, announces};
 use std::alloc::{AllocError, Global};
@@ -130,7 +131,9 @@ impl BrokenMessages {
                 dest,
                 bytes,
             } => self.expect_packet(ear, source, dest, bytes, fate),
-            ParameterGroup::AddressClaimed { source, .. } => self.expect_claim(ear, source),
+            ParameterGroup::AddressClaimed { source, name } => {
+                self.expect_claim(ear, source, name)
+            }
             _ => Ok(()),
         }
     }
@@ -180,7 +183,26 @@ impl BrokenMessages {
         Ok(())
     }
 
-    fn expect_claim(&mut self, ear: &PacedListener, source: u8) -> Result<(), AllocError>
+    /// One who claims again what he holds ends nothing.
+    #[tactic(auto, using(crate::proofs::Breaking::nothing_noted))]
+    fn expect_claim(
+        &mut self,
+        ear: &PacedListener,
+        source: u8,
+        name: Name,
+    ) -> Result<(), AllocError>
+        ensures suspects { OnOk result (self.new.suspects ≡ self.old.suspects ++ ended_by_claim ear.now source name) }
+        ensures newest { self.new.newest ≡ self.old.newest }
+        ensures count { self.new.count ≡ self.old.count }
+    {
+        if ear.listener().owner(source) == Some(name) {
+            return Ok(());
+        }
+        self.note_from(ear, source)
+    }
+
+    /// Takes note of all that is half joined from an address.
+    fn note_from(&mut self, ear: &PacedListener, source: u8) -> Result<(), AllocError>
         ensures suspects { OnOk result (self.new.suspects ≡ self.old.suspects ++ noted_below ear.now source 256) }
         ensures newest { self.new.newest ≡ self.old.newest }
         ensures count { self.new.count ≡ self.old.count }

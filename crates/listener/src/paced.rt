@@ -91,9 +91,10 @@ impl PacedListener {
     pub fn half_sent(&self, source: u8, dest: u8) -> Option<&Partial<Sending>>
         ensures { option_copied result ≡ half_joined self.entry.now source dest }
     {
+        let half = self.listener.half_sent(source, dest)?;
         match self.paces.get(source, dest) {
             Some(pace) if pace.is_over() => None,
-            _ => self.listener.half_sent(source, dest),
+            _ => Some(half),
         }
     }
 

@@ -18,6 +18,15 @@ pub(crate) fn wanted_of<'a>(options: &RunOptions<'a>) -> Wanted<'a> {
     }
 }
 
+/// How many frames the watches have heard, as long as it was told of none.
+pub(crate) fn frames_before(absence: &Absence, buses: &Buses) -> Option<u64> {
+    if absence.is_open() {
+        Some(buses.counts().frames)
+    } else {
+        None
+    }
+}
+
 /// Takes a line that the watches have heard, before which they had heard so many frames.
 ///
 /// # Errors
@@ -28,9 +37,6 @@ pub(crate) fn note_line(
     before: u64,
     said: &Line<'_>,
 ) -> Result<(), LogFault> {
-    if !absence.is_open() {
-        return Ok(());
-    }
     let is_heard = buses.counts().frames != before;
     absence.take(said, fate_of(buses, is_heard, said))
 }

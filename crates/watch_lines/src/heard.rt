@@ -1,7 +1,10 @@
 use crate::kept::PageHistory;
 use crate::options::WatchOptions;
 use bus_watch::Buses;
+use log_lines::LogFault;
 use std::alloc::{AllocError, Global};
+use std::io::Write;
+use watch_reports::{ReportOptions, ReportPart, write_report};
 
 /// What was heard: the watches of the buses, and what is kept beside them.
 #[derive(Drop)]
@@ -19,6 +22,50 @@ impl Heard {
         let buses = Buses::new(alloc, options.settings, options.bus);
         let kept = PageHistory::new(alloc, options.form, options.settings.selection.to);
         of_both(buses, kept)
+    }
+
+    /// Until when each newest message was heard is told before a report.
+    pub(crate) fn settle(&mut self) {
+        self.kept.settle(&self.buses);
+    }
+
+    /// Before the line of this number each bus is begun anew: what is to be kept until then is.
+    ///
+    /// # Errors
+    /// Memory was refused.
+    pub(crate) fn end_before(&mut self, number: u64) -> Result<(), LogFault> {
+        self.kept.begin_anew(&self.buses, number)
+    }
+
+    /// Begins each bus anew.
+    ///
+    /// # Errors
+    /// Memory was refused.
+    pub(crate) fn start_over(&mut self, alloc: Global) -> Result<(), LogFault> {
+        for place in 0..self.buses.watches().len() {
+            self.buses.start_over(alloc, place)?;
+        }
+        Ok(())
+    }
+
+    /// Reports what was heard so far.
+    ///
+    /// # Errors
+    /// A write failed.
+    pub(crate) fn write_report<W: Write>(
+        &self,
+        writer: &mut W,
+        options: &ReportOptions<'_>,
+        part: ReportPart,
+    ) -> Result<(), LogFault> {
+        write_report(
+            writer,
+            &self.buses,
+            self.kept.ever(),
+            self.kept.start(),
+            options,
+            part,
+        )
     }
 }
 

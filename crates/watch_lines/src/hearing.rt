@@ -29,6 +29,7 @@ pub(crate) fn hear_line<W: Write>(
 }
 
 /// Begins the watch of the bus of which the line is the first, if it is, with the assumed owners.
+#[inline(never)]
 fn begin_bus<W: Write>(
     alloc: Global,
     writer: &mut W,
@@ -43,6 +44,7 @@ fn begin_bus<W: Write>(
 }
 
 /// Tells what the line of this number changed on each bus.
+#[inline(never)]
 fn tell_each<W: Write>(
     writer: &mut W,
     heard: &mut Heard,
@@ -65,12 +67,18 @@ fn tell_at<W: Write>(
 ) -> Result<(), LogFault> {
     let Heard { buses, kept } = heard;
     match buses.watches().get(place) {
-        Some(one) => tell(writer, one, kept, place, options, number),
-        None => Ok(()),
+        Some(one) if has_news(one) => tell(writer, one, kept, place, options, number),
+        _ => Ok(()),
     }
 }
 
+/// Whether the newest line changed anything of a bus.
+fn has_news(one: &BusWatch) -> bool {
+    one.changes.lost.is_some() || one.changes.change.is_some() || !one.watch.broken().is_empty()
+}
+
 /// Writes and keeps what the line of this number changed of a bus.
+#[inline(never)]
 fn tell<W: Write>(
     writer: &mut W,
     one: &BusWatch,

@@ -4,10 +4,12 @@ ghost use Rattle.bus_watch.specs.Followed as followed;
 ghost use Rattle.bus_watch.specs.Told.{Told, Beginning, IsToldAs, StandsForAll};
 ghost use Rattle.bus_watch.specs.Told as told;
 ghost use Rattle.bus_watch.specs.WatchValue.{HearsLine, TellsLine, Takes, Tells};
+ghost use Rattle.can_frame.specs.FrameValue.{FrameValue};
 ghost use Rattle.can_frame.specs.declared.address.TheConstants.{GREATEST_ADDRESS};
 ghost use Rattle.candump_line.specs.declared.line.Line.TheVariants as said;
 ghost use Rattle.listener.specs.Paced.{half_in};
 ghost use Rattle.parameter_group.specs.Group.{group_of};
+ghost use Rattle.parameter_group.specs.Said.{IsLawfulGroup, said as group_said};
 
 use crate::change::Changes;
 use crate::watch::Watch;
@@ -151,12 +153,34 @@ impl Watch {
         ensures tells { IfOk result (λ c. Tells self.old self.new (followed.frame_reading time (half_in self.old.listener) self.old.followed frame.now) c) }
         ensures err { OnErr result (self.new ≡ self.old) }
     {
-        let at = time;
         let group = ParameterGroup::read(frame);
-        let fate = self.expect(at, &group)?;
-        let changes = self.take_group(alloc, &group, time)?;
-        self.settle(fate);
+        let changes = self.take_noting(alloc, &group, time)?;
         self.name_bus(named);
+        Ok(changes)
+    }
+
+    /// Takes what a frame says, as `take_group` does, and notes what it ends. Most frames of a bus end nothing.
+    fn take_noting(
+        &mut self,
+        alloc: Global,
+        group: &ParameterGroup<'_>,
+        time: Option<Time>,
+    ) -> Result<Changes, AllocError>
+        requires { IsLawfulGroup group.now }
+        ensures takes { OnOk result ((f : FrameValue) → group_of f ≡ group_said group.now
+            → Takes self.old self.new (followed.frame_reading time (half_in self.old.listener) self.old.followed f) time
+            (followed.followed_with time (group_said group.now) self.old.followed)) }
+        ensures tells { IfOk result (λ c. (f : FrameValue) → group_of f ≡ group_said group.now
+            → Tells self.old self.new (followed.frame_reading time (half_in self.old.listener) self.old.followed f) c) }
+        ensures err { OnErr result (self.new ≡ self.old) }
+    {
+        if let ParameterGroup::Other = *group {
+            return self.take_group(alloc, group, time);
+        }
+        let at = time;
+        let fate = self.expect(at, group)?;
+        let changes = self.take_group(alloc, group, time)?;
+        self.settle(fate);
         Ok(changes)
     }
 

@@ -1,6 +1,6 @@
 use Rattle.std.proofs.Common.{◌≡◌, ◌∙◌, arith}
 use Rattle.listener.proofs.Breaking.{all_noted, more_noted}
-use Rattle.listener.proofs.broken.BrokenMessages.expect_claim.Goals as goal
+use Rattle.listener.proofs.broken.BrokenMessages.note_from.Goals as goal
 
 pub loop-dest-preserved : goal.loop-dest-preserved
 loop-dest-preserved c =

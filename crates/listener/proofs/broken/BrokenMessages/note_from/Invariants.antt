@@ -1,6 +1,6 @@
 use Rattle.std.proofs.Common.{◌≡◌, ◌++◌}
 use Rattle.listener.specs.Broken.{noted_below}
-use Rattle.listener.proofs.broken.BrokenMessages.expect_claim.Given as goal
+use Rattle.listener.proofs.broken.BrokenMessages.note_from.Given as goal
 
 -- those to the addresses below are noted
 abbrev pub invariant-loop-dest : goal.invariant-loop-dest

@@ -242,13 +242,41 @@ a signal of another page
 a value has the file's text
 """
 
-COUNTS = {case: 0 for part in (LINES, WORDS, HEARD, STATION, NEVER_LISTENING, LISTENER, WATCH, NOTICES, SIGNALS) for case in part.strip().splitlines()}
+DIAGNOSTICS = """
+says: DM12
+says: DM23
+says: DM28
+says: DM4
+says: DM5
+says: DM19
+says: DM20
+says: DM21
+says: DM24
+says: DM25
+says: DM26
+says: VI
+says: CI
+says: SOFT
+says: ECUID
+diagnostic: a value that is not there
+diagnostic: not available
+diagnostic: error
+diagnostic: a monitor
+diagnostic: bytes behind the last record
+diagnostic: a record of DM4
+diagnostic: a record of DM19
+diagnostic: a record of DM20
+diagnostic: a record of DM24
+diagnostic: a record of DM25
+"""
+
+COUNTS = {case: 0 for part in (LINES, WORDS, HEARD, STATION, NEVER_LISTENING, LISTENER, WATCH, NOTICES, SIGNALS, DIAGNOSTICS) for case in part.strip().splitlines()}
 
 
 def wanted(listens):
     """What a run has to reach where a station stands behind the watch, or a listener."""
     never = STATION + NEVER_LISTENING if listens else LISTENER
-    return [case for case in COUNTS if case not in (never + SIGNALS).strip().splitlines()]
+    return [case for case in COUNTS if case not in (never + SIGNALS + DIAGNOSTICS).strip().splitlines()]
 
 
 def reach(case):

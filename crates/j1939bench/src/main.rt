@@ -4,8 +4,9 @@
 #![tactic(auto)]
 
 use command_line::{Errors, asked_for, done_elsewhere, ended, read_words};
-use program_io::{Failure, Job, LogArguments};
+use program_io::{Failure, Fault, Job, LogArguments};
 use std::io;
+use std::io::BufWriter;
 use std::process::ExitCode;
 use std::rt::Runtime;
 use std::sync::Wait;
@@ -47,7 +48,10 @@ fn do_job<R: Runtime + AllocGlobal + Threads + Wait + Sync>(
 
 #[inline(never)]
 fn script<R: Runtime + AllocGlobal>(rt: &R) -> Result<(), Failure> {
-    script_run::script(rt.alloc(), &mut rt.reader(), &mut io::writer(rt))?;
+    let Ok(mut writer) = BufWriter::new(rt.alloc(), io::writer(rt)) else {
+        return Err(Failure::from(Fault::Memory));
+    };
+    script_run::script(rt.alloc(), &mut rt.reader(), &mut writer)?;
     Ok(())
 }
 

@@ -1,3 +1,5 @@
+mod Answering
+mod Moving
 mod Searching
 mod Stations
 mod Stepping

@@ -1,6 +1,9 @@
-ghost use Rattle.std.specs.Prelude.{◌≡◌, ◌⊎◌, ◌<◌, length, IfErr, IfSome};
+ghost use Rattle.std.specs.Prelude.{◌≡◌, ◌<◌, [], length, IfErr, IfSome, OnOk};
+ghost use Rattle.std.specs.Io.KnownBytes.{Keeps, append_known};
+ghost use Rattle.std.specs.Str.Lines.{lines};
 ghost use Rattle.program_io.specs.Fault.{IsOfInput};
 ghost use Rattle.program_io.specs.Input.{input_limit};
+ghost use Rattle.script_run.specs.Lines.{IsAnswered};
 
 use crate::answer_sink::AnswerSink;
 use crate::bench::Bench;
@@ -13,21 +16,22 @@ use script_answer::{LineAnswer, Refusal, Unwritten, put_answer};
 use script_line::is_silent;
 use std::alloc::Global;
 use std::io;
-use std::io::{BufWriter, Read, Write};
+use std::io::{Read, Write};
 
-/// Reads commands, a line each, and writes an answer line for each.
+/// Reads commands, a line each, and writes an answer line for each. A writer that holds what it is given spares calls.
 ///
-/// The whole input is read first. A line that is empty or begins with `#` has no answer. At the end each unit that is
-/// left on the bus is taken off.
+/// The whole input is read first. A line that is empty or begins with `#` has no answer. At the end the writer is flushed, and each
+/// unit that is left on the bus is taken off.
 ///
 /// # Errors
 /// - `Read`: a read failed.
 /// - `InputTooLong`, `NotUtf8`: the input is refused; nothing was answered.
 /// - `Write`: an answer could not be written.
-/// - `Memory`: memory was refused outside a command.
+/// - `Memory`: memory was refused while the input was read.
 pub fn script<R: Read, W: Write>(alloc: Global, reader: &mut R, writer: &mut W) -> Result<(), Fault>
     ensures unanswered { IfErr result (λ fault. IsOfInput fault → writer.new ≡ writer.old) }
     ensures too_long { result ≡ Err Fault.InputTooLong → IfSome (R.remaining reader.old) (λ bytes. input_limit < length bytes) }
+    ensures answered { OnOk result (IfSome (R.remaining reader.old) (λ input. IsAnswered (lines input) (W.contents writer.old) (W.contents writer.new))) }
 {
     let text = read_text(alloc, reader)?;
     answer_text(alloc, text.as_str(), writer)
@@ -35,18 +39,11 @@ pub fn script<R: Read, W: Write>(alloc: Global, reader: &mut R, writer: &mut W) 
 
 /// Answers the lines of a text.
 fn answer_text<W: Write>(alloc: Global, text: &str, writer: &mut W) -> Result<(), Fault>
-    ensures { IfErr result (λ fault. (fault ≡ Fault.Write) ⊎ (fault ≡ Fault.Memory)) }
+    ensures fault { IfErr result (λ fault. fault ≡ Fault.Write) }
+    ensures answered { OnOk result (IsAnswered (lines text.now) (W.contents writer.old) (W.contents writer.new)) }
 {
-    match BufWriter::new(alloc, writer) {
-        Ok(writer) => answer_all(alloc, text, &mut Answers::new(writer)),
-        Err(_) => Err(Fault::Memory),
-    }
-}
-
-fn answer_all<W: Write>(alloc: Global, text: &str, answers: &mut Answers<W>) -> Result<(), Fault>
-    ensures { IfErr result (λ fault. fault ≡ Fault.Write) }
-{
-    answer_lines(alloc, text, answers)?;
+    let mut answers = Answers::new(writer);
+    answer_lines(alloc, text, &mut answers)?;
     match answers.flush() {
         Ok(()) => Ok(()),
         Err(_) => Err(Fault::Write),
@@ -55,14 +52,18 @@ fn answer_all<W: Write>(alloc: Global, text: &str, answers: &mut Answers<W>) -> 
 
 /// Answers on their way to a writer: lines are held, and written when there is no room for one more.
 #[derive(Drop)]
-pub(crate) struct Answers<W> {
+pub(crate) struct Answers<'a, W> {
     held: TextBuffer,
-    writer: W,
+    writer: &'a mut W,
 }
 
-impl<W: Write> Answers<W> {
+impl<'a, W: Write> Answers<'a, W> {
     /// No answer yet.
-    fn new(writer: W) -> Answers<W> {
+    fn new(writer: &'a mut W) -> Answers<'a, W>
+        ensures lent { result.writer.ghost_name ≡ writer.entry.ghost_name }
+        ensures same { result.writer.now ≡ writer.old }
+        ensures none { result.held ≡ [] }
+    {
         Answers {
             held: TextBuffer::new(),
             writer,
@@ -70,19 +71,24 @@ impl<W: Write> Answers<W> {
     }
 
     /// Writes what is held, and has the writer write what it holds.
-    fn flush(&mut self) -> io::Result<()> {
-        self.held.write_to(&mut self.writer)?;
+    fn flush(&mut self) -> io::Result<()>
+        ensures lent { self.new.writer.ghost_name ≡ self.old.writer.ghost_name }
+        ensures written { OnOk result (Keeps (append_known (W.contents self.old.writer.now) self.old.held) (W.contents self.new.writer.now)) }
+    {
+        self.held.write_to(self.writer)?;
         self.writer.flush()
     }
 }
 
 /// It is given each answer, and nothing else.
-impl<W: Write> AnswerSink for Answers<W> {
+impl<W: Write> AnswerSink for Answers<'_, W> {
     ghost use Rattle.std.specs.Prelude.{◌≡◌};
     ghost use Rattle.std.specs.Io.KnownBytes.{append_known};
     ghost use Rattle.program_io.specs.declared.fault.Fault.TheVariants as fault;
 
-    ghost told = { λ a. append_known (W.contents a.writer) a.held };
+    ghost told = { λ a. append_known (W.contents a.writer.now) a.held };
+
+    ghost lent = { λ a. a.writer.ghost_name };
 
     ghost ends_by = { λ f. f ≡ fault.Write };
 
@@ -91,18 +97,18 @@ impl<W: Write> AnswerSink for Answers<W> {
     }
 
     fn answer(&mut self, answer: Result<LineAnswer, Refusal>) -> Result<(), Unwritten> {
-        put_answer(&mut self.held, &mut self.writer, answer)
+        put_answer(&mut self.held, self.writer, answer)
     }
 
     fn shown(&mut self, entries: &[Shown]) -> Result<(), Unwritten> {
-        self.held.write_to(&mut self.writer)?;
-        report::write_shown(entries, &mut self.writer)?;
+        self.held.write_to(self.writer)?;
+        report::write_shown(entries, self.writer)?;
         Ok(())
     }
 
     fn report(&mut self, snapshot: &Snapshot) -> Result<(), Unwritten> {
-        self.held.write_to(&mut self.writer)?;
-        report::write(snapshot, &mut self.writer)?;
+        self.held.write_to(self.writer)?;
+        report::write(snapshot, self.writer)?;
         Ok(())
     }
 

@@ -1,15 +1,11 @@
-ghost use Rattle.std.specs.Prelude.{◌≡◌, ◌≢◌, ◌<◌, ◌≤◌, length, None, IfSome, IsNone, IsSome, OnOk, Result as AnyResult, slice_get};
-ghost use Rattle.std.specs.Io.KnownBytes.{Appends};
+ghost use Rattle.std.specs.Prelude.{◌≡◌, ◌<◌, [], length, IfSome, IsSome, OnOk, slice_get};
 ghost use Rattle.journal.specs.Journal.{state_of};
-ghost use Rattle.script_answer.specs.Refused.{refusal_text};
-ghost use Rattle.script_answer.specs.Text.{answer_text};
-ghost use Rattle.script_answer.specs.declared.answer.LineAnswer.{LineAnswer as AnyAnswer};
-ghost use Rattle.script_answer.specs.declared.refusal.Refusal.{Refusal as AnyRefusal};
-ghost use Rattle.script_answer.specs.declared.refusal.Refusal.TheVariants.{BadLine};
 ghost use Rattle.garage.specs.ParkedUnits.{asked_of, sitting_of};
 ghost use Rattle.script_run.specs.Commands.{ActsBy, Does, Joins, Leaves};
+ghost use Rattle.script_run.specs.Lines.{BenchDoes, StationDoes, Writes};
+ghost use Rattle.script_run.specs.Moves.{MovesByJoining};
 ghost use Rattle.script_run.specs.Steps.{RunsRounds};
-ghost use Rattle.script_run.specs.Queries.{Reports, counts_answer, query_answer, query_text};
+ghost use Rattle.script_run.specs.Queries.{Reports, counts_answer, query_answer};
 
 use crate::answer_sink::AnswerSink;
 use crate::garage_commands::{ask, carry, command_to, inject, read, run_rounds};
@@ -31,7 +27,10 @@ pub(crate) struct Bench {
 
 impl Bench {
     /// This garage, with no unit yet. Takes no memory.
-    pub(crate) fn new(alloc: Global, garage: Garage) -> Bench {
+    pub(crate) fn new(alloc: Global, garage: Garage) -> Bench
+        ensures garage { result.garage ≡ garage }
+        ensures none { result.units.items ≡ [] }
+    {
         Bench {
             alloc,
             garage,
@@ -41,10 +40,11 @@ impl Bench {
 
     /// Puts a unit on the bus, which wants this address.
     pub(crate) fn join(&mut self, unit: Box<dyn Unit>, address: u8) -> Result<LineAnswer, Refusal>
-        ensures { Joins (sitting_of (λ b. (⟦<dyn Unit as Unit>⟧ b.vtable).name_of b.value)
+        ensures joins { Joins (sitting_of (λ b. (⟦<dyn Unit as Unit>⟧ b.vtable).name_of b.value)
             (λ b. (⟦<dyn Unit as Unit>⟧ b.vtable).memory_of b.value))
             ((⟦<dyn Unit as Unit>⟧ unit.vtable).name_of unit.value) address result self.old.garage self.old.units.items
             self.new.garage self.new.units.items }
+        ensures moves { MovesByJoining ((⟦<dyn Unit as Unit>⟧ unit.vtable).name_of unit.value) address result self.old.garage self.new.garage }
     {
         if self.units.reserve(1).is_err() {
             return Err(Refusal::Garage(GarageError::OutOfMemory));
@@ -88,43 +88,45 @@ impl Bench {
         read: &Option<ScriptLine>,
         sink: &mut L,
     ) -> Result<(), Unwritten>
-        ensures query { IfSome read.now (λ l. l.station < length self.old.garage.settings.stations → OnOk result
-            (IfSome (query_text self.old.garage l.station l.command) (Appends (L.AnswerSink.told sink.old) (L.AnswerSink.told sink.new)))) }
-        ensures same { IfSome read.now (λ l. IsSome (query_text self.old.garage l.station l.command) → self.new ≡ self.old) }
-        ensures report { IfSome read.now (λ l. l.station < length self.old.garage.settings.stations → l.command ≡ Command.Report
-            → (OnOk result (Reports self.old.garage l.station (L.AnswerSink.told sink.old) (L.AnswerSink.told sink.new))
-            × (self.new ≡ self.old))) }
-        ensures did { IfSome read.now (λ l. l.station < length self.old.garage.settings.stations → IsNone (query_text self.old.garage l.station l.command)
-            → l.command ≢ Command.Report → OnOk result ((r : AnyResult AnyAnswer AnyRefusal)
-            × Appends (L.AnswerSink.told sink.old) (L.AnswerSink.told sink.new) (answer_text r)
-            × Does (sitting_of (λ b. (⟦<dyn Unit as Unit>⟧ b.vtable).name_of b.value)
-            (λ b. (⟦<dyn Unit as Unit>⟧ b.vtable).memory_of b.value)) (asked_of (λ b. (⟦<dyn Unit as Unit>⟧ b.vtable).Answers b.value)) l.station l.command
-            r self.old.garage self.old.units.items self.new.garage self.new.units.items)) }
-        ensures stranger { IfSome read.now (λ l. length self.old.garage.settings.stations ≤ l.station
-            → OnOk result (Appends (L.AnswerSink.told sink.old) (L.AnswerSink.told sink.new) (refusal_text BadLine))) }
-        ensures no_line { read.now ≡ None
-            → OnOk result (Appends (L.AnswerSink.told sink.old) (L.AnswerSink.told sink.new) (refusal_text BadLine)) }
+        ensures lent { L.AnswerSink.lent sink.new ≡ L.AnswerSink.lent sink.old }
+        ensures does { OnOk result (Writes (L.AnswerSink.told sink.old) (L.AnswerSink.told sink.new) (λ text. BenchDoes read.now
+            self.old.garage text self.new.garage)) }
     {
-        let Some(ScriptLine { station, command }) = read else {
-            return sink.answer(Err(Refusal::BadLine));
-        };
-        if *station >= self.garage.stations() {
-            return sink.answer(Err(Refusal::BadLine));
+        match read {
+            Some(ScriptLine { station, command }) if *station < self.garage.stations() => {
+                self.answer_at(*station, command, sink)
+            }
+            _ => sink.answer(Err(Refusal::BadLine)),
         }
+    }
+
+    /// Carries a command out; one of a station has this station do it.
+    fn answer_at<L: AnswerSink>(
+        &mut self,
+        station: u32,
+        command: &Command,
+        sink: &mut L,
+    ) -> Result<(), Unwritten>
+        requires { station < length self.old.garage.settings.stations }
+        ensures lent { L.AnswerSink.lent sink.new ≡ L.AnswerSink.lent sink.old }
+        ensures does { OnOk result (Writes (L.AnswerSink.told sink.old) (L.AnswerSink.told sink.new) (λ text. StationDoes station command.now
+            self.old.garage text self.new.garage)) }
+    {
         match command {
             Command::Shown {
                 name: Ok(name),
                 kind,
-            } => sink.shown(self.garage.shown_at(*station, *name, *kind)),
-            Command::Report => self.report(*station, sink),
-            command => sink.answer(self.carry_out(*station, command)),
+            } => sink.shown(self.garage.shown_at(station, *name, *kind)),
+            Command::Report => self.report(station, sink),
+            command => sink.answer(self.carry_out(station, command)),
         }
     }
 
     /// Writes the report of a station.
     fn report<L: AnswerSink>(&self, station: u32, sink: &mut L) -> Result<(), Unwritten>
         requires { station < length self.now.garage.settings.stations }
-        ensures { OnOk result (Reports self.now.garage station (L.AnswerSink.told sink.old) (L.AnswerSink.told sink.new)) }
+        ensures lent { L.AnswerSink.lent sink.new ≡ L.AnswerSink.lent sink.old }
+        ensures told { OnOk result (Reports self.now.garage station (L.AnswerSink.told sink.old) (L.AnswerSink.told sink.new)) }
     {
         match self.garage.snapshot_at(self.alloc, station) {
             Ok(snapshot) => sink.report(&snapshot),

@@ -100,11 +100,13 @@ impl<'a, E: Write, W: Write> LineReporter<'a, E, W> {
 
 /// What a station shows, and its report, are passed over.
 impl<E: Write, W: Write> AnswerSink for LineReporter<'_, E, W> {
-    ghost use Rattle.std.specs.Prelude.{◌≡◌, ◌⊎◌, Err, None, IfErr, IfSome, IsSomeAnd};
+    ghost use Rattle.std.specs.Prelude.{◌≡◌, ◌⊎◌, Err, None, IfErr, IfSome, IsErr, IsSomeAnd};
     ghost use Rattle.program_io.specs.declared.fault.Fault.TheVariants as fault;
     ghost use Rattle.script_answer.specs.Wants.{WantsMemory};
 
     ghost told = { λ r. None };
+
+    ghost lent = { λ r. 0 };
 
     ghost ends_by = { λ f. (f ≡ fault.Write) ⊎ (f ≡ fault.Memory) };
 
@@ -137,6 +139,7 @@ impl<E: Write, W: Write> AnswerSink for LineReporter<'_, E, W> {
         answered: Result<(), Unwritten>,
     ) -> Result<(), Fault>
         ensures ends { IfErr result (λ f. (f ≡ Fault.Write) ⊎ (f ≡ Fault.Memory)) }
+        ensures unanswered { IsErr answered → IsErr result }
         ensures memory { IfSome self.old.refusal (λ refusal. WantsMemory refusal → result ≡ Err Fault.Memory) }
         ensures judged { result ≡ Err Fault.Memory → IsSomeAnd self.old.refusal WantsMemory }
     {

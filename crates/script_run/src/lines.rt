@@ -1,4 +1,7 @@
-ghost use Rattle.std.specs.Prelude.{IfErr};
+ghost use Rattle.std.specs.Prelude.{◌≡◌, None, IfErr, IsErr, OnOk};
+ghost use Rattle.std.specs.Option.{option_map};
+ghost use Rattle.std.specs.Str.Lines.{lines};
+ghost use Rattle.script_run.specs.Lines.{FirstDoes, IsAnswered, Makes, Writes, joined_by, setting_meant};
 
 use crate::answer_sink::AnswerSink;
 use crate::bench::Bench;
@@ -8,145 +11,153 @@ use program_io::Fault;
 use script_answer::{LineAnswer, Refusal, Unwritten};
 use script_line::{Command, ScriptLine, StationWords, read_line};
 use std::alloc::Global;
-use std::str::Lines;
 use unit_trait::{Simulated, UnitKind};
 
-/// Answers the lines of a script. At the end each unit that is left on the bus is taken off.
+/// Answers the lines of a script, one after another. At the end each unit that is left on the bus is taken off.
 pub(crate) fn answer_lines<L: AnswerSink>(
     alloc: Global,
     text: &str,
     sink: &mut L,
 ) -> Result<(), Fault>
-    ensures { IfErr result L.ends_by }
+    ensures ends { IfErr result L.ends_by }
+    ensures lent { L.AnswerSink.lent sink.new ≡ L.AnswerSink.lent sink.old }
+    ensures answered { OnOk result (IsAnswered (lines text.now) (L.AnswerSink.told sink.old) (L.AnswerSink.told sink.new)) }
 {
-    let mut lines = text.lines();
-    let Some(mut bench) = opened(alloc, &mut lines, sink)? else {
-        return Ok(());
-    };
+    let mut bench: Option<Bench> = None;
     let mut heard = Ok(());
-    for line in lines {
+    for line in text.lines() {
         if sink.begin_line(line) {
             continue;
         }
         let read = read_line(line);
-        let answered = match joining(&read) {
-            Some((name, address, kind)) => {
-                // Only here, where the bench is owned, may a unit of a kind become one of any kind.
-                let joined = match Box::new(alloc, Simulated::new(alloc, name, kind)) {
-                    Ok(unit) => bench.join(unit, address),
-                    Err(_) => Err(Refusal::Garage(GarageError::OutOfMemory)),
-                };
-                sink.answer(joined)
-            }
-            None => bench.answer(&read, sink),
+        let has_garage = bench.is_some();
+        let answered = match &mut bench {
+            Some(at) => match joining(&read) {
+                Some(newcomer) => {
+                    // Only here, where the bench is owned, may a unit of a kind become one of any kind.
+                    let unit = Simulated::new(alloc, newcomer.name, newcomer.kind);
+                    let joined = match Box::new(alloc, unit) {
+                        Ok(unit) => at.join(unit, newcomer.address),
+                        Err(_) => Err(Refusal::Garage(GarageError::OutOfMemory)),
+                    };
+                    sink.answer(joined)
+                }
+                None => at.answer(&read, sink),
+            },
+            None => begin(alloc, &read, &mut bench, sink),
         };
-        heard = sink.end_line(line, true, answered);
+        heard = sink.end_line(line, has_garage, answered);
         if heard.is_err() {
             break;
         }
     }
-    if heard.is_ok() {
-        heard = sink.finish(&bench);
-    }
-    bench.close();
-    heard
+    close(bench, heard, sink)
 }
 
-/// The NAME, the address and the kind of the unit that a line has join, where it has one join.
-fn joining(read: &Option<ScriptLine>) -> Option<(Name, u8, UnitKind)> {
-    let Some(
-        ScriptLine {
-            command: Command::Join {
-                name: Ok(name),
-                address,
-                kind,
-            },
-            ..
-        },
-    ) = read
-    else {
-        return None;
-    };
-    Some((*name, *address, *kind))
-}
-
-/// Answers lines up to the one that makes a garage, where there is such a line.
-fn opened<L: AnswerSink>(
-    alloc: Global,
-    lines: &mut Lines<'_>,
+/// Takes each unit off the bus. Where each line was answered, the sink looks at the garage before that.
+fn close<L: AnswerSink>(
+    bench: Option<Bench>,
+    answered: Result<(), Fault>,
     sink: &mut L,
-) -> Result<Option<Bench>, Fault>
-    ensures { IfErr result L.ends_by }
+) -> Result<(), Fault>
+    requires { IfErr answered L.ends_by }
+    ensures ends { IfErr result L.ends_by }
+    ensures unanswered { IsErr answered → IsErr result }
+    ensures lent { L.AnswerSink.lent sink.new ≡ L.AnswerSink.lent sink.old }
+    ensures told { L.AnswerSink.told sink.new ≡ L.AnswerSink.told sink.old }
 {
-    for line in lines {
-        if sink.begin_line(line) {
-            continue;
-        }
-        let answered = match answer_before(alloc, line, sink) {
-            Ok(Some(bench)) => return Ok(Some(bench)),
-            Ok(None) => Ok(()),
-            Err(error) => Err(error),
-        };
-        sink.end_line(line, false, answered)?;
+    let Some(bench) = bench else {
+        return answered;
+    };
+    let ended = match answered {
+        Ok(()) => sink.finish(&bench),
+        Err(fault) => Err(fault),
+    };
+    bench.close();
+    ended
+}
+
+/// A unit that a line has join.
+#[derive(Clone, Copy)]
+struct Newcomer {
+    name: Name,
+    address: u8,
+    kind: UnitKind,
+}
+
+/// The unit that a line has join, where it has one join.
+fn joining(read: &Option<ScriptLine>) -> Option<Newcomer>
+    ensures { option_map (λ unit. (unit.name, unit.address)) result ≡ joined_by read.now }
+{
+    match read {
+        Some(
+            ScriptLine {
+                command: Command::Join {
+                    name: Ok(name),
+                    address,
+                    kind,
+                },
+                ..
+            },
+        ) => Some(Newcomer {
+            name: *name,
+            address: *address,
+            kind: *kind,
+        }),
+        _ => None,
     }
-    Ok(None)
 }
 
 /// Answers a line of a script that has no garage yet; it may make one.
-fn answer_before<L: AnswerSink>(
+fn begin<L: AnswerSink>(
     alloc: Global,
-    line: &str,
+    read: &Option<ScriptLine>,
+    bench: &mut Option<Bench>,
     sink: &mut L,
-) -> Result<Option<Bench>, Unwritten> {
-    let made = match read_line(line) {
-        Some(read) => garage_of(alloc, read.command),
-        None => Err(Refusal::BadLine),
+) -> Result<(), Unwritten>
+    ensures lent { L.AnswerSink.lent sink.new ≡ L.AnswerSink.lent sink.old }
+    ensures does { bench.old ≡ None → OnOk result (Writes (L.AnswerSink.told sink.old) (L.AnswerSink.told sink.new)
+        (λ text. FirstDoes read.now text (option_map (λ b. b.garage) bench.new))) }
+{
+    let Some(line) = read else {
+        return sink.answer(Err(Refusal::BadLine));
     };
-    match made {
+    match made_by(alloc, &line.command) {
         Ok(garage) => {
-            let bench = Bench::new(alloc, garage);
-            match sink.answer(Ok(LineAnswer::Done)) {
-                Ok(()) => Ok(Some(bench)),
-                Err(error) => {
-                    bench.close();
-                    Err(error)
-                }
+            if let Some(before) = bench.replace(Bench::new(alloc, garage)) {
+                before.close();
             }
+            sink.answer(Ok(LineAnswer::Done))
         }
-        Err(refusal) => {
-            sink.answer(Err(refusal))?;
-            Ok(None)
-        }
+        Err(refusal) => sink.answer(Err(refusal)),
     }
 }
 
 /// The garage that a command makes; any other command is refused here.
-fn garage_of(alloc: Global, command: Command) -> Result<Garage, Refusal> {
-    if let Command::Garage {
-        name,
-        address,
-        window,
-        grant,
-        limit,
-    } = command
-    {
-        return Ok(Garage::new(alloc, name?, address, window, grant, limit)?);
+fn made_by(alloc: Global, command: &Command) -> Result<Garage, Refusal>
+    ensures { Makes command.now result }
+{
+    match *command {
+        Command::Garage {
+            name,
+            address,
+            window,
+            grant,
+            limit,
+        } => Ok(Garage::new(alloc, name?, address, window, grant, limit)?),
+        Command::Garage2 {
+            first,
+            second,
+            limit,
+        } => Ok(Garage::with_two(alloc, setting_of(first)?, setting_of(second)?, limit)?),
+        _ => Err(Refusal::BadLine),
     }
-    if let Command::Garage2 {
-        first,
-        second,
-        limit,
-    } = command
-    {
-        let first = setting_of(first)?;
-        let second = setting_of(second)?;
-        return Ok(Garage::with_two(alloc, first, second, limit)?);
-    }
-    Err(Refusal::BadLine)
 }
 
 /// How words want a station opened.
-fn setting_of(words: StationWords) -> Result<Setting, NameError> {
+fn setting_of(words: StationWords) -> Result<Setting, NameError>
+    ensures { result ≡ setting_meant words }
+{
     let StationWords {
         name,
         address,

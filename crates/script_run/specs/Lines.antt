@@ -1,0 +1,134 @@
+-- What the lines of a script are answered, one after another.
+use Rattle.std.specs.Prelude.{◌≡◌, ◌≢◌, ◌⊎◌, ℕ, ◌≤◌, ◌<◌, true, List, [], ◌∷◌, ◌++◌, length, Option, Some, None, IfSome, IsNone, IsSomeAnd, MatchOption, Result, Ok, Err}
+use Rattle.std.specs.Io.KnownBytes.{Appends}
+use Rattle.name_field.specs.declared.error.NameError.{NameError}
+use Rattle.journal.specs.Journal.{GarageValue}
+use Rattle.journal.specs.State.{Settings}
+use Rattle.garage.specs.Opening.{AreSettings, IsSetting, new_garage, setting_value, with_one, with_stations}
+use Rattle.garage.specs.declared.error.GarageError.{GarageError}
+use Rattle.garage.specs.declared.error.GarageError.TheVariants.{BadSetting, NameInUse, OutOfMemory}
+use Rattle.garage.specs.declared.opening.Setting.{Setting}
+use Rattle.script_answer.specs.Refused.{refusal_text}
+use Rattle.script_answer.specs.Text.{answer_text, given_text}
+use Rattle.script_answer.specs.declared.answer.LineAnswer.{LineAnswer}
+use Rattle.script_answer.specs.declared.answer.LineAnswer.TheVariants.{Done}
+use Rattle.script_answer.specs.declared.refusal.Refusal.{Refusal}
+use Rattle.script_answer.specs.declared.refusal.Refusal.TheVariants.{BadLine, Garage, Name}
+use Rattle.script_line.specs.Line.{IsSilent}
+use Rattle.script_line.specs.Numbers.{SpellsNumber}
+use Rattle.script_line.specs.Station.{NamesStation, is_of_station, station_word}
+use Rattle.script_line.specs.declared.command.Command.{Command}
+use Rattle.script_line.specs.declared.command.Command.TheVariants as command
+use Rattle.script_line.specs.declared.command.ScriptLine.{ScriptLine}
+use Rattle.script_line.specs.declared.command.StationWords.{StationWords}
+use Rattle.script_run.specs.Moves.{Moves, MovesByJoining}
+use Rattle.script_run.specs.Queries.{query_text, report_at}
+
+-- ---- before there is a garage
+
+-- how words want a station opened
+abbrev pub setting_named : StationWords → Result ℕ NameError → Result Setting NameError
+setting_named w (Ok n) = Ok (record { name = n; address = w.address; window = w.window; grant = w.grant })
+setting_named w (Err e) = Err e
+
+abbrev pub setting_meant : StationWords → Result Setting NameError
+setting_meant w = setting_named w w.name
+
+-- the settings of one station, and of two
+abbrev pub one_meant : Result Setting NameError → ℕ → Result Settings Refusal
+one_meant (Ok a) limit = Ok (with_one (setting_value a) limit)
+one_meant (Err e) limit = Err (Name e)
+
+abbrev pub two_meant : Result Setting NameError → Result Setting NameError → ℕ → Result Settings Refusal
+two_meant (Ok a) (Ok b) limit = Ok (with_stations (a ∷ b ∷ []) limit)
+two_meant (Ok a) (Err e) limit = Err (Name e)
+two_meant (Err e) b limit = Err (Name e)
+
+-- the settings of the garage that a command makes; any other command is refused before there is one
+abbrev pub settings_meant : Command → Result Settings Refusal
+settings_meant (command.Garage name address window grant limit) = one_meant (setting_meant (record { name = name; window = window; address = address; grant = grant })) limit
+settings_meant (command.Garage2 limit first second) = two_meant (setting_meant first) (setting_meant second) limit
+settings_meant _ = Err BadLine
+
+-- why there is no garage with these settings: one of them is out of its range, two NAMEs are the same, or there is no memory
+abbrev pub IsNotMade : Command → GarageError → Type 0
+IsNotMade (command.Garage (Ok n) address window grant limit) e =
+    ((e ≡ BadSetting) × (¬ IsSetting (record { name = n; address = address; window = window; grant = grant }) limit)) ⊎ (e ≡ OutOfMemory)
+IsNotMade (command.Garage2 limit first second) e = (a : Setting) × (b : Setting) × (setting_meant first ≡ Ok a) × (setting_meant second ≡ Ok b)
+    × (((e ≡ BadSetting) × (¬ AreSettings (a ∷ b ∷ []) limit)) ⊎ ((e ≡ NameInUse) × AreSettings (a ∷ b ∷ []) limit × (a.name ≡ b.name)) ⊎ (e ≡ OutOfMemory))
+IsNotMade _ e = ⊥
+
+-- the garage that a command makes, of which nothing has happened, or why it makes none
+abbrev pub Makes : Command → Result GarageValue Refusal → Type 0
+Makes c (Ok g) = (how : Settings) × (settings_meant c ≡ Ok how) × (g ≡ new_garage how)
+Makes c (Err r) = (settings_meant c ≡ Err r) ⊎ ((e : GarageError) × (r ≡ Garage e) × IsNotMade c e)
+
+abbrev pub made_text : Result GarageValue Refusal → List ℕ
+made_text (Ok g) = given_text Done
+made_text (Err r) = refusal_text r
+
+-- ---- a line
+
+-- this was written, of which P holds
+abbrev pub Writes : Option (List ℕ) → Option (List ℕ) → (List ℕ → Type 0) → Type 0
+Writes old new P = (text : List ℕ) × P text × Appends old new text
+
+-- where a script stands: at a garage, once there is one
+abbrev pub made_stand : Result GarageValue Refusal → Option GarageValue
+made_stand (Ok g) = Some g
+made_stand (Err r) = None
+
+-- a command of the station with this number wrote this text: of a query, what the garage shows, and nothing changed; of `report`, the
+-- report, or that there was no memory for it; of any other, the answer of what it did
+pub record StationDoes (y : ℕ) (c : Command) (g : GarageValue) (text : List ℕ) (g' : GarageValue) : Type 0 where
+  pub query : IfSome (query_text g y c) (λ shown. (text ≡ shown) × (g' ≡ g))
+  pub report : c ≡ command.Report → ((text ≡ report_at g y) ⊎ (text ≡ refusal_text (Garage OutOfMemory))) × (g' ≡ g)
+  pub other : IsNone (query_text g y c) → c ≢ command.Report → (r : Result LineAnswer Refusal) × (text ≡ answer_text r) × Moves y c r g g'
+
+-- what is no command, and one of a station that is not there, is refused
+abbrev pub BenchDoes : Option ScriptLine → GarageValue → List ℕ → GarageValue → Type 0
+BenchDoes None g text g' = (text ≡ refusal_text BadLine) × (g' ≡ g)
+BenchDoes (Some l) g text g' =
+    (length g.settings.stations ≤ l.station → (text ≡ refusal_text BadLine) × (g' ≡ g))
+    × (l.station < length g.settings.stations → StationDoes l.station l.command g text g')
+
+-- the NAME and the address of the unit that a line has join
+abbrev pub joined : Command → Option (ℕ × ℕ)
+joined (command.Join (Ok name) address kind) = Some (name, address)
+joined _ = None
+
+abbrev pub joined_by : Option ScriptLine → Option (ℕ × ℕ)
+joined_by None = None
+joined_by (Some l) = joined l.command
+
+-- a unit joined; or the command was carried out
+abbrev pub LineDoes : Option ScriptLine → GarageValue → List ℕ → GarageValue → Type 0
+LineDoes read g text g' =
+    MatchOption (joined_by read) (BenchDoes read g text g') (λ j. (r : Result LineAnswer Refusal) × (text ≡ answer_text r) × MovesByJoining j.0 j.1 r g g')
+
+-- the first garage is made by a command, before which there is nothing
+abbrev pub FirstDoes : Option ScriptLine → List ℕ → Option GarageValue → Type 0
+FirstDoes None text s = (text ≡ refusal_text BadLine) × (s ≡ None)
+FirstDoes (Some l) text s = (made : Result GarageValue Refusal) × Makes l.command made × (text ≡ made_text made) × (s ≡ made_stand made)
+
+abbrev pub StandDoes : Option ScriptLine → Option GarageValue → List ℕ → Option GarageValue → Type 0
+StandDoes read None text s = FirstDoes read text s
+StandDoes read (Some g) text s = IsSomeAnd s (λ g'. LineDoes read g text g')
+
+-- the command that a line was read as, if any, is of the station that the line names
+abbrev pub IsRead : List ℕ → Option ScriptLine → Type 0
+IsRead line read = IfSome read (λ l. (NamesStation line → SpellsNumber (station_word line) l.station × (is_of_station l.command ≡ true)) × (¬ NamesStation line → l.station ≡ 0))
+
+-- a line was answered so: one that is empty or a comment by nothing
+abbrev pub Answers : List ℕ → Option GarageValue → List ℕ → Option GarageValue → Type 0
+Answers line s text s' = (IsSilent line × (text ≡ []) × (s' ≡ s)) ⊎ ((¬ IsSilent line) × ((read : Option ScriptLine) × IsRead line read × StandDoes read s text s'))
+
+-- lines were answered one after another, each once, and this was written
+unfoldable pub AnswersAll : List (List ℕ) → Option GarageValue → List ℕ → Option GarageValue → Type 0
+AnswersAll [] s text s' = (text ≡ []) × (s' ≡ s)
+AnswersAll (line ∷ lines) s text s' = (one : List ℕ) × (t : Option GarageValue) × (rest : List ℕ)
+    × (text ≡ one ++ rest) × Answers line s one t × AnswersAll lines t rest s'
+
+-- so a script was answered, and what was written stands behind what stood there
+abbrev pub IsAnswered : List (List ℕ) → Option (List ℕ) → Option (List ℕ) → Type 0
+IsAnswered lines old new = (text : List ℕ) × (s : Option GarageValue) × AnswersAll lines None text s × Appends old new text

@@ -1,0 +1,72 @@
+-- What a command of a script leaves of the garage, under the answer that tells it: which events were added.
+use Rattle.std.specs.Prelude.{◌≡◌, ℕ, ◌≤◌, ◌<◌, List, length, Result, Ok, Err}
+use Rattle.fault_memory.specs.Memory.{MemoryValue}
+use Rattle.journal.specs.Journal.{Adds, GarageValue}
+use Rattle.journal.specs.declared.event.Event.{Event}
+use Rattle.journal.specs.declared.event.Event.TheVariants.{Hear, Join, Leave, Turned}
+use Rattle.garage.specs.Answers.{Begins}
+use Rattle.garage.specs.Crew.{Comes, LeadTo}
+use Rattle.garage.specs.Hearing.{HasHeardAll}
+use Rattle.garage.specs.declared.answers.Begin.TheVariants as begin
+use Rattle.script_answer.specs.declared.answer.LineAnswer.{LineAnswer}
+use Rattle.script_answer.specs.declared.answer.LineAnswer.TheVariants as answer
+use Rattle.script_answer.specs.declared.refusal.Refusal.{Refusal}
+use Rattle.script_answer.specs.declared.refusal.Refusal.TheVariants.{Garage}
+use Rattle.script_line.specs.declared.command.Command.{Command}
+use Rattle.script_line.specs.declared.command.Command.TheVariants as command
+use Rattle.script_run.specs.Steps.{Asks, CarriesSo, Commands, EndsTold, Injects, ReadsSo}
+
+-- the unit of this seat hears
+abbrev pub IsHearOf : ℕ → Event → Type 0
+IsHearOf k (Hear j memory answered) = j ≡ k
+IsHearOf k _ = ⊥
+
+-- it heard so many frames, one after another
+abbrev pub HeardBy : ℕ → ℕ → GarageValue → GarageValue → Type 0
+HeardBy k n g g' = (events : List Event) × LeadTo (IsHearOf k) events g g' × (length events ≡ n)
+
+-- as many as asked for, or fewer, since it has heard the whole wire; or some, and the next one was refused
+abbrev pub MovesByHearing : ℕ → ℕ → Result LineAnswer Refusal → GarageValue → GarageValue → Type 0
+MovesByHearing k most (Ok (answer.Heard n)) g g' = HeardBy k n g g' × (n ≤ most) × (n < most → HasHeardAll k g')
+MovesByHearing k most (Ok a) g g' = ⊥
+MovesByHearing k most (Err r) g g' = (n : ℕ) × (n ≤ most) × HeardBy k n g g'
+
+-- units heard, stations read and frames were carried, so many as is told, for the reason that is told; or rounds were cut short
+abbrev pub MovesByRounds : ℕ → Result LineAnswer Refusal → GarageValue → GarageValue → Type 0
+MovesByRounds most (Ok (answer.Carried n end)) g g' = Comes g g' × EndsTold most n end g'
+MovesByRounds most (Ok a) g g' = ⊥
+MovesByRounds most (Err (Garage e)) g g' = Comes g g'
+MovesByRounds most (Err r) g g' = ⊥
+
+-- a DM1 of the unit of this seat began, or one is under way; refused, nothing changed
+abbrev pub MovesByBeginning : ℕ → Result LineAnswer Refusal → GarageValue → GarageValue → Type 0
+MovesByBeginning k (Ok answer.Begun) g g' = (memory : MemoryValue) × Begins g k memory begin.Begun g'
+MovesByBeginning k (Ok answer.Held) g g' = (memory : MemoryValue) × Begins g k memory begin.Held g'
+MovesByBeginning k (Ok a) g g' = ⊥
+MovesByBeginning k (Err r) g g' = g' ≡ g
+
+-- this event was added, which is answered by `ok`; refused, nothing changed
+abbrev pub MovesBy : Event → Result LineAnswer Refusal → GarageValue → GarageValue → Type 0
+MovesBy e (Ok a) g g' = (a ≡ answer.Done) × Adds g e g'
+MovesBy e (Err r) g g' = g' ≡ g
+
+-- a unit of this NAME, which wants this address, joined; refused, nothing changed
+abbrev pub MovesByJoining : ℕ → ℕ → Result LineAnswer Refusal → GarageValue → GarageValue → Type 0
+MovesByJoining name address (Ok (answer.Seat k)) g g' = Adds g (Join k name address) g'
+MovesByJoining name address (Ok a) g g' = ⊥
+MovesByJoining name address (Err r) g g' = g' ≡ g
+
+-- what a command leaves, of the station with this number where it is a station's; a change of a unit's fault memory, and any other, leaves the
+-- garage as it was
+abbrev pub Moves : ℕ → Command → Result LineAnswer Refusal → GarageValue → GarageValue → Type 0
+Moves y (command.Carry most) r g g' = CarriesSo most r g g'
+Moves y (command.Read most) r g g' = ReadsSo y most r g g'
+Moves y (command.Round most) r g g' = MovesByRounds most r g g'
+Moves y (command.Ask to what) r g g' = Asks y to what r g g'
+Moves y (command.Command name address) r g g' = Commands y name address r g g'
+Moves y (command.Inject frame) r g g' = Injects frame r g g'
+Moves y (command.Hear k most) r g g' = MovesByHearing k most r g g'
+Moves y (command.Dm1 k) r g g' = MovesByBeginning k r g g'
+Moves y (command.Turn k) r g g' = MovesBy (Turned k) r g g'
+Moves y (command.Leave k) r g g' = MovesBy (Leave k) r g g'
+Moves y _ r g g' = g' ≡ g

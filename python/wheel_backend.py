@@ -1,7 +1,7 @@
 """Makes the wheel of hidzgula, with the library inside (PEP 517): what pip calls, by pyproject.toml. It needs Python alone, and no network.
 
-The library is c/out/libhidzgula_station.so, which `c/build shared` makes; `python/build` calls both. Two wheels of the same files are
-the same, byte for byte.
+The library is c/out/libhidzgula_station.so, which `c/build shared` makes, or with the setting `target=aarch64` that of 64-bit ARM;
+`python/build` calls both. Two wheels of the same files are the same, byte for byte.
 """
 
 import base64
@@ -12,9 +12,8 @@ import sys
 import zipfile
 
 HERE = pathlib.Path(__file__).resolve().parent
-LIBRARY = HERE.parent / "c/out/libhidzgula_station.so"
-# The library needs x86-64 Linux, and of the C library malloc, realloc, free, memcpy, memmove and memset alone.
-TAG = "py3-none-manylinux_2_17_x86_64"
+# The library by its processor. It needs Linux, and of the C library malloc, realloc, free, memcpy and memmove alone.
+LIBRARIES = {"x86_64": HERE.parent / "c/out/libhidzgula_station.so", "aarch64": HERE.parent / "c/out/aarch64/libhidzgula_station.so"}
 
 
 def version():
@@ -43,20 +42,28 @@ Requires-Dist: pytest>=6.0; extra == "pytest"
 ENTRY_POINTS = "[pytest11]\nhidzgula = hidzgula.pytest_plugin\n"
 
 
-def wheel_facts():
+def tag(target):
+    """Where the wheel can be installed."""
+    return f"py3-none-manylinux_2_17_{target}"
+
+
+def wheel_facts(target):
     """How the wheel is to be installed."""
-    return f"Wheel-Version: 1.0\nGenerator: hidzgula wheel_backend\nRoot-Is-Purelib: false\nTag: {TAG}\n"
+    return f"Wheel-Version: 1.0\nGenerator: hidzgula wheel_backend\nRoot-Is-Purelib: false\nTag: {tag(target)}\n"
 
 
-def files():
+def files(target):
     """The name in the wheel and the bytes of each file, but for the list of them."""
-    if not LIBRARY.is_file():
-        sys.exit(f"there is no {LIBRARY}: c/build shared makes it")
+    if target not in LIBRARIES:
+        sys.exit(f"the target {target} is none of {', '.join(LIBRARIES)}")
+    library = LIBRARIES[target]
+    if not library.is_file():
+        sys.exit(f"there is no {library}: c/build shared makes it")
     package = [path for ending in ("*.py", "pages/*.*", "py.typed") for path in sorted((HERE / "hidzgula").rglob(ending))]
     found = [(str(path.relative_to(HERE)), path.read_bytes()) for path in package]
-    found.append((f"hidzgula/{LIBRARY.name}", LIBRARY.read_bytes()))
+    found.append((f"hidzgula/{library.name}", library.read_bytes()))
     info = f"hidzgula-{version()}.dist-info"
-    said = (("METADATA", metadata()), ("WHEEL", wheel_facts()), ("entry_points.txt", ENTRY_POINTS))
+    said = (("METADATA", metadata()), ("WHEEL", wheel_facts(target)), ("entry_points.txt", ENTRY_POINTS))
     return info, [*found, *((f"{info}/{name}", text.encode()) for name, text in said)]
 
 
@@ -68,9 +75,10 @@ def line_of(name, content):
 
 def build_wheel(wheel_directory, config_settings=None, metadata_directory=None):
     """Writes the wheel into a folder, and tells its name."""
-    info, found = files()
+    target = (config_settings or {}).get("target", "x86_64")
+    info, found = files(target)
     record = "".join(line_of(name, content) for name, content in found) + f"{info}/RECORD,,\n"
-    called = f"hidzgula-{version()}-{TAG}.whl"
+    called = f"hidzgula-{version()}-{tag(target)}.whl"
     with zipfile.ZipFile(pathlib.Path(wheel_directory) / called, "w", zipfile.ZIP_DEFLATED) as wheel:
         for name, content in [*found, (f"{info}/RECORD", record.encode())]:
             entry = zipfile.ZipInfo(name, (1980, 1, 1, 0, 0, 0))
@@ -87,4 +95,4 @@ def build_sdist(sdist_directory, config_settings=None):
 
 if __name__ == "__main__":
     pathlib.Path(sys.argv[1]).mkdir(parents=True, exist_ok=True)
-    print(pathlib.Path(sys.argv[1]) / build_wheel(sys.argv[1]))
+    print(pathlib.Path(sys.argv[1]) / build_wheel(sys.argv[1], {"target": sys.argv[2]}))

@@ -186,7 +186,7 @@ RECORDS = (
 
 for record, called, size in RECORDS:
     if ctypes.sizeof(record) != size:
-        raise ImportError(f"{called} has {ctypes.sizeof(record)} bytes here and {size} in the library, which is for x86-64 Linux")
+        raise ImportError(f"{called} has {ctypes.sizeof(record)} bytes here and {size} in the library, which is for 64-bit Linux")
 
 _STATION = POINTER(StationRecord)
 _REPLY = POINTER(ReplyRecord)

@@ -13,6 +13,7 @@ import os
 import pathlib
 import re
 import shutil
+import subprocess
 import sys
 
 sys.dont_write_bytecode = True
@@ -105,6 +106,20 @@ def all_skipped(why):
     """Ends a runner that cannot try anything here, which is no failure: its last line, and its status."""
     skipped(why)
     return Tally().end(may_be_none=True)
+
+
+def aarch64():
+    """The words of a compiler for 64-bit ARM, and those before a program of it that is run. None, which is told, where they are not here, or where there is
+    no proof, without which no library is built."""
+    compiler = os.environ.get("CROSS_COMPILE", "aarch64-linux-gnu-") + "gcc"
+    lacking = [it for it in (compiler, "qemu-aarch64") if not shutil.which(it)]
+    probe = {"input": b"#include <stdlib.h>\n", "stderr": subprocess.DEVNULL}
+    if not lacking and subprocess.run([compiler, "-fsyntax-only", "-xc", "-"], **probe).returncode:
+        lacking = [f"C library of {compiler}"]
+    if lacking or is_without_proof():
+        return skipped(f"the library for aarch64, since there is no {' and no '.join(lacking or ['proof'])} here")
+    # (where Debian has the C library of aarch64)
+    return [compiler], ["qemu-aarch64", "-L", "/usr/aarch64-linux-gnu"]
 
 
 def took(seconds, what):

@@ -171,8 +171,8 @@ Lamps = Tuple[str, ...]
 
 @functools.lru_cache(256)
 def lit(states: str) -> Lamps:
-    """The lamps that are on, the worst first, of the two hexadecimal digits that say which."""
-    return tuple(lamp for lamp in LAMPS if int(states, 16) >> _PLACES[lamp] & 3 == _ON)
+    """The lamps that are on, the worst first, of the hexadecimal digits of which the first two say which."""
+    return tuple(lamp for lamp in LAMPS if int(states[:2], 16) >> _PLACES[lamp] & 3 == _ON)
 
 
 @functools.lru_cache(256)
@@ -289,7 +289,7 @@ class Facts:
         before = self._before.get((key, kind), frozenset())
         for run in runs:
             told = {(code["spn"], code["fmi"]): code for code in run["codes"]} or {NO_CODE: {}}
-            lamps, first, last = lit(run["lamps"][:2]), micros(run["first"]), micros(run["last"])
+            lamps, first, last = lit(run["lamps"]), micros(run["first"]), micros(run["last"])
             times, is_in_part = run["times"], "not_read" in run
             for code, words in told.items():
                 fact = self._codes.get((key, kind, code)) or self._new_fact(key, kind, code)

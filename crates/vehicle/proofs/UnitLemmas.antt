@@ -7,7 +7,9 @@ use Rattle.toml.proofs.Views.{items_view-push}
 use Rattle.std.proofs.lemmas.List.Quantifiers.{all_pairs_push}
 use Rattle.std.specs.List.{All}
 use Rattle.vehicle.specs.Holding.{EachHolds, EachHoldsAt, HasItemsAt}
+use Rattle.vehicle.specs.Identifying.{HaveDistinctGroups}
 use Rattle.vehicle.specs.Live.{HaveDistinctNames}
+use Rattle.vehicle.specs.declared.answer_line.AnswerLine.{AnswerLine}
 use Rattle.vehicle.specs.declared.live.LiveLine.{LiveLine}
 
 pushed : {A : Type 0} (holds : Data → A → Type 0) (ds : Items) (xs : List A) (d : Data) (x : A) → EachHolds holds ds xs → holds d x → EachHolds holds (push_item ds d) (xs ++ x ∷ [])
@@ -39,3 +41,10 @@ pub one_more_name : (units : List LiveLine) (i : ℕ) (unit : LiveLine) → i < 
 one_more_name units i unit l is h k =
     let here : take (i + 1) units ≡ take i units ++ unit ∷ [] = take_more units i unit l ∙ ap (λ y. take i units ++ y ∷ []) (sym is) in
     rw here (all_pairs_push (λ (one other : LiveLine). one.unit.name ≢ other.unit.name) (take i units) unit h k)
+
+-- one more group, which none of those before is
+pub one_more_group : (answers : List AnswerLine) (i : ℕ) (answer : AnswerLine) → i < length answers → answer ≡ get_or answers i answer
+    → HaveDistinctGroups (take i answers) → All (λ one. one.pgn ≢ answer.pgn) (take i answers) → HaveDistinctGroups (take (i + 1) answers)
+one_more_group answers i answer l is h k =
+    let here : take (i + 1) answers ≡ take i answers ++ answer ∷ [] = take_more answers i answer l ∙ ap (λ y. take i answers ++ y ∷ []) (sym is) in
+    rw here (all_pairs_push (λ (one other : AnswerLine). one.pgn ≢ other.pgn) (take i answers) answer h k)

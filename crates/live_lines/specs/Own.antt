@@ -1,5 +1,5 @@
 -- What a unit sends of the groups that it answers beside its node, and what their session hears.
-use Rattle.std.specs.Prelude.{ℕ, ◌≡◌, ◌≤◌, ◌<◌, ◌⊎◌, ◌+◌, ◌-◌, ◌==◌, ◌&&◌, ◌||◌, Bool, true, false, min, nat_le, nat_lt, List, length, Option, Some, None, slice_get, if◌then◌else◌}
+use Rattle.std.specs.Prelude.{ℕ, ◌≡◌, ◌≤◌, ◌<◌, ◌⊎◌, ◌+◌, ◌-◌, ◌==◌, ◌&&◌, ◌||◌, Bool, true, not, min, nat_le, nat_lt, List, length, Option, Some, None, is_some, slice_get, if◌then◌else◌}
 use Rattle.can_frame.specs.FrameValue.{FrameValue}
 use Rattle.can_frame.specs.declared.address.TheConstants.{GLOBAL_ADDRESS}
 use Rattle.address_claim.specs.Claiming.{is_held}
@@ -16,18 +16,26 @@ use Rattle.live_lines.specs.declared.own_session.OwnSession.{OwnSession}
 use Rattle.live_lines.specs.declared.own_session.TheConstants.{LEFT_ALONE}
 
 -- frame j of the answer at a place, from an address to another or to all
-abbrev pub IsFrameAt : List Answering → ℕ → ℕ → ℕ → ℕ → FrameValue → Type 0
-IsFrameAt all place source destination j f =
-    (a : Answering) × (slice_get all place ≡ Some a) × (j ≤ last_frame a.line.bytes.items) × (f ≡ answer_frame a.line source destination j)
+pub record IsFrameAt (all : List Answering) (place source destination j : ℕ) (f : FrameValue) : Type 0 where
+  pub answering : Answering
+  pub at : slice_get all place ≡ Some answering
+  pub within : j ≤ last_frame answering.line.bytes.items
+  pub frame : f ≡ answer_frame answering.line source destination j
 
 -- an answer that was asked for of all goes: one frame at once; packets where no other message of several goes to all
 abbrev pub goes_now : Bool → Answering → Bool
 goes_now may_begin a = a.is_asked && (may_begin || nat_le (length a.line.bytes.items) 8)
 
 -- the first frame of such an answer
-abbrev pub BeginsAnswer : Bool → List Answering → ℕ → ℕ → FrameValue → Type 0
-BeginsAnswer may_begin all place source f =
-    ((a : Answering) × (slice_get all place ≡ Some a) × (goes_now may_begin a ≡ true)) × IsFrameAt all place source GLOBAL_ADDRESS 0 f
+pub record BeginsAnswer (may_begin : Bool) (all : List Answering) (source : ℕ) (f : FrameValue) : Type 0 where
+  pub place : ℕ
+  pub first : IsFrameAt all place source GLOBAL_ADDRESS 0 f
+  pub asked : goes_now may_begin first.answering ≡ true
+
+-- the next packet of an answer that goes to all
+pub record SendsPacket (b : OwnBroadcast) (all : List Answering) (source now : ℕ) (f : FrameValue) : Type 0 where
+  pub waited : b.from ≤ now
+  pub packet : IsFrameAt all b.place source GLOBAL_ADDRESS b.next f
 
 -- behind a frame of an answer to all: the next packet, from that time on; none behind the last
 abbrev pub broadcast_behind : ℕ → ℕ → ℕ → ℕ → Option OwnBroadcast
@@ -67,3 +75,21 @@ session_heard s last held (AddressClaimed source name) now = if source == s.dest
 session_heard s last held (ConnectionManagement source destination control) now =
     if is_held held destination && (source == s.dest) then session_told s last control now else Some s
 session_heard s last held _ now = Some s
+
+-- ---- all of it
+
+-- what goes of a session
+abbrev pub OfSession : Option OwnSession → List Answering → ℕ → ℕ → FrameValue → Type 0
+OfSession None all source now f = ⊥
+OfSession (Some s) all source now f = SendsNext s all source f ⊎ PartsFor s now source f
+
+-- and of what goes to all in packets
+abbrev pub OfBroadcast : Option OwnBroadcast → List Answering → ℕ → ℕ → FrameValue → Type 0
+OfBroadcast None all source now f = ⊥
+OfBroadcast (Some b) all source now f = SendsPacket b all source now f
+
+-- what a unit owes of the groups that it answers
+abbrev pub IsOwed : Option OwnSession → Option OwnBroadcast → Bool → List Answering → ℕ → ℕ → FrameValue → Type 0
+IsOwed session broadcast may_begin all source now f =
+    OfSession session all source now f ⊎ OfBroadcast broadcast all source now f
+    ⊎ BeginsAnswer (may_begin && not (is_some broadcast)) all source f

@@ -2,6 +2,8 @@ ghost use Rattle.std.specs.Prelude.{◌≡◌, ◌≢◌, ◌≤◌, ◌↔◌, 
 ghost use Rattle.can_frame.specs.Fields.{source_of};
 ghost use Rattle.can_frame.specs.declared.address.TheConstants.{GREATEST_ADDRESS};
 ghost use Rattle.address_claim.specs.Frames.{claim_source};
+ghost use Rattle.live_unit.specs.Beside.{is_withheld};
+ghost use Rattle.live_unit.specs.Steps.{Writes};
 ghost use Rattle.live_lines.specs.Withheld.{IsAskedAlone, IsAskedOf, IsOfSeveral};
 ghost use Rattle.log_lines.specs.declared.fault.LogFault.TheVariants.{Memory};
 
@@ -363,7 +365,7 @@ impl Member {
         false
     }
 
-    /// The frame of it that goes at this time: one that waits, or else an answer, or one that it sends again and again.
+    /// The frame of it that goes at this time: one that waits, or else one of a group of its own.
     fn due(&mut self, now: u64) -> Option<Frame>
         requires { Unit {0} }
         ensures source { IfSome result (λ f. source_of f.id ≡ claim_source self.old.unit.live.node.claimer.held) }
@@ -371,14 +373,32 @@ impl Member {
         if self.has_left {
             return None;
         }
-        let found = if self.answers.is_telling() {
+        match self.node_due(now) {
+            None => self.group_due(now),
+            found => found,
+        }
+    }
+
+    /// The frame that waits and goes at this time: while an answer goes to all in packets, no such message of the node's.
+    fn node_due(&mut self, now: u64) -> Option<Frame>
+        requires { Unit {0} }
+        ensures writes { IfSome result (λ f. Writes self.old.unit.live.settings now f self.old.unit.live.queue self.old.unit.live.clock
+            self.new.unit.live.queue self.new.unit.live.clock) }
+        ensures beside { IsSome self.old.answers.broadcast → is_withheld self.old.unit.live.queue ≡ true → result ≡ None }
+        ensures source { IfSome result (λ f. source_of f.id ≡ claim_source self.old.unit.live.node.claimer.held) }
+        ensures held { self.new.unit.live.node ≡ self.old.unit.live.node }
+    {
+        if self.answers.is_telling() {
             self.unit.due_beside(now)
         } else {
             self.unit.due(now)
-        };
-        if found.is_some() {
-            return found;
         }
+    }
+
+    /// The frame of its groups that goes at this time: an answer, or one that it sends again and again.
+    fn group_due(&mut self, now: u64) -> Option<Frame>
+        ensures source { IfSome result (λ f. source_of f.id ≡ claim_source self.old.unit.live.node.claimer.held) }
+    {
         let source = self.unit.held()?;
         let from = self.unit.free_from()?;
         if from > now {

@@ -1,12 +1,11 @@
 //! What a unit answers beside its node.
-ghost use Rattle.std.specs.Prelude.{◌≡◌, ◌≢◌, ◌≤◌, ◌⊎◌, ◌+◌, ◌↔◌, false, true, IfSome, IsSome, MatchOption, None, Some, is_some, slice_get};
+ghost use Rattle.std.specs.Prelude.{◌≡◌, ◌≢◌, ◌≤◌, ◌&&◌, not, false, IfSome, None, Some, is_some, slice_get};
 ghost use Rattle.std.specs.List.{All};
 ghost use Rattle.can_frame.specs.Fields.{source_of};
 ghost use Rattle.can_frame.specs.declared.address.TheConstants.{GLOBAL_ADDRESS};
-ghost use Rattle.parameter_group.specs.Group.{group_of};
 ghost use Rattle.vehicle.specs.Frames.{last_frame};
-ghost use Rattle.live_unit.specs.Waits.{later};
-ghost use Rattle.live_lines.specs.Own.{BeginsAnswer, IsFrameAt, PartsFor, SendsNext, broadcast_behind, session_behind};
+ghost use Rattle.live_lines.specs.Own.{BeginsAnswer, IsFrameAt, IsOwed, OfBroadcast, OfSession, broadcast_behind, session_behind};
+ghost use Rattle.live_lines.specs.declared.answering.Answering.{Answering as AnyAnswering};
 ghost use Rattle.live_lines.specs.declared.own_broadcast.OwnBroadcast.{OwnBroadcast as AnyBroadcast};
 ghost use Rattle.live_lines.specs.declared.own_session.OwnSession.{OwnSession as AnySession};
 
@@ -123,6 +122,7 @@ impl OwnGroups {
         gap: u64,
         may_begin: bool,
     ) -> Option<Frame>
+        ensures owed { IfSome result (IsOwed self.old.session self.old.broadcast may_begin self.old.all.items source now) }
         ensures source { IfSome result (λ f. source_of f.id ≡ source) }
     {
         if let Some(frame) = self.session_due(source, now) {
@@ -137,10 +137,12 @@ impl OwnGroups {
 
     /// The next frame of the session; where it was left alone, its end.
     fn session_due(&mut self, source: u8, now: u64) -> Option<Frame>
-        ensures owed { IfSome result (λ f. (s : AnySession) × (self.old.session ≡ Some s)
-            × ((SendsNext s self.old.all.items source f × (self.new.session ≡ Some (session_behind s now)))
-            ⊎ (PartsFor s now source f × (self.new.session ≡ None)))) }
+        ensures owed { IfSome result (OfSession self.old.session self.old.all.items source now) }
         ensures source { IfSome result (λ f. source_of f.id ≡ source) }
+        ensures behind { (s : AnySession) → self.old.session ≡ Some s → s.next ≤ s.cleared
+            → IfSome result (λ _. self.new.session ≡ Some (session_behind s now)) }
+        ensures waits { result ≡ None → self.new.session ≡ self.old.session }
+        ensures others { (self.new.all ≡ self.old.all) × (self.new.broadcast ≡ self.old.broadcast) }
     {
         let session = self.session?;
         if session.goes() {
@@ -157,39 +159,41 @@ impl OwnGroups {
 
     /// The next packet of what goes to all; the one behind it goes from this time on.
     fn packet_due(&mut self, source: u8, now: u64, from: u64) -> Option<Frame>
-        ensures owed { IfSome result (λ f. (b : AnyBroadcast) × (self.old.broadcast ≡ Some b) × (b.from ≤ now)
-            × IsFrameAt self.old.all.items b.place source GLOBAL_ADDRESS b.next f) }
+        ensures owed { IfSome result (OfBroadcast self.old.broadcast self.old.all.items source now) }
         ensures source { IfSome result (λ f. source_of f.id ≡ source) }
+        ensures behind { (b : AnyBroadcast) (a : AnyAnswering) → self.old.broadcast ≡ Some b
+            → slice_get self.old.all.items b.place ≡ Some a
+            → IfSome result (λ _. self.new.broadcast ≡ broadcast_behind b.place b.next (last_frame a.line.bytes.items) from) }
+        ensures waits { result ≡ None → self.new.broadcast ≡ self.old.broadcast }
+        ensures others { (self.new.all ≡ self.old.all) × (self.new.session ≡ self.old.session) }
     {
         let broadcast = self.broadcast?;
         if now < broadcast.from {
             return None;
         }
-        self.sent(broadcast.place, source, broadcast.next, from)
+        let last = self.all.get(broadcast.place)?.last();
+        let number = u16::from(broadcast.next);
+        let frame = frame_at(&self.all, broadcast.place, source, GLOBAL_ADDRESS, number)?;
+        self.broadcast = OwnBroadcast::behind(broadcast.place, broadcast.next, last, from);
+        Some(frame)
     }
 
     /// The first frame of an answer that was asked for; the packet behind it goes from this time on.
     fn answer_due(&mut self, source: u8, from: u64, may_begin: bool) -> Option<Frame>
+        ensures begins { IfSome result
+            (BeginsAnswer (may_begin && not (is_some self.old.broadcast)) self.old.all.items source) }
         ensures source { IfSome result (λ f. source_of f.id ≡ source) }
+        ensures others { self.new.session ≡ self.old.session }
     {
         let is_free = may_begin && self.broadcast.is_none();
         let place = place_due(&self.all, is_free)?;
+        let last = self.all.get(place)?.last();
+        let frame = frame_at(&self.all, place, source, GLOBAL_ADDRESS, 0)?;
         self.all.get_mut(place)?.answered();
         if is_free {
-            self.sent(place, source, 0, from)
-        } else {
-            frame_at(&self.all, place, source, GLOBAL_ADDRESS, 0)
+            self.broadcast = OwnBroadcast::behind(place, 0, last, from);
         }
-    }
-
-    /// A frame to all of the answer at this place, behind which the next goes from this time on.
-    fn sent(&mut self, place: usize, source: u8, number: u8, from: u64) -> Option<Frame>
-        ensures frame { IfSome result (IsFrameAt self.old.all.items place source GLOBAL_ADDRESS number) }
-        ensures source { IfSome result (λ f. source_of f.id ≡ source) }
-    {
-        let last = self.all.get(place)?.last();
-        self.broadcast = OwnBroadcast::behind(place, number, last, from);
-        frame_at(&self.all, place, source, GLOBAL_ADDRESS, u16::from(number))
+        Some(frame)
     }
 
     /// When the first of them goes, as long as nothing is heard: 0 where that is at once.

@@ -39,6 +39,7 @@ impl LiveNode {
     /// Answers one who asked for a group that the unit cannot respond now: the acknowledgment of control 3 is put (SAE J1939-21).
     ///
     /// Refused: `Full`, `Unclaimed`. Then nothing changed.
+    #[tactic(auto, using(crate::proofs::Sources::ack_from_holder))]
     pub fn refuse(&mut self, pgn: Pgn, asker: u8) -> Result<(), LiveError>
         ensures refused { OnOk result ((own : ℕ) × (self.old.node.claimer.held ≡ Some own)
             × (self.new.queue ≡ putting false (plain (acknowledgment CANNOT_RESPOND asker pgn own) ∷ []) self.old.queue)) }

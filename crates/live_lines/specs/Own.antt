@@ -7,7 +7,7 @@ use Rattle.parameter_group.specs.Group.{Group, AddressClaimed, ConnectionManagem
 use Rattle.transport.specs.Messages.{control_frame}
 use Rattle.transport.specs.declared.control.Control.{Control}
 use Rattle.transport.specs.declared.control.Control.TheVariants.{Abort, Cts, EndAck}
-use Rattle.vehicle.specs.Frames.{answer_frame, last_frame}
+use Rattle.vehicle.specs.Frames.{answer_frame, last_of_answer}
 use Rattle.live_unit.specs.Waits.{later}
 use Rattle.live_unit.specs.declared.clock.TheConstants.{ANSWER_WITHIN, HELD_FOR}
 use Rattle.live_lines.specs.declared.answering.Answering.{Answering}
@@ -19,7 +19,7 @@ use Rattle.live_lines.specs.declared.own_session.TheConstants.{LEFT_ALONE}
 pub record IsFrameAt (all : List Answering) (place source destination j : ℕ) (f : FrameValue) : Type 0 where
   pub answering : Answering
   pub at : slice_get all place ≡ Some answering
-  pub within : j ≤ last_frame answering.line.bytes.items
+  pub within : j ≤ last_of_answer answering.line.bytes.items
   pub frame : f ≡ answer_frame answering.line source destination j
 
 -- an answer that was asked for of all goes: one frame at once; packets where no other message of several goes to all
@@ -70,11 +70,11 @@ session_told s last (Abort reason pgn) now = if pgn == s.pgn then None else Some
 session_told s last _ now = Some s
 
 -- a frame was heard by the unit that holds this address: a claim of the receiver's address ends it; what the receiver says to the unit counts
-abbrev pub session_heard : OwnSession → ℕ → Option ℕ → Group → ℕ → Option OwnSession
-session_heard s last held (AddressClaimed source name) now = if source == s.dest then None else Some s
-session_heard s last held (ConnectionManagement source destination control) now =
+abbrev pub session_after_hearing : OwnSession → ℕ → Option ℕ → Group → ℕ → Option OwnSession
+session_after_hearing s last held (AddressClaimed source name) now = if source == s.dest then None else Some s
+session_after_hearing s last held (ConnectionManagement source destination control) now =
     if is_held held destination && (source == s.dest) then session_told s last control now else Some s
-session_heard s last held _ now = Some s
+session_after_hearing s last held _ now = Some s
 
 -- ---- all of it
 

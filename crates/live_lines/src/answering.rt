@@ -2,7 +2,7 @@
 ghost use Rattle.std.specs.Prelude.{◌≡◌, ◌≢◌, ◌≤◌, ◌↔◌, IfSome, IsTrue, None, Some, false, length, slice_get, true};
 ghost use Rattle.std.specs.List.{All};
 ghost use Rattle.can_frame.specs.Fields.{source_of};
-ghost use Rattle.vehicle.specs.Frames.{answer_frame, last_frame};
+ghost use Rattle.vehicle.specs.Frames.{answer_frame, last_of_answer};
 ghost use Rattle.live_lines.specs.Own.{goes_now};
 ghost use Rattle.live_lines.specs.Withheld.{IsAskedOf};
 ghost use Rattle.live_lines.specs.declared.answering.Answering.{Answering as AnyAnswering};
@@ -37,14 +37,14 @@ impl Answering {
 
     /// The number of its last frame.
     pub(crate) fn last(&self) -> u8
-        ensures { result ≡ last_frame self.now.line.bytes.items }
+        ensures { result ≡ last_of_answer self.now.line.bytes.items }
     {
         self.line.last()
     }
 
     /// Its frame of this number, from an address to all or to one; none behind the last.
     pub(crate) fn frame(&self, source: u8, dest: u8, number: u8) -> Option<Frame>
-        ensures frame { IfSome result (λ f. (number ≤ last_frame self.now.line.bytes.items) × (f ≡ answer_frame self.now.line source dest number)) }
+        ensures frame { IfSome result (λ f. (number ≤ last_of_answer self.now.line.bytes.items) × (f ≡ answer_frame self.now.line source dest number)) }
         ensures source { IfSome result (λ f. source_of f.id ≡ source) }
     {
         self.line.frame(source, dest, number)

@@ -3,7 +3,7 @@ ghost use Rattle.std.specs.Prelude.{◌≡◌, ◌≢◌, ◌≤◌, ◌&&◌, n
 ghost use Rattle.std.specs.List.{All};
 ghost use Rattle.can_frame.specs.Fields.{source_of};
 ghost use Rattle.can_frame.specs.declared.address.TheConstants.{GLOBAL_ADDRESS};
-ghost use Rattle.vehicle.specs.Frames.{last_frame};
+ghost use Rattle.vehicle.specs.Frames.{last_of_answer};
 ghost use Rattle.live_lines.specs.Own.{BeginsAnswer, IsFrameAt, IsOwed, OfBroadcast, OfSession, broadcast_behind, session_behind};
 ghost use Rattle.live_lines.specs.declared.answering.Answering.{Answering as AnyAnswering};
 ghost use Rattle.live_lines.specs.declared.own_broadcast.OwnBroadcast.{OwnBroadcast as AnyBroadcast};
@@ -115,13 +115,7 @@ impl OwnGroups {
     /// The frame of them that goes from this address at this time, behind which the next packet of a broadcast waits for `gap`. First
     /// a frame of the session, then the next packet to all, then an answer that was asked for: one of several packets only where the
     /// unit's node tells nothing to all (`may_begin`).
-    pub(crate) fn due(
-        &mut self,
-        source: u8,
-        now: u64,
-        gap: u64,
-        may_begin: bool,
-    ) -> Option<Frame>
+    pub(crate) fn due(&mut self, source: u8, now: u64, gap: u64, may_begin: bool) -> Option<Frame>
         ensures owed { IfSome result (IsOwed self.old.session self.old.broadcast may_begin self.old.all.items source now) }
         ensures source { IfSome result (λ f. source_of f.id ≡ source) }
     {
@@ -163,7 +157,7 @@ impl OwnGroups {
         ensures source { IfSome result (λ f. source_of f.id ≡ source) }
         ensures behind { (b : AnyBroadcast) (a : AnyAnswering) → self.old.broadcast ≡ Some b
             → slice_get self.old.all.items b.place ≡ Some a
-            → IfSome result (λ _. self.new.broadcast ≡ broadcast_behind b.place b.next (last_frame a.line.bytes.items) from) }
+            → IfSome result (λ _. self.new.broadcast ≡ broadcast_behind b.place b.next (last_of_answer a.line.bytes.items) from) }
         ensures waits { result ≡ None → self.new.broadcast ≡ self.old.broadcast }
         ensures others { (self.new.all ≡ self.old.all) × (self.new.session ≡ self.old.session) }
     {

@@ -1,7 +1,7 @@
 //! An answer that goes to the one who asked for it, in packets.
 ghost use Rattle.std.specs.Prelude.{◌≡◌, ◌≤◌, ◌↔◌, IsTrue};
 ghost use Rattle.parameter_group.specs.Group.{group_of};
-ghost use Rattle.live_lines.specs.Own.{session_behind, session_cleared, session_heard, session_told};
+ghost use Rattle.live_lines.specs.Own.{session_behind, session_cleared, session_after_hearing, session_told};
 
 use can_frame::{Frame, Pgn};
 use live_unit::{ANSWER_WITHIN, HELD_FOR};
@@ -56,7 +56,7 @@ impl OwnSession {
         frame: &Frame,
         now: u64,
     ) -> Option<OwnSession>
-        ensures { result ≡ session_heard self last held (group_of frame.now) now }
+        ensures { result ≡ session_after_hearing self last held (group_of frame.now) now }
     {
         match ParameterGroup::read(frame) {
             ParameterGroup::AddressClaimed { source, .. } if source == self.dest => None,

@@ -24,8 +24,8 @@ pub record IsFrameOf (s : SendLine) (source count : ℕ) (f : FrameValue) : Type
   pub checked : IfSome s.checksum (λ c. IsChecked c f.id f.bytes)
 
 -- the number of the last frame of an answer: 0 where eight bytes are enough, else its number of packets
-abbrev pub last_frame : List ℕ → ℕ
-last_frame bytes = if nat_le (length bytes) 8 then 0 else packet_count (length bytes)
+abbrev pub last_of_answer : List ℕ → ℕ
+last_of_answer bytes = if nat_le (length bytes) 8 then 0 else packet_count (length bytes)
 
 -- frame j of an answer: the one with all its bytes, to all; else frame 0 announces it, and frame j is the packet of number j
 abbrev pub answer_frame : AnswerLine → ℕ → ℕ → ℕ → FrameValue

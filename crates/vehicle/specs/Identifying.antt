@@ -35,22 +35,22 @@ pub record IsFieldText (text : List ℕ) : Type 0 where
   pub printable : IsPrintable text
 
 -- how many fields it has
-abbrev pub fields_in : List ℕ → ℕ
-fields_in text = count_by (λ c. c == ASTERISK) text + 1
+abbrev pub field_count : List ℕ → ℕ
+field_count text = count_by (λ c. c == ASTERISK) text + 1
 
 -- a group that says what stands before a text, the text, and an asterisk behind its last field
-pub record Says (pgn : ℕ) (front text : List ℕ) (a : AnswerLine) : Type 0 where
+pub record SaysFields (pgn : ℕ) (front text : List ℕ) (a : AnswerLine) : Type 0 where
   pub pgn_is : a.pgn ≡ pgn
   pub priority : a.priority ≡ USUAL_PRIORITY
   pub bytes : a.bytes.items ≡ front ++ (text ++ ASTERISK ∷ [])
 
 -- the VIN, one field
 abbrev pub SaysVin : List ℕ → AnswerLine → Type 0
-SaysVin text a = (fields_in text ≡ 1) × Says VIN [] text a
+SaysVin text a = (field_count text ≡ 1) × SaysFields VIN [] text a
 
 -- the versions of its software, behind a byte with their number
 abbrev pub SaysSoftware : List ℕ → AnswerLine → Type 0
-SaysSoftware text a = (fields_in text ≤ MOST_FIELDS) × Says SOFTWARE (fields_in text ∷ []) text a
+SaysSoftware text a = (field_count text ≤ MOST_FIELDS) × SaysFields SOFTWARE (field_count text ∷ []) text a
 
 -- a group that says the text of a key; none where there is no such key
 abbrev pub HoldsSaidAt : (List ℕ → AnswerLine → Type 0) → Option Data → Option AnswerLine → Type 0
@@ -59,9 +59,9 @@ HoldsSaidAt says (Some d) line = (text : List ℕ) × (a : AnswerLine) × (as_st
 
 pub record HoldsIdentification (d : Data) (i : Identification) : Type 0 where
   pub vin : HoldsSaidAt SaysVin (get (codes "vin") d) i.vin
-  pub component : HoldsSaidAt (Says COMPONENT []) (get (codes "component") d) i.component
+  pub component : HoldsSaidAt (SaysFields COMPONENT []) (get (codes "component") d) i.component
   pub software : HoldsSaidAt SaysSoftware (get (codes "software") d) i.software
-  pub ecu : HoldsSaidAt (Says ECU []) (get (codes "ecu") d) i.ecu
+  pub ecu : HoldsSaidAt (SaysFields ECU []) (get (codes "ecu") d) i.ecu
 
 abbrev pub IsOther : Option AnswerLine → ℕ → Type 0
 IsOther line pgn = IfSome line (λ a. a.pgn ≢ pgn)

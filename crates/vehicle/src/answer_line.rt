@@ -31,7 +31,7 @@ impl AnswerLine {
 
     /// The number of its last frame: 0 where one is enough, else its number of packets.
     pub fn last(&self) -> u8
-        ensures { result ≡ frames.last_frame self.now.bytes.items }
+        ensures { result ≡ frames.last_of_answer self.now.bytes.items }
     {
         if self.is_single() {
             0
@@ -45,7 +45,7 @@ impl AnswerLine {
     #[tactic(auto, using(crate::proofs::SendLemmas::goes_to_all))]
     pub fn frame(&self, source: u8, dest: u8, number: u8) -> Option<Frame>
         ensures frame { IfSome result (λ f. f ≡ answer_frame self.now source dest number) }
-        ensures there { IsSome result ↔ (number ≤ frames.last_frame self.now.bytes.items) }
+        ensures there { IsSome result ↔ (number ≤ frames.last_of_answer self.now.bytes.items) }
     {
         if number > self.last() {
             return None;

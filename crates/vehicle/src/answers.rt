@@ -160,5 +160,7 @@ fn is_answered(answers: &[AnswerLine], pgn: u32) -> bool
 fn second(identification: &Identification, answers: &[AnswerLine]) -> Option<usize>
     ensures none { result ≡ None → All (λ a. IsBeside identification.now a.pgn) answers.now }
 {
-    answers.iter().position(|answer| identification.has(answer.pgn))
+    answers
+        .iter()
+        .position(|answer| identification.has(answer.pgn))
 }

@@ -2,7 +2,7 @@
 ghost use Rattle.std.specs.Prelude.{◌≡◌, ◌≢◌, ◌≤◌, ◌+◌, ◌∷◌, ◌++◌, ◌↔◌, ◌==◌, [], IfOk, IsTrue, codes, false, length, true};
 ghost use Rattle.toml.specs.Data.{Data, as_str, get};
 ghost use Rattle.toml.specs.View.{view};
-ghost use Rattle.vehicle.specs.Identifying.{HoldsIdentification, HoldsSaidAt, IsBeside, IsFieldText, IsOther, Says, SaysSoftware, SaysVin, fields_in};
+ghost use Rattle.vehicle.specs.Identifying.{HoldsIdentification, HoldsSaidAt, IsBeside, IsFieldText, IsOther, SaysFields, SaysSoftware, SaysVin, field_count};
 ghost use Rattle.vehicle.specs.Sending.{is_free_group};
 
 use crate::answer_line::AnswerLine;
@@ -86,7 +86,11 @@ pub(crate) fn read_identification(
 }
 
 /// The VIN: a text of one field.
-fn read_vin(alloc: Global, place: KeyPlace, value: &Value) -> Result<Option<AnswerLine>, ReadError<'_>>
+fn read_vin(
+    alloc: Global,
+    place: KeyPlace,
+    value: &Value,
+) -> Result<Option<AnswerLine>, ReadError<'_>>
     ensures { IfOk result (HoldsSaidAt SaysVin (get (codes "vin") (view value.now))) }
 {
     let Some(found) = value.get("vin") else {
@@ -128,7 +132,7 @@ fn read_fields<'a>(
 ) -> Result<Option<AnswerLine>, ReadError<'a>>
     requires group { pgn ≤ GREATEST_PGN }
     requires free { is_free_group pgn ≡ true }
-    ensures { IfOk result (HoldsSaidAt (Says pgn []) (get key.now (view value.now))) }
+    ensures { IfOk result (HoldsSaidAt (SaysFields pgn []) (get key.now (view value.now))) }
 {
     let Some(found) = value.get(key) else {
         return Ok(None);
@@ -156,9 +160,13 @@ fn read_field_text<'a>(
 /// How many fields a text has.
 fn fields(text: &str) -> usize
     requires { length text.now ≤ MOST_LETTERS }
-    ensures { result ≡ fields_in text.now }
+    ensures { result ≡ field_count text.now }
 {
-    text.as_bytes().iter().filter(|byte| **byte == ASTERISK).count() + 1
+    text.as_bytes()
+        .iter()
+        .filter(|byte| **byte == ASTERISK)
+        .count()
+        + 1
 }
 
 /// A group that says this.
@@ -167,7 +175,7 @@ fn line(alloc: Global, pgn: u32, front: &[u8], text: &str) -> Result<AnswerLine,
     requires free { is_free_group pgn ≡ true }
     requires front { length front.now ≤ 1 }
     requires text { length text.now ≤ MOST_LETTERS }
-    ensures { IfOk result (Says pgn front.now text.now) }
+    ensures { IfOk result (SaysFields pgn front.now text.now) }
 {
     Ok(AnswerLine {
         pgn,

@@ -120,11 +120,7 @@ pub(crate) fn read_priority(place: KeyPlace, value: &Value) -> Result<u8, ReadEr
     }
 }
 
-fn read_bytes(
-    alloc: Global,
-    place: KeyPlace,
-    value: &Value,
-) -> Result<Vec<u8>, ReadError<'_>>
+fn read_bytes(alloc: Global, place: KeyPlace, value: &Value) -> Result<Vec<u8>, ReadError<'_>>
     ensures { IfOk result (λ bytes. HasBytes (view value.now) bytes.items) }
 {
     let text = read_text(place, value, "bytes")?;

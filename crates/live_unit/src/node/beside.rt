@@ -84,12 +84,7 @@ impl LiveNode {
 
     /// Does of the unit's own accord what is due while such a message goes: as `act`, but that a DM1 of more than one code does not
     /// begin. Refused: `OutOfMemory`; then nothing changed.
-    pub fn act_beside(
-        &mut self,
-        alloc: Global,
-        now: u64,
-        unit: &dyn Unit,
-    ) -> Result<Act, LiveError>
+    pub fn act_beside(&mut self, alloc: Global, now: u64, unit: &dyn Unit) -> Result<Act, LiveError>
         ensures silent { is_silent self.old.clock now self.old.node (memory_of unit.now) self.old.queue ≡ true
             → (result ≡ Ok Act.Nothing) × (self.new.node ≡ self.old.node) × (self.new.queue ≡ self.old.queue)
             × (self.new.clock ≡ self.old.clock) }

@@ -50,12 +50,10 @@ pub claim_from_holder : (name : ℕ) (held : Option ℕ) → CanHold held → so
 claim_from_holder name held h = source_to_one 6 60928 255 (claim_source held) (source_fits held h)
 
 -- an acknowledgment
-pub ack_from_holder : (held : Option ℕ) (queued control requester pgn own : ℕ) → queued ≡ claim_source held → held ≡ Some own → own < 256
-    → All (IsSentFrom queued) (plain (acknowledgment control requester pgn own) ∷ [])
-ack_from_holder held queued control requester pgn own q h fits =
-    let from : source_of (acknowledgment control requester pgn own).id ≡ own = source_to_one 6 59392 255 own fits in
-    All-cons (IsSentFrom queued) (plain (acknowledgment control requester pgn own)) []
-    (from ∙ sym (q ∙ ap claim_source h)) (All-nil (IsSentFrom queued))
+pub ack_from : (queued control requester pgn source : ℕ) → queued ≡ source → source < 256 → All (IsSentFrom queued) (plain (acknowledgment control requester pgn source) ∷ [])
+ack_from queued control requester pgn source q fits =
+    let from : source_of (acknowledgment control requester pgn source).id ≡ source = source_to_one 6 59392 255 source fits in
+    All-cons (IsSentFrom queued) (plain (acknowledgment control requester pgn source)) [] (from ∙ sym q) (All-nil (IsSentFrom queued))
 
 -- a part of a message
 by_size : (P : FrameValue → Type 0) (b : Bool) (x y : FrameValue) → P x → P y → P (if b then x else y)

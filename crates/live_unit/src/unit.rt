@@ -212,11 +212,13 @@ impl LiveUnit {
     /// Refused: `Full`, `Unclaimed`. Then nothing changed.
     pub fn refuse(&mut self, pgn: Pgn, asker: u8) -> Result<(), LiveError>
         requires { Unit {0} }
-        ensures refused { OnOk result ((own : ℕ) × (self.old.live.node.claimer.held ≡ Some own)
-            × (self.new.live.queue ≡ putting false (plain (acknowledgment CANNOT_RESPOND asker pgn own) ∷ []) self.old.live.queue)) }
+        ensures refused { OnOk result (self.new.live.queue ≡ putting false
+            (plain (acknowledgment CANNOT_RESPOND asker pgn (claim_source self.old.live.node.claimer.held)) ∷ []) self.old.live.queue) }
         ensures same { (self.new.unit ≡ self.old.unit) × (self.new.live.node ≡ self.old.live.node)
             × (self.new.live.clock ≡ self.old.live.clock) × (self.new.live.settings ≡ self.old.live.settings) }
         ensures full { IsErrOf result LiveError.Full ↔ (¬ CanPut self.old.live.queue) }
+        ensures unclaimed { IsErrOf result LiveError.Unclaimed
+            ↔ (CanPut self.old.live.queue × IsNone self.old.live.node.claimer.held) }
         ensures only { IfErr result (λ e. (e ≡ LiveError.Full) ⊎ (e ≡ LiveError.Unclaimed)) }
         ensures err { OnErr result (self.new.live.queue ≡ self.old.live.queue) }
     {

@@ -52,10 +52,17 @@ SaysVin text a = (field_count text ≡ 1) × SaysFields VIN [] text a
 abbrev pub SaysSoftware : List ℕ → AnswerLine → Type 0
 SaysSoftware text a = (field_count text ≤ MOST_FIELDS) × SaysFields SOFTWARE (field_count text ∷ []) text a
 
+-- a text that the group says
+pub record HoldsText (says : List ℕ → AnswerLine → Type 0) (d : Data) (a : AnswerLine) : Type 0 where
+  pub text : List ℕ
+  pub is : as_str d ≡ Some text
+  pub fields : IsFieldText text
+  pub said : says text a
+
 -- a group that says the text of a key; none where there is no such key
 abbrev pub HoldsSaidAt : (List ℕ → AnswerLine → Type 0) → Option Data → Option AnswerLine → Type 0
 HoldsSaidAt says None line = line ≡ None
-HoldsSaidAt says (Some d) line = (text : List ℕ) × (a : AnswerLine) × (as_str d ≡ Some text) × (line ≡ Some a) × IsFieldText text × says text a
+HoldsSaidAt says (Some d) line = (a : AnswerLine) × (line ≡ Some a) × HoldsText says d a
 
 pub record HoldsIdentification (d : Data) (i : Identification) : Type 0 where
   pub vin : HoldsSaidAt SaysVin (get (codes "vin") d) i.vin

@@ -2,7 +2,7 @@
 ghost use Rattle.std.specs.Prelude.{◌≡◌, ◌≢◌, ◌≤◌, ◌+◌, ◌∷◌, ◌++◌, ◌↔◌, ◌==◌, [], IfOk, IsTrue, codes, false, length, true};
 ghost use Rattle.toml.specs.Data.{Data, as_str, get};
 ghost use Rattle.toml.specs.View.{view};
-ghost use Rattle.vehicle.specs.Identifying.{HoldsIdentification, HoldsSaidAt, IsBeside, IsFieldText, IsOther, SaysFields, SaysSoftware, SaysVin, field_count};
+ghost use Rattle.vehicle.specs.Identifying.{HoldsIdentification, HoldsSaidAt, HoldsText, IsBeside, IsFieldText, IsOther, SaysFields, SaysSoftware, SaysVin, field_count};
 ghost use Rattle.vehicle.specs.Sending.{is_free_group};
 
 use crate::answer_line::AnswerLine;
@@ -85,7 +85,8 @@ pub(crate) fn read_identification(
     })
 }
 
-/// The VIN: a text of one field.
+/// The VIN; none where there is no such key.
+#[tactic(auto, using(crate::proofs::UnitLemmas::said_at))]
 fn read_vin(
     alloc: Global,
     place: KeyPlace,
@@ -93,17 +94,28 @@ fn read_vin(
 ) -> Result<Option<AnswerLine>, ReadError<'_>>
     ensures { IfOk result (HoldsSaidAt SaysVin (get (codes "vin") (view value.now))) }
 {
-    let Some(found) = value.get("vin") else {
-        return Ok(None);
-    };
+    match value.get("vin") {
+        Some(found) => match vin_of(alloc, place, found) {
+            Ok(line) => Ok(Some(line)),
+            Err(unread) => Err(unread),
+        },
+        None => Ok(None),
+    }
+}
+
+/// A VIN: a text of one field.
+fn vin_of(alloc: Global, place: KeyPlace, found: &Value) -> Result<AnswerLine, ReadError<'_>>
+    ensures { IfOk result (HoldsText SaysVin (view found.now)) }
+{
     let text = read_field_text(place, "vin", found)?;
     if fields(text) != 1 {
         return Err(ReadError::at(place, "vin", KeyFault::Asterisk));
     }
-    Ok(Some(line(alloc, VIN, &[], text)?))
+    Ok(line(alloc, VIN, &[], text)?)
 }
 
-/// Versions of software, and before them how many they are.
+/// Versions of software; none where there is no such key.
+#[tactic(auto, using(crate::proofs::UnitLemmas::said_at))]
 fn read_software(
     alloc: Global,
     place: KeyPlace,
@@ -111,18 +123,29 @@ fn read_software(
 ) -> Result<Option<AnswerLine>, ReadError<'_>>
     ensures { IfOk result (HoldsSaidAt SaysSoftware (get (codes "software") (view value.now))) }
 {
-    let Some(found) = value.get("software") else {
-        return Ok(None);
-    };
+    match value.get("software") {
+        Some(found) => match software_of(alloc, place, found) {
+            Ok(line) => Ok(Some(line)),
+            Err(unread) => Err(unread),
+        },
+        None => Ok(None),
+    }
+}
+
+/// Versions of software, and before them how many they are.
+fn software_of(alloc: Global, place: KeyPlace, found: &Value) -> Result<AnswerLine, ReadError<'_>>
+    ensures { IfOk result (HoldsText SaysSoftware (view found.now)) }
+{
     let text = read_field_text(place, "software", found)?;
     let fields = fields(text);
     if fields > MOST_FIELDS {
         return Err(ReadError::at(place, "software", KeyFault::TooManyFields));
     }
-    Ok(Some(line(alloc, SOFTWARE, &[fields as u8], text)?))
+    Ok(line(alloc, SOFTWARE, &[fields as u8], text)?)
 }
 
-/// Fields alone.
+/// Fields alone; none where there is no such key.
+#[tactic(auto, using(crate::proofs::UnitLemmas::said_at))]
 fn read_fields<'a>(
     alloc: Global,
     place: KeyPlace,
@@ -134,11 +157,28 @@ fn read_fields<'a>(
     requires free { is_free_group pgn ≡ true }
     ensures { IfOk result (HoldsSaidAt (SaysFields pgn []) (get key.now (view value.now))) }
 {
-    let Some(found) = value.get(key) else {
-        return Ok(None);
-    };
+    match value.get(key) {
+        Some(found) => match fields_of(alloc, place, found, key, pgn) {
+            Ok(line) => Ok(Some(line)),
+            Err(unread) => Err(unread),
+        },
+        None => Ok(None),
+    }
+}
+
+fn fields_of<'a>(
+    alloc: Global,
+    place: KeyPlace,
+    found: &'a Value,
+    key: &'a str,
+    pgn: u32,
+) -> Result<AnswerLine, ReadError<'a>>
+    requires group { pgn ≤ GREATEST_PGN }
+    requires free { is_free_group pgn ≡ true }
+    ensures { IfOk result (HoldsText (SaysFields pgn []) (view found.now)) }
+{
     let text = read_field_text(place, key, found)?;
-    Ok(Some(line(alloc, pgn, &[], text)?))
+    Ok(line(alloc, pgn, &[], text)?)
 }
 
 /// A text of fields.

@@ -65,6 +65,7 @@
 //! ```
 #![tactic(auto)]
 
+mod answer_frames;
 mod answer_line;
 mod answers;
 mod checksum;

@@ -11,7 +11,7 @@ ghost use Rattle.live_unit.specs.Queue.{putting, waits};
 ghost use Rattle.live_unit.specs.Steps.{Acts, CanPut, Writes, standing};
 ghost use Rattle.live_unit.specs.Times.{is_dm1_due, is_left_alone, lane_due};
 
-use super::{Act, LiveNode, frame_from};
+use super::{Act, LiveNode, frame_from, source_of};
 use crate::error::LiveError;
 use crate::queue::Lane;
 use can_frame::{Frame, GLOBAL_ADDRESS, Pgn};
@@ -39,29 +39,24 @@ impl LiveNode {
     /// Answers one who asked for a group that the unit cannot respond now: the acknowledgment of control 3 is put (SAE J1939-21).
     ///
     /// Refused: `Full`, `Unclaimed`. Then nothing changed.
-    #[tactic(auto, using(crate::proofs::Sources::ack_from_holder))]
+    #[tactic(auto, using(crate::proofs::Sources::ack_from))]
     pub fn refuse(&mut self, pgn: Pgn, asker: u8) -> Result<(), LiveError>
-        ensures refused { OnOk result ((own : ℕ) × (self.old.node.claimer.held ≡ Some own)
-            × (self.new.queue ≡ putting false (plain (acknowledgment CANNOT_RESPOND asker pgn own) ∷ []) self.old.queue)) }
+        ensures refused { OnOk result (self.new.queue ≡ putting false
+            (plain (acknowledgment CANNOT_RESPOND asker pgn (claim_source self.old.node.claimer.held)) ∷ []) self.old.queue) }
         ensures same { (self.new.node ≡ self.old.node) × (self.new.clock ≡ self.old.clock) × (self.new.settings ≡ self.old.settings) }
         ensures full { IsErrOf result LiveError.Full ↔ (¬ CanPut self.old.queue) }
+        ensures unclaimed { IsErrOf result LiveError.Unclaimed ↔ (CanPut self.old.queue × IsNone self.old.node.claimer.held) }
         ensures only { IfErr result (λ e. (e ≡ LiveError.Full) ⊎ (e ≡ LiveError.Unclaimed)) }
         ensures err { OnErr result (self.new.queue ≡ self.old.queue) }
     {
         if !self.can_put() {
             return Err(LiveError::Full);
         }
-        let Some(source) = self.node.held() else {
+        if self.node.held().is_none() {
             return Err(LiveError::Unclaimed);
-        };
-        let ack = Ack {
-            control: Ack::CANNOT_RESPOND,
-            requester: asker,
-            pgn,
-            dest: GLOBAL_ADDRESS,
-            source,
-        };
-        self.queue.put(Outs::plain(ack.frame()), false);
+        }
+        let ack = refusal(pgn, asker, source_of(&self.node));
+        self.queue.put(Outs::plain(ack), false);
         Ok(())
     }
 
@@ -158,6 +153,20 @@ impl LiveNode {
             None => false,
         }
     }
+}
+
+/// The acknowledgment that a group cannot be answered now, to all.
+fn refusal(pgn: Pgn, asker: u8, source: u8) -> Frame
+    ensures { result ≡ acknowledgment CANNOT_RESPOND asker pgn source }
+{
+    let ack = Ack {
+        control: Ack::CANNOT_RESPOND,
+        requester: asker,
+        pgn,
+        dest: GLOBAL_ADDRESS,
+        source,
+    };
+    ack.frame()
 }
 
 /// Whether a frame is one of a message of several packets.

@@ -27,7 +27,7 @@ cyclic-send = let line = send_line-send in search (sendable, crosses) depth 20
 answering-send : IsSend answering.the_row
 answering-send = search (sendable, crosses) depth 20
 
-own_groups-send : IsSend own_groups.the_row
+own_groups-send : IsSend (own_groups.the_field).row
 own_groups-send = let one = answering-send in search (sendable, crosses) depth 20
 
 live_node-send : IsSend (live_node.the_field).row

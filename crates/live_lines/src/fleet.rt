@@ -38,8 +38,6 @@ struct Member {
     /// What it sends where it is asked for it, and how many frames of these it wrote.
     answers: OwnGroups,
     answered: u64,
-    /// How long it is at least from a packet to all to the next.
-    gap: u64,
     /// Whether it has left the bus.
     has_left: bool,
     /// How many frames it heard, and how many it could not hear.
@@ -97,14 +95,13 @@ impl Fleet {
         for group in groups.sends {
             cyclic.push(Cyclic::new(group))?;
         }
-        let answers = own_groups(alloc, groups.identification, groups.answers)?;
+        let answers = own_groups(alloc, groups.identification, groups.answers, settings.gap)?;
         self.members.push(Member {
             unit: LiveUnit::new(alloc, unit, address, settings)?,
             cyclic,
             sent: 0,
             answers,
             answered: 0,
-            gap: settings.gap,
             has_left: false,
             heard: 0,
             unheard: 0,
@@ -254,8 +251,8 @@ impl Member {
         if let Some(request) = self.withheld(frame) {
             return self.answer(request);
         }
-        if let Some(request) = self.kept_from_node(frame) {
-            let refused = self.unit.refuse(request.pgn, request.source);
+        if let Some(Request { pgn, source, .. }) = self.kept_from_node(frame) {
+            let refused = self.unit.refuse(pgn, source);
             return self.count(refused);
         }
         self.answers.hear(frame, held, now);
@@ -301,21 +298,22 @@ impl Member {
     fn answer(&mut self, request: Request) -> bool
         requires { Unit {0} }
     {
-        let place = match self.answers.place_of_several(request.pgn) {
-            Some(place) if request.dest != GLOBAL_ADDRESS => place,
+        let Request { pgn, dest, source } = request;
+        let place = match self.answers.place_of_several(pgn) {
+            Some(place) if dest != GLOBAL_ADDRESS => place,
             _ => {
-                self.answers.ask(request.pgn);
+                self.answers.ask(pgn);
                 return self.count(Ok(()));
             }
         };
-        if !may_ask(request) {
+        if !may_ask(source, dest) {
             return self.count(Ok(()));
         }
         if self.answers.has_session() || self.unit.has_session() {
-            let refused = self.unit.refuse(request.pgn, request.source);
+            let refused = self.unit.refuse(pgn, source);
             return self.count(refused);
         }
-        self.answers.open(place, request.pgn, request.source);
+        self.answers.open(place, pgn, source);
         self.count(Ok(()))
     }
 
@@ -323,18 +321,19 @@ impl Member {
     fn kept_from_node(&self, frame: &Frame) -> Option<Request>
         requires { Unit {0} }
         ensures asked { IfSome result (IsAskedAlone self.now.unit.live.node.claimer.held frame.now) }
-        ensures several { IfSome result (λ r. IsOfSeveral (memory_of self.now.unit.unit) r.pgn) }
+        ensures several { IfSome result (λ r. IsOfSeveral ((⟦<dyn Unit as Unit>⟧ self.now.unit.unit.vtable).memory_of self.now.unit.unit.value) r.pgn) }
         ensures open { IfSome result (λ _. IsSome self.now.answers.session) }
     {
         if !self.answers.has_session() {
             return None;
         }
         let request = asked_of(frame, self.unit.held())?;
-        if request.dest != GLOBAL_ADDRESS
-            && may_ask(request)
-            && is_of_several(self.unit.memory(), request.pgn)
-        {
-            Some(request)
+        let Request { pgn, dest, source } = request;
+        if dest == GLOBAL_ADDRESS || !may_ask(source, dest) {
+            return None;
+        }
+        if is_of_several(self.unit.memory(), pgn) {
+            Some(Request { pgn, dest, source })
         } else {
             None
         }
@@ -405,7 +404,7 @@ impl Member {
             return None;
         }
         let may_begin = !self.unit.is_telling();
-        if let Some(frame) = self.answers.due(source, now, self.gap, may_begin) {
+        if let Some(frame) = self.answers.due(source, now, may_begin) {
             self.answered = self.answered.saturating_add(1);
             return Some(frame);
         }
@@ -517,6 +516,7 @@ fn own_groups(
     alloc: Global,
     identification: Identification,
     answers: Vec<AnswerLine>,
+    gap: u64,
 ) -> Result<OwnGroups, AllocError> {
     let Identification {
         vin,
@@ -531,14 +531,14 @@ fn own_groups(
     for line in answers {
         all.push(Answering::new(line))?;
     }
-    Ok(OwnGroups::new(all))
+    Ok(OwnGroups::new(all, gap))
 }
 
 /// Whether a session may go to who asks: from an address that can be held, and another one than is asked.
-fn may_ask(request: Request) -> bool
-    ensures { IsTrue result ↔ ((request.source ≤ GREATEST_ADDRESS) × (request.source ≢ request.dest)) }
+fn may_ask(source: u8, dest: u8) -> bool
+    ensures { IsTrue result ↔ ((source ≤ GREATEST_ADDRESS) × (source ≢ dest)) }
 {
-    request.source <= GREATEST_ADDRESS && request.source != request.dest
+    source <= GREATEST_ADDRESS && source != dest
 }
 
 /// Whether a group is a diagnostic message with more than one code.

@@ -3,6 +3,8 @@ ghost use Rattle.std.specs.Prelude.{◌≡◌, ◌≢◌, ◌≤◌, ◌&&◌, n
 ghost use Rattle.std.specs.List.{All};
 ghost use Rattle.can_frame.specs.Fields.{source_of};
 ghost use Rattle.can_frame.specs.declared.address.TheConstants.{GLOBAL_ADDRESS};
+ghost use Rattle.transport.specs.Messages as messages;
+ghost use Rattle.transport.specs.declared.control.Control.TheVariants.{Abort};
 ghost use Rattle.vehicle.specs.Frames.{last_of_answer};
 ghost use Rattle.live_lines.specs.Own.{BeginsAnswer, IsFrameAt, IsOwed, OfBroadcast, OfSession, broadcast_behind, session_behind};
 ghost use Rattle.live_lines.specs.declared.answering.Answering.{Answering as AnyAnswering};
@@ -23,15 +25,18 @@ pub(crate) struct OwnGroups {
     broadcast: Option<OwnBroadcast>,
     /// The one that goes to one who asked for it, in packets.
     session: Option<OwnSession>,
+    /// How long it is at least from a packet to all to the next.
+    gap: u64,
 }
 
 impl OwnGroups {
-    /// Groups that were not asked for.
-    pub(crate) fn new(all: Vec<Answering>) -> OwnGroups {
+    /// Groups that were not asked for, of whose packets to all one goes each `gap` at most.
+    pub(crate) fn new(all: Vec<Answering>, gap: u64) -> OwnGroups {
         OwnGroups {
             all,
             broadcast: None,
             session: None,
+            gap,
         }
     }
 
@@ -112,17 +117,16 @@ impl OwnGroups {
         self.session = None;
     }
 
-    /// The frame of them that goes from this address at this time, behind which the next packet of a broadcast waits for `gap`. First
-    /// a frame of the session, then the next packet to all, then an answer that was asked for: one of several packets only where the
-    /// unit's node tells nothing to all (`may_begin`).
-    pub(crate) fn due(&mut self, source: u8, now: u64, gap: u64, may_begin: bool) -> Option<Frame>
+    /// The frame of them that goes from this address at this time. First a frame of the session, then the next packet to all, then an
+    /// answer that was asked for: one of several packets only where the unit's node tells nothing to all (`may_begin`).
+    pub(crate) fn due(&mut self, source: u8, now: u64, may_begin: bool) -> Option<Frame>
         ensures owed { IfSome result (IsOwed self.old.session self.old.broadcast may_begin self.old.all.items source now) }
         ensures source { IfSome result (λ f. source_of f.id ≡ source) }
     {
         if let Some(frame) = self.session_due(source, now) {
             return Some(frame);
         }
-        let from = now.saturating_add(gap);
+        let from = now.saturating_add(self.gap);
         if let Some(frame) = self.packet_due(source, now, from) {
             return Some(frame);
         }
@@ -140,7 +144,7 @@ impl OwnGroups {
     {
         let session = self.session?;
         if session.goes() {
-            let frame = frame_at(&self.all, session.place, source, session.dest, session.next)?;
+            let frame = frame_at(&self.all, session.place, source, session.dest, session.number())?;
             self.session = Some(session.behind(now));
             return Some(frame);
         }
@@ -166,7 +170,7 @@ impl OwnGroups {
             return None;
         }
         let last = self.all.get(broadcast.place)?.last();
-        let number = u16::from(broadcast.next);
+        let number = broadcast.next;
         let frame = frame_at(&self.all, broadcast.place, source, GLOBAL_ADDRESS, number)?;
         self.broadcast = OwnBroadcast::behind(broadcast.place, broadcast.next, last, from);
         Some(frame)
@@ -181,8 +185,8 @@ impl OwnGroups {
     {
         let is_free = may_begin && self.broadcast.is_none();
         let place = place_due(&self.all, is_free)?;
+        let frame = first_frame(&self.all, place, source, is_free)?;
         let last = self.all.get(place)?.last();
-        let frame = frame_at(&self.all, place, source, GLOBAL_ADDRESS, 0)?;
         self.all.get_mut(place)?.answered();
         if is_free {
             self.broadcast = OwnBroadcast::behind(place, 0, last, from);
@@ -207,19 +211,31 @@ impl OwnGroups {
     }
 }
 
+/// The first frame to all of the answer at a place, if it goes to all now.
+fn first_frame(all: &[Answering], place: usize, source: u8, may_begin: bool) -> Option<Frame>
+    ensures begins { IfSome result (BeginsAnswer may_begin all.now source) }
+    ensures source { IfSome result (λ f. source_of f.id ≡ source) }
+{
+    match all.get(place) {
+        Some(one) if one.goes(may_begin) => one.frame(source, GLOBAL_ADDRESS, 0),
+        _ => None,
+    }
+}
+
 /// The frame of this number of the answer at a place.
-fn frame_at(all: &[Answering], place: usize, source: u8, dest: u8, number: u16) -> Option<Frame>
+fn frame_at(all: &[Answering], place: usize, source: u8, dest: u8, number: u8) -> Option<Frame>
     ensures frame { IfSome result (IsFrameAt all.now place source dest number) }
     ensures source { IfSome result (λ f. source_of f.id ≡ source) }
 {
-    if number > 255 {
-        return None;
+    match all.get(place) {
+        Some(one) => one.frame(source, dest, number),
+        None => None,
     }
-    all.get(place)?.frame(source, dest, number as u8)
 }
 
 /// The abort of a session that was left alone.
 fn parting(pgn: Pgn, source: u8, dest: u8) -> Frame
+    ensures frame { result ≡ messages.control_frame (Abort LEFT_ALONE pgn) source dest }
     ensures source { source_of result.id ≡ source }
 {
     let reason = LEFT_ALONE;

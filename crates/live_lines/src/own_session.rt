@@ -1,5 +1,5 @@
 //! An answer that goes to the one who asked for it, in packets.
-ghost use Rattle.std.specs.Prelude.{◌≡◌, ◌≤◌, ◌↔◌, IsTrue};
+ghost use Rattle.std.specs.Prelude.{◌≡◌, ◌≤◌, ◌==◌, ◌↔◌, IsTrue};
 ghost use Rattle.parameter_group.specs.Group.{group_of};
 ghost use Rattle.live_lines.specs.Own.{session_behind, session_cleared, session_after_hearing, session_told};
 
@@ -33,6 +33,14 @@ impl OwnSession {
         ensures { IsTrue result ↔ (self.now.next ≤ self.now.cleared) }
     {
         self.next <= u16::from(self.cleared)
+    }
+
+    /// The number of its next frame, where that goes.
+    pub(crate) fn number(&self) -> u8
+        requires { self.now.next ≤ self.now.cleared }
+        ensures { result ≡ self.now.next }
+    {
+        self.next.min(u16::from(self.cleared)) as u8
     }
 
     /// The session behind its next frame, which goes at this time.
@@ -74,13 +82,36 @@ impl OwnSession {
         ensures { result ≡ session_told self last control now }
     {
         match control {
-            Control::Cts { granted, next, pgn } if pgn == self.pgn => {
-                Some(self.cleared_to_send(last, granted, next, now))
+            Control::Cts { granted, next, pgn } => {
+                if self.is_about(pgn) {
+                    Some(self.cleared_to_send(last, granted, next, now))
+                } else {
+                    Some(self)
+                }
             }
-            Control::EndAck { pgn, .. } if pgn == self.pgn && self.cleared == last => None,
-            Control::Abort { pgn, .. } if pgn == self.pgn => None,
+            Control::EndAck { pgn, .. } => {
+                if self.is_about(pgn) && self.cleared == last {
+                    None
+                } else {
+                    Some(self)
+                }
+            }
+            Control::Abort { pgn, .. } => {
+                if self.is_about(pgn) {
+                    None
+                } else {
+                    Some(self)
+                }
+            }
             _ => Some(self),
         }
+    }
+
+    /// Whether it is a session of this group.
+    fn is_about(&self, pgn: Pgn) -> bool
+        ensures { result ≡ (pgn == self.now.pgn) }
+    {
+        pgn == self.pgn
     }
 
     /// The session after it was cleared to send so many packets, from this one on.

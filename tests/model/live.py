@@ -4,10 +4,10 @@ Written from docs/LIVE.md and docs/DECISIONS.md ("Times on a real bus" and those
 `model.unit`'s; here stand the lanes in which it waits, and the times.
 """
 
-from .frames import (ABORT, CLAIM, CONTROL, CTS, DM1, GLOBAL, PACKET, REQUEST, RTS, TITLES, broadcast, claim, claimed_name, control_of, control_pgn,
-                     requested, three, to_all, to_one)
+from .frames import (ABORT, CLAIM, CONTROL, CTS, DM1, DM2, DM6, END_OF_MESSAGE, GLOBAL, LAST_ADDRESS, PACKET, REQUEST, RTS, TITLES, acknowledgment,
+                     broadcast, claim, claimed_name, control_of, control_pgn, packet, packets_of, requested, rts, three, to_all, to_one)
 from .memory import Code
-from .unit import ALL, Unit
+from .unit import ALL, Session, Unit
 
 LANES = ("claims", "singles", "session", "messages")
 ROOM = 64
@@ -98,10 +98,20 @@ class Cyclic:
 
 
 class Answer:
-    """A group that goes where it is asked for."""
+    """A group that goes where it is asked for; of more than 8 bytes in packets."""
 
     def __init__(self, pgn, priority, data):
         self.pgn, self.priority, self.data, self.asked = pgn, priority, data, False
+        self.several = len(data) > 8
+
+
+def identification(vin=None, component=None, software=None, ecu=None):
+    """How a unit tells what it is (J1939-71, -73): fields, an asterisk behind each; before those of its software, how many they are."""
+    texts = {65260: vin, 65259: component, 65242: software, 64965: ecu}
+    answers = {pgn: Answer(pgn, 6, "".join(f"{field}*" for field in text.split("*")).encode()) for pgn, text in texts.items() if text is not None}
+    if software is not None:
+        answers[65242] = Answer(65242, 6, bytes([len(software.split("*"))]) + answers[65242].data)
+    return list(answers.values())
 
 
 class LiveUnit(Unit):
@@ -116,6 +126,8 @@ class LiveUnit(Unit):
         # what its latest DM1 told: codes as (spn, fmi), and the lamps' byte; and when it told changes: (which, time), since the latest that was no change's
         self.codes_told, self.lamps_told, self.changes_told, self.lamps_changed = set(), 0, [], None
         self.cyclic, self.answers, self.answered = list(cyclic), list(answers), 0
+        # an own group on its way to one, with the frames that may go; and the packets of one to all that are left
+        self.own, self.own_frames, self.own_alone_at, self.telling, self.telling_at = None, [], 0, [], 0
         super().__init__(name, address, kind, wire, seat=-1)
 
     # What `model.unit` calls.
@@ -177,11 +189,13 @@ class LiveUnit(Unit):
     def listen(self, place, now):
         frame = self.wire[place][1]
         mine = [it for it in self.answers if it.pgn == requested(frame)] if frame.pgn == REQUEST and self.held is not None and frame.dest in (self.held, GLOBAL) else []
-        for it in mine:
-            it.asked = True
         if mine:
-            self.heard += 1
+            self.answer(mine[0], frame)
             return
+        if self.own and self.wants_session(frame):
+            self.refuse(frame)
+            return
+        self.hear_of_own(frame, now)
         if needs_room(frame) and not self.has_room():
             self.unheard += 1
             return
@@ -194,10 +208,57 @@ class LiveUnit(Unit):
             self.alone_at = now + HELD_FOR
         if self.held != before:
             self.claimed = False
+            self.own, self.own_frames, self.telling = None, [], []
             for it in self.answers:
                 it.asked = False
         if before is not None and self.held is None:
             self.claim_at = now + 1000 * (self.name % (1 << 21) % 154)
+
+    def answer(self, it, frame):
+        """A group of its own was asked for: it goes to all, or, in packets, to the one who asked for it alone. One session in all."""
+        if not it.several or frame.dest == GLOBAL:
+            it.asked = True
+        elif self.may_serve(frame):
+            if self.own or self.session:
+                self.refuse(frame)
+                return
+            self.own, self.own_frames = Session(it.pgn, it.data, frame.source), [rts(len(it.data), it.pgn, frame.source, self.held)]
+        self.heard += 1
+
+    def may_serve(self, frame):
+        """Whether a session may go to who asks: it is another one, who can hold an address."""
+        return frame.source <= LAST_ADDRESS and frame.source != self.held
+
+    def wants_session(self, frame):
+        """Whether a frame asks for a diagnostic message that goes in a session."""
+        pgn = requested(frame)
+        return pgn in (DM1, DM2, DM6) and frame.dest == self.held and self.held is not None and self.may_serve(frame) and len(self.memory.payload(pgn)) > 8
+
+    def refuse(self, frame):
+        """Another session is open: control 3, cannot respond."""
+        if self.has_room():
+            self.heard += 1
+            self.put(acknowledgment(3, frame.source, requested(frame), self.held))
+        else:
+            self.unheard += 1
+
+    def hear_of_own(self, frame, now):
+        """What the receiver of an own group says: the rules of a diagnostic session."""
+        own = self.own
+        if own is None:
+            return
+        over = claimed_name(frame) is not None and frame.source == own.dest
+        if frame.pgn == CONTROL and (frame.dest, frame.source) == (self.held, own.dest) and control_of(frame) is not None and control_pgn(frame) == own.kind:
+            granted, following = frame.data[1], frame.data[2]
+            if control_of(frame) == CTS and granted == 0:
+                self.own_alone_at = now + HELD_FOR
+            elif control_of(frame) == CTS and following == own.following:
+                last = min(following + granted - 1, packets_of(len(own.payload)))
+                self.own_frames += [packet(own.payload, which, own.dest, self.held) for which in range(following, last + 1)]
+                own.following = last + 1
+            over = control_of(frame) == ABORT or control_of(frame) == END_OF_MESSAGE and own.all_queued()
+        if over:
+            self.own, self.own_frames = None, []
 
     def is_held_open(self, frame):
         """Whether the receiver of the open session says that it can take no packet yet."""
@@ -235,7 +296,7 @@ class LiveUnit(Unit):
                 session = self.session
                 self.end_session()
                 self.put(parting(session, self.held))
-            elif self.is_dm1_due(now) and self.has_room():
+            elif self.is_dm1_due(now) and self.has_room() and not (self.telling and len(self.memory.active) > 1):
                 payload = self.memory.payload(DM1)
                 if len(payload) == 8:
                     self.put(to_all(6, DM1, self.held, payload))
@@ -279,12 +340,16 @@ class LiveUnit(Unit):
             if self.lanes["session"]:
                 self.alone_at = now + ANSWER_WITHIN
                 return self.take("session")
-            if self.lanes["messages"] and (self.lanes["messages"][0][0][1] == 0 or self.packet_at <= now):
+            if self.lanes["messages"] and (self.lanes["messages"][0][0][1] == 0 or self.packet_at <= now) and not self.waits_for_own():
                 self.packet_at = now + self.gap
                 return self.take("messages")
             if self.held is not None:
                 return self.cyclic_due(now)
         return None
+
+    def waits_for_own(self):
+        """Whether a diagnostic message of several packets to all waits for the end of an own group."""
+        return bool(self.telling) and self.lanes["messages"][0][0][0].pgn in (CONTROL, PACKET)
 
     def take(self, lane):
         piece = self.lanes[lane][0]
@@ -294,12 +359,32 @@ class LiveUnit(Unit):
         self.written += 1
         return frame
 
-    def cyclic_due(self, now):
+    def own_due(self, now):
+        """The frame of an own group that goes."""
+        if self.own_frames:
+            self.own_alone_at = now + ANSWER_WITHIN
+            return self.own_frames.pop(0)
+        if self.own and self.own_alone_at <= now:
+            own, self.own = self.own, None
+            return parting(own, self.held)
+        if self.telling and self.telling_at <= now:
+            self.telling_at = now + self.gap
+            return self.telling.pop(0)
         for it in self.answers:
-            if it.asked:
+            if it.asked and not (it.several and (self.telling or self.lanes["messages"])):
                 it.asked = False
-                self.answered += 1
-                return to_all(it.priority, it.pgn, self.held, it.data)
+                if not it.several:
+                    return to_all(it.priority, it.pgn, self.held, it.data)
+                first, *self.telling = broadcast(it.data, it.pgn, self.held)
+                self.telling_at = now + self.gap
+                return first
+        return None
+
+    def cyclic_due(self, now):
+        frame = self.own_due(now)
+        if frame:
+            self.answered += 1
+            return frame
         for it in self.cyclic:
             if it.at <= now:
                 it.at = it.at + it.period if it.at + it.period > now else now + it.period
@@ -310,7 +395,7 @@ class LiveUnit(Unit):
     def times(self):
         """The times at which something may change by itself."""
         seconds = [time + DM1_PERIOD for _, time in self.changes_told] + ([] if self.lamps_changed is None else [self.lamps_changed + DM1_PERIOD])
-        return [self.claim_at, self.settled_at, self.packet_at, self.alone_at, self.dm1_at] + seconds + [it.at for it in self.cyclic]
+        return [self.claim_at, self.settled_at, self.packet_at, self.alone_at, self.dm1_at, self.own_alone_at, self.telling_at] + seconds + [it.at for it in self.cyclic]
 
 
 class Playback:

@@ -140,9 +140,15 @@ fn parts_of(line: LiveLine) -> (u8, Groups) {
         unit: UnitLine { address, .. },
         sends,
         answers,
+        identification,
         ..
     } = line;
-    (address, Groups { sends, answers })
+    let groups = Groups {
+        sends,
+        answers,
+        identification,
+    };
+    (address, groups)
 }
 
 /// Starts the thread that reads the bus. It is not joined: on a quiet bus it would keep a run from ending whose output is gone.

@@ -13,6 +13,7 @@ use Rattle.live_lines.specs.contracts.answering.Answering as answering
 use Rattle.live_lines.specs.contracts.cyclic.Cyclic as cyclic
 use Rattle.live_lines.specs.contracts.fleet.Fleet as fleet
 use Rattle.live_lines.specs.contracts.fleet.Member as member
+use Rattle.live_lines.specs.contracts.own_groups.OwnGroups as own_groups
 
 moving_field-send : IsSend moving_field.the_row
 moving_field-send = search (sendable, crosses) depth 20
@@ -26,6 +27,9 @@ cyclic-send = let line = send_line-send in search (sendable, crosses) depth 20
 answering-send : IsSend answering.the_row
 answering-send = search (sendable, crosses) depth 20
 
+own_groups-send : IsSend (own_groups.the_field).row
+own_groups-send = let one = answering-send in search (sendable, crosses) depth 20
+
 live_node-send : IsSend (live_node.the_field).row
 live_node-send = search (sendable, crosses, maps.crosses) depth 40 fits 10000
 
@@ -34,7 +38,7 @@ module _ (T : RattleType) (g : Ghosts T.Denot) (entries : Sends (table_of T.Deno
   live_unit-send = let live = live_node-send in let unit = dyn_box_send T g entries box in search (sendable, crosses) depth 20
 
   member-send : IsSend (member.the_row T g)
-  member-send = let unit = live_unit-send in let sends = cyclic-send in let answers = answering-send in search (sendable, crosses) depth 20
+  member-send = let unit = live_unit-send in let sends = cyclic-send in let answers = own_groups-send in search (sendable, crosses) depth 20
 
   pub fleet-send : IsSend (fleet.the_field T g).row
   fleet-send = let members = member-send in search (sendable, crosses) depth 20

@@ -1,12 +1,14 @@
 //! What a unit sends where it is asked for it.
-ghost use Rattle.std.specs.Prelude.{◌≡◌, ◌≢◌, ◌↔◌, IfSome, IsSome, false, true};
+ghost use Rattle.std.specs.Prelude.{◌≡◌, ◌≢◌, ◌≤◌, ◌↔◌, IfSome, IsTrue, None, false, length};
 ghost use Rattle.std.specs.List.{All};
-ghost use Rattle.can_frame.specs.Fields.{pdu2_number, source_of};
-ghost use Rattle.can_frame.specs.FrameValue.{frame};
+ghost use Rattle.can_frame.specs.Fields.{source_of};
+ghost use Rattle.vehicle.specs.Frames.{answer_frame, last_of_answer};
+ghost use Rattle.live_lines.specs.Own.{goes_now};
 ghost use Rattle.live_lines.specs.Withheld.{IsAskedOf};
 
 use can_frame::{Frame, GLOBAL_ADDRESS, Pgn};
 use parameter_group::ParameterGroup;
+use requests::Request;
 use vehicle::AnswerLine;
 
 /// A group that a unit answers, and whether it was asked for and is not answered yet.
@@ -25,24 +27,46 @@ impl Answering {
         }
     }
 
-    /// Its frame from this address, where it was asked for; it is answered then, whoever asked and how often.
-    fn due(&mut self, source: u8) -> Option<Frame>
-        ensures frame { IfSome result (λ f. f ≡ frame (pdu2_number self.old.line.priority self.old.line.pgn source) self.old.line.bytes.items) }
+    /// Whether one frame is enough.
+    pub(crate) fn is_single(&self) -> bool
+        ensures { IsTrue result ↔ (length self.now.line.bytes.items ≤ 8) }
+    {
+        self.line.is_single()
+    }
+
+    /// The number of its last frame.
+    pub(crate) fn last(&self) -> u8
+        ensures { result ≡ last_of_answer self.now.line.bytes.items }
+    {
+        self.line.last()
+    }
+
+    /// Its frame of this number, from an address to all or to one; none behind the last.
+    pub(crate) fn frame(&self, source: u8, dest: u8, number: u8) -> Option<Frame>
+        ensures frame { IfSome result (λ f. (number ≤ last_of_answer self.now.line.bytes.items) × (f ≡ answer_frame self.now.line source dest number)) }
         ensures source { IfSome result (λ f. source_of f.id ≡ source) }
-        ensures asked { IsSome result ↔ (self.old.is_asked ≡ true) }
+    {
+        self.line.frame(source, dest, number)
+    }
+
+    /// Whether it goes to all now, where it was asked for: one frame, or more where that may begin.
+    pub(crate) fn goes(&self, may_begin: bool) -> bool
+        ensures { result ≡ goes_now may_begin self.now }
+    {
+        self.is_asked && (may_begin || self.is_single())
+    }
+
+    /// Keeps that it was answered, whoever asked and how often.
+    pub(crate) fn answered(&mut self)
         ensures once { self.new.is_asked ≡ false }
         ensures same { self.new.line ≡ self.old.line }
     {
-        if !self.is_asked {
-            return None;
-        }
         self.is_asked = false;
-        Some(self.line.frame(source))
     }
 }
 
-/// The group that a frame asks of who holds this address, or of all.
-pub(crate) fn asked_of(frame: &Frame, held: Option<u8>) -> Option<Pgn>
+/// What a frame asks of who holds this address, or of all.
+pub(crate) fn asked_of(frame: &Frame, held: Option<u8>) -> Option<Request>
     ensures { IfSome result (IsAskedOf held frame.now) }
 {
     let ParameterGroup::Request(request) = ParameterGroup::read(frame) else {
@@ -50,7 +74,7 @@ pub(crate) fn asked_of(frame: &Frame, held: Option<u8>) -> Option<Pgn>
     };
     let held = held?;
     if request.dest == GLOBAL_ADDRESS || request.dest == held {
-        Some(request.pgn)
+        Some(request)
     } else {
         None
     }
@@ -61,6 +85,18 @@ pub(crate) fn is_listed(all: &[Answering], pgn: Pgn) -> bool
     ensures { result ≡ false → All (λ a. a.line.pgn ≢ pgn) all.now }
 {
     all.iter().any(|one| one.line.pgn == pgn.number())
+}
+
+/// The place of a group.
+pub(crate) fn place_of(all: &[Answering], pgn: Pgn) -> Option<usize> {
+    all.iter().position(|one| one.line.pgn == pgn.number())
+}
+
+/// The place of the first that goes to all now, where one of several packets may begin or may not.
+pub(crate) fn place_due(all: &[Answering], may_begin: bool) -> Option<usize>
+    ensures { result ≡ None → All (λ a. goes_now may_begin a ≡ false) all.now }
+{
+    all.iter().position(|one| one.goes(may_begin))
 }
 
 /// Keeps that a group was asked for.
@@ -77,21 +113,4 @@ pub(crate) fn forget(all: &mut [Answering]) {
     for one in all.iter_mut() {
         one.is_asked = false;
     }
-}
-
-/// Whether one was asked for.
-pub(crate) fn is_any_asked(all: &[Answering]) -> bool {
-    all.iter().any(|one| one.is_asked)
-}
-
-/// The first frame of those that were asked for, from this address.
-pub(crate) fn answer_due(all: &mut [Answering], source: u8) -> Option<Frame>
-    ensures { IfSome result (λ f. source_of f.id ≡ source) }
-{
-    for one in all.iter_mut() {
-        if let Some(frame) = one.due(source) {
-            return Some(frame);
-        }
-    }
-    None
 }

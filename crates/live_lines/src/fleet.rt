@@ -1,22 +1,26 @@
-ghost use Rattle.std.specs.Prelude.{◌≡◌, ◌≤◌, ◌||◌, IfSome, None, Some, false, true};
+ghost use Rattle.std.specs.Prelude.{◌≡◌, ◌≢◌, ◌≤◌, ◌↔◌, ◌||◌, IfSome, IsSome, IsTrue, None, Some, false, true};
 ghost use Rattle.can_frame.specs.Fields.{source_of};
 ghost use Rattle.can_frame.specs.declared.address.TheConstants.{GREATEST_ADDRESS};
 ghost use Rattle.address_claim.specs.Frames.{claim_source};
-ghost use Rattle.live_lines.specs.Withheld.{IsAskedOf};
+ghost use Rattle.live_unit.specs.Beside.{is_withheld};
+ghost use Rattle.live_unit.specs.Steps.{Writes};
+ghost use Rattle.live_lines.specs.Withheld.{IsAskedAlone, IsAskedOf, IsOfSeveral};
 ghost use Rattle.log_lines.specs.declared.fault.LogFault.TheVariants.{Memory};
 
-use crate::answering::{Answering, answer_due, ask, asked_of, forget, is_any_asked, is_listed};
+use crate::answering::{Answering, asked_of};
 use crate::cyclic::Cyclic;
-use can_frame::{Frame, Pgn};
+use crate::own_groups::OwnGroups;
+use can_frame::{Frame, GLOBAL_ADDRESS, GREATEST_ADDRESS, Pgn};
 use dm_messages::Kind;
-use fault_memory::{FaultChange, FaultError};
+use fault_memory::{FaultChange, FaultError, FaultMemory};
 use live_unit::{Act, LiveError, LiveUnit, QueueCounts, UnitSettings};
 use log_lines::{LinesEnd, LogFault};
+use requests::Request;
 use std::alloc::{AllocError, Global};
 use std::io;
 use std::io::Write;
 use unit_trait::Unit;
-use vehicle::{AnswerLine, SendLine};
+use vehicle::{AnswerLine, Identification, SendLine};
 
 /// How long a unit that was refused memory waits before it tries again, in microseconds.
 const RETRY: u64 = 100_000;
@@ -32,7 +36,7 @@ struct Member {
     cyclic: Vec<Cyclic>,
     sent: u64,
     /// What it sends where it is asked for it, and how many frames of these it wrote.
-    answers: Vec<Answering>,
+    answers: OwnGroups,
     answered: u64,
     /// Whether it has left the bus.
     has_left: bool,
@@ -50,6 +54,8 @@ pub struct Groups {
     pub sends: Vec<SendLine>,
     /// What it sends where it is asked for it.
     pub answers: Vec<AnswerLine>,
+    /// How it tells what it is where it is asked.
+    pub identification: Identification,
 }
 
 /// Units that take part in one bus, in the order in which they came.
@@ -89,10 +95,7 @@ impl Fleet {
         for group in groups.sends {
             cyclic.push(Cyclic::new(group))?;
         }
-        let mut answers = Vec::new(alloc);
-        for group in groups.answers {
-            answers.push(Answering::new(group))?;
-        }
+        let answers = own_groups(alloc, groups.identification, groups.answers, settings.gap)?;
         self.members.push(Member {
             unit: LiveUnit::new(alloc, unit, address, settings)?,
             cyclic,
@@ -245,17 +248,28 @@ impl Member {
             return false;
         }
         let held = self.unit.held();
-        if let Some(pgn) = self.withheld(frame) {
-            ask(self.answers.as_mut_slice(), pgn);
-            self.heard = self.heard.saturating_add(1);
-            return false;
+        if let Some(request) = self.withheld(frame) {
+            return self.answer(request);
         }
+        if let Some(Request { pgn, source, .. }) = self.kept_from_node(frame) {
+            let refused = self.unit.refuse(pgn, source);
+            return self.count(refused);
+        }
+        self.answers.hear(frame, held, now);
         let result = self.unit.hear(alloc, frame, now);
         if self.unit.held() != held {
-            forget(self.answers.as_mut_slice());
+            self.answers.forget();
         }
         match result {
-            Ok(_) => {
+            Ok(_) => self.count(Ok(())),
+            Err(error) => self.count(Err(error)),
+        }
+    }
+
+    /// Counts a frame as heard, or as one that could not be. Tells whether memory was refused for it.
+    fn count(&mut self, heard: Result<(), LiveError>) -> bool {
+        match heard {
+            Ok(()) => {
                 self.heard = self.heard.saturating_add(1);
                 false
             }
@@ -266,14 +280,60 @@ impl Member {
         }
     }
 
-    /// The group that a frame asks for, where the unit answers that beside its node. Of a frame that is none of these the node hears,
-    /// as it does without answers.
-    fn withheld(&self, frame: &Frame) -> Option<Pgn>
+    /// What a frame asks for that the unit answers beside its node. Of a frame that is none of these the node hears, as it does
+    /// without answers.
+    fn withheld(&self, frame: &Frame) -> Option<Request>
         ensures { IfSome result (IsAskedOf self.now.unit.live.node.claimer.held frame.now) }
     {
-        let pgn = asked_of(frame, self.unit.held())?;
-        if is_listed(self.answers.as_slice(), pgn) {
-            Some(pgn)
+        let request = asked_of(frame, self.unit.held())?;
+        if self.answers.has(request.pgn) {
+            Some(request)
+        } else {
+            None
+        }
+    }
+
+    /// Answers it: to all, or where one frame is enough; else by a session with who asked for it alone. While a session of the unit
+    /// is open, another is refused (control 3).
+    fn answer(&mut self, request: Request) -> bool
+        requires { Unit {0} }
+    {
+        let Request { pgn, dest, source } = request;
+        let place = match self.answers.place_of_several(pgn) {
+            Some(place) if dest != GLOBAL_ADDRESS => place,
+            _ => {
+                self.answers.ask(pgn);
+                return self.count(Ok(()));
+            }
+        };
+        if !may_ask(source, dest) {
+            return self.count(Ok(()));
+        }
+        if self.answers.has_session() || self.unit.has_session() {
+            let refused = self.unit.refuse(pgn, source);
+            return self.count(refused);
+        }
+        self.answers.open(place, pgn, source);
+        self.count(Ok(()))
+    }
+
+    /// What a frame asks for by which the node would open a session, while one of another group is open.
+    fn kept_from_node(&self, frame: &Frame) -> Option<Request>
+        requires { Unit {0} }
+        ensures asked { IfSome result (IsAskedAlone self.now.unit.live.node.claimer.held frame.now) }
+        ensures several { IfSome result (λ r. IsOfSeveral ((⟦<dyn Unit as Unit>⟧ self.now.unit.unit.vtable).memory_of self.now.unit.unit.value) r.pgn) }
+        ensures open { IfSome result (λ _. IsSome self.now.answers.session) }
+    {
+        if !self.answers.has_session() {
+            return None;
+        }
+        let request = asked_of(frame, self.unit.held())?;
+        let Request { pgn, dest, source } = request;
+        if dest == GLOBAL_ADDRESS || !may_ask(source, dest) {
+            return None;
+        }
+        if is_of_several(self.unit.memory(), pgn) {
+            Some(Request { pgn, dest, source })
         } else {
             None
         }
@@ -287,7 +347,12 @@ impl Member {
             return false;
         }
         for _ in 0..MOST_ACTS {
-            match self.unit.act(alloc, now) {
+            let done = if self.answers.is_telling() {
+                self.unit.act_beside(alloc, now)
+            } else {
+                self.unit.act(alloc, now)
+            };
+            match done {
                 Ok(Act::Nothing) => return false,
                 Ok(_) => {}
                 Err(error) => {
@@ -299,7 +364,7 @@ impl Member {
         false
     }
 
-    /// The frame of it that goes at this time: one that waits, or else an answer, or one that it sends again and again.
+    /// The frame of it that goes at this time: one that waits, or else one of a group of its own.
     fn due(&mut self, now: u64) -> Option<Frame>
         requires { Unit {0} }
         ensures source { IfSome result (λ f. source_of f.id ≡ claim_source self.old.unit.live.node.claimer.held) }
@@ -307,15 +372,39 @@ impl Member {
         if self.has_left {
             return None;
         }
-        if let Some(frame) = self.unit.due(now) {
-            return Some(frame);
+        match self.node_due(now) {
+            None => self.group_due(now),
+            found => found,
         }
+    }
+
+    /// The frame that waits and goes at this time: while an answer goes to all in packets, no such message of the node's.
+    fn node_due(&mut self, now: u64) -> Option<Frame>
+        requires { Unit {0} }
+        ensures writes { IfSome result (λ f. Writes self.old.unit.live.settings now f self.old.unit.live.queue self.old.unit.live.clock
+            self.new.unit.live.queue self.new.unit.live.clock) }
+        ensures beside { IsSome self.old.answers.broadcast → is_withheld self.old.unit.live.queue ≡ true → result ≡ None }
+        ensures source { IfSome result (λ f. source_of f.id ≡ claim_source self.old.unit.live.node.claimer.held) }
+        ensures held { self.new.unit.live.node ≡ self.old.unit.live.node }
+    {
+        if self.answers.is_telling() {
+            self.unit.due_beside(now)
+        } else {
+            self.unit.due(now)
+        }
+    }
+
+    /// The frame of its groups that goes at this time: an answer, or one that it sends again and again.
+    fn group_due(&mut self, now: u64) -> Option<Frame>
+        ensures source { IfSome result (λ f. source_of f.id ≡ claim_source self.old.unit.live.node.claimer.held) }
+    {
         let source = self.unit.held()?;
         let from = self.unit.free_from()?;
         if from > now {
             return None;
         }
-        if let Some(frame) = answer_due(self.answers.as_mut_slice(), source) {
+        let may_begin = !self.unit.is_telling();
+        if let Some(frame) = self.answers.due(source, now, may_begin) {
             self.answered = self.answered.saturating_add(1);
             return Some(frame);
         }
@@ -329,7 +418,11 @@ impl Member {
         if self.has_left {
             return u64::MAX;
         }
-        let next = self.unit.next(now);
+        let next = if self.answers.is_telling() {
+            self.unit.next_beside(now)
+        } else {
+            self.unit.next(now)
+        };
         let next = if now < self.retry_from && next < self.retry_from {
             self.retry_from
         } else {
@@ -338,10 +431,8 @@ impl Member {
         let Some(from) = self.unit.free_from() else {
             return next;
         };
-        if is_any_asked(self.answers.as_slice()) {
-            return next.min(from);
-        }
-        next.min(cyclic_from(self.cyclic.as_slice()).max(from))
+        let answer = self.answers.from(!self.unit.is_telling());
+        next.min(cyclic_from(self.cyclic.as_slice()).min(answer).max(from))
     }
 
     fn write_line<W: Write>(&self, writer: &mut W, place: usize) -> io::Result<()> {
@@ -418,4 +509,46 @@ fn place_after(place: usize, offset: usize, count: usize) -> usize {
         return 0;
     }
     place.saturating_add(offset) % count
+}
+
+/// What a unit answers beside its node, how it tells what it is before all else.
+fn own_groups(
+    alloc: Global,
+    identification: Identification,
+    answers: Vec<AnswerLine>,
+    gap: u64,
+) -> Result<OwnGroups, AllocError> {
+    let Identification {
+        vin,
+        component,
+        software,
+        ecu,
+    } = identification;
+    let mut all = Vec::new(alloc);
+    for line in [vin, component, software, ecu].into_iter().flatten() {
+        all.push(Answering::new(line))?;
+    }
+    for line in answers {
+        all.push(Answering::new(line))?;
+    }
+    Ok(OwnGroups::new(all, gap))
+}
+
+/// Whether a session may go to who asks: from an address that can be held, and another one than is asked.
+fn may_ask(source: u8, dest: u8) -> bool
+    ensures { IsTrue result ↔ ((source ≤ GREATEST_ADDRESS) × (source ≢ dest)) }
+{
+    source <= GREATEST_ADDRESS && source != dest
+}
+
+/// Whether a group is a diagnostic message with more than one code.
+fn is_of_several(memory: &FaultMemory, pgn: Pgn) -> bool
+    ensures { result ≡ true → IsOfSeveral memory.now pgn }
+{
+    match pgn {
+        Pgn::DM1 => memory.active().len() > 1,
+        Pgn::DM2 => memory.previous().len() > 1,
+        Pgn::DM6 => memory.pending().len() > 1,
+        _ => false,
+    }
 }

@@ -9,6 +9,9 @@ mod cyclic;
 mod ear;
 mod fleet;
 mod orders;
+mod own_broadcast;
+mod own_groups;
+mod own_session;
 mod playback;
 
 pub use beginning::{Unheld, begin_with};

@@ -15,6 +15,7 @@ use Rattle.fault_memory.specs.Memory.{MemoryValue}
 use Rattle.dm_messages.specs.View.{payload_of, pgn_of_kind}
 use Rattle.dm_messages.specs.declared.kind.Kind.{Kind}
 use Rattle.node_core.specs.NodeValue.{NodeValue, is_destination, is_open}
+use Rattle.node_core.specs.Requested.{acknowledgment}
 use Rattle.node_core.specs.Asking.{is_agreed}
 use Rattle.node_core.specs.Commanding.{is_to_all}
 use Rattle.node_core.specs.Reaction.{is_all_queued_with, is_open_with, noted_from, on_command, on_step, on_uncontested, Reacts, reaction_to}
@@ -47,6 +48,12 @@ source_fits (Some a) h = omega arith
 -- a claim
 pub claim_from_holder : (name : ℕ) (held : Option ℕ) → CanHold held → source_of (claim_frame_value name held).id ≡ claim_source held
 claim_from_holder name held h = source_to_one 6 60928 255 (claim_source held) (source_fits held h)
+
+-- an acknowledgment
+pub ack_from : (queued control requester pgn source : ℕ) → queued ≡ source → source < 256 → All (IsSentFrom queued) (plain (acknowledgment control requester pgn source) ∷ [])
+ack_from queued control requester pgn source q fits =
+    let from : source_of (acknowledgment control requester pgn source).id ≡ source = source_to_one 6 59392 255 source fits in
+    All-cons (IsSentFrom queued) (plain (acknowledgment control requester pgn source)) [] (from ∙ sym q) (All-nil (IsSentFrom queued))
 
 -- a part of a message
 by_size : (P : FrameValue → Type 0) (b : Bool) (x y : FrameValue) → P x → P y → P (if b then x else y)

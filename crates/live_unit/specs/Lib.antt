@@ -4,3 +4,4 @@ pub mod Waits
 pub mod Telling
 pub mod Times
 pub mod Steps
+pub mod Beside

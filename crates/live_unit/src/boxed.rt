@@ -6,6 +6,7 @@ ghost use Rattle.fault_memory.specs.declared.error.FaultError.{FaultError as Any
 ghost use Rattle.node_core.specs.Asking.{IsAsked};
 ghost use Rattle.node_core.specs.NodeValue.{is_open};
 ghost use Rattle.node_core.specs.Reaction.{question};
+ghost use Rattle.live_unit.specs.Beside.{is_silent, is_withheld, tells_several};
 ghost use Rattle.live_unit.specs.Steps.{Acts, BeginsToAll, CanPut, HasHeardFrame, LacksRoomFor, clock_heard, standing};
 ghost use Rattle.live_unit.specs.Times.{is_dm1_due, is_left_alone, lane_due};
 
@@ -118,4 +119,38 @@ pub(crate) fn next_in(live: &LiveNode, now: u64, unit: &Box<dyn Unit>) -> u64
     ensures ahead { now ≤ result }
 {
     live.next(now, &**unit)
+}
+
+/// Has the node do of its own accord what is due beside a message of its caller's.
+pub(crate) fn act_beside_in(
+    live: &mut LiveNode,
+    alloc: Global,
+    now: u64,
+    unit: &Box<dyn Unit>,
+) -> Result<Act, LiveError>
+    ensures silent { is_silent live.old.clock now live.old.node (memory_of unit.now) live.old.queue ≡ true
+        → (result ≡ Ok Act.Nothing) × (live.new.node ≡ live.old.node) × (live.new.queue ≡ live.old.queue)
+        × (live.new.clock ≡ live.old.clock) }
+    ensures acts { is_silent live.old.clock now live.old.node (memory_of unit.now) live.old.queue ≡ false
+        → IfOk result (λ a. Acts live.old.settings now (wants unit.now) a
+        (standing live.old.node (memory_of unit.now) live.old.queue) live.old.clock
+        (standing live.new.node (memory_of unit.now) live.new.queue) live.new.clock) }
+    ensures settings { live.new.settings ≡ live.old.settings }
+    ensures only { IfErr result (λ e. e ≡ LiveError.OutOfMemory) }
+    ensures err { OnErr result
+        ((live.new.node ≡ live.old.node) × (live.new.queue ≡ live.old.queue) × (live.new.clock ≡ live.old.clock)) }
+{
+    live.act_beside(alloc, now, &**unit)
+}
+
+/// When to look again beside a message of its caller's.
+pub(crate) fn next_beside_in(live: &LiveNode, now: u64, unit: &Box<dyn Unit>) -> u64
+    ensures idle { (t : ℕ) → now ≤ t → t < result
+        → ((is_withheld live.now.queue ≡ true) ⊎ (lane_due live.now.clock t live.now.queue ≡ None))
+        × (is_left_alone live.now.clock t live.now.node live.now.queue ≡ false)
+        × ((tells_several (memory_of unit.now) ≡ true) ⊎ (is_dm1_due live.now.settings live.now.clock t (wants unit.now)
+        live.now.node (memory_of unit.now) live.now.queue ≡ false)) }
+    ensures ahead { now ≤ result }
+{
+    live.next_beside(now, &**unit)
 }

@@ -11,10 +11,10 @@ use name_field::Name;
 use std::alloc::{AllocError, Global};
 
 /// How long a session waits for an answer, in microseconds: 1,250 ms (SAE J1939-21, T3).
-pub(crate) const ANSWER_WITHIN: u64 = 1_250_000;
+pub const ANSWER_WITHIN: u64 = 1_250_000;
 
 /// How long a session that was held open waits for more, in microseconds: 1,050 ms (SAE J1939-21, T4).
-pub(crate) const HELD_FOR: u64 = 1_050_000;
+pub const HELD_FOR: u64 = 1_050_000;
 
 /// The longest that a unit waits before it says that it can claim no address, in milliseconds (SAE J1939-81).
 pub(crate) const LONGEST_PAUSE: u64 = 153;

@@ -13,7 +13,7 @@ mod told;
 mod unit;
 mod waiting;
 
-pub use clock::{UnitClock, UnitSettings};
+pub use clock::{ANSWER_WITHIN, HELD_FOR, UnitClock, UnitSettings};
 pub use error::LiveError;
 pub use node::{Act, LiveNode};
 pub use queue::QueueCounts;

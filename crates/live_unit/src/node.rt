@@ -28,6 +28,8 @@ use std::alloc::{AllocError, Global};
 use transport::Control;
 use unit_trait::Unit;
 
+mod beside;
+
 /// What a unit did of its own accord.
 #[derive(Clone, Copy, PartialEq, Eq)]
 pub enum Act {

@@ -1,4 +1,4 @@
-ghost use Rattle.std.specs.Prelude.{ℕ, ◌≡◌, ◌⊎◌, ◌≤◌, ◌<◌, ◌+◌, ◌↔◌, false, true, IfErr, IfOk, IfSome, IsErrOf, IsNone, MatchOption, None, Ok, OnErr, OnOk};
+ghost use Rattle.std.specs.Prelude.{ℕ, ◌≡◌, ◌∷◌, ◌⊎◌, ◌≤◌, ◌<◌, ◌+◌, ◌↔◌, [], false, true, is_some, IfErr, IfOk, IfSome, IsErrOf, IsNone, MatchOption, None, Ok, OnErr, OnOk};
 ghost use Rattle.can_frame.specs.Fields.{source_of};
 ghost use Rattle.can_frame.specs.declared.address.TheConstants.{GREATEST_ADDRESS};
 ghost use Rattle.address_claim.specs.Frames.{claim_source};
@@ -7,17 +7,23 @@ ghost use Rattle.fault_memory.specs.declared.error.FaultError.{FaultError as Any
 ghost use Rattle.node_core.specs.Asking.{IsAsked};
 ghost use Rattle.node_core.specs.NodeValue.{is_open, new_node};
 ghost use Rattle.node_core.specs.Reaction.{question};
-ghost use Rattle.live_unit.specs.Queue.{frames_waiting};
+ghost use Rattle.node_core.specs.Deed.{plain};
+ghost use Rattle.node_core.specs.Requested.{acknowledgment};
+ghost use Rattle.requests.specs.declared.acknowledgment.TheConstants.Ack.{CANNOT_RESPOND};
+ghost use Rattle.live_unit.specs.Beside.{is_silent, is_withheld, tells_several};
+ghost use Rattle.live_unit.specs.Queue.{frames_waiting, putting, waits};
 ghost use Rattle.live_unit.specs.Steps.{Acts, BeginsToAll, CanPut, HasHeardFrame, LacksRoomFor, Writes, clock_heard, standing};
 ghost use Rattle.live_unit.specs.Times.{is_dm1_due, is_left_alone, lane_due};
 ghost use Rattle.live_unit.specs.Times as times;
 
-use crate::boxed::{act_in, apply_in, begin_in, hear_in, memory_in, name_in, next_in};
+use crate::boxed::{
+    act_beside_in, act_in, apply_in, begin_in, hear_in, memory_in, name_in, next_beside_in, next_in,
+};
 use crate::clock::UnitSettings;
 use crate::error::LiveError;
 use crate::node::{Act, LiveNode};
 use crate::queue::QueueCounts;
-use can_frame::Frame;
+use can_frame::{Frame, Pgn};
 use dm_messages::Kind;
 use fault_memory::{FaultChange, FaultError, FaultMemory};
 use name_field::Name;
@@ -185,5 +191,85 @@ impl LiveUnit {
         ensures same { self.new.live ≡ self.old.live }
     {
         apply_in(&mut self.unit, change)
+    }
+
+    /// Whether a session of the unit's node is open.
+    pub fn has_session(&self) -> bool
+        ensures { result ≡ is_some self.now.live.node.session }
+    {
+        self.live.has_session()
+    }
+
+    /// Whether frames of messages to all wait.
+    pub fn is_telling(&self) -> bool
+        ensures { result ≡ waits self.now.live.queue.messages }
+    {
+        self.live.is_telling()
+    }
+
+    /// Answers one who asked for a group that the unit cannot respond now, as `LiveNode::refuse` does.
+    ///
+    /// Refused: `Full`, `Unclaimed`. Then nothing changed.
+    pub fn refuse(&mut self, pgn: Pgn, asker: u8) -> Result<(), LiveError>
+        requires { Unit {0} }
+        ensures refused { OnOk result (self.new.live.queue ≡ putting false
+            (plain (acknowledgment CANNOT_RESPOND asker pgn (claim_source self.old.live.node.claimer.held)) ∷ []) self.old.live.queue) }
+        ensures same { (self.new.unit ≡ self.old.unit) × (self.new.live.node ≡ self.old.live.node)
+            × (self.new.live.clock ≡ self.old.live.clock) × (self.new.live.settings ≡ self.old.live.settings) }
+        ensures full { IsErrOf result LiveError.Full ↔ (¬ CanPut self.old.live.queue) }
+        ensures unclaimed { IsErrOf result LiveError.Unclaimed
+            ↔ (CanPut self.old.live.queue × IsNone self.old.live.node.claimer.held) }
+        ensures only { IfErr result (λ e. (e ≡ LiveError.Full) ⊎ (e ≡ LiveError.Unclaimed)) }
+        ensures err { OnErr result (self.new.live.queue ≡ self.old.live.queue) }
+    {
+        self.live.refuse(pgn, asker)
+    }
+
+    /// The frame that goes at this time beside a message of several packets to all, as `LiveNode::due_beside` has it.
+    pub fn due_beside(&mut self, now: u64) -> Option<Frame>
+        requires { Unit {0} }
+        ensures withheld { is_withheld self.old.live.queue ≡ true
+            → (result ≡ None) × (self.new.live.queue ≡ self.old.live.queue) × (self.new.live.clock ≡ self.old.live.clock) }
+        ensures writes { is_withheld self.old.live.queue ≡ false
+            → MatchOption result ((lane_due self.old.live.clock now self.old.live.queue ≡ None)
+            × (self.new.live.queue ≡ self.old.live.queue) × (self.new.live.clock ≡ self.old.live.clock))
+            (λ f. Writes self.old.live.settings now f self.old.live.queue self.old.live.clock self.new.live.queue self.new.live.clock) }
+        ensures source { IfSome result (λ f. source_of f.id ≡ claim_source self.old.live.node.claimer.held) }
+        ensures same { (self.new.live.node ≡ self.old.live.node) × (self.new.unit ≡ self.old.unit)
+            × (self.new.live.settings ≡ self.old.live.settings) }
+    {
+        self.live.due_beside(now)
+    }
+
+    /// Does of the unit's own accord what is due beside such a message, as `LiveNode::act_beside` does.
+    ///
+    /// Refused: `OutOfMemory`; then nothing changed.
+    pub fn act_beside(&mut self, alloc: Global, now: u64) -> Result<Act, LiveError>
+        requires { Unit {0} }
+        ensures silent { is_silent self.old.live.clock now self.old.live.node (memory_of self.old.unit) self.old.live.queue ≡ true
+            → (result ≡ Ok Act.Nothing) × (self.new.live.node ≡ self.old.live.node) × (self.new.live.queue ≡ self.old.live.queue)
+            × (self.new.live.clock ≡ self.old.live.clock) }
+        ensures acts { is_silent self.old.live.clock now self.old.live.node (memory_of self.old.unit) self.old.live.queue ≡ false
+            → IfOk result (λ a. Acts self.old.live.settings now (wants self.old.unit) a
+            (standing self.old.live.node (memory_of self.old.unit) self.old.live.queue) self.old.live.clock
+            (standing self.new.live.node (memory_of self.new.unit) self.new.live.queue) self.new.live.clock) }
+        ensures same { (self.new.unit ≡ self.old.unit) × (self.new.live.settings ≡ self.old.live.settings) }
+        ensures only { IfErr result (λ e. e ≡ LiveError.OutOfMemory) }
+        ensures err { OnErr result ((self.new.live.node ≡ self.old.live.node) × (self.new.live.queue ≡ self.old.live.queue)
+            × (self.new.live.clock ≡ self.old.live.clock)) }
+    {
+        act_beside_in(&mut self.live, alloc, now, &self.unit)
+    }
+
+    /// When to look again beside such a message, as `LiveNode::next_beside` has it.
+    pub fn next_beside(&self, now: u64) -> u64
+        ensures idle { (t : ℕ) → now ≤ t → t < result
+            → ((is_withheld self.now.live.queue ≡ true) ⊎ (lane_due self.now.live.clock t self.now.live.queue ≡ None))
+            × (is_left_alone self.now.live.clock t self.now.live.node self.now.live.queue ≡ false)
+            × ((tells_several (memory_of self.now.unit) ≡ true) ⊎ (is_dm1_due self.now.live.settings self.now.live.clock t
+            (wants self.now.unit) self.now.live.node (memory_of self.now.unit) self.now.live.queue ≡ false)) }
+        ensures ahead { now ≤ result }
+    {
+        next_beside_in(&self.live, now, &self.unit)
     }
 }

@@ -5,3 +5,4 @@ mod SendLemmas
 mod FieldLemmas
 mod MotionLemmas
 mod SumLemmas
+mod FrameLemmas

@@ -1,4 +1,4 @@
-use Rattle.std.proofs.Common.{◌≡◌, ◌≢◌, ℕ, ◌+◌, ◌<◌, List, [], ◌∷◌, ◌++◌, Option, Some, None, take, length, get_or, ap, sym, subst, refl, ◌∙◌}
+use Rattle.std.proofs.Common.{◌≡◌, ◌≢◌, ℕ, ◌+◌, ◌<◌, List, [], ◌∷◌, ◌++◌, Option, Some, None, Result, Ok, Err, IfOk, take, length, get_or, ap, sym, subst, refl, ◌∙◌}
 use Rattle.std.proofs.lemmas.List.{take_more}
 use Rattle.toml.specs.declared.value.Value.{Value}
 use Rattle.toml.specs.Data.{Data, Items, no_items, item, push_item}
@@ -6,8 +6,11 @@ use Rattle.toml.specs.View.{view, items_view}
 use Rattle.toml.proofs.Views.{items_view-push}
 use Rattle.std.proofs.lemmas.List.Quantifiers.{all_pairs_push}
 use Rattle.std.specs.List.{All}
-use Rattle.vehicle.specs.Holding.{EachHolds, EachHoldsAt, HasItemsAt}
-use Rattle.vehicle.specs.Live.{HaveDistinctNames}
+use Rattle.vehicle.specs.Holding.{EachHolds, EachHoldsAt, HasItemsAt, HoldsUnitOf}
+use Rattle.vehicle.specs.declared.UnitLine.{UnitLine}
+use Rattle.vehicle.specs.Identifying.{HaveDistinctGroups, HoldsSaidAt, HoldsText}
+use Rattle.vehicle.specs.Live.{HaveDistinctNames, HoldsLiveUnit, HoldsRest, live_keys_of_kind}
+use Rattle.vehicle.specs.declared.answer_line.AnswerLine.{AnswerLine}
 use Rattle.vehicle.specs.declared.live.LiveLine.{LiveLine}
 
 pushed : {A : Type 0} (holds : Data → A → Type 0) (ds : Items) (xs : List A) (d : Data) (x : A) → EachHolds holds ds xs → holds d x → EachHolds holds (push_item ds d) (xs ++ x ∷ [])
@@ -39,3 +42,20 @@ pub one_more_name : (units : List LiveLine) (i : ℕ) (unit : LiveLine) → i < 
 one_more_name units i unit l is h k =
     let here : take (i + 1) units ≡ take i units ++ unit ∷ [] = take_more units i unit l ∙ ap (λ y. take i units ++ y ∷ []) (sym is) in
     rw here (all_pairs_push (λ (one other : LiveLine). one.unit.name ≢ other.unit.name) (take i units) unit h k)
+
+-- one more group, which none of those before is
+pub one_more_group : (answers : List AnswerLine) (i : ℕ) (answer : AnswerLine) → i < length answers → answer ≡ get_or answers i answer
+    → HaveDistinctGroups (take i answers) → All (λ one. one.pgn ≢ answer.pgn) (take i answers) → HaveDistinctGroups (take (i + 1) answers)
+one_more_group answers i answer l is h k =
+    let here : take (i + 1) answers ≡ take i answers ++ answer ∷ [] = take_more answers i answer l ∙ ap (λ y. take i answers ++ y ∷ []) (sym is) in
+    rw here (all_pairs_push (λ (one other : AnswerLine). one.pgn ≢ other.pgn) (take i answers) answer h k)
+
+-- what a unit is, and the rest, are a unit
+pub as_live_unit : {E : Type 0} (d : Data) (unit : UnitLine) (r : Result LiveLine E) → HoldsUnitOf (live_keys_of_kind unit.kind) d unit
+    → IfOk r (λ u. (u.unit ≡ unit) × HoldsRest d u) → IfOk r (HoldsLiveUnit d)
+as_live_unit d unit (Ok u) h k = record { unit = subst (λ (x : UnitLine). HoldsUnitOf (live_keys_of_kind x.kind) d x) (sym k.0) h; rest = k.1 }
+as_live_unit d unit (Err e) h k = tt
+
+-- a text of a key that is there
+pub said_at : (says : List ℕ → AnswerLine → Type 0) (o : Option Data) (d : Data) (a : AnswerLine) → o ≡ Some d → HoldsText says d a → HoldsSaidAt says o (Some a)
+said_at says o d a e h = subst (λ (x : Option Data). HoldsSaidAt says x (Some a)) (sym e) (a, refl, h)

@@ -1,10 +1,13 @@
--- The frames by which a group is sent again and again.
-use Rattle.std.specs.Prelude.{ℕ, ◌≡◌, length, IfSome}
+-- The frames by which a group is sent again and again, or where it is asked for.
+use Rattle.std.specs.Prelude.{ℕ, List, ◌≡◌, length, nat_le, IfSome, if◌then◌else◌}
 use Rattle.std.specs.List.{All}
 use Rattle.can_frame.specs.Fields.{pdu2_number}
-use Rattle.can_frame.specs.FrameValue.{FrameValue}
+use Rattle.can_frame.specs.FrameValue.{FrameValue, frame}
+use Rattle.transport.specs.Messages.{part_of_message}
+use Rattle.transport.specs.Pieces.{packet_count}
 use Rattle.vehicle.specs.Moving.{IsUncovered, Shows, bit_of, value_at}
 use Rattle.vehicle.specs.Checksum.{IsChecked}
+use Rattle.vehicle.specs.declared.answer_line.AnswerLine.{AnswerLine}
 use Rattle.vehicle.specs.declared.send_line.SendLine.{SendLine}
 
 -- bit n is none of a field, and none of the checksum
@@ -19,3 +22,13 @@ pub record IsFrameOf (s : SendLine) (source count : ℕ) (f : FrameValue) : Type
   pub still : (n : ℕ) → IsStill s n → bit_of f.bytes n ≡ bit_of s.bytes.items n
   pub moved : All (λ m. Shows m.bits (value_at m.motion count) f.bytes) s.fields.items
   pub checked : IfSome s.checksum (λ c. IsChecked c f.id f.bytes)
+
+-- the number of the last frame of an answer: 0 where eight bytes are enough, else its number of packets
+abbrev pub last_of_answer : List ℕ → ℕ
+last_of_answer bytes = if nat_le (length bytes) 8 then 0 else packet_count (length bytes)
+
+-- frame j of an answer: the one with all its bytes, to all; else frame 0 announces it, and frame j is the packet of number j
+abbrev pub answer_frame : AnswerLine → ℕ → ℕ → ℕ → FrameValue
+answer_frame a source destination j =
+    if nat_le (length a.bytes.items) 8 then frame (pdu2_number a.priority a.pgn source) a.bytes.items
+    else part_of_message a.bytes.items a.pgn source destination j

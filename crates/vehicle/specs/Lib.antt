@@ -3,6 +3,7 @@ pub mod Checksum
 pub mod Fields
 pub mod Frames
 pub mod Holding
+pub mod Identifying
 pub mod Live
 pub mod Moving
 pub mod Sending

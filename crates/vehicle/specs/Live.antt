@@ -1,6 +1,6 @@
 -- Which units a TOML document describes, as they take part in a real bus.
 use Rattle.std.specs.Prelude.{ℕ, ◌≡◌, ◌≢◌, ◌⊎◌, ◌/◌, ◌%◌, ◌≤◌, true, List, [], ◌∷◌, ◌++◌, Option, Some, None, codes, length}
-use Rattle.std.specs.List.{AllPairs}
+use Rattle.std.specs.List.{All, AllPairs}
 use Rattle.hex_text.specs.Hex.{IsHexText, hex_value}
 use Rattle.toml.specs.Data.{Data, get, as_str}
 use Rattle.script_line.specs.Numbers.{IsNumberBelow, SpellsNumber, decimal_value}
@@ -9,6 +9,7 @@ use Rattle.trouble_code.specs.Code.{Code, IsCode}
 use Rattle.trouble_code.specs.LampBytes.{LampsValue, lamps_off, lamps_value}
 use Rattle.vehicle.specs.Fields.{HoldsChecksumAt, HoldsFieldsAt}
 use Rattle.vehicle.specs.Sending.{SpellsBytes, is_free_group}
+use Rattle.vehicle.specs.Identifying.{HasBytesOrText, HaveDistinctGroups, HoldsIdentification, IsBeside}
 use Rattle.vehicle.specs.Holding.{EachHoldsAt, HasNumber, HasOnly, HoldsUnitOf, keys_by, text_at}
 use Rattle.vehicle.specs.declared.sends.TheConstants.{LEAST_PERIOD, MOST_PERIOD, USUAL_PRIORITY}
 use Rattle.vehicle.specs.declared.send_line.TheConstants.{GREATEST_PGN, LOWEST_PRIORITY}
@@ -81,13 +82,13 @@ HoldsSendsAt = EachHoldsAt HoldsSend
 
 -- ---- what is sent where it is asked for
 
--- a group, its priority and its bytes; nothing else
+-- a group, its priority, and its bytes or its text; nothing else
 pub record HoldsAnswer (d : Data) (a : AnswerLine) : Type 0 where
-  pub only : HasOnly (codes "pgn" ∷ codes "priority" ∷ codes "bytes" ∷ []) d
+  pub only : HasOnly (codes "pgn" ∷ codes "priority" ∷ codes "bytes" ∷ codes "text" ∷ []) d
   pub pgn : HasNumber d (codes "pgn") a.pgn 0 GREATEST_PGN
   pub free : is_free_group a.pgn ≡ true
   pub priority : HoldsPriorityAt d a.priority
-  pub bytes : HasBytes d a.bytes.items
+  pub bytes : HasBytesOrText d a.bytes.items
 
 -- one for each table, in order; none where there is no such key
 abbrev pub HoldsAnswersAt : Option Data → List AnswerLine → Type 0
@@ -98,8 +99,10 @@ HoldsAnswersAt = EachHoldsAt HoldsAnswer
 -- the keys of a unit of a kind
 abbrev pub live_keys_of_kind : UnitKind → List (List ℕ)
 live_keys_of_kind kind = keys_by kind
-    (codes "name" ∷ codes "address" ∷ codes "kind" ∷ codes "lamps" ∷ codes "active" ∷ codes "previous" ∷ codes "pending" ∷ codes "sends" ∷ codes "answers" ∷ [])
-    (codes "name" ∷ codes "address" ∷ codes "kind" ∷ codes "spn" ∷ codes "fmi" ∷ codes "lamps" ∷ codes "active" ∷ codes "previous" ∷ codes "pending" ∷ codes "sends" ∷ codes "answers" ∷ [])
+    (codes "name" ∷ codes "address" ∷ codes "kind" ∷ codes "lamps" ∷ codes "active" ∷ codes "previous" ∷ codes "pending" ∷ codes "sends" ∷ codes "answers"
+    ∷ codes "vin" ∷ codes "component" ∷ codes "software" ∷ codes "ecu" ∷ [])
+    (codes "name" ∷ codes "address" ∷ codes "kind" ∷ codes "spn" ∷ codes "fmi" ∷ codes "lamps" ∷ codes "active" ∷ codes "previous" ∷ codes "pending" ∷ codes "sends" ∷ codes "answers"
+    ∷ codes "vin" ∷ codes "component" ∷ codes "software" ∷ codes "ecu" ∷ [])
 
 -- the codes with which a unit begins
 pub record HoldsMemory (d : Data) (m : Memory) : Type 0 where
@@ -115,6 +118,10 @@ pub record HoldsRest (d : Data) (u : LiveLine) : Type 0 where
   pub pending : HoldsCodesAt (get (codes "pending") d) u.pending.items
   pub sends : HoldsSendsAt (get (codes "sends") d) u.sends.items
   pub answers : HoldsAnswersAt (get (codes "answers") d) u.answers.items
+  pub identification : HoldsIdentification d u.identification
+  pub apart : HaveDistinctGroups u.answers.items
+  -- and none by which it tells what it is stands there too
+  pub beside : All (λ a. IsBeside u.identification a.pgn) u.answers.items
 
 -- what a unit is, how it begins and what it sends; nothing else
 pub record HoldsLiveUnit (d : Data) (u : LiveLine) : Type 0 where

@@ -4,6 +4,7 @@ use Rattle.std.specs.Int.{to_be_bytes, w64}
 use Rattle.can_frame.specs.Fields.{pdu_format_of_pgn}
 use Rattle.can_frame.specs.declared.group_numbers.TheConstants.{DM1, DM2, DM3, DM6, DM11, COMMANDED_ADDRESS}
 use Rattle.hex_text.specs.Hex.{IsHexText, hex_value}
+use Rattle.vehicle.specs.declared.answer_line.TheConstants.{MOST_BYTES}
 use Rattle.vehicle.specs.declared.send_line.TheConstants.{GREATEST_PGN, LOWEST_PRIORITY}
 
 -- a group of diagnostics or of the protocol, of those that go to all: by the rules a unit sends it, or obeys it
@@ -21,6 +22,14 @@ pub record FitsFrame (pgn first : ℕ) (bytes : List ℕ) : Type 0 where
   pub priority : first ≤ LOWEST_PRIORITY
   pub some : 1 ≤ length bytes
   pub most : length bytes ≤ 8
+
+-- what goes to all, or to one who asked for it, in one frame or in packets (SAE J1939-21, transport protocol)
+pub record FitsAnswer (pgn first : ℕ) (bytes : List ℕ) : Type 0 where
+  pub group : pgn ≤ GREATEST_PGN
+  pub free : is_free_group pgn ≡ true
+  pub priority : first ≤ LOWEST_PRIORITY
+  pub some : 1 ≤ length bytes
+  pub most : length bytes ≤ MOST_BYTES
 
 -- two digits for each byte: they are the last of the eight bytes of the number that the digits spell
 pub record SpellsBytes (text bytes : List ℕ) : Type 0 where

@@ -1,31 +1,17 @@
-ghost use Rattle.std.specs.Prelude.{◌≡◌};
-ghost use Rattle.can_frame.specs.Fields.{pdu2_number};
-ghost use Rattle.can_frame.specs.FrameValue.{frame};
-ghost use Rattle.vehicle.specs.Sending.{FitsFrame};
+ghost use Rattle.std.specs.Prelude.{length};
+ghost use Rattle.vehicle.specs.Sending.{FitsAnswer};
 
-use can_frame::{Frame, Id, Pgn};
+/// The most bytes of a group (SAE J1939-21, transport protocol): 255 packets of seven.
+pub(crate) const MOST_BYTES: usize = 1785;
 
-/// A group that a unit sends to all where it is asked for it, in one frame.
+/// A group that a unit sends where it is asked for it: in one frame to all, or in packets.
 #[derive(Drop)]
 pub struct AnswerLine {
     /// The group: one that goes to all (SAE J1939-21, PDU2), and none of the protocol's or of diagnostics.
     pub pgn: u32,
-    /// Its priority, 0 (highest) to 7.
+    /// The priority of its one frame, 0 (highest) to 7; packets have 7.
     pub priority: u8,
-    /// What it says, 1 to 8 bytes.
+    /// What it says, 1 to 1,785 bytes.
     pub bytes: Vec<u8>,
-    pub ghost fits: { FitsFrame pgn priority bytes.items },
-}
-
-impl AnswerLine {
-    /// The frame by which it is sent from an address.
-    #[tactic(auto, using(crate::proofs::SendLemmas::goes_to_all))]
-    pub fn frame(&self, source: u8) -> Frame
-        ensures { result ≡ frame (pdu2_number self.now.priority self.now.pgn source) self.now.bytes.items }
-    {
-        let Ok(pgn) = Pgn::new(self.pgn) else {
-            unreachable!()
-        };
-        Frame::of(Id::pdu2(self.priority, pgn, source), self.bytes.as_slice())
-    }
+    pub ghost fits: { FitsAnswer pgn priority bytes.items },
 }

@@ -70,6 +70,20 @@ pub(crate) enum KeyFault {
     NotCode,
     /// Its text spells no bytes.
     NotBytes,
+    /// Its text spells no bytes, of those that may be many.
+    NotLongBytes,
+    /// A text stands there, too.
+    BesideText,
+    /// Its text is empty, or has more than so many characters.
+    NotSoLong(usize),
+    /// Its text has a character that is not of ASCII, or a control character.
+    NotPrintable,
+    /// Its text has an asterisk.
+    Asterisk,
+    /// Its text has more fields than can be told of.
+    TooManyFields,
+    /// The unit answers this group already.
+    Answered,
     /// Its text tells no way in which a field moves.
     NotMotion,
     /// Its text is no order of bits.
@@ -123,6 +137,12 @@ impl KeyFault {
             KeyFault::NotLamps => "4 hexadecimal digits",
             KeyFault::NotCode => "SPN/FMI or SPN/FMI/COUNT",
             KeyFault::NotBytes => "1 to 8 bytes of two hexadecimal digits each",
+            KeyFault::NotLongBytes => "1 to 1785 bytes of two hexadecimal digits each",
+            KeyFault::BesideText => "bytes or text, not both",
+            KeyFault::NotPrintable => "a character is not of ASCII, or is a control character",
+            KeyFault::Asterisk => "a VIN has no asterisk",
+            KeyFault::TooManyFields => "more than 250 fields",
+            KeyFault::Answered => "the unit answers this group already",
             KeyFault::NotMotion => "counter, ramp, toggle or values",
             KeyFault::NotOrder => "intel or motorola",
             KeyFault::NoNumbers => "no array of whole numbers",
@@ -130,6 +150,7 @@ impl KeyFault {
             KeyFault::Beyond => "it has a bit beyond the bytes",
             KeyFault::Outside { .. }
             | KeyFault::NotFree(_)
+            | KeyFault::NotSoLong(_)
             | KeyFault::OfUnit(_)
             | KeyFault::OfField(_) => "",
         }
@@ -144,6 +165,7 @@ impl KeyFault {
                 | KeyFault::NotLamps
                 | KeyFault::NotCode
                 | KeyFault::NotBytes
+                | KeyFault::NotLongBytes
                 | KeyFault::NotMotion
                 | KeyFault::NotOrder
         )
@@ -248,6 +270,7 @@ impl KeyError<'_> {
                 "{found} is not {least} to {most}"
             ),
             KeyFault::NotFree(pgn) => write_not_free(f, pgn),
+            KeyFault::NotSoLong(most) => write!(f, "1 to {most} characters are wanted"),
             KeyFault::OfUnit(place) => write!(f, "unit {place} has this NAME"),
             KeyFault::OfField(place) => write!(f, "field {place} has a bit of it"),
             wrong => self.write_words(f, wrong),

@@ -38,10 +38,14 @@
 //! active = ["110/0", "190/2/3"]   # SPN/FMI, or SPN/FMI/COUNT
 //! previous = ["94/1"]
 //! pending = []
+//! vin = "1FUJA6CK57LX12345"   # how it tells what it is
+//! component = "MAKE*MODEL*SERIAL*UNIT"
+//! software = "BOOT 1.2*APP 3.4"
+//! ecu = "PART*SERIAL*PLACE*TYPE*MAKER"
 //!
 //! [[unit.answers]]            # a group that it sends where it is asked for it
 //! pgn = 65253                 # one that goes to all
-//! bytes = "10270000FFFFFFFF"  # 1 to 8
+//! bytes = "10270000FFFFFFFF"  # 1 to 1785; or text = ".."
 //! priority = 6                # 0 to 7; 6 where it is left out
 //!
 //! [[unit.sends]]              # a group that it sends again and again
@@ -61,6 +65,7 @@
 //! ```
 #![tactic(auto)]
 
+mod answer_frames;
 mod answer_line;
 mod answers;
 mod checksum;
@@ -68,6 +73,7 @@ mod codes;
 mod fault;
 mod field_bits;
 mod fields;
+mod identification;
 mod key_error;
 mod lines;
 mod live;
@@ -84,6 +90,7 @@ mod sends;
 pub use answer_line::AnswerLine;
 pub use fault::VehicleFault;
 pub use field_bits::{ByteOrder, FieldBits};
+pub use identification::Identification;
 pub use live::{LiveLine, read_live_units};
 pub use motion::{Counter, Motion, Ramp, ValueList};
 pub use moving_field::MovingField;

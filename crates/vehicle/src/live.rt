@@ -9,9 +9,10 @@ ghost use Rattle.vehicle.specs.Live.{HaveDistinctNames, HoldsLiveUnit, HoldsLive
 
 use crate::UnitLine;
 use crate::answer_line::AnswerLine;
-use crate::answers::read_answers;
+use crate::answers::{look_at_groups, read_answers};
 use crate::codes::{read_codes, read_lamps_of};
 use crate::fault::VehicleFault;
+use crate::identification::{Identification, read_identification};
 use crate::key_error::{KeyFault, KeyPlace, ReadError};
 use crate::read::{fault_of, has_document_keys, items_at, read_station, read_unit_of, second_of};
 use crate::send_line::SendLine;
@@ -36,8 +37,10 @@ pub struct LiveLine {
     pub pending: Vec<Dtc>,
     /// What it sends again and again.
     pub sends: Vec<SendLine>,
-    /// What it sends where it is asked for it.
+    /// What it sends where it is asked for it: no group twice, and none of those by which it tells what it is.
     pub answers: Vec<AnswerLine>,
+    /// How it tells what it is where it is asked.
+    pub identification: Identification,
 }
 
 /// Reads the units of a vehicle's text, a TOML document, as they take part in a real bus.
@@ -45,12 +48,13 @@ pub struct LiveLine {
 /// The tables `station` and `second` are those that [`read_vehicle`](crate::read_vehicle) reads; here they may both be left out.
 /// Each table of the array `unit` may have, beside the keys that it reads, `lamps`, `active`, `previous` and `pending`, and an
 /// array of tables `sends` with the keys `pgn`, `bytes` and `period`, and `priority`, `checksum` and an array of tables `fields`, which
-/// may be left out, and an array of tables `answers` with `pgn` and `bytes`, and `priority`. No other key may stand anywhere. Whether a
-/// unit can hold its codes together is not looked at: that no code stands twice, and that they are 445 at most.
+/// may be left out, and an array of tables `answers` with `pgn` and `bytes` or `text`, and `priority`; and `vin`, `component`, `software`
+/// and `ecu`, by which it tells what it is. No other key may stand anywhere. Whether a unit can hold its codes together is not looked at:
+/// that no code stands twice, and that they are 445 at most.
 ///
 /// # Errors
 /// - `Refused`: the text is no TOML, a key is missing or not known, a value is of another type or out of its range, both
-///   stations or two units have one NAME (SAE J1939-81: each unit of a network has its own), or there is no unit.
+///   stations or two units have one NAME (SAE J1939-81: each unit of a network has its own), a unit answers one group twice, or there is no unit.
 /// - `Memory`: memory ran out.
 pub fn read_live_units(alloc: Global, text: &str) -> Result<Vec<LiveLine>, VehicleFault>
     ensures holds { IfOk result (λ units. (t : Members) × (parse_document text.now ≡ Some t) × HoldsLiveUnits (table t) units.items) }
@@ -163,6 +167,8 @@ fn read_rest(
     let lamps = read_lamps_of(place, value)?;
     let memory = read_memory(alloc, place, value)?;
     let answers = read_answers(alloc, number, value)?;
+    let identification = read_identification(alloc, place, value)?;
+    look_at_groups(number, &identification, answers.as_slice())?;
     match read_sends(alloc, number, value) {
         Ok(sends) => Ok(LiveLine {
             unit,
@@ -172,6 +178,7 @@ fn read_rest(
             pending: memory.pending,
             sends,
             answers,
+            identification,
         }),
         Err(unread) => Err(unread),
     }
@@ -185,11 +192,36 @@ fn read_live_unit(place: KeyPlace, value: &Value) -> Result<UnitLine, ReadError<
         place,
         value,
         &[
-            "name", "address", "kind", "lamps", "active", "previous", "pending", "sends", "answers",
+            "name",
+            "address",
+            "kind",
+            "lamps",
+            "active",
+            "previous",
+            "pending",
+            "sends",
+            "answers",
+            "vin",
+            "component",
+            "software",
+            "ecu",
         ],
         &[
-            "name", "address", "kind", "spn", "fmi", "lamps", "active", "previous", "pending",
-            "sends", "answers",
+            "name",
+            "address",
+            "kind",
+            "spn",
+            "fmi",
+            "lamps",
+            "active",
+            "previous",
+            "pending",
+            "sends",
+            "answers",
+            "vin",
+            "component",
+            "software",
+            "ecu",
         ],
     )
 }

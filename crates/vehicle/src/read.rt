@@ -397,7 +397,18 @@ pub(crate) fn has_only<'a>(
 
 /// Why a key may not stand in a table.
 fn why_not(place: KeyPlace, key: &str) -> KeyFault {
-    let of_live = &["lamps", "active", "previous", "pending", "sends", "answers"];
+    let of_live = &[
+        "lamps",
+        "active",
+        "previous",
+        "pending",
+        "sends",
+        "answers",
+        "vin",
+        "component",
+        "software",
+        "ecu",
+    ];
     match place {
         KeyPlace::Unit(_) if is_among(key, of_live) => KeyFault::OfLive,
         _ => KeyFault::NotKnown,

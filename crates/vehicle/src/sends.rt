@@ -23,7 +23,7 @@ const LEAST_PERIOD: u32 = 10;
 const MOST_PERIOD: u32 = 60_000;
 
 /// The priority of a group that tells none (SAE J1939-21: that of all but control).
-const USUAL_PRIORITY: u32 = 6;
+pub(crate) const USUAL_PRIORITY: u32 = 6;
 
 /// The groups that a unit sends; none where it has no such key.
 #[tactic(auto, using(crate::proofs::UnitLemmas::held))]
@@ -120,11 +120,7 @@ pub(crate) fn read_priority(place: KeyPlace, value: &Value) -> Result<u8, ReadEr
     }
 }
 
-pub(crate) fn read_bytes(
-    alloc: Global,
-    place: KeyPlace,
-    value: &Value,
-) -> Result<Vec<u8>, ReadError<'_>>
+fn read_bytes(alloc: Global, place: KeyPlace, value: &Value) -> Result<Vec<u8>, ReadError<'_>>
     ensures { IfOk result (λ bytes. HasBytes (view value.now) bytes.items) }
 {
     let text = read_text(place, value, "bytes")?;

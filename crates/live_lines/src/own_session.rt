@@ -1,0 +1,136 @@
+//! An answer that goes to the one who asked for it, in packets.
+ghost use Rattle.std.specs.Prelude.{◌≡◌, ◌≤◌, ◌==◌, ◌↔◌, IsTrue};
+ghost use Rattle.parameter_group.specs.Group.{group_of};
+ghost use Rattle.live_lines.specs.Own.{session_behind, session_cleared, session_after_hearing, session_told};
+
+use can_frame::{Frame, Pgn};
+use live_unit::{ANSWER_WITHIN, HELD_FOR};
+use parameter_group::ParameterGroup;
+use transport::Control;
+
+/// The reason of an abort for want of an answer (SAE J1939-21).
+pub(crate) const LEFT_ALONE: u8 = 3;
+
+/// An answer that goes to the one who asked for it: which of a unit's it is, and how far it is.
+#[derive(Clone, Copy)]
+pub(crate) struct OwnSession {
+    /// Its place among those that the unit answers, and its group.
+    pub(crate) place: usize,
+    pub(crate) pgn: Pgn,
+    /// Who asked.
+    pub(crate) dest: u8,
+    /// The number of its next frame: 0 is the request to send.
+    pub(crate) next: u16,
+    /// How many packets it was cleared to send.
+    pub(crate) cleared: u8,
+    /// From when on it counts as left alone, where nothing of it goes.
+    pub(crate) alone_from: u64,
+}
+
+impl OwnSession {
+    /// Whether a frame of it goes.
+    pub(crate) fn goes(&self) -> bool
+        ensures { IsTrue result ↔ (self.now.next ≤ self.now.cleared) }
+    {
+        self.next <= u16::from(self.cleared)
+    }
+
+    /// The number of its next frame, where that goes.
+    pub(crate) fn number(&self) -> u8
+        requires { self.now.next ≤ self.now.cleared }
+        ensures { result ≡ self.now.next }
+    {
+        self.next.min(u16::from(self.cleared)) as u8
+    }
+
+    /// The session behind its next frame, which goes at this time.
+    pub(crate) fn behind(self, now: u64) -> OwnSession
+        requires { self.next ≤ self.cleared }
+        ensures { result ≡ session_behind self now }
+    {
+        OwnSession {
+            next: self.next + 1,
+            alone_from: now.saturating_add(ANSWER_WITHIN),
+            ..self
+        }
+    }
+
+    /// The session after a frame was heard by the unit that holds this address, where this is the number of its last packet: none
+    /// where it is over.
+    pub(crate) fn heard(
+        self,
+        last: u8,
+        held: Option<u8>,
+        frame: &Frame,
+        now: u64,
+    ) -> Option<OwnSession>
+        ensures { result ≡ session_after_hearing self last held (group_of frame.now) now }
+    {
+        match ParameterGroup::read(frame) {
+            ParameterGroup::AddressClaimed { source, .. } if source == self.dest => None,
+            ParameterGroup::ConnectionManagement {
+                source,
+                dest,
+                control,
+            } if held == Some(dest) && source == self.dest => self.told(last, control, now),
+            _ => Some(self),
+        }
+    }
+
+    /// The session after its receiver said this.
+    fn told(self, last: u8, control: Control, now: u64) -> Option<OwnSession>
+        ensures { result ≡ session_told self last control now }
+    {
+        match control {
+            Control::Cts { granted, next, pgn } => {
+                if self.is_about(pgn) {
+                    Some(self.cleared_to_send(last, granted, next, now))
+                } else {
+                    Some(self)
+                }
+            }
+            Control::EndAck { pgn, .. } => {
+                if self.is_about(pgn) && self.cleared == last {
+                    None
+                } else {
+                    Some(self)
+                }
+            }
+            Control::Abort { pgn, .. } => {
+                if self.is_about(pgn) {
+                    None
+                } else {
+                    Some(self)
+                }
+            }
+            _ => Some(self),
+        }
+    }
+
+    /// Whether it is a session of this group.
+    fn is_about(&self, pgn: Pgn) -> bool
+        ensures { result ≡ (pgn == self.now.pgn) }
+    {
+        pgn == self.pgn
+    }
+
+    /// The session after it was cleared to send so many packets, from this one on.
+    fn cleared_to_send(self, last: u8, granted: u8, next: u8, now: u64) -> OwnSession
+        ensures { result ≡ session_cleared self last granted next now }
+    {
+        if granted == 0 {
+            return OwnSession {
+                alone_from: now.saturating_add(HELD_FOR),
+                ..self
+            };
+        }
+        if u16::from(next) != u16::from(self.cleared) + 1 {
+            return self;
+        }
+        let more = granted.min(last.saturating_sub(self.cleared));
+        OwnSession {
+            cleared: self.cleared.saturating_add(more),
+            ..self
+        }
+    }
+}

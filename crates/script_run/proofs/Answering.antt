@@ -12,7 +12,7 @@ use Rattle.script_line.specs.Numbers.{SpellsNumber}
 use Rattle.script_line.specs.Station.{NamesStation, is_of_station, station_word}
 use Rattle.script_line.specs.declared.command.Command.{Command}
 use Rattle.script_line.specs.declared.command.ScriptLine.{ScriptLine}
-use Rattle.script_run.specs.Lines.{Answers, AnswersAll, BenchDoes, IsAnswered, IsRead, LineDoes, StandDoes, StationDoes, Writes, joined_by}
+use Rattle.script_run.specs.Lines.{AnswersLine, AnswersAll, BenchDoes, IsScriptAnswered, IsRead, LineDoes, StandDoes, StationDoes, WritesText, unit_joined_by}
 use Rattle.script_run.specs.Moves.{MovesByJoining}
 use Rattle.script_run.specs.Queries.{query_text}
 
@@ -21,9 +21,9 @@ unfolding AnswersAll
 answers_none s = (refl, refl)
 
 -- one line more
-pub answers_more : (ls : List (List ℕ)) (l : List ℕ) (s t u : Option GarageValue) (a b : List ℕ) → AnswersAll ls s a t → Answers l t b u → AnswersAll (ls ++ l ∷ []) s (a ++ b) u
+pub answers_more : (ls : List (List ℕ)) (l : List ℕ) (s t u : Option GarageValue) (a b : List ℕ) → AnswersAll ls s a t → AnswersLine l t b u → AnswersAll (ls ++ l ∷ []) s (a ++ b) u
 unfolding AnswersAll
-answers_more [] l s t u a b h one = (b, u, [], ap (λ x. x ++ b) h.0 ∙ sym (append-nil b), subst (λ x. Answers l x b u) h.1 one, (refl, refl))
+answers_more [] l s t u a b h one = (b, u, [], ap (λ x. x ++ b) h.0 ∙ sym (append-nil b), subst (λ x. AnswersLine l x b u) h.1 one, (refl, refl))
 answers_more (x ∷ ls) l s t u a b h one = (h.0, h.1, h.2 ++ b, ap (λ y. y ++ b) h.3 ∙ append_assoc h.0 h.2 b, h.4, answers_more ls l h.1 t u h.2 b h.5 one)
 
 -- a query
@@ -57,17 +57,17 @@ silent_line lines line s old told new silent same h =
 
 -- an answered one
 pub line_more : (lines : List (List ℕ)) (line : List ℕ) (read : Option ScriptLine) (s t : Option GarageValue) (old told begun after new : Option (List ℕ)) → ¬ IsSilent line → IsRead line read → begun ≡ told → new ≡ after
-    → SoFar lines s old told → Writes begun after (λ text. StandDoes read s text t) → SoFar (lines ++ line ∷ []) t old new
+    → SoFar lines s old told → WritesText begun after (λ text. StandDoes read s text t) → SoFar (lines ++ line ∷ []) t old new
 line_more lines line read s t old told begun after new spoken is same kept h w =
     let appends : Appends told new w.0 = subst (λ x. Appends told x w.0) (sym kept) (subst (λ x. Appends x after w.0) same w.2) in
     (h.0 ++ w.0, answers_more lines line None s t h.0 w.0 h.1 (inr (spoken, (read, is, w.1))), Appends-trans old told new h.0 w.0 h.2 appends)
 
 -- a command at a bench, and a unit that joins it
-bench_line : (read : Option ScriptLine) (g g' : GarageValue) (text : List ℕ) → joined_by read ≡ None → BenchDoes read g text g' → LineDoes read g text g'
+bench_line : (read : Option ScriptLine) (g g' : GarageValue) (text : List ℕ) → unit_joined_by read ≡ None → BenchDoes read g text g' → LineDoes read g text g'
 bench_line read g g' text none h =
     subst (λ o. MatchOption o (BenchDoes read g text g') (λ j. (r : Result LineAnswer Refusal) × (text ≡ answer_text r) × MovesByJoining j.0 j.1 r g g')) (sym none) h
 
-join_line : (read : Option ScriptLine) (name address : ℕ) (r : Result LineAnswer Refusal) (g g' : GarageValue) → joined_by read ≡ Some (name, address) → MovesByJoining name address r g g' → LineDoes read g (answer_text r) g'
+join_line : (read : Option ScriptLine) (name address : ℕ) (r : Result LineAnswer Refusal) (g g' : GarageValue) → unit_joined_by read ≡ Some (name, address) → MovesByJoining name address r g g' → LineDoes read g (answer_text r) g'
 join_line read name address r g g' some h =
     subst (λ o. MatchOption o (BenchDoes read g (answer_text r) g') (λ j. (x : Result LineAnswer Refusal) × (answer_text r ≡ answer_text x) × MovesByJoining j.0 j.1 x g g')) (sym some) (r, refl, h)
 
@@ -78,28 +78,28 @@ is_read line (Some l) station of first = ((λ names. (station names, of names)),
 
 -- what one way to answer a line came to, where all ways meet
 pub came_to : {S B X Y : Type 0} (lent : S → GName) (told : S → Option (List ℕ)) (garage : B → GarageValue) (read : Option ScriptLine) (x x' y y' : Option B) (begun after m : S) (a b : Result X Y)
-    → m ≡ after → y ≡ y' → a ≡ b → x ≡ x' → lent after ≡ lent begun → OnOk b (Writes (told begun) (told after) (λ text. StandDoes read (option_map garage x') text (option_map garage y')))
-    → (lent m ≡ lent begun) × OnOk a (Writes (told begun) (told m) (λ text. StandDoes read (option_map garage x) text (option_map garage y)))
+    → m ≡ after → y ≡ y' → a ≡ b → x ≡ x' → lent after ≡ lent begun → OnOk b (WritesText (told begun) (told after) (λ text. StandDoes read (option_map garage x') text (option_map garage y')))
+    → (lent m ≡ lent begun) × OnOk a (WritesText (told begun) (told m) (λ text. StandDoes read (option_map garage x) text (option_map garage y)))
 came_to lent told garage read x x' y y' begun after m a b em ey ea ex kept h =
-    subst (λ k. (lent k ≡ lent begun) × OnOk a (Writes (told begun) (told k) (λ text. StandDoes read (option_map garage x) text (option_map garage y)))) (sym em) (
+    subst (λ k. (lent k ≡ lent begun) × OnOk a (WritesText (told begun) (told k) (λ text. StandDoes read (option_map garage x) text (option_map garage y)))) (sym em) (
       kept,
-      subst (λ r. OnOk r (Writes (told begun) (told after) (λ text. StandDoes read (option_map garage x) text (option_map garage y)))) (sym ea)
-          (subst (λ o. OnOk b (Writes (told begun) (told after) (λ text. StandDoes read (option_map garage o) text (option_map garage y)))) (sym ex)
-          (subst (λ o. OnOk b (Writes (told begun) (told after) (λ text. StandDoes read (option_map garage x') text (option_map garage o)))) (sym ey) h)),
+      subst (λ r. OnOk r (WritesText (told begun) (told after) (λ text. StandDoes read (option_map garage x) text (option_map garage y)))) (sym ea)
+          (subst (λ o. OnOk b (WritesText (told begun) (told after) (λ text. StandDoes read (option_map garage o) text (option_map garage y)))) (sym ex)
+          (subst (λ o. OnOk b (WritesText (told begun) (told after) (λ text. StandDoes read (option_map garage x') text (option_map garage o)))) (sym ey) h)),
     )
 
-pub wrote_line : {X Y : Type 0} (r : Result X Y) (old new : Option (List ℕ)) (read : Option ScriptLine) (name address : ℕ) (a : Result LineAnswer Refusal) (g g' : GarageValue) → joined_by read ≡ Some (name, address)
-    → MovesByJoining name address a g g' → OnOk r (Appends old new (answer_text a)) → OnOk r (Writes old new (λ t. LineDoes read g t g'))
+pub wrote_line : {X Y : Type 0} (r : Result X Y) (old new : Option (List ℕ)) (read : Option ScriptLine) (name address : ℕ) (a : Result LineAnswer Refusal) (g g' : GarageValue) → unit_joined_by read ≡ Some (name, address)
+    → MovesByJoining name address a g g' → OnOk r (Appends old new (answer_text a)) → OnOk r (WritesText old new (λ t. LineDoes read g t g'))
 wrote_line (Ok x) old new read name address a g g' some moved h = (answer_text a, join_line read name address a g g' some moved, h)
 wrote_line (Err e) old new read name address a g g' some moved h = tt
 
-pub wrote_bench : {X Y : Type 0} (r : Result X Y) (old new : Option (List ℕ)) (read : Option ScriptLine) (g g' : GarageValue) → joined_by read ≡ None
-    → OnOk r (Writes old new (λ t. BenchDoes read g t g')) → OnOk r (Writes old new (λ t. LineDoes read g t g'))
+pub wrote_bench : {X Y : Type 0} (r : Result X Y) (old new : Option (List ℕ)) (read : Option ScriptLine) (g g' : GarageValue) → unit_joined_by read ≡ None
+    → OnOk r (WritesText old new (λ t. BenchDoes read g t g')) → OnOk r (WritesText old new (λ t. LineDoes read g t g'))
 wrote_bench (Ok x) old new read g g' none h = (h.0, bench_line read g g' h.0 none h.1, h.2)
 wrote_bench (Err e) old new read g g' none h = tt
 
 -- at the end of the lines
-pub answered_all : {X Y : Type 0} (r : Result X Y) (done lines : List (List ℕ)) (s : Option GarageValue) (old told new : Option (List ℕ)) → done ≡ lines → new ≡ told → SoFar done s old told → OnOk r (IsAnswered lines old new)
+pub answered_all : {X Y : Type 0} (r : Result X Y) (done lines : List (List ℕ)) (s : Option GarageValue) (old told new : Option (List ℕ)) → done ≡ lines → new ≡ told → SoFar done s old told → OnOk r (IsScriptAnswered lines old new)
 answered_all (Ok x) done lines s old told new all same h =
     (h.0, s, subst (λ ls. AnswersAll ls None h.0 s) all h.1, subst (λ x. Appends old x h.0) (sym same) h.2)
 answered_all (Err e) done lines s old told new all same h = tt

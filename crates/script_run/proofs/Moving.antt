@@ -20,7 +20,7 @@ use Rattle.script_answer.specs.declared.refusal.Refusal.TheVariants as refusal
 use Rattle.script_line.specs.declared.command.Command.{Command}
 use Rattle.script_line.specs.declared.command.Command.TheVariants as command
 use Rattle.script_run.specs.Commands.{ActsBy, Does, IsNotThere, Joins, Leaves}
-use Rattle.script_run.specs.Moves.{HeardBy, IsHearOf, Moves, MovesBy, MovesByBeginning, MovesByHearing, MovesByJoining, MovesByRounds}
+use Rattle.script_run.specs.Moves.{HeardBy, TellsHearing, Moves, MovesBy, MovesByBeginning, MovesByHearing, MovesByJoining, MovesByRounds}
 use Rattle.script_run.specs.Steps.{RunsRounds}
 use Rattle.script_run.specs.UnitSteps.{BeginsSo, HearsSo, TurnsSo, UnitDoes}
 
@@ -48,16 +48,8 @@ comes_same a b e = ([], lead_none IsOfRound a b e)
 comes_on : (a b c : GarageValue) → Comes a b → Comes b c → Comes a c
 comes_on a b c h k = (k.0 ++ h.0, lead_on IsOfRound h.0 k.0 a b c h.1 k.1)
 
-hear_of_round : (k : ℕ) (e : Event) → IsHearOf k e → IsOfRound e
-hear_of_round k (event.Hear j m a) h = tt
-hear_of_round k (event.Join j n a) h = absurd h
-hear_of_round k (event.Begin j m) h = absurd h
-hear_of_round k (event.Turned j) h = absurd h
-hear_of_round k (event.Carry j) h = absurd h
-hear_of_round k (event.Read y r) h = absurd h
-hear_of_round k (event.Ordered y o) h = absurd h
-hear_of_round k (event.Leave j) h = absurd h
-hear_of_round k (event.Inject f) h = absurd h
+hear_of_round : (k : ℕ) (e : Event) → TellsHearing k e → IsOfRound e
+hear_of_round k e h = subst IsOfRound (sym h.2) tt
 
 read_of_round : (y : ℕ) (e : Event) → IsReadOf y e → IsOfRound e
 read_of_round y (event.Hear j m a) h = absurd h
@@ -78,22 +70,22 @@ reading (suc n) a b h = comes_on a h.0 b (reading n a h.0 h.1) (h.2.0, lead_as (
 
 module _ {P : Type 0} (sitting : P → Sitting) (asked : P → P → Option Question → UnitAnswer → Type 0) where
   heard_events : (n : ℕ) (g : GarageValue) (p : P) (g' : GarageValue) (p' : P) → HearsMany sitting asked n g p g' p'
-      → (events : List Event) × LeadTo (IsHearOf (sitting p).seat) events g g' × (length events ≡ n) × ((sitting p').seat ≡ (sitting p).seat)
+      → (events : List Event) × LeadTo (TellsHearing (sitting p).seat) events g g' × (length events ≡ n) × ((sitting p').seat ≡ (sitting p).seat)
   unfolding HearsMany LeadTo
   heard_events zero g p g' p' h = ([], h.0, refl, ap (λ x. (sitting x).seat) h.1)
   heard_events (suc n) g p g' p' h =
       let i = heard_events n g p h.1 h.2 h.3 in
-      (event.Hear (sitting h.2).seat (sitting h.2).memory h.4.answer ∷ i.0, (h.1, i.1, h.4.adds, i.3), omega (arith, i.2), h.4.seat ∙ i.3)
+      (event.Hear (sitting h.2).seat (sitting h.2).memory h.4.answer ∷ i.0, (h.1, i.1, h.4.adds, ((sitting h.2).memory, h.4.answer, ap (λ j. event.Hear j (sitting h.2).memory h.4.answer) i.3)), omega (arith, i.2), h.4.seat ∙ i.3)
 
   heard_by : (k n : ℕ) (g : GarageValue) (p : P) (g' : GarageValue) (p' : P) → (sitting p).seat ≡ k → HearsMany sitting asked n g p g' p' → HeardBy k n g g'
   heard_by k n g p g' p' its h =
       let i = heard_events n g p g' p' h in
-      (i.0, subst (λ j. LeadTo (IsHearOf j) i.0 g g') its i.1, i.2)
+      (i.0, subst (λ j. LeadTo (TellsHearing j) i.0 g g') its i.1, i.2)
 
   hearing : (n : ℕ) (g : GarageValue) (p : P) (g' : GarageValue) (p' : P) → HearsMany sitting asked n g p g' p' → Comes g g'
   hearing n g p g' p' h =
       let i = heard_events n g p g' p' h in
-      (i.0, lead_as (IsHearOf (sitting p).seat) IsOfRound (hear_of_round (sitting p).seat) i.0 g g' i.1)
+      (i.0, lead_as (TellsHearing (sitting p).seat) IsOfRound (hear_of_round (sitting p).seat) i.0 g g' i.1)
 
   in_turn : (n : ℕ) (g : GarageValue) (us : List P) (g' : GarageValue) (us' : List P) → HearInTurn sitting asked n g us g' us' → Comes g g'
   unfolding HearInTurn
@@ -151,7 +143,7 @@ module _ {P : Type 0} (sitting : P → Sitting) (asked : P → P → Option Ques
   refused k r g us g' us' = ⊎_elim (λ h. (refusal.NoSeat, h.0, h.1)) (λ h. (_, h.0, h.1))
 
   heard_none : (k : ℕ) (g g' : GarageValue) → g' ≡ g → HeardBy k 0 g g'
-  heard_none k g g' e = ([], lead_none (IsHearOf k) g g' e, refl)
+  heard_none k g g' e = ([], lead_none (TellsHearing k) g g' e, refl)
 
   by_hearing : (k most : ℕ) (r : Result LineAnswer Refusal) (g : GarageValue) (p : P) (g' : GarageValue) (p' : P) → (sitting p).seat ≡ k → HearsSo sitting asked most r g p g' p' → MovesByHearing k most r g g'
   by_hearing k most (Ok (answer.Heard n)) g p g' p' its h =

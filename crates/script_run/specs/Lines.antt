@@ -70,8 +70,8 @@ made_text (Err r) = refusal_text r
 -- ---- a line
 
 -- this was written, of which P holds
-abbrev pub Writes : Option (List ℕ) → Option (List ℕ) → (List ℕ → Type 0) → Type 0
-Writes old new P = (text : List ℕ) × P text × Appends old new text
+abbrev pub WritesText : Option (List ℕ) → Option (List ℕ) → (List ℕ → Type 0) → Type 0
+WritesText old new P = (text : List ℕ) × P text × Appends old new text
 
 -- where a script stands: at a garage, once there is one
 abbrev pub made_stand : Result GarageValue Refusal → Option GarageValue
@@ -93,18 +93,18 @@ BenchDoes (Some l) g text g' =
     × (l.station < length g.settings.stations → StationDoes l.station l.command g text g')
 
 -- the NAME and the address of the unit that a line has join
-abbrev pub joined : Command → Option (ℕ × ℕ)
-joined (command.Join (Ok name) address kind) = Some (name, address)
-joined _ = None
+abbrev pub unit_joining : Command → Option (ℕ × ℕ)
+unit_joining (command.Join (Ok name) address kind) = Some (name, address)
+unit_joining _ = None
 
-abbrev pub joined_by : Option ScriptLine → Option (ℕ × ℕ)
-joined_by None = None
-joined_by (Some l) = joined l.command
+abbrev pub unit_joined_by : Option ScriptLine → Option (ℕ × ℕ)
+unit_joined_by None = None
+unit_joined_by (Some l) = unit_joining l.command
 
 -- a unit joined; or the command was carried out
 abbrev pub LineDoes : Option ScriptLine → GarageValue → List ℕ → GarageValue → Type 0
 LineDoes read g text g' =
-    MatchOption (joined_by read) (BenchDoes read g text g') (λ j. (r : Result LineAnswer Refusal) × (text ≡ answer_text r) × MovesByJoining j.0 j.1 r g g')
+    MatchOption (unit_joined_by read) (BenchDoes read g text g') (λ j. (r : Result LineAnswer Refusal) × (text ≡ answer_text r) × MovesByJoining j.0 j.1 r g g')
 
 -- the first garage is made by a command, before which there is nothing
 abbrev pub FirstDoes : Option ScriptLine → List ℕ → Option GarageValue → Type 0
@@ -120,15 +120,15 @@ abbrev pub IsRead : List ℕ → Option ScriptLine → Type 0
 IsRead line read = IfSome read (λ l. (NamesStation line → SpellsNumber (station_word line) l.station × (is_of_station l.command ≡ true)) × (¬ NamesStation line → l.station ≡ 0))
 
 -- a line was answered so: one that is empty or a comment by nothing
-abbrev pub Answers : List ℕ → Option GarageValue → List ℕ → Option GarageValue → Type 0
-Answers line s text s' = (IsSilent line × (text ≡ []) × (s' ≡ s)) ⊎ ((¬ IsSilent line) × ((read : Option ScriptLine) × IsRead line read × StandDoes read s text s'))
+abbrev pub AnswersLine : List ℕ → Option GarageValue → List ℕ → Option GarageValue → Type 0
+AnswersLine line s text s' = (IsSilent line × (text ≡ []) × (s' ≡ s)) ⊎ ((¬ IsSilent line) × ((read : Option ScriptLine) × IsRead line read × StandDoes read s text s'))
 
 -- lines were answered one after another, each once, and this was written
 unfoldable pub AnswersAll : List (List ℕ) → Option GarageValue → List ℕ → Option GarageValue → Type 0
 AnswersAll [] s text s' = (text ≡ []) × (s' ≡ s)
 AnswersAll (line ∷ lines) s text s' = (one : List ℕ) × (t : Option GarageValue) × (rest : List ℕ)
-    × (text ≡ one ++ rest) × Answers line s one t × AnswersAll lines t rest s'
+    × (text ≡ one ++ rest) × AnswersLine line s one t × AnswersAll lines t rest s'
 
 -- so a script was answered, and what was written stands behind what stood there
-abbrev pub IsAnswered : List (List ℕ) → Option (List ℕ) → Option (List ℕ) → Type 0
-IsAnswered lines old new = (text : List ℕ) × (s : Option GarageValue) × AnswersAll lines None text s × Appends old new text
+abbrev pub IsScriptAnswered : List (List ℕ) → Option (List ℕ) → Option (List ℕ) → Type 0
+IsScriptAnswered lines old new = (text : List ℕ) × (s : Option GarageValue) × AnswersAll lines None text s × Appends old new text

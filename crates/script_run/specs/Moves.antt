@@ -1,6 +1,7 @@
 -- What a command of a script leaves of the garage, under the answer that tells it: which events were added.
 use Rattle.std.specs.Prelude.{◌≡◌, ℕ, ◌≤◌, ◌<◌, List, length, Result, Ok, Err}
 use Rattle.fault_memory.specs.Memory.{MemoryValue}
+use Rattle.node_core.specs.declared.heard.Answer.{Answer as UnitAnswer}
 use Rattle.journal.specs.Journal.{Adds, GarageValue}
 use Rattle.journal.specs.declared.event.Event.{Event}
 use Rattle.journal.specs.declared.event.Event.TheVariants.{Hear, Join, Leave, Turned}
@@ -16,14 +17,13 @@ use Rattle.script_line.specs.declared.command.Command.{Command}
 use Rattle.script_line.specs.declared.command.Command.TheVariants as command
 use Rattle.script_run.specs.Steps.{Asks, CarriesSo, Commands, EndsTold, Injects, ReadsSo}
 
--- the unit of this seat hears
-abbrev pub IsHearOf : ℕ → Event → Type 0
-IsHearOf k (Hear j memory answered) = j ≡ k
-IsHearOf k _ = ⊥
+-- an event that tells of a frame that the unit of this seat heard
+abbrev pub TellsHearing : ℕ → Event → Type 0
+TellsHearing k e = (memory : MemoryValue) × (answered : UnitAnswer) × (e ≡ Hear k memory answered)
 
 -- it heard so many frames, one after another
 abbrev pub HeardBy : ℕ → ℕ → GarageValue → GarageValue → Type 0
-HeardBy k n g g' = (events : List Event) × LeadTo (IsHearOf k) events g g' × (length events ≡ n)
+HeardBy k n g g' = (events : List Event) × LeadTo (TellsHearing k) events g g' × (length events ≡ n)
 
 -- as many as asked for, or fewer, since it has heard the whole wire; or some, and the next one was refused
 abbrev pub MovesByHearing : ℕ → ℕ → Result LineAnswer Refusal → GarageValue → GarageValue → Type 0

@@ -3,7 +3,7 @@ ghost use Rattle.std.specs.Io.KnownBytes.{Keeps, append_known};
 ghost use Rattle.std.specs.Str.Lines.{lines};
 ghost use Rattle.program_io.specs.Fault.{IsOfInput};
 ghost use Rattle.program_io.specs.Input.{input_limit};
-ghost use Rattle.script_run.specs.Lines.{IsAnswered};
+ghost use Rattle.script_run.specs.Lines.{IsScriptAnswered};
 
 use crate::answer_sink::AnswerSink;
 use crate::bench::Bench;
@@ -31,7 +31,7 @@ use std::io::{Read, Write};
 pub fn script<R: Read, W: Write>(alloc: Global, reader: &mut R, writer: &mut W) -> Result<(), Fault>
     ensures unanswered { IfErr result (λ fault. IsOfInput fault → writer.new ≡ writer.old) }
     ensures too_long { result ≡ Err Fault.InputTooLong → IfSome (R.remaining reader.old) (λ bytes. input_limit < length bytes) }
-    ensures answered { OnOk result (IfSome (R.remaining reader.old) (λ input. IsAnswered (lines input) (W.contents writer.old) (W.contents writer.new))) }
+    ensures answered { OnOk result (IfSome (R.remaining reader.old) (λ input. IsScriptAnswered (lines input) (W.contents writer.old) (W.contents writer.new))) }
 {
     let text = read_text(alloc, reader)?;
     answer_text(alloc, text.as_str(), writer)
@@ -40,7 +40,7 @@ pub fn script<R: Read, W: Write>(alloc: Global, reader: &mut R, writer: &mut W) 
 /// Answers the lines of a text.
 fn answer_text<W: Write>(alloc: Global, text: &str, writer: &mut W) -> Result<(), Fault>
     ensures fault { IfErr result (λ fault. fault ≡ Fault.Write) }
-    ensures answered { OnOk result (IsAnswered (lines text.now) (W.contents writer.old) (W.contents writer.new)) }
+    ensures answered { OnOk result (IsScriptAnswered (lines text.now) (W.contents writer.old) (W.contents writer.new)) }
 {
     let mut answers = Answers::new(writer);
     answer_lines(alloc, text, &mut answers)?;

@@ -2,7 +2,7 @@ ghost use Rattle.std.specs.Prelude.{◌≡◌, ◌<◌, [], length, IfSome, IsSo
 ghost use Rattle.journal.specs.Journal.{state_of};
 ghost use Rattle.garage.specs.ParkedUnits.{asked_of, sitting_of};
 ghost use Rattle.script_run.specs.Commands.{ActsBy, Does, Joins, Leaves};
-ghost use Rattle.script_run.specs.Lines.{BenchDoes, StationDoes, Writes};
+ghost use Rattle.script_run.specs.Lines.{BenchDoes, StationDoes, WritesText};
 ghost use Rattle.script_run.specs.Moves.{MovesByJoining};
 ghost use Rattle.script_run.specs.Steps.{RunsRounds};
 ghost use Rattle.script_run.specs.Queries.{Reports, counts_answer, query_answer};
@@ -89,7 +89,7 @@ impl Bench {
         sink: &mut L,
     ) -> Result<(), Unwritten>
         ensures lent { L.AnswerSink.lent sink.new ≡ L.AnswerSink.lent sink.old }
-        ensures does { OnOk result (Writes (L.AnswerSink.told sink.old) (L.AnswerSink.told sink.new) (λ text. BenchDoes read.now
+        ensures does { OnOk result (WritesText (L.AnswerSink.told sink.old) (L.AnswerSink.told sink.new) (λ text. BenchDoes read.now
             self.old.garage text self.new.garage)) }
     {
         match read {
@@ -109,7 +109,7 @@ impl Bench {
     ) -> Result<(), Unwritten>
         requires { station < length self.old.garage.settings.stations }
         ensures lent { L.AnswerSink.lent sink.new ≡ L.AnswerSink.lent sink.old }
-        ensures does { OnOk result (Writes (L.AnswerSink.told sink.old) (L.AnswerSink.told sink.new) (λ text. StationDoes station command.now
+        ensures does { OnOk result (WritesText (L.AnswerSink.told sink.old) (L.AnswerSink.told sink.new) (λ text. StationDoes station command.now
             self.old.garage text self.new.garage)) }
     {
         match command {
@@ -122,7 +122,7 @@ impl Bench {
         }
     }
 
-    /// Writes the report of a station.
+    /// WritesText the report of a station.
     fn report<L: AnswerSink>(&self, station: u32, sink: &mut L) -> Result<(), Unwritten>
         requires { station < length self.now.garage.settings.stations }
         ensures lent { L.AnswerSink.lent sink.new ≡ L.AnswerSink.lent sink.old }

@@ -1,7 +1,7 @@
 ghost use Rattle.std.specs.Prelude.{◌≡◌, None, IfErr, IsErr, OnOk};
 ghost use Rattle.std.specs.Option.{option_map};
 ghost use Rattle.std.specs.Str.Lines.{lines};
-ghost use Rattle.script_run.specs.Lines.{FirstDoes, IsAnswered, Makes, Writes, joined_by, setting_meant};
+ghost use Rattle.script_run.specs.Lines.{FirstDoes, IsScriptAnswered, Makes, WritesText, unit_joined_by, setting_meant};
 
 use crate::answer_sink::AnswerSink;
 use crate::bench::Bench;
@@ -21,7 +21,7 @@ pub(crate) fn answer_lines<L: AnswerSink>(
 ) -> Result<(), Fault>
     ensures ends { IfErr result L.ends_by }
     ensures lent { L.AnswerSink.lent sink.new ≡ L.AnswerSink.lent sink.old }
-    ensures answered { OnOk result (IsAnswered (lines text.now) (L.AnswerSink.told sink.old) (L.AnswerSink.told sink.new)) }
+    ensures answered { OnOk result (IsScriptAnswered (lines text.now) (L.AnswerSink.told sink.old) (L.AnswerSink.told sink.new)) }
 {
     let mut bench: Option<Bench> = None;
     let mut heard = Ok(());
@@ -87,7 +87,7 @@ struct Newcomer {
 
 /// The unit that a line has join, where it has one join.
 fn joining(read: &Option<ScriptLine>) -> Option<Newcomer>
-    ensures { option_map (λ unit. (unit.name, unit.address)) result ≡ joined_by read.now }
+    ensures { option_map (λ unit. (unit.name, unit.address)) result ≡ unit_joined_by read.now }
 {
     match read {
         Some(
@@ -116,7 +116,7 @@ fn begin<L: AnswerSink>(
     sink: &mut L,
 ) -> Result<(), Unwritten>
     ensures lent { L.AnswerSink.lent sink.new ≡ L.AnswerSink.lent sink.old }
-    ensures does { bench.old ≡ None → OnOk result (Writes (L.AnswerSink.told sink.old) (L.AnswerSink.told sink.new)
+    ensures does { bench.old ≡ None → OnOk result (WritesText (L.AnswerSink.told sink.old) (L.AnswerSink.told sink.new)
         (λ text. FirstDoes read.now text (option_map (λ b. b.garage) bench.new))) }
 {
     let Some(line) = read else {

@@ -18,6 +18,7 @@ mod rows;
 mod text;
 mod text_report;
 mod units;
+mod vins;
 
 pub use assumed::Assumed;
 pub use form::{WatchForm, write_broken, write_changes, write_report};

@@ -3,7 +3,7 @@ use Rattle.can_frame.specs.declared.reading.Reading.TheVariants.{Frame}
 use Rattle.bus_watch.proofs.Steps.{on_ok, stands_for_assumed}
 use Rattle.bus_watch.proofs.Naming.{told_assumed_ok}
 use Rattle.bus_watch.specs.WatchValue.{Takes}
-use Rattle.bus_watch.proofs.watch.Watch.assume.Goals as goal
+use Rattle.bus_watch.proofs.watch.Watch.assume_claim.Goals as goal
 
 pub returns-clause-stands : goal.returns-clause-stands
 returns-clause-stands c =

@@ -301,7 +301,7 @@ class Watch:
         if frame.pgn == PACKET and self.is_followed(frame.dest):
             fate = self.pacing.packet(key, frame.data, time, before[frame.source, frame.dest][2] if (frame.source, frame.dest) in before else [])
         if self.options.listens and fate != "late":
-            self.hear_vin(frame, key)
+            self.hear_vin(number, frame, key)
         changes = self.heard.take(frame) if fate == "read" else []
         self.counts["withheld"] += fate == "late"
         what = control_of(frame)
@@ -315,7 +315,7 @@ class Watch:
         if self.options.listens and not any(what in ("entry", "unread") for what, *_ in changes):
             self.tell_broken(number, frame, fate, before)
 
-    def hear_vin(self, frame, key):
+    def hear_vin(self, number, frame, key):
         """A VIN is kept where an entry of the same unit, from the same address to the same one, would be shown."""
         owner = self.heard.owner(frame.source)
         told = self.vins.take(frame, Unclaimed(frame.source, self.heard.gaps) if owner is None else owner, lambda number: self.pacing.asks_for(key, number))
@@ -324,7 +324,9 @@ class Watch:
         who, source, dest, payload = told
         shown = self.options.lists_unclaimed or not isinstance(who, Unclaimed)
         if shown and self.options.shows(dest) and self.options.is_in_time(self.now) and self.options.is_of_unit(who, source):
-            self.vins.tell(who, payload)
+            if self.vins.tell(who, payload):
+                vin = self.vins.text(who)
+                self.write(number, "vin", f"vin {self.who_words(who)}{':' if isinstance(who, Unclaimed) else ''} {vin}", **self.who_object(who), vin=vin)
         else:
             reach("a VIN that is not shown")
 

@@ -1,9 +1,53 @@
 //! The VIN that a unit told, in each form: no memory is asked for. Of any bytes only what can be printed in ASCII stands as it is.
 
+use crate::object_parts::{write_bus as write_bus_key, write_time, write_who};
+use crate::options::ReportOptions;
 use crate::report_writer::ReportWriter;
-use bus_watch::{Watch, Who};
+use crate::text;
+use crate::units::WhoWords;
+use bus_watch::{BusWatch, Watch, Who};
+use candump_line::Time;
 use dm_words::AsciiText;
 use std::io::Write;
+
+/// Writes a line for the VIN that a unit told by the newest line, where it had not told it before.
+pub(crate) fn write_line<W: Write>(
+    report: &mut ReportWriter<'_, W>,
+    one: &BusWatch,
+    options: &ReportOptions<'_>,
+    start: &Option<Time>,
+) {
+    let Some(who) = one.watch.vin_told() else {
+        return;
+    };
+    text::write_time(report, options.clock, start, one.watch.now());
+    text::write_bus(report, one);
+    let unit = WhoWords(who, options.units);
+    let mark = match who {
+        Who::Named(_) => "",
+        Who::Unclaimed { .. } => ":",
+    };
+    let vin = AsciiText(one.watch.vin(who));
+    writeln!(report, " vin {unit}{mark} {vin}");
+}
+
+/// Writes an object for it.
+pub(crate) fn write_object<W: Write>(
+    report: &mut ReportWriter<'_, W>,
+    one: &BusWatch,
+    number: u64,
+) {
+    let Some(who) = &one.watch.vin_told() else {
+        return;
+    };
+    write!(report, "{{\"line\":{number}");
+    write_time(report, "time", &one.watch.now());
+    report.text(",\"event\":\"vin\",");
+    write_who(report, &one.watch, who);
+    write_key(report, &one.watch, who);
+    write_bus_key(report, one);
+    report.text("}\n");
+}
 
 /// At the end of a row for people, where the unit told one.
 pub(crate) fn write_in_row<W: Write>(report: &mut ReportWriter<'_, W>, watch: &Watch, who: &Who) {

@@ -73,6 +73,17 @@ def vins_in_rows():
     return found
 
 
+def vins_that_change():
+    """Each that differs from the one before is told, in text and JSON."""
+    log = text_of([CLAIM, BAM, *WHOLE, BAM, *WHOLE, "18FEEC00#41412A", "18FEEC00#2A", "18FEEC01#42422A", OTHER, "18FEEC00#41412A"]).encode()
+    texts = [line.partition(" vin ")[2] for line in run(["watch"], log)[1].splitlines() if " vin " in line]
+    found = same(texts, [f"{name_of('A0')} {VIN}", f"{name_of('A0')} AA", "address 1, no claim seen: BB", f"{name_of('90')} AA"], "text")
+    objects = [json.loads(line) for line in run(["watch", "--format", "json"], log)[1].splitlines() if '"event":"vin"' in line]
+    wanted = [{"line": 5, "time": "0.800000", "event": "vin", "name": name_of("A0"), "address": 0, "vin": VIN}, {"line": 10, "time": "1.800000", "event": "vin", "name": name_of("A0"), "address": 0, "vin": "AA"},
+              {"line": 12, "time": "2.200000", "event": "vin", "name": None, "address": 1, "gaps": 0, "vin": "BB"}, {"line": 14, "time": "2.600000", "event": "vin", "name": name_of("90"), "address": 0, "vin": "AA"}]
+    return found + same(objects, wanted, "objects")
+
+
 def vins_of_two_buses():
     """The same NAME on two buses is two units."""
     log = text_of([CLAIM, "18FEEC00#41412A"]) + text_of([CLAIM, "18FEEC00#42422A"], "can1") + text_of([CLAIM], "can2")

@@ -1,6 +1,8 @@
 -- What is half read of VINs, where nothing is, and after one change.
-use Rattle.std.proofs.Common.{◌≡◌, ◌==◌, ◌&&◌, ℕ, Bool, true, false, not, List, Option, Some, None, if◌then◌else◌, refl, sym, ap, ◌∙◌, ⊎_elim}
+use Rattle.std.proofs.Common.{◌≡◌, ◌≤◌, length, arith, ◌==◌, ◌&&◌, ℕ, Bool, true, false, not, List, Option, Some, None, if◌then◌else◌, refl, sym, ap, ◌∙◌, ⊎_elim}
+use Rattle.std.specs.List.{position}
 use Rattle.std.specs.Prelude.{IfSome, slice_set}
+use Rattle.std.proofs.lemmas.List.Quantifiers.{position-Some}
 use Rattle.std.proofs.lemmas.List.{set-get_or, get_or-replicate, get_or_past}
 use Rattle.std.proofs.lemmas.Bool.{cases_lt}
 use Rattle.bus_model.specs.Overheard.{HalfSent}
@@ -20,8 +22,17 @@ use Rattle.transport.specs.declared.control.Control.{Control}
 use Rattle.transport.specs.declared.control.Control.TheVariants.{Abort, Bam, Cts, EndAck, Rts}
 use Rattle.transport.specs.declared.took.Took.TheVariants.{More, Whole, Broken}
 use Rattle.bus_watch.specs.Runs.{is_of_name}
-use Rattle.bus_watch.specs.Vins.{HalfTold, VinsValue, halves_claimed, halves_managed, packet_by, packet_to, read_to, vin_announced, vin_of, with_told}
+use Rattle.bus_watch.specs.Vins.{HalfTold, VinsValue, ends_vin, front_length, halves_claimed, halves_managed, packet_by, packet_to, read_to, vin_announced, vin_of, with_told}
 use Rattle.bus_watch.specs.declared.vin.TheConstants.{VEHICLE_IDENTIFICATION}
+use Rattle.bus_watch.specs.declared.watch.vins.VinPacket.{VinPacket}
+
+-- a VIN ends within its payload
+pub end_within : (bytes : List ℕ) → front_length (position ends_vin bytes) (length bytes) ≤ length bytes
+end_within bytes = go (position ends_vin bytes) refl
+  where
+    go : (o : Option ℕ) → position ends_vin bytes ≡ o → front_length o (length bytes) ≤ length bytes
+    go None e = omega arith
+    go (Some i) e = (let within = (position-Some ends_vin bytes i 0 e).0 in omega (arith, within))
 
 -- nothing is half read from any source, nor between any two addresses
 none_from : (s : ℕ) → pairs_from (no_pairs {X = HalfTold}) s ≡ empty_table
@@ -163,7 +174,8 @@ none_late silence now bytes pace a half late = ap (λ (f : Fate). packet_by f by
 pub none_again : (silence : Silence) (now : Option ℕ) (bytes : List ℕ) (pace : Option Pace) (half : HalfTold)
     → was_read bytes (Some half) ≡ true → lets_come_if pace (packet_number bytes) ≡ true → packet_to silence now bytes pace (Some half) ≡ None
 none_again silence now bytes pace half was lets =
-    ap (λ (b : Bool). packet_by (if is_over_if (paced silence now (step_of bytes) pace) then Late else (if b then Again else Read)) bytes half) (rw (was, lets) refl)
+    let both : (lets_come_if pace (packet_number bytes) && was_read bytes (Some half)) ≡ true = rw (was, lets) refl in
+    ap (λ (b : Bool). packet_by (if is_over_if (paced silence now (step_of bytes) pace) then Late else (if b then Again else Read)) bytes half) both
     ∙ go (is_over_if (paced silence now (step_of bytes) pace))
   where
     go : (over : Bool) → packet_by (if over then Late else Again) bytes half ≡ None
@@ -181,6 +193,17 @@ one_read silence now bytes pace a half on_time none =
         → packet_by (if over then Late else Read) bytes half ≡ Some (record { who = half.tag; took = took_by (with_packet bytes (Some half)) })
     go true one not = absurd (not refl)
     go false one not = refl
+
+-- one that is read was answered so
+pub answered_so : (silence : Silence) (now : Option ℕ) (bytes : List ℕ) (pace : Option Pace) (o : Option HalfTold) (packet : VinPacket)
+    → Some packet ≡ packet_to silence now bytes pace o → answer_to bytes o ≡ Some packet.took
+answered_so silence now bytes pace None packet e = absurd cc
+answered_so silence now bytes pace (Some half) packet e = go (fate_of silence now bytes pace (Some half)) e
+  where
+    go : (f : Fate) → Some packet ≡ packet_by f bytes half → answer_to bytes (Some half) ≡ Some packet.took
+    go Read i = (let same : packet ≡ record { who = half.tag; took = took_by (with_packet bytes (Some half)) } = cc in ap (λ (p : VinPacket). Some p.took) (sym same))
+    go Late i = absurd cc
+    go Again i = absurd cc
 
 -- ---- announcements
 
@@ -230,6 +253,6 @@ undone before after restored s d v o put was back = back ∙ (ap (λ (p : List (
 pub nothing_claimed : (who : Who) (s name : ℕ) (half : List (List (Option HalfTold))) → half ≡ no_pairs → half ≡ halves_claimed who s name half
 nothing_claimed who s name half none = none ∙ (go (is_of_name name who) ∙ ap (λ (h : List (List (Option HalfTold))). halves_claimed who s name h) (sym none))
   where
-    go : (b : Bool) → no_pairs ≡ (if b then no_pairs else slice_set no_pairs s empty_table)
+    go : (b : Bool) → no_pairs {X = HalfTold} ≡ (if b then no_pairs {X = HalfTold} else slice_set (no_pairs {X = HalfTold}) s empty_table)
     go true = refl
     go false = sym (no_source_dropped s)

@@ -9,15 +9,17 @@ use Rattle.candump_line.specs.declared.line.Line.TheVariants as line
 use Rattle.listener.proofs.Hears.{whose}
 use Rattle.listener.specs.ListenerValue.{who_in}
 use Rattle.parameter_group.specs.Group.{Group, group_of}
+use Rattle.reassembly.specs.Pairs.{pair_at, with_pair}
 use Rattle.bus_watch.specs.Followed.{Followed, is_watched}
 use Rattle.bus_watch.specs.Over.{HasOwnersAlone}
 use Rattle.bus_watch.specs.Runs.{Moment, newest_time, with_moment}
-use Rattle.bus_watch.specs.Told.{Assumed, Beginning, Read, StandsForAll, Told, all_said, readings_said}
-use Rattle.bus_watch.specs.Vins.{VinsValue, coming, halves_claimed, vin_under, vins_read, vins_with}
+use Rattle.bus_watch.specs.Told.{Assumed, Beginning, IsToldAs, Read, StandsForAll, Told, all_said, readings_said}
+use Rattle.bus_watch.specs.Vins.{HalfTold, VinsValue, coming, halves_claimed, vin_under, vins_read, vins_with}
 use Rattle.bus_watch.specs.VinsSaid.{VinsGoOn, vins_said}
-use Rattle.bus_watch.specs.WatchValue.{StandsInRuns, Takes, TakesGroup, Tells, TellsGroup, WatchValue, vins_in}
+use Rattle.bus_watch.specs.WatchValue.{HearsLine, StandsInRuns, Takes, TakesGroup, Tells, TellsGroup, WatchValue, vins_in}
 use Rattle.bus_watch.specs.declared.change.Changes.{Changes}
 use Rattle.bus_watch.specs.declared.selection.Selection.{Selection}
+use Rattle.bus_watch.proofs.VinTables.{undone}
 
 -- ---- VINs change, and nothing else does
 
@@ -42,6 +44,9 @@ aside b w v h s = record {
 
 pub stands_aside : (b : Beginning) (ts : List Told) (w new : WatchValue) (v : VinsValue) → new ≡ with_vins w v → StandsForAll b ts w → StandsForAll b ts new
 stands_aside b ts w new v e s = subst (λ (x : WatchValue). StandsForAll b ts x) (sym e) (record { heard = aside b w v (all_said b ts).moments s.heard; followed = s.followed })
+
+pub told_aside : (next : Told) (old mid new : WatchValue) (v : VinsValue) (c : Changes) → new ≡ with_vins mid v → IsToldAs next old mid c → IsToldAs next old new c
+told_aside next old mid new v c e t = subst (λ (w : WatchValue). IsToldAs next old w c) (sym e) (λ b ts s. t b ts s)
 
 -- once a reading was taken
 pub takes_aside : (old mid new : WatchValue) (v : VinsValue) (x : Reading) (at : Option ℕ) (f : Followed) → new ≡ with_vins mid v → Takes old mid x at f → Takes old new x at f
@@ -69,6 +74,17 @@ group_told_then old start new v g time c e t = go (subst (λ (w : WatchValue). T
   where
     go : TellsGroup (with_vins old v) new g time c → TellsGroup old new g time c
     go u = λ f is b h s. u f is b h (aside b old v h s)
+
+-- an announcement that was refused
+pub announced_undone : (old start : WatchValue) (began restored : VinsValue) (s d : ℕ) (v o : Option HalfTold) → start ≡ with_vins old began
+    → began ≡ record old.vins { half = with_pair old.vins.half s d v } → o ≡ pair_at old.vins.half s d → restored ≡ record start.vins { half = with_pair start.vins.half s d o }
+    → with_vins start restored ≡ old
+announced_undone old start began restored s d v o is put was back =
+    ap (λ (x : VinsValue). with_vins start x) back
+    ∙ (ap (λ (w : WatchValue). with_vins w (record w.vins { half = with_pair w.vins.half s d o })) is
+    ∙ (ap (λ (x : VinsValue). with_vins old (record x { half = with_pair x.half s d o })) put
+    ∙ ap (λ (h : List (List (Option HalfTold))). with_vins old (record old.vins { half = h }))
+    (undone old.vins.half (with_pair old.vins.half s d v) (with_pair (with_pair old.vins.half s d v) s d o) s d v o refl was refl)))
 
 -- a watch that starts over takes the VINs along
 pub over_aside : (old w new : WatchValue) (v : VinsValue) → new ≡ with_vins w v → HasOwnersAlone old w → HasOwnersAlone old new
@@ -108,9 +124,10 @@ go_on_line start old new l same is first b ts s said =
     ∙ same_owners b.selection (newest_time (all_said b ts).moments) (all_said b ts).followed (who_in old.listener) (λ a. who_heard a (readings_said b ts)) l (vins_said first b ts)
     (λ a below. whose old.listener (readings_said b ts) a below s.heard.listener))))))
 
-pub go_on_line_ok : {T E : Type 0} (result : Result T E) (start old new : WatchValue) (l : Line) → start ≡ old → OnOk result (new.vins ≡ vins_in start l) → OnOk result (VinsGoOn (Read l) old new)
-go_on_line_ok (Ok v) start old new l same is = go_on_line start old new l same is
-go_on_line_ok (Err e) start old new l same is = tt
+pub go_on_line_ok : {T E : Type 0} (result : Result T E) (start old new : WatchValue) (l : Line) → start ≡ old → OnOk result (HearsLine start new l) → OnOk result (new.vins ≡ vins_in start l)
+    → OnOk result (VinsGoOn (Read l) old new)
+go_on_line_ok (Ok v) start old new l same hears is = go_on_line start old new l same is
+go_on_line_ok (Err e) start old new l same hears is = tt
 
 pub go_on_assumed : (old mid new : WatchValue) (name address : ℕ) → address ≤ 253 → mid.vins ≡ old.vins
     → new ≡ with_vins mid (record mid.vins { half = halves_claimed (who_in old.listener address) address name mid.vins.half }) → VinsGoOn (Assumed name address) old new

@@ -1,5 +1,6 @@
-ghost use Rattle.std.specs.Prelude.{◌≡◌, ◌==◌, length};
-ghost use Rattle.bus_watch.specs.Vins.{ends_vin, vin_of};
+ghost use Rattle.std.specs.Prelude.{◌≡◌, ◌==◌, ◌≤◌, length};
+ghost use Rattle.std.specs.List.{position};
+ghost use Rattle.bus_watch.specs.Vins.{ends_vin, front_length, vin_of};
 
 use std::marker::Model;
 
@@ -32,14 +33,17 @@ impl Vin {
     pub(crate) fn of(payload: &[u8]) -> Vin
         ensures { result ≡ vin_of payload.now }
     {
-        let whole = payload.len();
-        let end = match payload.iter().position(|byte| ends_vin(*byte)) {
-            Some(place) => place,
-            None => whole,
-        };
-        let len = end.min(MOST_VIN).min(whole);
+        Vin::short(front(payload))
+    }
+
+    /// A VIN of at most 40 bytes.
+    fn short(text: &[u8]) -> Vin
+        requires { length text.now ≤ MOST_VIN }
+        ensures { result ≡ text.now }
+    {
+        let len = text.len();
         let mut room = [0; MOST_VIN];
-        room[..len].copy_from_slice(&payload[..len]);
+        room[..len].copy_from_slice(text);
         Vin {
             room,
             len: len as u8,
@@ -58,6 +62,27 @@ impl Vin {
         ensures { result.now ≡ self.now }
     {
         &self.room[..usize::from(self.len)]
+    }
+}
+
+/// What of a payload is a VIN.
+fn front(payload: &[u8]) -> &[u8]
+    ensures value { result.now ≡ vin_of payload.now }
+    ensures most { length result.now ≤ MOST_VIN }
+{
+    let len = end_of(payload).min(MOST_VIN);
+    &payload[..len]
+}
+
+/// How many bytes stand before the end of a VIN.
+#[tactic(auto, using(crate::proofs::VinTables::end_within))]
+fn end_of(payload: &[u8]) -> usize
+    ensures value { result ≡ front_length (position ends_vin payload.now) (length payload.now) }
+    ensures within { result ≤ length payload.now }
+{
+    match payload.iter().position(|byte| ends_vin(*byte)) {
+        Some(place) => place,
+        None => payload.len(),
     }
 }
 

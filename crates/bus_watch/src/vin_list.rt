@@ -1,8 +1,10 @@
 ghost use Rattle.std.specs.Prelude.{◌≡◌, [], length, slice_get, IfOk};
 ghost use Rattle.std.specs.List.{position};
 ghost use Rattle.bus_model.specs.Overheard.{same_who};
+ghost use Rattle.bus_model.specs.declared.who.Who.TheVariants as AnyWho;
 ghost use Rattle.bus_watch.specs.Vins.{is_vin_of, vin_under, who_there, with_told, with_vin, with_vin_at};
 
+use crate::selection::is_named;
 use crate::vin::Vin;
 use listener::Who;
 use std::alloc::{AllocError, Global};
@@ -138,22 +140,21 @@ impl VinList {
 fn is_vin_of(one: &UnitVin, who: Who) -> bool
     ensures { result ≡ is_vin_of who one.now }
 {
-    same_who(one.who, who)
+    match &one.who {
+        Who::Named(name) => is_named(name, &who),
+        Who::Unclaimed { address, gaps } => is_unclaimed(*address, *gaps, &who),
+    }
 }
 
-/// Whether two are the same unit.
-fn same_who(one: Who, other: Who) -> bool
-    ensures { result ≡ same_who one other }
+/// Whether a unit is this address, after so many gaps.
+fn is_unclaimed(address: u8, gaps: u64, who: &Who) -> bool
+    ensures { result ≡ same_who (AnyWho.Unclaimed address gaps) who.now }
 {
-    match (one, other) {
-        (Who::Named(name), Who::Named(own)) => name == own,
-        (
-            Who::Unclaimed { address, gaps },
-            Who::Unclaimed {
-                address: own,
-                gaps: since,
-            },
-        ) => address == own && gaps == since,
-        _ => false,
+    match who {
+        Who::Named(_) => false,
+        Who::Unclaimed {
+            address: own,
+            gaps: since,
+        } => address == *own && gaps == *since,
     }
 }

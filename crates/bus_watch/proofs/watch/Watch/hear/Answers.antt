@@ -10,4 +10,4 @@ pub returns-clause-told : goal.returns-clause-told
 returns-clause-told c = told_line_ok c.hear_line.result _ c.args.self.now c.hear_line.new.self c.args.line.now (search rules) c.hear_line.ensures.tells
 
 pub returns-clause-vins : goal.returns-clause-vins
-returns-clause-vins c = go_on_line_ok c.hear_line.result _ c.args.self.now c.hear_line.new.self c.args.line.now (search rules) c.hear_line.ensures.vins
+returns-clause-vins c = go_on_line_ok c.hear_line.result _ c.args.self.now c.hear_line.new.self c.args.line.now (search rules) c.hear_line.ensures.hears c.hear_line.ensures.vins

@@ -80,10 +80,17 @@ fn end_of(payload: &[u8]) -> usize
     ensures value { result ≡ front_length (position ends_vin payload.now) (length payload.now) }
     ensures within { result ≤ length payload.now }
 {
-    match payload.iter().position(|byte| ends_vin(*byte)) {
+    match end_at(payload) {
         Some(place) => place,
         None => payload.len(),
     }
+}
+
+/// Where a VIN ends, if something ends it.
+fn end_at(payload: &[u8]) -> Option<usize>
+    ensures { result ≡ position ends_vin payload.now }
+{
+    payload.iter().position(|byte| ends_vin(*byte))
 }
 
 /// Whether a VIN ends before this byte: at a `*`, or where bytes are not used.

@@ -136,6 +136,8 @@ class Frames:
         if source not in self.vins or chance.random() < 0.2:
             text = bytes(chance.choice(b"0123456789ABCDEFGHJKLMNPRSTUVWXYZ") for _ in range(chance.choice([17, 17, 17, 17, 3, 39, 40, 41, 60])))
             way = chance.random()
+            if way > 0.92:
+                text = b""
             if way < 0.3:
                 text = chance.choice([b"=1+1", b"<b>", b'","', b"\x1b[31m", b"\xe9\x00", b"\\\"", b""]) + text[: chance.choice([0, 1, 17])]
             self.vins[source] = text + chance.choice([b"*", b"*", b"*", b"", b"*7*", b"\xff"])

@@ -17,18 +17,23 @@ pub(crate) fn write_line<W: Write>(
     options: &ReportOptions<'_>,
     start: &Option<Time>,
 ) {
-    let Some(who) = one.watch.vin_told() else {
+    let Some(who) = &one.watch.vin_told() else {
         return;
     };
     text::write_time(report, options.clock, start, one.watch.now());
     text::write_bus(report, one);
-    let unit = WhoWords(who, options.units);
-    let mark = match who {
+    let unit = WhoWords(*who, options.units);
+    let mark = mark_behind(who);
+    let vin = AsciiText(one.watch.vin(*who));
+    writeln!(report, " vin {unit}{mark} {vin}");
+}
+
+/// What stands behind a unit, before what it told.
+fn mark_behind(who: &Who) -> &'static str {
+    match who {
         Who::Named(_) => "",
         Who::Unclaimed { .. } => ":",
-    };
-    let vin = AsciiText(one.watch.vin(who));
-    writeln!(report, " vin {unit}{mark} {vin}");
+    }
 }
 
 /// Writes an object for it.

@@ -92,10 +92,19 @@ fn unit_behind_names(watch: &Watch, place: usize) -> Option<Who> {
         return watch.unit_at(place);
     }
     let who = watch.vin_unit_at(place - units)?;
+    if has_entries(watch, &who) {
+        None
+    } else {
+        Some(who)
+    }
+}
+
+/// Whether a unit has an entry of some kind.
+fn has_entries(watch: &Watch, who: &Who) -> bool {
     for kind in [Kind::Dm1, Kind::Dm2, Kind::Dm6] {
-        if !watch.runs(who, kind).is_empty() {
-            return None;
+        if !watch.runs(*who, kind).is_empty() {
+            return true;
         }
     }
-    Some(who)
+    false
 }

@@ -130,13 +130,13 @@ vin_announced d (Bam size packets pgn) = if d == GLOBAL_ADDRESS && pgn == VEHICL
 vin_announced d (Rts size packets most pgn) = if not (d == GLOBAL_ADDRESS) && pgn == VEHICLE_IDENTIFICATION then Some size else None
 vin_announced d message = None
 
-abbrev pub without_session : ℕ → ℕ → List (List (Option HalfTold)) → List (List (Option HalfTold))
-without_session s d half = if d == GLOBAL_ADDRESS then half else with_pair half s d None
+abbrev pub without_vin_between : ℕ → ℕ → List (List (Option HalfTold)) → List (List (Option HalfTold))
+without_vin_between s d half = if d == GLOBAL_ADDRESS then half else with_pair half s d None
 
 abbrev pub halves_managed : Who → ℕ → ℕ → Control → List (List (Option HalfTold)) → List (List (Option HalfTold))
 halves_managed who s d (Bam size packets pgn) half = if d == GLOBAL_ADDRESS then with_pair half s d (newly_told pgn size who) else half
 halves_managed who s d (Rts size packets most pgn) half = if d == GLOBAL_ADDRESS then half else with_pair half s d (newly_told pgn size who)
-halves_managed who s d (Abort reason pgn) half = without_session d s (without_session s d half)
+halves_managed who s d (Abort reason pgn) half = without_vin_between d s (without_vin_between s d half)
 halves_managed who s d message half = half
 
 -- a claim of the source under another NAME than its owner's ends all from there

@@ -156,7 +156,7 @@ impl Vins {
 
     /// A session ends; a message to all does not.
     fn end_session(&mut self, source: u8, dest: u8)
-        ensures { self.new ≡ record self.old { half = vins.without_session source dest self.old.half } }
+        ensures { self.new ≡ record self.old { half = vins.without_vin_between source dest self.old.half } }
     {
         if dest != GLOBAL_ADDRESS {
             self.forget(source, dest);

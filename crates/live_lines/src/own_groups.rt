@@ -144,7 +144,13 @@ impl OwnGroups {
     {
         let session = self.session?;
         if session.goes() {
-            let frame = frame_at(&self.all, session.place, source, session.dest, session.number())?;
+            let frame = frame_at(
+                &self.all,
+                session.place,
+                source,
+                session.dest,
+                session.number(),
+            )?;
             self.session = Some(session.behind(now));
             return Some(frame);
         }

@@ -96,13 +96,7 @@ impl OwnSession {
                     Some(self)
                 }
             }
-            Control::Abort { pgn, .. } => {
-                if self.is_about(pgn) {
-                    None
-                } else {
-                    Some(self)
-                }
-            }
+            Control::Abort { pgn, .. } => { if self.is_about(pgn) { None } else { Some(self) } }
             _ => Some(self),
         }
     }

@@ -1,4 +1,8 @@
-use crate::order::{Clearing, Order};
+ghost use Rattle.std.specs.Prelude.{◌≡◌, ◌≤◌, Some};
+ghost use Rattle.live_station.specs.OpenOrders.{asking_again, begun_order, command_heard, doubt_of, doubted, finding_read, order_acknowledged, order_answered, order_cut_off, order_ended, order_heard, order_missed, order_signed, part_number, signed_or_doubted, verdict_now, waiting_on, with_mark, without_mark};
+ghost use Rattle.live_station.specs.OpenOrders as orders;
+
+use crate::order::Order;
 use crate::sign::Sign;
 use crate::verdict::{Doubt, Finding, Verdict};
 use can_frame::GLOBAL_ADDRESS;
@@ -16,7 +20,7 @@ pub const LONGEST_ANSWER: u64 = 60_000_000;
 pub const MOST_TRIES: u8 = 3;
 
 /// A request that was written.
-#[derive(Clone, Copy, PartialEq, Eq)]
+#[derive(Clone, Copy)]
 pub struct Asked {
     /// The address from which it was written.
     pub own: u8,
@@ -34,19 +38,44 @@ pub struct Asked {
     pub answered: bool,
 }
 
+/// A frame of a command.
+#[derive(Clone, Copy)]
+pub enum Part {
+    /// The announcement of the broadcast.
+    Announcement,
+    /// Its first packet.
+    First,
+    /// Its second packet.
+    Second,
+}
+
+impl Part {
+    /// Its place in the message, from 0.
+    pub fn number(self) -> u8
+        ensures value { result ≡ part_number self }
+        ensures few { result ≤ 2 }
+    {
+        match self {
+            Part::Announcement => 0,
+            Part::First => 1,
+            Part::Second => 2,
+        }
+    }
+}
+
 /// How far an open order is.
-#[derive(Clone, Copy, PartialEq, Eq)]
+#[derive(Clone, Copy)]
 pub enum Stage {
     /// Its request is to be written, not before a time. A NAME without an address is waited for until another one.
     Waits { from: u64, known_by: u64 },
-    /// So many of the three frames of a command were written, from this address.
-    Commands { own: u8, part: u8 },
+    /// A frame of a command was written from this address; the next one is to be.
+    Commands { own: u8, next: Part },
     /// It was written.
     Asked(Asked),
 }
 
 /// The open order. A clear that was written becomes an order to ask what is left, with what was found of the clear.
-#[derive(Clone, Copy, PartialEq, Eq)]
+#[derive(Clone, Copy)]
 pub struct OpenOrder {
     /// What is asked now.
     pub order: Order,
@@ -59,7 +88,7 @@ pub struct OpenOrder {
 }
 
 /// What becomes of an open order.
-#[derive(Clone, Copy, PartialEq, Eq)]
+#[derive(Clone, Copy)]
 pub enum Progress {
     /// It is open.
     Goes(OpenOrder),
@@ -68,7 +97,7 @@ pub enum Progress {
 }
 
 /// How the station and the unit stand that an order is for, after something was heard.
-#[derive(Clone, Copy, PartialEq, Eq)]
+#[derive(Clone, Copy)]
 pub struct Sight {
     /// The station's own address.
     pub held: Option<u8>,
@@ -82,7 +111,9 @@ pub struct Sight {
 
 impl OpenOrder {
     /// An order that begins.
-    pub fn new(order: Order) -> OpenOrder {
+    pub fn new(order: Order) -> OpenOrder
+        ensures { result ≡ begun_order order }
+    {
         OpenOrder {
             order,
             found: None,
@@ -95,7 +126,9 @@ impl OpenOrder {
     }
 
     /// The request is to be written again, not before this time.
-    fn again(self, from: u64, now: u64) -> OpenOrder {
+    fn again(self, from: u64, now: u64) -> OpenOrder
+        ensures { result ≡ asking_again from now self }
+    {
         OpenOrder {
             stage: Stage::Waits {
                 from,
@@ -106,7 +139,9 @@ impl OpenOrder {
     }
 
     /// The verdict of what is asked now.
-    fn verdict(self, finding: Finding, now: u64) -> Verdict {
+    fn verdict(self, finding: Finding, now: u64) -> Verdict
+        ensures { result ≡ verdict_now finding now self }
+    {
         let (address, after) = match self.stage {
             Stage::Asked(asked) => (asked.one(), Some(now.saturating_sub(asked.at))),
             _ => (None, None),
@@ -122,15 +157,15 @@ impl OpenOrder {
     }
 
     /// It came to this. A clear that was written goes on to ask what is left.
-    pub fn end(self, finding: Finding, now: u64) -> Progress {
+    pub fn end(self, finding: Finding, now: u64) -> Progress
+        ensures { result ≡ order_ended finding now self }
+    {
         if let Some(found) = self.found {
-            return Progress::Ends(Verdict {
-                left: Some(finding),
-                ..found
-            });
+            return Progress::Ends(with_left(found, finding));
         }
+        let order = self.order;
         let verdict = self.verdict(finding, now);
-        match self.order {
+        match order {
             Order::Clear { name, what } if asks_what_is_left(finding) => {
                 Progress::Goes(OpenOrder {
                     order: Order::Ask {
@@ -150,20 +185,22 @@ impl OpenOrder {
     }
 
     /// The input ended.
-    pub fn cut_off(self, now: u64) -> Verdict {
-        let was_sent = !matches!(self.stage, Stage::Waits { .. });
-        let finding = Finding::CutOff { was_sent };
+    pub fn cut_off(self, now: u64) -> Verdict
+        ensures { result ≡ order_cut_off now self }
+    {
+        let finding = Finding::CutOff {
+            was_sent: self.tries > 0,
+        };
         match self.found {
-            Some(found) => Verdict {
-                left: Some(finding),
-                ..found
-            },
+            Some(found) => with_left(found, finding),
             None => self.verdict(finding, now),
         }
     }
 
     /// Frames were missed. A command goes on; a clear is in doubt; anything else is asked again.
-    pub fn miss(self, now: u64) -> Progress {
+    pub fn miss(self, now: u64) -> Progress
+        ensures { result ≡ order_missed now self }
+    {
         match (self.order, self.stage) {
             (Order::Command { .. }, _) => Progress::Goes(self),
             (_, Stage::Asked(_)) => self.upset(Doubt::FramesMissed, now),
@@ -172,7 +209,9 @@ impl OpenOrder {
     }
 
     /// A frame was heard.
-    pub fn hear(self, sign: Sign, sight: Sight, now: u64) -> Progress {
+    pub fn hear(self, sign: Sign, sight: Sight, now: u64) -> Progress
+        ensures { result ≡ order_heard sign sight now self }
+    {
         match (self.order, self.stage) {
             (Order::Command { address, .. }, _) => self.hear_as_command(address, sight, now),
             (_, Stage::Asked(asked)) => self.hear_asked(asked, sign, sight, now),
@@ -181,34 +220,35 @@ impl OpenOrder {
     }
 
     /// A frame was heard while a command is open.
-    fn hear_as_command(self, address: u8, sight: Sight, now: u64) -> Progress {
+    fn hear_as_command(self, address: u8, sight: Sight, now: u64) -> Progress
+        ensures { result ≡ command_heard address sight now self }
+    {
         if sight.address == Some(address) {
-            return self.end(Finding::Obeyed, now);
-        }
-        match self.stage {
-            Stage::Commands { own, .. } if sight.held != Some(own) => {
-                self.end(Finding::LostAddress, now)
-            }
-            Stage::Asked(asked) if sight.held != Some(asked.own) => {
-                self.end(Finding::LostAddress, now)
-            }
-            _ => Progress::Goes(self),
+            self.end(Finding::Obeyed, now)
+        } else if is_still_own(self.stage, sight) {
+            Progress::Goes(self)
+        } else {
+            self.end(Finding::LostAddress, now)
         }
     }
 
     /// A frame was heard while a request is out.
-    fn hear_asked(self, asked: Asked, sign: Sign, sight: Sight, now: u64) -> Progress {
-        if sign == Sign::Claimed && asked.to != GLOBAL_ADDRESS {
-            return self.end(Finding::Answered, now);
-        }
-        match asked.doubt(sight) {
-            Some(doubt) => self.upset(doubt, now),
-            None => self.hear_sign(asked, sign, now),
+    fn hear_asked(self, asked: Asked, sign: Sign, sight: Sight, now: u64) -> Progress
+        ensures { result ≡ signed_or_doubted (doubt_of asked sight) sign asked now self }
+    {
+        match (asked.doubt(sight), sign) {
+            (Some(_), Sign::Claimed) if asked.to != GLOBAL_ADDRESS => {
+                self.end(Finding::Answered, now)
+            }
+            (Some(doubt), _) => self.upset(doubt, now),
+            (None, sign) => self.hear_sign(asked, sign, now),
         }
     }
 
     /// What is out can no longer be told by its answer.
-    fn upset(self, doubt: Doubt, now: u64) -> Progress {
+    fn upset(self, doubt: Doubt, now: u64) -> Progress
+        ensures { result ≡ doubted self.order doubt now self }
+    {
         match self.order {
             Order::Clear { .. } => self.end(Finding::InDoubt(doubt), now),
             _ => Progress::Goes(self.again(now, now)),
@@ -216,39 +256,41 @@ impl OpenOrder {
     }
 
     /// What the unit says to a request that is out.
-    fn hear_sign(self, asked: Asked, sign: Sign, now: u64) -> Progress {
+    fn hear_sign(self, asked: Asked, sign: Sign, now: u64) -> Progress
+        ensures { result ≡ order_signed sign asked now self }
+    {
         match sign {
             Sign::Nothing => Progress::Goes(self),
             Sign::Acknowledged(control) => self.hear_acknowledgment(control, now),
-            Sign::Began { to_all } => {
-                let begun = Asked {
-                    broadcast: asked.broadcast || to_all,
-                    session: asked.session || !to_all,
-                    ..asked
-                };
-                Progress::Goes(self.waiting_on(begun, now))
-            }
+            Sign::Began { to_all } => Progress::Goes(self.waiting_on(asked.marked(to_all), now)),
+            Sign::Replaced { to_all } => Progress::Goes(OpenOrder {
+                stage: Stage::Asked(asked.unmarked(to_all)),
+                ..self
+            }),
             Sign::Packet => Progress::Goes(self.waiting_on(asked, now)),
-            Sign::Ended { is_read } if asked.to != GLOBAL_ADDRESS => {
-                let finding = if is_read {
-                    Finding::Answered
-                } else {
-                    Finding::Unread
-                };
-                self.end(finding, now)
-            }
-            Sign::Ended { .. } | Sign::Claimed => {
-                let answered = Asked {
-                    answered: true,
-                    ..asked
-                };
-                Progress::Goes(self.waiting_on(answered, now))
-            }
+            Sign::Ended { is_read } => self.answered(is_read, asked, now),
+            Sign::Claimed => self.answered(true, asked, now),
         }
     }
 
+    /// What was asked for came: of one unit that is the answer, of all it is one more, where it can be read.
+    fn answered(self, is_read: bool, asked: Asked, now: u64) -> Progress
+        ensures { result ≡ order_answered is_read asked now self }
+    {
+        if asked.to != GLOBAL_ADDRESS {
+            return self.end(finding_of(is_read), now);
+        }
+        let answered = Asked {
+            answered: asked.answered || is_read,
+            ..asked
+        };
+        Progress::Goes(self.waiting_on(answered, now))
+    }
+
     /// The answer is waited for from now on, but not longer than it may take in all.
-    fn waiting_on(self, asked: Asked, now: u64) -> OpenOrder {
+    fn waiting_on(self, asked: Asked, now: u64) -> OpenOrder
+        ensures { result ≡ waiting_on asked now self }
+    {
         let last = asked.at.saturating_add(LONGEST_ANSWER);
         OpenOrder {
             stage: Stage::Asked(Asked {
@@ -260,7 +302,9 @@ impl OpenOrder {
     }
 
     /// The unit acknowledges the group that is asked for.
-    fn hear_acknowledgment(self, control: u8, now: u64) -> Progress {
+    fn hear_acknowledgment(self, control: u8, now: u64) -> Progress
+        ensures { result ≡ order_acknowledged control now self }
+    {
         match (control, self.order) {
             (0, Order::Clear { .. }) => self.end(Finding::Positive, now),
             (0, _) => Progress::Goes(self),
@@ -275,7 +319,9 @@ impl OpenOrder {
 
 impl Asked {
     /// The one address to which it was written.
-    fn one(self) -> Option<u8> {
+    fn one(self) -> Option<u8>
+        ensures { result ≡ orders.one_asked self }
+    {
         if self.to == GLOBAL_ADDRESS {
             None
         } else {
@@ -283,24 +329,82 @@ impl Asked {
         }
     }
 
+    /// With the mark that a message to all, or to the station, was announced.
+    fn marked(self, to_all: bool) -> Asked
+        ensures { result ≡ with_mark to_all self }
+    {
+        Asked {
+            broadcast: self.broadcast || to_all,
+            session: self.session || !to_all,
+            ..self
+        }
+    }
+
+    /// Without it: another message took the place of that.
+    fn unmarked(self, to_all: bool) -> Asked
+        ensures { result ≡ without_mark to_all self }
+    {
+        Asked {
+            broadcast: self.broadcast && !to_all,
+            session: self.session && to_all,
+            ..self
+        }
+    }
+
     /// Why an answer that comes from now on says nothing of what is out, if it does not.
-    fn doubt(self, sight: Sight) -> Option<Doubt> {
-        if sight.stranger {
-            Some(Doubt::Stranger)
+    fn doubt(self, sight: Sight) -> Option<Doubt>
+        ensures { result ≡ doubt_of self sight }
+    {
+        if self.to != GLOBAL_ADDRESS && sight.address != Some(self.to) {
+            Some(Doubt::AddressChangedHands)
         } else if sight.contested || sight.held != Some(self.own) {
             Some(Doubt::OwnAddress)
-        } else if self.to != GLOBAL_ADDRESS && sight.address != Some(self.to) {
-            Some(Doubt::AddressChangedHands)
+        } else if sight.stranger {
+            Some(Doubt::Stranger)
         } else {
             None
         }
     }
 }
 
+/// The verdict of a clear, and what came of asking what is left.
+fn with_left(found: Verdict, left: Finding) -> Verdict
+    ensures { result ≡ record found { left = Some left } }
+{
+    Verdict {
+        left: Some(left),
+        ..found
+    }
+}
+
+/// Whether the address from which a frame was written, if one was, is the station's own and nobody else's.
+fn is_still_own(stage: Stage, sight: Sight) -> bool
+    ensures { result ≡ orders.is_still_own stage sight }
+{
+    match stage {
+        Stage::Waits { .. } => true,
+        Stage::Commands { own, .. } => sight.held == Some(own) && !sight.stranger,
+        Stage::Asked(asked) => sight.held == Some(asked.own) && !sight.stranger,
+    }
+}
+
+/// What a message that was asked for is as an answer.
+fn finding_of(is_read: bool) -> Finding
+    ensures { result ≡ finding_read is_read }
+{
+    if is_read {
+        Finding::Answered
+    } else {
+        Finding::Unread
+    }
+}
+
 /// Whether a clear that came to this was written, so that it is asked what is left.
-fn asks_what_is_left(finding: Finding) -> bool {
-    matches!(
-        finding,
-        Finding::Positive | Finding::Silent | Finding::InDoubt(_)
-    )
+fn asks_what_is_left(finding: Finding) -> bool
+    ensures { result ≡ orders.asks_what_is_left finding }
+{
+    match finding {
+        Finding::Positive | Finding::Silent | Finding::InDoubt(_) => true,
+        _ => false,
+    }
 }

@@ -18,7 +18,7 @@ pub struct Verdict {
 }
 
 /// How an order ended.
-#[derive(Clone, Copy, PartialEq, Eq)]
+#[derive(Clone, Copy, Debug, PartialEq, Eq)]
 pub enum Finding {
     /// A message that began after the request ended, or a claim came: the newest entry of its list shows it.
     Answered,
@@ -45,7 +45,7 @@ pub enum Finding {
 }
 
 /// Why nobody knows whether a clear was done.
-#[derive(Clone, Copy, PartialEq, Eq)]
+#[derive(Clone, Copy, Debug, PartialEq, Eq)]
 pub enum Doubt {
     /// The NAME moved, gave up, or another NAME claimed its address.
     AddressChangedHands,

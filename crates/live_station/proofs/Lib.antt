@@ -1,0 +1,4 @@
+pub mod Told
+pub mod Claimers
+pub mod Sources
+pub mod Turning

@@ -1,0 +1,5 @@
+pub mod Ear
+pub mod OpenOrders
+pub mod Signs
+pub mod Turns
+pub mod Working

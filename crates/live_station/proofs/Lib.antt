@@ -2,3 +2,8 @@ pub mod Told
 pub mod Claimers
 pub mod Sources
 pub mod Turning
+pub mod Positives
+pub mod Acknowledging
+pub mod Laws
+pub mod Staying
+pub mod Owing

@@ -1,13 +1,13 @@
 -- What a station puts is from the address that it then holds, or from 254 where it holds none; and what it puts beside what waits answers a
 -- request or a frame of a session.
-use Rattle.std.proofs.Common.{◌≡◌, ℕ, ◌<◌, ◌≤◌, ◌⊎◌, inl, inr, Bool, true, false, ◌&&◌, ◌||◌, ◌==◌, nat_eq, nat_lt, List, [], ◌∷◌, Option, Some, None, if◌then◌else◌, arith, refl, sym, ap, ◌∙◌, subst}
+use Rattle.std.proofs.Common.{◌≡◌, ℕ, ◌<◌, ◌≤◌, ◌⊎◌, inl, inr, Bool, true, false, ◌&&◌, ◌||◌, ◌==◌, nat_eq, nat_lt, List, [], ◌∷◌, Option, Some, None, if◌then◌else◌, zero, suc, arith, refl, sym, ap, ◌∙◌, subst}
 use Rattle.std.proofs.lemmas.Bool.{and_parts, eqb-true}
-use Rattle.can_frame.specs.Fields.{source_of, pdu1_number}
+use Rattle.can_frame.specs.Fields.{source_of, pdu1_number, pdu2_number}
 use Rattle.can_frame.specs.FrameValue.{FrameValue}
 use Rattle.can_frame.specs.declared.address.TheConstants.{GLOBAL_ADDRESS, NULL_ADDRESS}
 use Rattle.can_frame.specs.declared.group_numbers.TheConstants.{ADDRESS_CLAIMED}
 use Rattle.address_claim.specs.Claiming.{CanHold, ClaimerValue, claim_step, held_after, is_held}
-use Rattle.address_claim.specs.Frames.{claim_source}
+use Rattle.address_claim.specs.Frames.{claim_frame_value, claim_source}
 use Rattle.address_claim.specs.declared.claimer.ClaimStep.{ClaimStep}
 use Rattle.address_claim.specs.declared.claimer.ClaimStep.TheVariants.{Nothing, Defend, Move, CannotClaim}
 use Rattle.bus_model.specs.Heard.{kind_of, started}
@@ -18,12 +18,13 @@ use Rattle.station_table.specs.Reactions.{answering, claim_reaction, granted_at_
 use Rattle.station_table.specs.StationValue.{StationValue}
 use Rattle.station_table.specs.Steps.{after_group, packets_at_once}
 use Rattle.station_table.specs.declared.reaction.Reaction.{Reaction}
-use Rattle.requests.specs.Layouts.{ack_frame_value}
+use Rattle.requests.specs.Layouts.{ack_frame_value, request_frame_value}
+use Rattle.requests.specs.declared.acknowledgment.Ack.{Ack}
 use Rattle.requests.specs.declared.acknowledgment.TheConstants.Ack.{NEGATIVE}
-use Rattle.transport.specs.Messages.{control_frame}
+use Rattle.transport.specs.Messages.{control_frame, part_of_message}
 use Rattle.transport.specs.declared.control.Control.{Control}
 use Rattle.transport.specs.declared.control.Control.TheVariants.{Rts, Cts, EndAck, Bam, Abort}
-use Rattle.live_station.specs.Working.{IsFirstFrom, may_be_answered}
+use Rattle.live_station.specs.Working.{IsFirstFrom, IsOwedFrom, may_be_answered}
 use Rattle.live_station.proofs.Claimers.{claims_as_before}
 
 source_to_one : (priority pgn destination source : ℕ) → source < 256 → source_of (pdu1_number priority pgn destination source) ≡ source
@@ -42,29 +43,38 @@ held_fits : (held : Option ℕ) (a : ℕ) → CanHold held → is_held held a �
 held_fits None a h e = absurd cc
 held_fits (Some own) a h e = (let same : own ≡ a = eqb-true own a e in omega arith)
 
+pub owed_claim : (name : ℕ) (held : Option ℕ) → CanHold held → IsOwedFrom (claim_source held) (claim_frame_value name held)
+owed_claim name held h = record { source_is = claim_from_holder name held h; owed = inl (name, held, refl) }
+
 from_step : (step : ClaimStep) (c : ClaimerValue) → CanHold c.held → CanHold (held_after step c.held)
     → IsFirstFrom (claim_source (held_after step c.held)) (claim_reaction step c).put
 from_step Nothing c h h' = tt
-from_step Defend c h h' = claim_from_holder c.name c.held h
-from_step (Move address) c h h' = claim_from_holder c.name (Some address) h'
-from_step CannotClaim c h h' = claim_from_holder c.name None tt
+from_step Defend c h h' = owed_claim c.name c.held h
+from_step (Move address) c h h' = owed_claim c.name (Some address) h'
+from_step CannotClaim c h h' = owed_claim c.name None tt
 
 from_request : (c : ClaimerValue) (pgn destination source : ℕ) → CanHold c.held
     → IsFirstFrom (claim_source c.held) (request_reaction c pgn destination source).put
 from_request c pgn destination source h =
     let P : Reaction → Type 0 = λ x. IsFirstFrom (claim_source c.held) x.put in
     by_case P (pgn == ADDRESS_CLAIMED) _ _
-    (λ _. by_case P (is_held c.held destination || destination == GLOBAL_ADDRESS) (answering (own_claim c)) silent (λ _. claim_from_holder c.name c.held h) (λ _. tt))
+    (λ _. by_case P (is_held c.held destination || destination == GLOBAL_ADDRESS) (answering (own_claim c)) silent (λ _. owed_claim c.name c.held h) (λ _. tt))
     (λ _.
     by_case P (is_held c.held destination && nat_lt source NULL_ADDRESS) _ silent
     (λ e.
     let held : is_held c.held destination ≡ true = (and_parts (is_held c.held destination) _ e).0 in
-    source_to_one 6 59392 GLOBAL_ADDRESS destination (held_fits c.held destination h held) ∙ sym (held_source c.held destination held))
+    record {
+      source_is = source_to_one 6 59392 GLOBAL_ADDRESS destination (held_fits c.held destination h held) ∙ sym (held_source c.held destination held);
+      owed = inr (inl (record { control = NEGATIVE; requester = source; pgn = pgn; dest = GLOBAL_ADDRESS; source = destination }, refl));
+    })
     (λ _. tt))
 
 from_control : (held : Option ℕ) (own source : ℕ) (control : Control) → CanHold held → is_held held own ≡ true
-    → source_of (control_frame control own source).id ≡ claim_source held
-from_control held own source control h e = source_to_one 7 60416 source own (held_fits held own h e) ∙ sym (held_source held own e)
+    → IsOwedFrom (claim_source held) (control_frame control own source)
+from_control held own source control h e = record {
+  source_is = source_to_one 7 60416 source own (held_fits held own h e) ∙ sym (held_source held own e);
+  owed = inr (inr (control, own, source, refl));
+}
 
 from_replying : (held : Option ℕ) (own source : ℕ) (control : Option Control) → CanHold held → is_held held own ≡ true
     → IsFirstFrom (claim_source held) (replying control own source).put
@@ -131,3 +141,30 @@ put_beside_answers s (Diagnostic kind source bytes) e = inr refl
 put_beside_answers s (ConnectionManagement source destination control) e = absurd cc
 put_beside_answers s (DataTransfer source destination bytes) e = absurd cc
 put_beside_answers s Other e = inr refl
+
+-- ---- what it writes of its own accord
+
+own_fits : (held : Option ℕ) → CanHold held → claim_source held < 256
+own_fits None h = omega arith
+own_fits (Some own) h = omega arith
+
+pub request_from_own : (held : Option ℕ) (pgn dest source : ℕ) → CanHold held → source ≡ claim_source held
+    → source_of (request_frame_value (record { pgn = pgn; dest = dest; source = source })).id ≡ claim_source held
+request_from_own held pgn dest source h e = (let fits : source < 256 = rw e (own_fits held h) in source_to_one 6 59904 dest source fits ∙ e)
+
+-- a part of a broadcast of more than eight bytes, or of one in a frame
+by_size : (P : FrameValue → Type 0) (b : Bool) (x y : FrameValue) → P x → P y → P (if b then x else y)
+by_size P true x y p q = p
+by_size P false x y p q = q
+
+source_to_all : (priority pgn source : ℕ) → source < 256 → source_of (pdu2_number priority pgn source) ≡ source
+source_to_all priority pgn source h = omega arith
+
+part_source : (payload : List ℕ) (pgn source destination j : ℕ) → source < 256 → source_of (part_of_message payload pgn source destination j).id ≡ source
+part_source payload pgn source destination zero h =
+    by_size (λ (f : FrameValue). source_of f.id ≡ source) _ _ _ (source_to_all 6 pgn source h) (source_to_one 7 60416 destination source h)
+part_source payload pgn source destination (suc j) h = source_to_one 7 60160 destination source h
+
+pub part_from_own : (held : Option ℕ) (payload : List ℕ) (pgn source destination j : ℕ) → CanHold held → source ≡ claim_source held
+    → source_of (part_of_message payload pgn source destination j).id ≡ claim_source held
+part_from_own held payload pgn source destination j h e = (let fits : source < 256 = rw e (own_fits held h) in part_source payload pgn source destination j fits ∙ e)

@@ -20,12 +20,12 @@ abbrev pub is_own : ClaimerValue → FrameValue → Bool
 is_own c f = is_own_by c.name c.held (source_of f.id) (group_of f)
 
 -- what it is told of what was heard, newest first
-abbrev pub told : StationSettings → List Reading → List Reading
-told r [] = []
-told r (Gap count ∷ older) = Gap count ∷ told r older
-told r (Empty ∷ older) = Empty ∷ told r older
-told r (Frame f ∷ older) = if is_own (claimer_heard r (told r older)) f then told r older else Frame f ∷ told r older
+abbrev pub frames_told : StationSettings → List Reading → List Reading
+frames_told r [] = []
+frames_told r (Gap count ∷ older) = Gap count ∷ frames_told r older
+frames_told r (Empty ∷ older) = Empty ∷ frames_told r older
+frames_told r (Frame f ∷ older) = if is_own (claimer_heard r (frames_told r older)) f then frames_told r older else Frame f ∷ frames_told r older
 
 -- the entry that a frame lists
-abbrev pub entry_told : StationSettings → FrameValue → List Reading → Option NewEntry
-entry_told r f older = if is_own (claimer_heard r (told r older)) f then None else entry_heard r (Frame f) (told r older)
+abbrev pub entry_of_told : StationSettings → FrameValue → List Reading → Option NewEntry
+entry_of_told r f older = if is_own (claimer_heard r (frames_told r older)) f then None else entry_heard r (Frame f) (frames_told r older)

@@ -3,3 +3,4 @@ pub mod OpenOrders
 pub mod Signs
 pub mod Turns
 pub mod Working
+pub mod Positive

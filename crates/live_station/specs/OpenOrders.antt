@@ -1,5 +1,5 @@
 -- How an open order goes on, and how it ends.
-use Rattle.std.specs.Prelude.{ℕ, ◌-◌, min, Bool, true, false, not, ◌&&◌, ◌||◌, ◌==◌, nat_lt, Option, Some, None, if◌then◌else◌}
+use Rattle.std.specs.Prelude.{ℕ, ◌-◌, min, Bool, true, false, not, ◌&&◌, ◌||◌, ◌==◌, nat_lt, is_some, Option, Some, None, if◌then◌else◌}
 use Rattle.address_claim.specs.Claiming.{is_held}
 use Rattle.can_frame.specs.declared.address.TheConstants.{GLOBAL_ADDRESS}
 use Rattle.can_frame.specs.declared.group_numbers.TheConstants.{ADDRESS_CLAIMED, COMMANDED_ADDRESS, DM3, DM11}
@@ -158,9 +158,9 @@ order_missed now o = missing o.order o.stage now o
 
 -- why an answer says nothing of what was written: the NAME does not hold the address that was asked; or somebody else claims the own address,
 -- or sends from it
-abbrev pub doubt_of : Asked → Sight → Option Doubt
-doubt_of a s =
-    if not (a.to == GLOBAL_ADDRESS) && not (is_held s.address a.to) then Some AddressChangedHands
+abbrev pub doubt_of : Order → Asked → Sight → Option Doubt
+doubt_of order a s =
+    if is_some (unit_named order) && not (is_held s.address a.to) then Some AddressChangedHands
     else if s.contested || not (is_held s.held a.own) then Some OwnAddress
     else if s.stranger then Some Stranger
     else None
@@ -222,17 +222,17 @@ is_still_own (stage.Commands own next) s = is_held s.held own && not s.stranger
 is_still_own (stage.Asked a) s = is_held s.held a.own && not s.stranger
 is_still_own _ s = true
 
-abbrev pub command_heard : ℕ → Sight → ℕ → OpenOrder → Progress
-command_heard address s now o =
+abbrev pub command_goes_on : ℕ → Sight → ℕ → OpenOrder → Progress
+command_goes_on address s now o =
     if is_held s.address address then order_ended Obeyed now o
     else if is_still_own o.stage s then Goes o
     else order_ended LostAddress now o
 
 -- a frame is heard
-abbrev pub hearing : Order → Stage → Sign → Sight → ℕ → OpenOrder → Progress
-hearing (Command name address) st sign s now o = command_heard address s now o
-hearing order (stage.Asked a) sign s now o = signed_or_doubted (doubt_of a s) sign a now o
-hearing order st sign s now o = Goes o
+abbrev pub order_goes_on : Order → Stage → Sign → Sight → ℕ → OpenOrder → Progress
+order_goes_on (Command name address) st sign s now o = command_goes_on address s now o
+order_goes_on order (stage.Asked a) sign s now o = signed_or_doubted (doubt_of order a s) sign a now o
+order_goes_on order st sign s now o = Goes o
 
 abbrev pub order_heard : Sign → Sight → ℕ → OpenOrder → Progress
-order_heard sign s now o = hearing o.order o.stage sign s now o
+order_heard sign s now o = order_goes_on o.order o.stage sign s now o

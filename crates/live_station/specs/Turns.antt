@@ -77,18 +77,18 @@ StagesAlike (stage.Asked a) v t now = nat_le a.until t ≡ nat_le a.until now
 -- ---- what was written
 
 -- an answer is waited for
-abbrev pub asked_at : ℕ → ℕ → ℕ → Stage
-asked_at own to now =
+abbrev pub out_since : ℕ → ℕ → ℕ → Stage
+out_since own to now =
     stage.Asked (record { own = own; to = to; at = now; until = later now ANSWER_WAIT; broadcast = false; session = false; answered = false })
 
 abbrev pub with_request_written : ℕ → ℕ → ℕ → OpenOrder → OpenOrder
-with_request_written own to now o = record o { tries = min (o.tries + 1) 255; stage = asked_at own to now }
+with_request_written own to now o = record o { tries = min (o.tries + 1) 255; stage = out_since own to now }
 
 -- the next frame of a command is to be written, or its answer is waited for
 abbrev pub behind_part : ℕ → Part → ℕ → Stage
 behind_part own Announcement now = stage.Commands own First
 behind_part own First now = stage.Commands own Second
-behind_part own Second now = asked_at own GLOBAL_ADDRESS now
+behind_part own Second now = out_since own GLOBAL_ADDRESS now
 
 abbrev pub with_part_written : ℕ → Part → ℕ → OpenOrder → OpenOrder
 with_part_written own part now o = record o { tries = 1; stage = behind_part own part now }

@@ -1,12 +1,12 @@
 -- What one call changes of a station that takes part in a bus.
-use Rattle.std.specs.Prelude.{ℕ, ◌≡◌, ◌⊎◌, ◌≤◌, ◌++◌, Bool, true, false, not, ◌&&◌, nat_le, is_some, List, [], ◌∷◌, drop, length, Option, Some, None, if◌then◌else◌}
-use Rattle.std.specs.List.{Contains}
+use Rattle.std.specs.Prelude.{ℕ, ◌≡◌, ◌≢◌, ◌⊎◌, ◌+◌, ◌≤◌, ◌<◌, ◌++◌, Bool, true, false, not, ◌&&◌, nat_le, is_some, List, [], ◌∷◌, drop, length, slice_get, IfNone, IfSome, Option, Some, None, if◌then◌else◌}
+use Rattle.std.specs.List.{All}
 use Rattle.can_frame.specs.Fields.{source_of}
 use Rattle.can_frame.specs.FrameValue.{FrameValue}
 use Rattle.can_frame.specs.declared.address.TheConstants.{GLOBAL_ADDRESS}
 use Rattle.can_frame.specs.declared.group_numbers.TheConstants.{COMMANDED_ADDRESS}
 use Rattle.can_frame.specs.declared.reading.Reading.TheVariants.{Gap}
-use Rattle.address_claim.specs.Frames.{claim_source}
+use Rattle.address_claim.specs.Frames.{claim_frame_value, claim_source}
 use Rattle.bus_model.specs.declared.change.Change.TheVariants as change
 use Rattle.entry_lists.specs.KeptValue.{kept_under}
 use Rattle.entry_lists.specs.KnownRows.{address_in, row_of}
@@ -21,14 +21,17 @@ use Rattle.live_unit.specs.declared.queue.TheConstants.{MOST_PUT}
 use Rattle.live_unit.specs.declared.queue.Lane.TheVariants.{Claims, Messages}
 use Rattle.node_core.specs.Deed.{plain}
 use Rattle.node_core.specs.declared.heard.Withdraw.TheVariants as withdraw
+use Rattle.node_core.specs.declared.out.Out.{Out}
 use Rattle.parameter_group.specs.Group.{Group, Request, ConnectionManagement, DataTransfer, group_of}
-use Rattle.requests.specs.Layouts.{commanded_bytes, request_frame_value}
+use Rattle.requests.specs.Layouts.{ack_frame_value, commanded_bytes, request_frame_value}
+use Rattle.requests.specs.declared.acknowledgment.Ack.{Ack}
 use Rattle.station_table.specs.Changing.{group_changes}
 use Rattle.station_table.specs.Reactions.{group_reaction, own_claim, request_for_claims, station_reaction}
 use Rattle.station_table.specs.StationValue.{StationValue}
 use Rattle.station_table.specs.Steps.{after_gap, after_group, new_station}
 use Rattle.station_table.specs.declared.reaction.Reaction.{Reaction}
-use Rattle.transport.specs.Messages.{part_of_message}
+use Rattle.transport.specs.Messages.{control_frame, part_of_message}
+use Rattle.transport.specs.declared.control.Control.{Control}
 use Rattle.live_station.specs.Ear.{is_own}
 use Rattle.live_station.specs.OpenOrders.{group_wanted, order_ended, order_heard, order_missed, part_number, unit_named}
 use Rattle.live_station.specs.Signs.{sign_for}
@@ -107,10 +110,30 @@ abbrev pub with_first : List FrameValue → QueueValue → QueueValue
 with_first [] q = q
 with_first (f ∷ more) q = putting false (plain f ∷ []) q
 
--- that is from this address
+-- a frame that a station owes: a claim, an acknowledgment, or a control message of a session
+abbrev pub IsOwed : FrameValue → Type 0
+IsOwed f =
+    ((name : ℕ) × (held : Option ℕ) × (f ≡ claim_frame_value name held))
+    ⊎ (((ack : Ack) × (f ≡ ack_frame_value ack)) ⊎ ((control : Control) × (own : ℕ) × (to : ℕ) × (f ≡ control_frame control own to)))
+
+-- and from this address
+pub record IsOwedFrom (source : ℕ) (f : FrameValue) : Type 0 where
+  pub source_is : source_of f.id ≡ source
+  pub owed : IsOwed f
+
 abbrev pub IsFirstFrom : ℕ → List FrameValue → Type 0
 IsFirstFrom source [] = Unit {0}
-IsFirstFrom source (f ∷ more) = source_of f.id ≡ source
+IsFirstFrom source (f ∷ more) = IsOwedFrom source f
+
+-- all that waits is owed
+abbrev pub IsOwedOut : Out → Type 0
+IsOwedOut o = IsOwed o.frame
+
+pub record OwesAll (q : QueueValue) : Type 0 where
+  pub claims : All IsOwedOut q.claims.outs
+  pub singles : All IsOwedOut q.singles.outs
+  pub session : All IsOwedOut q.session.outs
+  pub messages : All IsOwedOut q.messages.outs
 
 -- what the station withdraws is withdrawn, then what it puts is put: of a gap its claim; the request for claims behind that waits for its
 -- time elsewhere
@@ -148,10 +171,11 @@ abbrev pub verdict_of : Option Progress → Option Verdict
 verdict_of (Some (Ends v)) = Some v
 verdict_of _ = None
 
--- a frame from its own address came back, or is somebody else's: that is told once one came back
+-- a frame from its own address came back, and those written before it do not any more; or it is somebody else's, which is told once one came back
 pub record HearsOwn (f : FrameValue) (stranger : Bool) (e e' : EchoValue) : Type 0 where
-  pub known : Contains f e.written → (stranger ≡ false) × (e'.comes_back ≡ true) × ((before : List FrameValue) × (e.written ≡ before ++ f ∷ e'.written))
-  pub unknown : (¬ Contains f e.written) → (stranger ≡ e.comes_back) × (e' ≡ e)
+  pub place : Option ℕ
+  pub known : IfSome place (λ k. (slice_get e.written k ≡ Some f) × (stranger ≡ false) × (e' ≡ record { written = drop (k + 1) e.written; comes_back = true }))
+  pub unknown : IfNone place (((k : ℕ) → k < length e.written → slice_get e.written k ≢ Some f) × (stranger ≡ e.comes_back) × (e' ≡ e))
 
 -- what becomes of the open order by somebody else's frame from the station's address; that puts off clears
 abbrev pub progress_by_stranger : ℕ → WorkingValue → Option Progress
@@ -161,7 +185,7 @@ abbrev pub after_stranger : ℕ → WorkingValue → WorkingValue
 after_stranger now s = record s { clear_from = later now ANSWER_WAIT; order = still_open (progress_by_stranger now s) }
 
 -- a frame of its own was heard, or somebody else's from its address
-pub record HasHeardOwn (f : FrameValue) (now : ℕ) (t : Told) (s s' : WorkingValue) : Type 0 where
+pub record HearsOwnFrame (f : FrameValue) (now : ℕ) (t : Told) (s s' : WorkingValue) : Type 0 where
   pub echo : HearsOwn f t.stranger s.echo s'.echo
   pub rest : s' ≡ (if t.stranger then after_stranger now (record s { echo = s'.echo }) else record s { echo = s'.echo })
   pub change : t.change ≡ change.Nothing
@@ -173,21 +197,21 @@ progress_by g now s =
     hearing_on (after_group s.station g) (sign_for s.order g (group_changes s.station g)) (group_reaction s.station g).withdraw false now s.order
 
 -- the station after it, and what it says of it
-abbrev pub after_hearing : Group → ℕ → WorkingValue → WorkingValue
-after_hearing g now s = record s {
+abbrev pub after_told : Group → ℕ → WorkingValue → WorkingValue
+after_told g now s = record s {
   station = after_group s.station g;
   queue = after_reaction (group_reaction s.station g) (claim_source (after_group s.station g).claimer.held) s.queue;
   clock = clock_after_hearing false s.station.claimer.held (after_group s.station g).claimer.held s.station.claimer.name now s.clock;
   order = still_open (progress_by g now s);
 }
 
-abbrev pub told_by_hearing : Group → ℕ → WorkingValue → Told
-told_by_hearing g now s = record { change = group_changes s.station g; verdict = verdict_of (progress_by g now s); stranger = false }
+abbrev pub told_of_it : Group → ℕ → WorkingValue → Told
+told_of_it g now s = record { change = group_changes s.station g; verdict = verdict_of (progress_by g now s); stranger = false }
 
 -- a frame was heard: one of its own, or any other
-pub record HasHeard (f : FrameValue) (now : ℕ) (t : Told) (s s' : WorkingValue) : Type 0 where
-  pub own : is_own s.station.claimer f ≡ true → HasHeardOwn f now t s s'
-  pub other : is_own s.station.claimer f ≡ false → (s' ≡ after_hearing (group_of f) now s) × (t ≡ told_by_hearing (group_of f) now s)
+pub record HearsOnBus (f : FrameValue) (now : ℕ) (t : Told) (s s' : WorkingValue) : Type 0 where
+  pub own : is_own s.station.claimer f ≡ true → HearsOwnFrame f now t s s'
+  pub other : is_own s.station.claimer f ≡ false → (s' ≡ after_told (group_of f) now s) × (t ≡ told_of_it (group_of f) now s)
 
 -- frames were missed: what is known of owners is forgotten, the claim is put in the place of what waits, and claims are to be asked for
 abbrev pub after_missing : ℕ → ℕ → WorkingValue → WorkingValue
@@ -199,7 +223,7 @@ after_missing count now s = record s {
   order = still_open (missing_on now s.order);
 }
 
-pub record HasMissed (count now : ℕ) (t : Told) (s s' : WorkingValue) : Type 0 where
+pub record MissesFrames (count now : ℕ) (t : Told) (s s' : WorkingValue) : Type 0 where
   pub is : s' ≡ after_missing count now s
   pub told : t ≡ record { change = change.Missed count; verdict = verdict_of (missing_on now s.order); stranger = false }
 
@@ -282,12 +306,12 @@ asked_for_claims now s = record s {
 }
 
 -- the request of an order, from the address that is held
-abbrev pub request_of : WorkingValue → Order → ℕ → FrameValue
-request_of s o to = request_frame_value (record { pgn = group_wanted o; dest = to; source = claim_source s.station.claimer.held })
+abbrev pub order_request : WorkingValue → Order → ℕ → FrameValue
+order_request s o to = request_frame_value (record { pgn = group_wanted o; dest = to; source = claim_source s.station.claimer.held })
 
 abbrev pub with_request_sent : ℕ → OpenOrder → ℕ → WorkingValue → WorkingValue
 with_request_sent now o to s = record s {
-  echo = with_written (request_of s o.order to) s.echo;
+  echo = with_written (order_request s o.order to) s.echo;
   order = Some (with_request_written (claim_source s.station.claimer.held) to now o);
 }
 
@@ -319,7 +343,7 @@ with_progress x from s = record s { clear_from = from; order = still_open (Some 
 -- what an open order does comes about
 abbrev pub DoesDeed : Deed → ℕ → OpenOrder → Pulled → WorkingValue → WorkingValue → Type 0
 DoesDeed deed.Nothing now o p s s' = (p ≡ pulled.Nothing) × (s' ≡ s)
-DoesDeed (deed.Request to) now o p s s' = (p ≡ pulled.Frame (request_of s o.order to) true) × (s' ≡ with_request_sent now o to s)
+DoesDeed (deed.Request to) now o p s s' = (p ≡ pulled.Frame (order_request s o.order to) true) × (s' ≡ with_request_sent now o to s)
 DoesDeed (deed.Command name address part) now o p s s' =
     (p ≡ pulled.Frame (part_of_command s name address part) true)
     × (s' ≡ with_part_sent now o part (part_of_command s name address part) s)
@@ -333,3 +357,13 @@ DoesTurn turn.Rests now p s s' = (p ≡ pulled.Nothing) × (s' ≡ s)
 DoesTurn (turn.Writes lane) now p s s' = SendsWaiting now lane p s s'
 DoesTurn turn.AsksClaims now p s s' = (p ≡ pulled.Frame (request_for_claims s.station.claimer) false) × (s' ≡ asked_for_claims now s)
 DoesTurn (turn.Does o d) now p s s' = DoesDeed d now o p s s'
+
+-- a frame that no order wrote is one that is owed, or asks for the claims of all
+abbrev pub IsUnordered : Pulled → StationValue → Type 0
+IsUnordered (pulled.Frame f false) s = IsOwed f ⊎ (f ≡ request_for_claims s.claimer)
+IsUnordered _ s = Unit {0}
+
+-- a frame goes from the address that is held, or from 254 where none is
+abbrev pub IsSentFromOwn : Pulled → StationValue → Type 0
+IsSentFromOwn (pulled.Frame f of_order) s = source_of f.id ≡ claim_source s.claimer.held
+IsSentFromOwn _ s = Unit {0}

@@ -1,6 +1,5 @@
-ghost use Rattle.std.specs.Prelude.{◌≡◌, ◌++◌, ◌∷◌, [], ◌↔◌, IfOk, IsTrue, List, false, true};
-ghost use Rattle.std.specs.List.{Contains};
-ghost use Rattle.can_frame.specs.FrameValue.{FrameValue};
+ghost use Rattle.std.specs.Prelude.{◌≡◌, ◌≢◌, ◌+◌, ◌<◌, ℕ, [], drop, slice_get, IfNone, IfOk, IfSome, Some, false};
+ghost use Rattle.std.specs.VecDeque.{deque_capacity, deque_len};
 ghost use Rattle.live_station.specs.Working.{HearsOwn, with_written};
 
 use can_frame::Frame;
@@ -56,32 +55,36 @@ impl Echo {
     pub fn hear(&mut self, frame: &Frame) -> bool
         ensures { HearsOwn frame.now result self.old self.new }
     {
-        if self.is_written(frame) {
-            self.drop_until(frame);
-            self.comes_back = true;
-            return false;
-        }
-        self.comes_back
-    }
-
-    /// Whether a frame was written that has not come back.
-    fn is_written(&self, frame: &Frame) -> bool
-        ensures { IsTrue result ↔ Contains frame.now self.now.written }
-    {
-        self.written.iter().any(|it| it == frame)
-    }
-
-    /// Drops what was written up to this frame, which is among it.
-    fn drop_until(&mut self, frame: &Frame)
-        requires { Contains frame.now self.old.written }
-        ensures dropped { (before : List FrameValue) × (self.old.written ≡ before ++ frame.now ∷ self.new.written) }
-        ensures same { self.new.comes_back ≡ self.old.comes_back }
-    {
-        for _ in 0..MOST_WRITTEN {
-            match self.written.pop_front() {
-                Some(it) if it != *frame => {}
-                _ => return,
+        match find(&self.written, frame) {
+            Some(place) => {
+                drop_first(&mut self.written, place + 1);
+                self.comes_back = true;
+                false
             }
+            None => self.comes_back,
         }
+    }
+}
+
+/// Where a frame stands, if it does.
+fn find(written: &VecDeque<Frame>, frame: &Frame) -> Option<usize>
+    ensures found { IfSome result (λ k. (k < deque_len written.now) × (slice_get written.now.items k ≡ Some frame.now)) }
+    ensures none { IfNone result ((k : ℕ) → k < deque_len written.now → slice_get written.now.items k ≢ Some frame.now) }
+{
+    for place in 0..written.len() {
+        if written[place] == *frame {
+            return Some(place);
+        }
+    }
+    None
+}
+
+/// Drops so many of the first frames.
+fn drop_first(written: &mut VecDeque<Frame>, count: usize)
+    ensures rest { written.new.items ≡ drop count written.old.items }
+    ensures capacity { deque_capacity written.new ≡ deque_capacity written.old }
+{
+    for _ in 0..count {
+        let _ = written.pop_front();
     }
 }

@@ -8,6 +8,7 @@
 mod echo;
 mod error;
 mod hearing;
+mod laws;
 mod open;
 mod order;
 mod sign;
@@ -17,7 +18,8 @@ mod turn;
 mod verdict;
 
 pub use error::{HearError, OrderError};
-pub use open::{Asked, OpenOrder, Progress, Stage};
+pub use laws::{a_clear_stays_out_undoubted, lists_are_what_was_told, positive_is_acknowledged};
+pub use open::{Asked, OpenOrder, Part, Progress, Stage};
 pub use order::{Clearing, Order};
 pub use station::{LiveStation, Pulled, StationTimes, Told};
 pub use verdict::{Doubt, Finding, Verdict};

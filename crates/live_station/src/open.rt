@@ -1,5 +1,5 @@
 ghost use Rattle.std.specs.Prelude.{◌≡◌, ◌≤◌, Some};
-ghost use Rattle.live_station.specs.OpenOrders.{asking_again, begun_order, command_heard, doubt_of, doubted, finding_read, order_acknowledged, order_answered, order_cut_off, order_ended, order_heard, order_missed, order_signed, part_number, signed_or_doubted, verdict_now, waiting_on, with_mark, without_mark};
+ghost use Rattle.live_station.specs.OpenOrders.{asking_again, begun_order, command_goes_on, doubt_of, doubted, finding_read, order_acknowledged, order_answered, order_cut_off, order_ended, order_heard, order_missed, order_signed, part_number, signed_or_doubted, verdict_now, waiting_on, with_mark, without_mark};
 ghost use Rattle.live_station.specs.OpenOrders as orders;
 
 use crate::order::Order;
@@ -221,7 +221,7 @@ impl OpenOrder {
 
     /// A frame was heard while a command is open.
     fn hear_as_command(self, address: u8, sight: Sight, now: u64) -> Progress
-        ensures { result ≡ command_heard address sight now self }
+        ensures { result ≡ command_goes_on address sight now self }
     {
         if sight.address == Some(address) {
             self.end(Finding::Obeyed, now)
@@ -234,9 +234,9 @@ impl OpenOrder {
 
     /// A frame was heard while a request is out.
     fn hear_asked(self, asked: Asked, sign: Sign, sight: Sight, now: u64) -> Progress
-        ensures { result ≡ signed_or_doubted (doubt_of asked sight) sign asked now self }
+        ensures { result ≡ signed_or_doubted (doubt_of self.order asked sight) sign asked now self }
     {
-        match (asked.doubt(sight), sign) {
+        match (asked.doubt(self.order, sight), sign) {
             (Some(_), Sign::Claimed) if asked.to != GLOBAL_ADDRESS => {
                 self.end(Finding::Answered, now)
             }
@@ -351,11 +351,11 @@ impl Asked {
         }
     }
 
-    /// Why an answer that comes from now on says nothing of what is out, if it does not.
-    fn doubt(self, sight: Sight) -> Option<Doubt>
-        ensures { result ≡ doubt_of self sight }
+    /// Why an answer that comes from now on says nothing of what is out of this order, if it does not.
+    fn doubt(self, order: Order, sight: Sight) -> Option<Doubt>
+        ensures { result ≡ doubt_of order self sight }
     {
-        if self.to != GLOBAL_ADDRESS && sight.address != Some(self.to) {
+        if order.name().is_some() && sight.address != Some(self.to) {
             Some(Doubt::AddressChangedHands)
         } else if sight.contested || sight.held != Some(self.own) {
             Some(Doubt::OwnAddress)

@@ -9,10 +9,10 @@ ghost use Rattle.entry_lists.specs.Entries.{HasPut};
 ghost use Rattle.live_unit.specs.Queue.{frames_waiting, waits};
 ghost use Rattle.live_unit.specs.declared.queue.TheConstants.{MOST_PUT as MOST};
 ghost use Rattle.station_table.specs.StandsFor.{StandsFor};
-ghost use Rattle.live_station.specs.Ear.{entry_told, told};
+ghost use Rattle.live_station.specs.Ear.{entry_of_told, frames_told};
 ghost use Rattle.live_station.specs.OpenOrders.{begun_order, order_cut_off, unit_named};
 ghost use Rattle.live_station.specs.Turns.{order_due};
-ghost use Rattle.live_station.specs.Working.{DoesDeed, DoesTurn, HasHeard, HasHeardOwn, HasMissed, IsFirstFrom, LacksRoomToHear, SendsWaiting, address_of_name, after_hearing, after_reaction, after_stranger, asked_for_claims, begun_station, deed_turn, hearing_on, missing_on, outlook_of, progress_by_stranger, settled_since, still_open, told_by_hearing, turn_at, verdict_of, with_first};
+ghost use Rattle.live_station.specs.Working.{DoesDeed, DoesTurn, HearsOnBus, HearsOwnFrame, IsFirstFrom, IsSentFromOwn, IsUnordered, MissesFrames, OwesAll, LacksRoomToHear, SendsWaiting, address_of_name, after_told, after_reaction, after_stranger, asked_for_claims, begun_station, deed_turn, hearing_on, missing_on, outlook_of, progress_by_stranger, settled_since, still_open, told_of_it, turn_at, verdict_of, with_first};
 ghost use Rattle.live_station.specs.Working as spec;
 ghost use Rattle.live_unit.specs.Queue.{HasFreeLanes};
 ghost use Rattle.live_unit.specs.Times.{lane_due};
@@ -98,7 +98,7 @@ pub struct LiveStation {
 impl Model for LiveStation {
     ghost use Rattle.std.specs.Prelude.{◌≡◌};
     ghost use Rattle.address_claim.specs.Frames.{claim_source};
-    ghost use Rattle.live_station.specs.Working.{WorkingValue};
+    ghost use Rattle.live_station.specs.Working.{OwesAll, WorkingValue};
 
     ghost Value = { WorkingValue };
 
@@ -114,12 +114,13 @@ impl Model for LiveStation {
       order = s.order;
     } };
 
-    ghost invariant = { λ s. (s.queue.source ≡ claim_source s.station.claimer.held) × (s.name ≡ s.station.claimer.name) };
+    ghost invariant = { λ s. (s.queue.source ≡ claim_source s.station.claimer.held) × (s.name ≡ s.station.claimer.name) × OwesAll s.queue };
 }
 
 impl LiveStation {
     /// A station of this NAME that holds the address that it wants, 0 to 253, and grants at most so many packets at once, at least
     /// one. Its claim waits, and behind that a request for the claims of all; it has heard nothing.
+    #[tactic(auto, using(crate::proofs::Owing::owes_nothing, crate::proofs::Owing::owes_after_putting, crate::proofs::Sources::owed_claim))]
     pub fn new(
         alloc: Global,
         name: Name,
@@ -130,7 +131,7 @@ impl LiveStation {
         requires address_fits { want ≤ GREATEST }
         requires grants { 0 < grant }
         ensures value { IfOk result (λ s. s ≡ begun_station name want grant times) }
-        ensures stands { IfOk result (λ s. StandsFor (record { name = name; address = want }) grant s.station (told (record { name = name; address = want }) [])) }
+        ensures stands { IfOk result (λ s. StandsFor (record { name = name; address = want }) grant s.station (frames_told (record { name = name; address = want }) [])) }
     {
         let station = Station::new(alloc, name, want, grant);
         let mut queue = Queue::new(alloc, want)?;
@@ -227,11 +228,11 @@ impl LiveStation {
         now: u64,
         lists: &mut L,
     ) -> Result<Told, HearError>
-        ensures heard { IfOk result (λ t. HasHeard frame.now now t self.old self.new) }
-        ensures stands { OnOk result ((r : StationSettings) (grant : ℕ) (h : List AnyReading) → StandsFor r grant self.old.station (told r h)
-            → StandsFor r grant self.new.station (told r (FrameRead frame.now ∷ h))) }
-        ensures listed { OnOk result ((r : StationSettings) (grant : ℕ) (h : List AnyReading) → StandsFor r grant self.old.station (told r h)
-            → HasPut L.Takes lists.old (entry_told r frame.now h) lists.new) }
+        ensures heard { IfOk result (λ t. HearsOnBus frame.now now t self.old self.new) }
+        ensures stands { OnOk result ((r : StationSettings) (grant : ℕ) (h : List AnyReading) → StandsFor r grant self.old.station (frames_told r h)
+            → StandsFor r grant self.new.station (frames_told r (FrameRead frame.now ∷ h))) }
+        ensures listed { OnOk result ((r : StationSettings) (grant : ℕ) (h : List AnyReading) → StandsFor r grant self.old.station (frames_told r h)
+            → HasPut L.Takes lists.old (entry_of_told r frame.now h) lists.new) }
         ensures full { IsErrOf result HearError.Full ↔ LacksRoomToHear frame.now self.old }
         ensures only { IfErr result (λ e. (e ≡ HearError.Full) ⊎ (e ≡ HearError.OutOfMemory)) }
         ensures err { OnErr result (self.new ≡ self.old) }
@@ -261,8 +262,8 @@ impl LiveStation {
         requires lawful { IsLawfulGroup group.now }
         requires few { self.old.queue.put < MOST }
         requires room { (spec.may_be_answered (said group.now) ≡ false) ⊎ HasFreeLanes self.old.queue }
-        ensures heard { IfOk result (λ t. (self.new ≡ after_hearing (said group.now) now self.old)
-            × (t ≡ told_by_hearing (said group.now) now self.old)) }
+        ensures heard { IfOk result (λ t. (self.new ≡ after_told (said group.now) now self.old)
+            × (t ≡ told_of_it (said group.now) now self.old)) }
         ensures stands { OnOk result ((f : FrameValue) → group_of f ≡ said group.now → (r : StationSettings) (grant : ℕ) (h : List AnyReading)
             → StandsFor r grant self.old.station h → StandsFor r grant self.new.station (FrameRead f ∷ h)) }
         ensures listed { OnOk result ((f : FrameValue) → group_of f ≡ said group.now → (r : StationSettings) (grant : ℕ) (h : List AnyReading)
@@ -297,9 +298,9 @@ impl LiveStation {
         now: u64,
         lists: &mut L,
     ) -> Result<Told, HearError>
-        ensures missed { IfOk result (λ t. HasMissed count now t self.old self.new) }
-        ensures stands { OnOk result ((r : StationSettings) (grant : ℕ) (h : List AnyReading) → StandsFor r grant self.old.station (told r h)
-            → StandsFor r grant self.new.station (told r (GapRead count ∷ h))) }
+        ensures missed { IfOk result (λ t. MissesFrames count now t self.old self.new) }
+        ensures stands { OnOk result ((r : StationSettings) (grant : ℕ) (h : List AnyReading) → StandsFor r grant self.old.station (frames_told r h)
+            → StandsFor r grant self.new.station (frames_told r (GapRead count ∷ h))) }
         ensures lists { OnOk result (lists.new ≡ lists.old) }
         ensures full { IsErrOf result HearError.Full ↔ (MOST ≤ self.old.queue.put) }
         ensures only { IfErr result (λ e. (e ≡ HearError.Full) ⊎ (e ≡ HearError.OutOfMemory)) }
@@ -325,7 +326,7 @@ impl LiveStation {
 
     /// A frame of the station's own, or somebody else's from its address.
     fn hear_own(&mut self, frame: &Frame, now: u64) -> Told
-        ensures own { HasHeardOwn frame.now now result self.old self.new }
+        ensures own { HearsOwnFrame frame.now now result self.old self.new }
         ensures station { self.new.station ≡ self.old.station }
     {
         let stranger = self.echo.hear(frame);
@@ -376,6 +377,8 @@ impl LiveStation {
     /// nothing goes, `next` says when to look again, which may be at once.
     pub fn pull(&mut self, now: u64) -> Pulled
         ensures turn { DoesTurn (turn_at now self.old) now result self.old self.new }
+        ensures source { IsSentFromOwn result self.old.station }
+        ensures unordered { IsUnordered result self.old.station }
     {
         match self.turn(now) {
             Turn::Rests => Pulled::Nothing,
@@ -472,10 +475,12 @@ impl LiveStation {
     }
 
     /// Writes the first frame of a lane.
-    #[tactic(auto, using(live_unit::proofs::Timing::due_waits))]
+    #[tactic(auto, using(live_unit::proofs::Timing::due_waits, crate::proofs::Owing::owes_after_taking, crate::proofs::Owing::owed_in_lane))]
     fn write_waiting(&mut self, lane: Lane, now: u64) -> Pulled
         requires due { lane_due self.old.clock now self.old.queue ≡ Some lane }
-        ensures { SendsWaiting now lane result self.old self.new }
+        ensures sends { SendsWaiting now lane result self.old self.new }
+        ensures source { IsSentFromOwn result self.old.station }
+        ensures unordered { IsUnordered result self.old.station }
     {
         self.clear_from = clear_from_claim(lane, self.clock.claimed, now, self.clear_from);
         let out = self.queue.take(lane);
@@ -488,9 +493,11 @@ impl LiveStation {
     }
 
     /// Asks for the claims of all.
+    #[tactic(auto, using(crate::proofs::Sources::request_from_own))]
     fn ask_claims(&mut self, now: u64) -> Pulled
         ensures is { self.new ≡ asked_for_claims now self.old }
         ensures pulled { result ≡ Pulled.Frame (request_for_claims self.old.station.claimer) false }
+        ensures source { IsSentFromOwn result self.old.station }
     {
         let request = Request {
             pgn: Pgn::ADDRESS_CLAIMED,
@@ -522,7 +529,9 @@ impl LiveStation {
 
     /// Does what the open order does at this time.
     fn carry_out(&mut self, going: OpenOrder, deed: Deed, now: u64) -> Pulled
-        ensures { DoesDeed deed now going result self.old self.new }
+        ensures does { DoesDeed deed now going result self.old self.new }
+        ensures source { IsSentFromOwn result self.old.station }
+        ensures unordered { IsUnordered result self.old.station }
     {
         match deed {
             Deed::Nothing => Pulled::Nothing,
@@ -540,8 +549,11 @@ impl LiveStation {
     }
 
     /// Writes the request of the open order.
+    #[tactic(auto, using(crate::proofs::Sources::request_from_own))]
     fn write_request(&mut self, going: OpenOrder, to: u8, now: u64) -> Pulled
-        ensures { DoesDeed (Deed.Request to) now going result self.old self.new }
+        ensures does { DoesDeed (Deed.Request to) now going result self.old self.new }
+        ensures source { IsSentFromOwn result self.old.station }
+        ensures unordered { IsUnordered result self.old.station }
     {
         let own = source_of(self.station.held());
         let request = Request {
@@ -559,8 +571,11 @@ impl LiveStation {
     }
 
     /// Writes a frame of a command.
+    #[tactic(auto, using(crate::proofs::Sources::part_from_own))]
     fn write_part(&mut self, going: OpenOrder, command: Commanded, part: Part, now: u64) -> Pulled
-        ensures { DoesDeed (Deed.Command command.name command.address part) now going result self.old self.new }
+        ensures does { DoesDeed (Deed.Command command.name command.address part) now going result self.old self.new }
+        ensures source { IsSentFromOwn result self.old.station }
+        ensures unordered { IsUnordered result self.old.station }
     {
         let own = source_of(self.station.held());
         let payload = command.to_bytes();
@@ -582,7 +597,9 @@ impl LiveStation {
 
     /// The open order came to this.
     fn end(&mut self, going: OpenOrder, finding: Finding, now: u64) -> Pulled
-        ensures { DoesDeed (Deed.Ends finding) now going result self.old self.new }
+        ensures does { DoesDeed (Deed.Ends finding) now going result self.old self.new }
+        ensures source { IsSentFromOwn result self.old.station }
+        ensures unordered { IsUnordered result self.old.station }
     {
         self.clear_from = clear_from_end(going.order, finding, now, self.clear_from);
         match go_on(&mut self.order, Some(going.end(finding, now))) {
@@ -623,13 +640,16 @@ fn clear_from_end(order: Order, finding: Finding, now: u64, from: u64) -> u64
 }
 
 /// Withdraws and puts what a station withdraws and puts, but for a request for claims behind its claim, which waits for its time.
+#[tactic(auto, using(crate::proofs::Owing::owes_after_withdrawing))]
 fn take_in(queue: &mut Queue, reaction: Reaction, held: Option<u8>)
     requires source { (reaction.withdraw ≡ true) ⊎ (claim_source held ≡ queue.old.source) }
     requires room { (reaction.withdraw ≡ true) ⊎ (HasFreeLanes queue.old ⊎ (reaction.put ≡ [])) }
     requires few { queue.old.put < MOST }
     requires from { IsFirstFrom (claim_source held) reaction.put }
+    requires owes { OwesAll queue.old }
     ensures is { queue.new ≡ after_reaction reaction (claim_source held) queue.old }
     ensures source { queue.new.source ≡ claim_source held }
+    ensures owes { OwesAll queue.new }
 {
     if reaction.withdraw {
         queue.withdraw(Withdraw::All, source_of(held));
@@ -638,12 +658,15 @@ fn take_in(queue: &mut Queue, reaction: Reaction, held: Option<u8>)
 }
 
 /// Puts the first frame, if there is one.
+#[tactic(auto, using(crate::proofs::Owing::owes_after_first))]
 fn put_first(queue: &mut Queue, put: &Frames)
     requires room { HasFreeLanes queue.old ⊎ (put.now ≡ []) }
     requires few { queue.old.put < MOST }
     requires from { IsFirstFrom queue.old.source put.now }
+    requires owes { OwesAll queue.old }
     ensures is { queue.new ≡ with_first put.now queue.old }
     ensures source { queue.new.source ≡ queue.old.source }
+    ensures owes { OwesAll queue.new }
 {
     if let Some(first) = put.as_slice().first() {
         queue.put(Outs::plain(*first), false);

@@ -1,5 +1,5 @@
 ghost use Rattle.std.specs.Prelude.{◌≡◌, ◌+◌, ◌≤◌, ◌<◌, ℕ, nat_le};
-ghost use Rattle.live_station.specs.Turns.{StagesAlike, asked_at, has_come, order_due, to_command, to_go_by, to_one, unanswered, with_part_written, with_request_written};
+ghost use Rattle.live_station.specs.Turns.{StagesAlike, out_since, has_come, order_due, to_command, to_go_by, to_one, unanswered, with_part_written, with_request_written};
 ghost use Rattle.live_station.specs.Turns as turns;
 
 use crate::open::{ANSWER_WAIT, Asked, MOST_TRIES, OpenOrder, Part, Stage};
@@ -169,7 +169,7 @@ fn due_to_one(outlook: Outlook, known_by: u64, now: u64) -> Deed
 
 /// A request that was written at this time.
 fn asked(own: u8, to: u8, now: u64) -> Stage
-    ensures { result ≡ asked_at own to now }
+    ensures { result ≡ out_since own to now }
 {
     Stage::Asked(Asked {
         own,

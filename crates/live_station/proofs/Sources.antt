@@ -1,6 +1,6 @@
 -- What a station puts is from the address that it then holds, or from 254 where it holds none; and what it puts beside what waits answers a
 -- request or a frame of a session.
-use Rattle.std.proofs.Common.{◌≡◌, ℕ, ◌<◌, ◌≤◌, ◌⊎◌, inl, inr, Bool, true, false, ◌&&◌, ◌||◌, ◌==◌, nat_eq, nat_lt, List, [], ◌∷◌, Option, Some, None, if◌then◌else◌, zero, suc, arith, refl, sym, ap, ◌∙◌, subst}
+use Rattle.std.proofs.Common.{◌≡◌, ℕ, ◌<◌, ◌≤◌, ◌⊎◌, inl, inr, Bool, true, false, ◌&&◌, ◌||◌, ◌==◌, nat_eq, nat_lt, List, [], ◌∷◌, Option, Some, None, IfSome, if◌then◌else◌, zero, suc, arith, refl, sym, ap, ◌∙◌, subst}
 use Rattle.std.proofs.lemmas.Bool.{and_parts, eqb-true}
 use Rattle.can_frame.specs.Fields.{source_of, pdu1_number, pdu2_number}
 use Rattle.can_frame.specs.FrameValue.{FrameValue}
@@ -11,7 +11,8 @@ use Rattle.address_claim.specs.Frames.{claim_frame_value, claim_source}
 use Rattle.address_claim.specs.declared.claimer.ClaimStep.{ClaimStep}
 use Rattle.address_claim.specs.declared.claimer.ClaimStep.TheVariants.{Nothing, Defend, Move, CannotClaim}
 use Rattle.bus_model.specs.Heard.{kind_of, started}
-use Rattle.live_unit.proofs.Sources.{claim_from_holder}
+use Rattle.live_unit.proofs.Sources.{can_hold, claim_from_holder}
+use Rattle.live_unit.specs.Queue.{HasFreeLanes, QueueValue}
 use Rattle.parameter_group.specs.Group.{Group, AddressClaimed, CannotClaim as GaveUp, Request, Acknowledgment, Diagnostic, ConnectionManagement, DataTransfer, Other}
 use Rattle.reassembly.specs.Tables.{at}
 use Rattle.station_table.specs.Reactions.{answering, claim_reaction, granted_at_once, group_reaction, own_claim, reply_to, replying, request_reaction, silent, start_reaction}
@@ -25,7 +26,7 @@ use Rattle.transport.specs.Messages.{control_frame, part_of_message}
 use Rattle.transport.specs.declared.control.Control.{Control}
 use Rattle.transport.specs.declared.control.Control.TheVariants.{Rts, Cts, EndAck, Bam, Abort}
 use Rattle.live_station.specs.Working.{IsFirstFrom, IsOwedFrom, may_be_answered}
-use Rattle.live_station.proofs.Claimers.{claims_as_before}
+use Rattle.live_station.proofs.Claimers.{claims_as_before, holds_unless_withdrawn}
 
 source_to_one : (priority pgn destination source : ℕ) → source < 256 → source_of (pdu1_number priority pgn destination source) ≡ source
 source_to_one priority pgn destination source h = omega arith
@@ -168,3 +169,30 @@ part_source payload pgn source destination (suc j) h = source_to_one 7 60160 des
 pub part_from_own : (held : Option ℕ) (payload : List ℕ) (pgn source destination j : ℕ) → CanHold held → source ≡ claim_source held
     → source_of (part_of_message payload pgn source destination j).id ≡ claim_source held
 part_from_own held payload pgn source destination j h e = (let fits : source < 256 = rw e (own_fits held h) in part_source payload pgn source destination j fits ∙ e)
+
+-- ---- the same of a reaction and addresses that are these
+
+pub reacts_from_holder : (s : StationValue) (g : Group) (x : Reaction) (before after : Option ℕ) → x ≡ group_reaction s g → before ≡ s.claimer.held
+    → after ≡ (after_group s g).claimer.held → IfSome before (λ a. a ≤ 253) → IfSome after (λ a. a ≤ 253)
+    → IsFirstFrom (claim_source after) x.put
+reacts_from_holder s g x before after e b a low high =
+    let first : IsFirstFrom (claim_source (after_group s g).claimer.held) (group_reaction s g).put =
+    put_from_holder s g (can_hold before s.claimer.held b low) (can_hold after (after_group s g).claimer.held a high) in
+    let same : IsFirstFrom (claim_source after) (group_reaction s g).put =
+    subst (λ (h : Option ℕ). IsFirstFrom (claim_source h) (group_reaction s g).put) (sym a) first in
+    subst (λ (y : Reaction). IsFirstFrom (claim_source after) y.put) (sym e) same
+
+pub reacts_with_room : (s : StationValue) (g : Group) (x : Reaction) (q : QueueValue) → x ≡ group_reaction s g
+    → (may_be_answered g ≡ false) ⊎ HasFreeLanes q → (x.withdraw ≡ true) ⊎ (HasFreeLanes q ⊎ (x.put ≡ []))
+reacts_with_room s g x q e (inl no) =
+    subst (λ (y : Reaction). (y.withdraw ≡ true) ⊎ (HasFreeLanes q ⊎ (y.put ≡ []))) (sym e)
+    (elim (put_beside_answers s g no) [ inl all ↦ inl all | inr none ↦ inr (inr none) ])
+reacts_with_room s g x q e (inr free) = inr (inl free)
+
+pub reacts_from_source : (s : StationValue) (g : Group) (x : Reaction) (source : ℕ) (after : Option ℕ) → x ≡ group_reaction s g
+    → source ≡ claim_source s.claimer.held → after ≡ (after_group s g).claimer.held → (x.withdraw ≡ true) ⊎ (claim_source after ≡ source)
+reacts_from_source s g x source after e f a =
+    elim (holds_unless_withdrawn s g) [
+      | inl all ↦ inl (ap (λ (y : Reaction). y.withdraw) e ∙ all)
+      | inr same ↦ inr (ap claim_source (a ∙ same) ∙ sym f)
+    ]

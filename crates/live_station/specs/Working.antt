@@ -111,15 +111,15 @@ with_first [] q = q
 with_first (f ∷ more) q = putting false (plain f ∷ []) q
 
 -- a frame that a station owes: a claim, an acknowledgment, or a control message of a session
-abbrev pub IsOwed : FrameValue → Type 0
-IsOwed f =
+abbrev pub IsOwedFrame : FrameValue → Type 0
+IsOwedFrame f =
     ((name : ℕ) × (held : Option ℕ) × (f ≡ claim_frame_value name held))
     ⊎ (((ack : Ack) × (f ≡ ack_frame_value ack)) ⊎ ((control : Control) × (own : ℕ) × (to : ℕ) × (f ≡ control_frame control own to)))
 
 -- and from this address
 pub record IsOwedFrom (source : ℕ) (f : FrameValue) : Type 0 where
   pub source_is : source_of f.id ≡ source
-  pub owed : IsOwed f
+  pub owed : IsOwedFrame f
 
 abbrev pub IsFirstFrom : ℕ → List FrameValue → Type 0
 IsFirstFrom source [] = Unit {0}
@@ -127,7 +127,7 @@ IsFirstFrom source (f ∷ more) = IsOwedFrom source f
 
 -- all that waits is owed
 abbrev pub IsOwedOut : Out → Type 0
-IsOwedOut o = IsOwed o.frame
+IsOwedOut o = IsOwedFrame o.frame
 
 pub record OwesAll (q : QueueValue) : Type 0 where
   pub claims : All IsOwedOut q.claims.outs
@@ -360,7 +360,7 @@ DoesTurn (turn.Does o d) now p s s' = DoesDeed d now o p s s'
 
 -- a frame that no order wrote is one that is owed, or asks for the claims of all
 abbrev pub IsUnordered : Pulled → StationValue → Type 0
-IsUnordered (pulled.Frame f false) s = IsOwed f ⊎ (f ≡ request_for_claims s.claimer)
+IsUnordered (pulled.Frame f false) s = IsOwedFrame f ⊎ (f ≡ request_for_claims s.claimer)
 IsUnordered _ s = Unit {0}
 
 -- a frame goes from the address that is held, or from 254 where none is

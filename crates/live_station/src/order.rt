@@ -7,7 +7,7 @@ use dm_messages::Kind;
 use name_field::Name;
 
 /// What a unit is asked to clear (SAE J1939-73).
-#[derive(Clone, Copy, Debug, PartialEq, Eq)]
+#[derive(Clone, Copy, PartialEq, Eq)]
 pub enum Clearing {
     /// The previously active codes, by a request for group 65228.
     Dm3,
@@ -38,7 +38,7 @@ impl Clearing {
 }
 
 /// What a station is to do.
-#[derive(Clone, Copy, Debug, PartialEq, Eq)]
+#[derive(Clone, Copy, PartialEq, Eq)]
 pub enum Order {
     /// Asks the unit of a NAME for a diagnostic message.
     Ask { name: Name, kind: Kind },

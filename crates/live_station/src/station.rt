@@ -13,6 +13,7 @@ ghost use Rattle.live_station.specs.Ear.{entry_of_told, frames_told};
 ghost use Rattle.live_station.specs.OpenOrders.{begun_order, order_cut_off, unit_named};
 ghost use Rattle.live_station.specs.Turns.{order_due};
 ghost use Rattle.live_station.specs.Working.{DoesDeed, DoesTurn, HearsOnBus, HearsOwnFrame, IsFirstFrom, IsSentFromOwn, IsUnordered, MissesFrames, OwesAll, LacksRoomToHear, SendsWaiting, address_of_name, after_told, after_reaction, after_stranger, asked_for_claims, begun_station, deed_turn, hearing_on, missing_on, outlook_of, progress_by_stranger, settled_since, still_open, told_of_it, turn_at, verdict_of, with_first};
+ghost use Rattle.live_station.specs.Ear as ear;
 ghost use Rattle.live_station.specs.Working as spec;
 ghost use Rattle.live_unit.specs.Queue.{HasFreeLanes};
 ghost use Rattle.live_unit.specs.Times.{lane_due};
@@ -239,7 +240,7 @@ impl LiveStation {
         ensures err_lists { OnErr result (lists.new ≡ lists.old) }
     {
         let group = ParameterGroup::read(frame);
-        if is_own(self.name, self.station.held(), &group, frame.id().source()) {
+        if self.is_own(frame, &group) {
             return Ok(self.hear_own(frame, now));
         }
         if !self.queue.may_put() || !self.queue.has_room() && may_be_answered(&group) {
@@ -248,10 +249,18 @@ impl LiveStation {
         self.hear_told(alloc, &group, now, lists)
     }
 
+    /// Whether a frame, which says this, is the station's own.
+    fn is_own(&self, frame: &Frame, group: &ParameterGroup<'_>) -> bool
+        requires { said group.now ≡ group_of frame.now }
+        ensures { result ≡ ear.is_own self.now.station.claimer frame.now }
+    {
+        is_own(self.name, self.station.held(), group, frame.id().source())
+    }
+
     /// Hears what a frame says that the station is told of.
     ///
     /// Refused: `OutOfMemory`; then nothing changed.
-    #[tactic(auto, using(crate::proofs::Claimers::holds_unless_withdrawn, crate::proofs::Claimers::named_as_before, crate::proofs::Sources::put_from_holder, crate::proofs::Sources::put_beside_answers))]
+    #[tactic(auto, using(crate::proofs::Claimers::named_as_before, crate::proofs::Sources::reacts_from_holder, crate::proofs::Sources::reacts_with_room, crate::proofs::Sources::reacts_from_source))]
     fn hear_told<L: Lists>(
         &mut self,
         alloc: Global,
@@ -658,7 +667,7 @@ fn take_in(queue: &mut Queue, reaction: Reaction, held: Option<u8>)
 }
 
 /// Puts the first frame, if there is one.
-#[tactic(auto, using(crate::proofs::Owing::owes_after_first))]
+#[tactic(auto, using(crate::proofs::Owing::owes_after_first, crate::proofs::Owing::source_after_first, crate::proofs::Owing::first_put, crate::proofs::Owing::none_put, crate::proofs::Owing::first_sent))]
 fn put_first(queue: &mut Queue, put: &Frames)
     requires room { HasFreeLanes queue.old ⊎ (put.now ≡ []) }
     requires few { queue.old.put < MOST }

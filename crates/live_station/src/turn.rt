@@ -1,4 +1,4 @@
-ghost use Rattle.std.specs.Prelude.{◌≡◌, ◌+◌, ◌≤◌, ◌<◌, ℕ, nat_le};
+ghost use Rattle.std.specs.Prelude.{◌≡◌, ◌≤◌, ◌<◌, ℕ, if◌then◌else◌};
 ghost use Rattle.live_station.specs.Turns.{StagesAlike, out_since, has_come, order_due, to_command, to_go_by, to_one, unanswered, with_part_written, with_request_written};
 ghost use Rattle.live_station.specs.Turns as turns;
 

@@ -1,7 +1,7 @@
 use crate::order::Order;
 
 /// What came of an order.
-#[derive(Clone, Copy, PartialEq, Eq)]
+#[derive(Clone, Copy)]
 pub struct Verdict {
     /// The order.
     pub order: Order,

@@ -4,6 +4,6 @@ pub mod Sources
 pub mod Turning
 pub mod Positives
 pub mod Acknowledging
-pub mod Laws
+pub mod Found
 pub mod Staying
 pub mod Owing

@@ -48,8 +48,8 @@ ended_so (Clear name what) tries st finding now p =
 
 -- what a positive finding comes from
 abbrev pub IsAcknowledgedBy : Order → Stage → Sign → Sight → Type 0
-IsAcknowledgedBy order st sign v =
-    (name : ℕ) × (what : Clearing) × (a : Asked) × (order ≡ Clear name what) × (st ≡ stage.Asked a) × (sign ≡ sign.Acknowledged 0) × (doubt_of order a v ≡ None)
+IsAcknowledgedBy order st x v =
+    (name : ℕ) × (what : Clearing) × (a : Asked) × (order ≡ Clear name what) × (st ≡ stage.Asked a) × (x ≡ sign.Acknowledged 0) × (doubt_of order a v ≡ None)
 
 doubted_not : (order : Order) (tries : ℕ) (st : Stage) (doubt : Doubt) (now : ℕ) → Good (doubted order doubt now (unfound order tries st)) → ⊥
 doubted_not (Ask name kind) tries st doubt now p = p

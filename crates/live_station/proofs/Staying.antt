@@ -27,7 +27,7 @@ use Rattle.live_station.specs.declared.verdict.Doubt.{Doubt}
 use Rattle.live_station.specs.declared.verdict.Finding.{Finding}
 use Rattle.live_station.specs.declared.verdict.Finding.TheVariants.{Answered, Positive, Refused, Busy, InDoubt}
 use Rattle.live_station.specs.declared.verdict.Verdict.{Verdict}
-use Rattle.live_station.proofs.Laws.{nothing_doubted}
+use Rattle.live_station.proofs.Found.{nothing_doubted}
 
 by_case : (a : Asked) (Q : Type 0) (b : Bool) (x y : Progress) → (b ≡ true → IsOutAs a x → Q) → (b ≡ false → IsOutAs a y → Q) → IsOutAs a (if b then x else y) → Q
 by_case a Q true x y f g p = f refl p

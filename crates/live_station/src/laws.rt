@@ -21,7 +21,7 @@ ghost use Rattle.live_station.specs.declared.order.Order.TheVariants.{Clear};
 
 /// The lists that were heard of what the station was told are those before, with the entry that a frame lists at the end of its own: so
 /// who keeps what the station puts into its lists has what it was told.
-#[tactic(auto, using(crate::proofs::Laws::lists_after_told))]
+#[tactic(auto, using(crate::proofs::Found::lists_after_told))]
 pub fn lists_are_what_was_told()
     ensures { (r : StationSettings) (f : FrameValue) (h : List Reading) (n : ℕ) (k : Kind)
         → with_listed (entry_of_told r f h) (lists_heard r (frames_told r h)) n k ≡ lists_heard r (frames_told r (Frame f ∷ h)) n k }
@@ -29,7 +29,6 @@ pub fn lists_are_what_was_told()
 
 /// A frame by which an open order is found positive is an acknowledgment of the group by which its NAME was asked to clear, from the
 /// address that was asked, which is the NAME's, to the address from which it was asked, which is the station's.
-#[tactic(auto, using(crate::proofs::Laws::positive_by_acknowledgment))]
 pub fn positive_is_acknowledged()
     ensures { (g : Group) (now : ℕ) (s : WorkingValue) (o : OpenOrder) → s.order ≡ Some o → o.found ≡ None → IsPositive (progress_by g now s)
         → (name : ℕ) × (what : Clearing) × (a : Asked) × (o.order ≡ Clear name what) × (o.stage ≡ stage.Asked a)
@@ -38,7 +37,6 @@ pub fn positive_is_acknowledged()
 
 /// A clear that is out stays out only while nothing puts it in doubt: after each frame that the station is told of, the NAME and the
 /// station hold the addresses between which it was written, and the frame claims the station's for nobody else.
-#[tactic(auto, using(crate::proofs::Staying::stays_undoubted))]
 pub fn a_clear_stays_out_undoubted()
     ensures { (g : Group) (now : ℕ) (s : WorkingValue) (o : OpenOrder) (name : ℕ) (what : Clearing) (a : Asked) (b : Asked) (p : Progress)
         → s.order ≡ Some o → o.order ≡ Clear name what → o.found ≡ None → o.stage ≡ stage.Asked a

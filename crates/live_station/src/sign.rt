@@ -78,7 +78,13 @@ fn sign_of_claim(order: Order, by: Name) -> Sign
     ensures { result ≡ claim_sign order by }
 {
     match order {
-        Order::AskClaim { name } if name == by => Sign::Claimed,
+        Order::AskClaim { name } => {
+            if name == by {
+                Sign::Claimed
+            } else {
+                Sign::Nothing
+            }
+        }
         Order::AskAllClaims => Sign::Claimed,
         _ => Sign::Nothing,
     }

@@ -117,7 +117,6 @@ impl OpenOrder {
     }
 
     /// The next time behind this one at which it may do something else.
-    #[tactic(auto, using(crate::proofs::Turning::order_alike))]
     pub fn next(self, outlook: Outlook, now: u64) -> u64
         ensures same { (t : ℕ) → now ≤ t → t < result → order_due self outlook t ≡ order_due self outlook now }
         ensures ahead { now ≤ result }

@@ -1,4 +1,4 @@
-pub mod Told
+pub mod Ears
 pub mod Claimers
 pub mod Sources
 pub mod Turning
@@ -7,3 +7,4 @@ pub mod Acknowledging
 pub mod Found
 pub mod Staying
 pub mod Owing
+pub mod Echoes

@@ -1,5 +1,5 @@
 -- All that waits is owed.
-use Rattle.std.proofs.Common.{◌≡◌, ℕ, ◌+◌, Bool, true, false, List, [], ◌∷◌, ◌++◌, Option, Some, None, drop, slice_get, if◌then◌else◌, refl, sym, ap, subst}
+use Rattle.std.proofs.Common.{◌≡◌, ℕ, ◌+◌, Bool, true, false, List, [], ◌∷◌, ◌++◌, Option, Some, None, drop, slice_get, if◌then◌else◌, refl, sym, ap, ◌∙◌, subst}
 use Rattle.std.proofs.lemmas.List.Elements.{All-append, All-cons, All-drop, All-head, All-nil}
 use Rattle.std.specs.List.{All}
 use Rattle.can_frame.specs.Fields.{source_of}
@@ -60,6 +60,16 @@ owed_in_lane Singles q o e all = first_owed q.singles.outs o e all.singles
 owed_in_lane Session q o e all = first_owed q.session.outs o e all.session
 owed_in_lane Messages q o e all = first_owed q.messages.outs o e all.messages
 
+-- what is taken leaves the source
+source_with : (lane : Lane) (left : LaneValue) (q : QueueValue) → (with_lane lane left q).source ≡ q.source
+source_with Claims left q = refl
+source_with Singles left q = refl
+source_with Session left q = refl
+source_with Messages left q = refl
+
+pub source_after_taking : (lane : Lane) (q q' : QueueValue) → TakesFirst lane q q' → q'.source ≡ q.source
+source_after_taking lane q q' t = ap (λ (x : QueueValue). x.source) t.is ∙ source_with lane t.left q
+
 -- ---- the first of what is put
 
 put_from : (claim : Bool) (f : FrameValue) (q : QueueValue) → (put_into (if claim then Claims else Singles) (plain f ∷ []) q).source ≡ q.source
@@ -78,8 +88,9 @@ pub none_put : (put : List FrameValue) (q : QueueValue) → slice_get put 0 ≡ 
 none_put [] q e = refl
 none_put (x ∷ more) q e = absurd cc
 
-pub first_sent : (source : ℕ) (put : List FrameValue) (f : FrameValue) → slice_get put 0 ≡ Some f → IsFirstFrom source put → All (IsSentFrom source) (plain f ∷ [])
-first_sent source [] f e first = absurd cc
-first_sent source (x ∷ more) f e first =
-    let same : x ≡ f = cc in
-    All-cons (IsSentFrom source) (plain f) [] (subst (λ (y : FrameValue). source_of y.id ≡ source) same first.source_is) (All-nil (IsSentFrom source))
+pub first_is : (source : ℕ) (put : List FrameValue) (f : FrameValue) → slice_get put 0 ≡ Some f → IsFirstFrom source put → IsOwedFrom source f
+first_is source [] f e first = absurd cc
+first_is source (x ∷ more) f e first = (let same : x ≡ f = cc in subst (IsOwedFrom source) same first)
+
+pub source_after_putting : (f : FrameValue) (q : QueueValue) → (putting false (plain f ∷ []) q).source ≡ q.source
+source_after_putting f q = put_from (is_claim_frame f) f q

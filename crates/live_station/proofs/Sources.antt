@@ -184,9 +184,9 @@ reacts_from_holder s g x before after e b a low high =
 
 pub reacts_with_room : (s : StationValue) (g : Group) (x : Reaction) (q : QueueValue) → x ≡ group_reaction s g
     → (may_be_answered g ≡ false) ⊎ HasFreeLanes q → (x.withdraw ≡ true) ⊎ (HasFreeLanes q ⊎ (x.put ≡ []))
-reacts_with_room s g x q e (inl no) =
+reacts_with_room s g x q e (inl unanswered) =
     subst (λ (y : Reaction). (y.withdraw ≡ true) ⊎ (HasFreeLanes q ⊎ (y.put ≡ []))) (sym e)
-    (elim (put_beside_answers s g no) [ inl all ↦ inl all | inr none ↦ inr (inr none) ])
+    (elim (put_beside_answers s g unanswered) [ inl all ↦ inl all | inr none ↦ inr (inr none) ])
 reacts_with_room s g x q e (inr free) = inr (inl free)
 
 pub reacts_from_source : (s : StationValue) (g : Group) (x : Reaction) (source : ℕ) (after : Option ℕ) → x ≡ group_reaction s g

@@ -71,12 +71,15 @@ abbrev pub packet_sign : Bool → Order → Asked → Change → Sign
 packet_sign marked o a change =
     if marked then or_packet (ended_sign o a change) else if a.to == GLOBAL_ADDRESS then ended_sign o a change else sign.Nothing
 
--- what a frame says, and what it changed: an acknowledgment counts of the group that is asked for, from the address that is asked, to the
--- station
+-- an acknowledgment counts of the group that is asked for, from the address that is asked, to the station
+abbrev pub ack_sign : Order → Asked → ℕ → ℕ → ℕ → ℕ → ℕ → Sign
+ack_sign o a control requester pgn destination source =
+    if (source == a.to && pgn == group_wanted o) && (requester == a.own || destination == a.own) then sign.Acknowledged control else sign.Nothing
+
+-- what a frame says, and what it changed
 abbrev pub sign_by : Order → Asked → Group → Change → Sign
 sign_by o a (AddressClaimed source name) change = claim_sign o name
-sign_by o a (Acknowledgment control requester pgn destination source) change =
-    if (source == a.to && pgn == group_wanted o) && (requester == a.own || destination == a.own) then sign.Acknowledged control else sign.Nothing
+sign_by o a (Acknowledgment control requester pgn destination source) change = ack_sign o a control requester pgn destination source
 sign_by o a (Diagnostic kind source bytes) change = ended_sign o a change
 sign_by o a (ConnectionManagement source destination control) change =
     if is_asked_at a source then announced_sign o a destination control else sign.Nothing

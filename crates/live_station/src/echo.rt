@@ -1,4 +1,4 @@
-ghost use Rattle.std.specs.Prelude.{◌≡◌, ◌≢◌, ◌+◌, ◌<◌, ℕ, [], drop, slice_get, IfNone, IfOk, IfSome, Some, false};
+ghost use Rattle.std.specs.Prelude.{◌≡◌, ◌≢◌, ◌+◌, ◌<◌, ℕ, [], drop, slice_get, IfNone, IfOk, IfSome, Some, false, true};
 ghost use Rattle.std.specs.VecDeque.{deque_capacity, deque_len};
 ghost use Rattle.live_station.specs.Working.{HearsOwn, with_written};
 
@@ -72,11 +72,19 @@ fn find(written: &VecDeque<Frame>, frame: &Frame) -> Option<usize>
     ensures none { IfNone result ((k : ℕ) → k < deque_len written.now → slice_get written.now.items k ≢ Some frame.now) }
 {
     for place in 0..written.len() {
-        if written[place] == *frame {
+        if is_same(&written[place], frame) {
             return Some(place);
         }
     }
     None
+}
+
+/// Whether two frames are the same.
+fn is_same(one: &Frame, other: &Frame) -> bool
+    ensures same { result ≡ true → one.now ≡ other.now }
+    ensures other { result ≡ false → one.now ≢ other.now }
+{
+    one == other
 }
 
 /// Drops so many of the first frames.

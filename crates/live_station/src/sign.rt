@@ -1,9 +1,8 @@
 ghost use Rattle.std.specs.Prelude.{◌≡◌};
 ghost use Rattle.parameter_group.specs.Said.{said};
 ghost use Rattle.live_station.specs.OpenOrders.{kind_wanted};
-ghost use Rattle.live_station.specs.Signs.{announced_sign, began_sign, claim_sign, ended_sign, is_asked_at, is_group_wanted, is_told_to, is_wanted, packet_sign, sign_by, sign_for};
+ghost use Rattle.live_station.specs.Signs.{ack_sign, announced_sign, began_sign, claim_sign, ended_sign, is_asked_at, is_group_wanted, is_told_to, is_wanted, packet_sign, sign_by, sign_for};
 ghost use Rattle.live_station.specs.Signs as signs;
-ghost use Rattle.parameter_group.specs.Group as group;
 
 use crate::open::{Asked, OpenOrder, Stage};
 use crate::order::Order;
@@ -35,8 +34,8 @@ pub enum Sign {
 }
 
 /// What a frame, and what it changed, says of the open order: nothing while that is not out.
-pub fn sign_to(going: Option<OpenOrder>, group: &ParameterGroup<'_>, change: Change) -> Sign
-    ensures { result ≡ sign_for going (said group.now) change }
+pub fn sign_to(going: Option<OpenOrder>, group: &ParameterGroup<'_>, change: &Change) -> Sign
+    ensures { result ≡ sign_for going (said group.now) change.now }
 {
     let Some(going) = going else {
         return Sign::Nothing;
@@ -48,8 +47,8 @@ pub fn sign_to(going: Option<OpenOrder>, group: &ParameterGroup<'_>, change: Cha
 }
 
 /// What a frame, and what it changed, says of a request that is out.
-fn sign_of(order: Order, asked: Asked, group: &ParameterGroup<'_>, change: Change) -> Sign
-    ensures { result ≡ sign_by order asked (said group.now) change }
+fn sign_of(order: Order, asked: Asked, group: &ParameterGroup<'_>, change: &Change) -> Sign
+    ensures { result ≡ sign_by order asked (said group.now) change.now }
 {
     match *group {
         ParameterGroup::AddressClaimed { name, .. } => sign_of_claim(order, name),
@@ -92,8 +91,7 @@ fn sign_of_claim(order: Order, by: Name) -> Sign
 
 /// An acknowledgment, of the group that is asked for, from the address that is asked, to the station.
 fn sign_of_ack(order: Order, asked: Asked, ack: Ack) -> Sign
-    ensures { (change : Change) → result
-        ≡ sign_by order asked (group.Acknowledgment ack.control ack.requester ack.pgn ack.dest ack.source) change }
+    ensures { result ≡ ack_sign order asked ack.control ack.requester ack.pgn ack.dest ack.source }
 {
     let to_it = ack.requester == asked.own || ack.dest == asked.own;
     if ack.source == asked.to && ack.pgn == order.pgn() && to_it {
@@ -142,8 +140,8 @@ fn is_asked(order: Order, pgn: Pgn) -> bool
 }
 
 /// A packet; `marked` is whether a message was announced behind the request that it may be of.
-fn sign_of_packet(order: Order, asked: Asked, marked: bool, change: Change) -> Sign
-    ensures { result ≡ packet_sign marked order asked change }
+fn sign_of_packet(order: Order, asked: Asked, marked: bool, change: &Change) -> Sign
+    ensures { result ≡ packet_sign marked order asked change.now }
 {
     if marked {
         return or_packet(sign_of_ended(order, asked, change));
@@ -166,10 +164,10 @@ fn or_packet(sign: Sign) -> Sign
 }
 
 /// A message ended, if one did.
-fn sign_of_ended(order: Order, asked: Asked, change: Change) -> Sign
-    ensures { result ≡ ended_sign order asked change }
+fn sign_of_ended(order: Order, asked: Asked, change: &Change) -> Sign
+    ensures { result ≡ ended_sign order asked change.now }
 {
-    match change {
+    match *change {
         Change::Listed { name, kind, source } if is_answer(order, asked, name, kind, source) => {
             Sign::Ended { is_read: true }
         }

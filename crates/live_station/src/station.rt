@@ -6,13 +6,14 @@ ghost use Rattle.can_frame.specs.declared.reading.Reading.TheVariants.{Frame as 
 ghost use Rattle.address_claim.specs.Frames.{claim_source};
 ghost use Rattle.bus_model.specs.Heard.{StationSettings};
 ghost use Rattle.entry_lists.specs.Entries.{HasPut};
-ghost use Rattle.live_unit.specs.Queue.{frames_waiting, waits};
+ghost use Rattle.live_unit.specs.Queue.{empty_queue, frames_waiting, putting};
+ghost use Rattle.node_core.specs.Deed.{plain};
 ghost use Rattle.live_unit.specs.declared.queue.TheConstants.{MOST_PUT as MOST};
 ghost use Rattle.station_table.specs.StandsFor.{StandsFor};
 ghost use Rattle.live_station.specs.Ear.{entry_of_told, frames_told};
 ghost use Rattle.live_station.specs.OpenOrders.{begun_order, order_cut_off, unit_named};
 ghost use Rattle.live_station.specs.Turns.{order_due};
-ghost use Rattle.live_station.specs.Working.{DoesDeed, DoesTurn, HearsOnBus, HearsOwnFrame, IsFirstFrom, IsSentFromOwn, IsUnordered, MissesFrames, OwesAll, LacksRoomToHear, SendsWaiting, address_of_name, after_told, after_reaction, after_stranger, asked_for_claims, begun_station, deed_turn, hearing_on, missing_on, outlook_of, progress_by_stranger, settled_since, still_open, told_of_it, turn_at, verdict_of, with_first};
+ghost use Rattle.live_station.specs.Working.{DoesDeed, DoesTurn, HearsOnBus, HearsOwnFrame, IsFirstFrom, IsOwedFrom, IsSentFromOwn, IsUnordered, MissesFrames, OwesAll, LacksRoomToHear, SendsWaiting, address_of_name, after_told, after_reaction, after_stranger, asked_for_claims, begun_station, deed_turn, hearing_on, missing_on, outlook_of, progress_by_stranger, settled_since, still_open, told_of_it, turn_at, verdict_of, with_first};
 ghost use Rattle.live_station.specs.Ear as ear;
 ghost use Rattle.live_station.specs.Working as spec;
 ghost use Rattle.live_unit.specs.Queue.{HasFreeLanes};
@@ -35,7 +36,7 @@ use crate::turn::{Deed, Outlook, Turn};
 use crate::verdict::{Finding, Verdict};
 use bus_model::Change;
 use can_frame::{Frame, Frames, GLOBAL_ADDRESS, GREATEST_ADDRESS, NULL_ADDRESS, Pgn, Reading};
-use entry_lists::Lists;
+use entry_lists::{Lists, Row};
 use live_unit::{Lane, Queue, QueueCounts, UnitClock, UnitSettings, frame_from, lane_due};
 use name_field::Name;
 use node_core::{Outs, Withdraw};
@@ -121,7 +122,7 @@ impl Model for LiveStation {
 impl LiveStation {
     /// A station of this NAME that holds the address that it wants, 0 to 253, and grants at most so many packets at once, at least
     /// one. Its claim waits, and behind that a request for the claims of all; it has heard nothing.
-    #[tactic(auto, using(crate::proofs::Owing::owes_nothing, crate::proofs::Owing::owes_after_putting, crate::proofs::Sources::owed_claim))]
+    #[tactic(auto, using(crate::proofs::Sources::owed_claim))]
     pub fn new(
         alloc: Global,
         name: Name,
@@ -135,8 +136,7 @@ impl LiveStation {
         ensures stands { IfOk result (λ s. StandsFor (record { name = name; address = want }) grant s.station (frames_told (record { name = name; address = want }) [])) }
     {
         let station = Station::new(alloc, name, want, grant);
-        let mut queue = Queue::new(alloc, want)?;
-        queue.put(Outs::plain(station.start()), false);
+        let queue = queue_of(alloc, want, station.start())?;
         Ok(LiveStation {
             name,
             station,
@@ -221,7 +221,7 @@ impl LiveStation {
     ///
     /// Refused: `Full`, where as much waits as there is room for and the frame is a request or one of a session; `OutOfMemory`. Then
     /// nothing changed.
-    #[tactic(auto, using(crate::proofs::Told::stands_own, crate::proofs::Told::stands_other, crate::proofs::Told::entry_own, crate::proofs::Told::entry_other))]
+    #[tactic(auto, using(crate::proofs::Ears::stands_own, crate::proofs::Ears::stands_other, crate::proofs::Ears::entry_own, crate::proofs::Ears::entry_other))]
     pub fn hear<L: Lists>(
         &mut self,
         alloc: Global,
@@ -287,11 +287,12 @@ impl LiveStation {
         let after = self.station.held();
         take_in(&mut self.queue, reaction, after);
         self.clock.hear(false, before, after, now, self.name);
-        let sign = sign_to(self.order, group, change);
+        let sign = sign_to(self.order, group, &change);
         let progress = hear_on(self.order, &self.station, sign, contested, false, now);
+        let verdict = go_on(&mut self.order, progress);
         Ok(Told {
             change,
-            verdict: go_on(&mut self.order, progress),
+            verdict,
             stranger: false,
         })
     }
@@ -326,9 +327,10 @@ impl LiveStation {
         self.clock.hear(false, before, after, now, self.name);
         self.asks_claims = true;
         let progress = miss_on(self.order, now);
+        let verdict = go_on(&mut self.order, progress);
         Ok(Told {
             change,
-            verdict: go_on(&mut self.order, progress),
+            verdict,
             stranger: false,
         })
     }
@@ -469,11 +471,19 @@ impl LiveStation {
         if self.is_to_ask_claims(now) {
             return Turn::AsksClaims;
         }
+        self.order_turn(now)
+    }
+
+    /// What its open order does.
+    fn order_turn(&self, now: u64) -> Turn
+        ensures { result ≡ spec.order_turn now self.now self.now.order }
+    {
         let Some(going) = self.order else {
             return Turn::Rests;
         };
         let outlook = self.outlook(going.order);
-        turn_of(going, going.due(outlook, now))
+        let deed = going.due(outlook, now);
+        turn_of(going, deed)
     }
 
     /// Whether claims are to be asked for at this time.
@@ -618,6 +628,32 @@ impl LiveStation {
     }
 }
 
+/// A queue in which a claim of this address waits.
+fn queue_of(alloc: Global, source: u8, claim: Frame) -> Result<Queue, AllocError>
+    requires { IsOwedFrom source claim }
+    ensures is { IfOk result (λ q. q ≡ putting false (plain claim ∷ []) (empty_queue source)) }
+    ensures source { IfOk result (λ q. q.source ≡ source) }
+    ensures owes { IfOk result OwesAll }
+{
+    let mut queue = Queue::new(alloc, source)?;
+    put_one(&mut queue, claim);
+    Ok(queue)
+}
+
+/// Puts a frame.
+#[tactic(auto, using(crate::proofs::Owing::source_after_putting))]
+fn put_one(queue: &mut Queue, frame: Frame)
+    requires room { HasFreeLanes queue.old }
+    requires few { queue.old.put < MOST }
+    requires from { IsOwedFrom queue.old.source frame }
+    requires owes { OwesAll queue.old }
+    ensures is { queue.new ≡ putting false (plain frame ∷ []) queue.old }
+    ensures source { queue.new.source ≡ queue.old.source }
+    ensures owes { OwesAll queue.new }
+{
+    queue.put(Outs::plain(frame), false);
+}
+
 /// What a station does by its open order.
 fn turn_of(going: OpenOrder, deed: Deed) -> Turn
     ensures { result ≡ deed_turn going deed }
@@ -667,7 +703,7 @@ fn take_in(queue: &mut Queue, reaction: Reaction, held: Option<u8>)
 }
 
 /// Puts the first frame, if there is one.
-#[tactic(auto, using(crate::proofs::Owing::owes_after_first, crate::proofs::Owing::source_after_first, crate::proofs::Owing::first_put, crate::proofs::Owing::none_put, crate::proofs::Owing::first_sent))]
+#[tactic(auto, using(crate::proofs::Owing::owes_after_first, crate::proofs::Owing::source_after_first, crate::proofs::Owing::first_put, crate::proofs::Owing::none_put, crate::proofs::Owing::first_is))]
 fn put_first(queue: &mut Queue, put: &Frames)
     requires room { HasFreeLanes queue.old ⊎ (put.now ≡ []) }
     requires few { queue.old.put < MOST }
@@ -678,7 +714,7 @@ fn put_first(queue: &mut Queue, put: &Frames)
     ensures owes { OwesAll queue.new }
 {
     if let Some(first) = put.as_slice().first() {
-        queue.put(Outs::plain(*first), false);
+        put_one(queue, *first);
     }
 }
 
@@ -736,9 +772,13 @@ fn go_on(order: &mut Option<OpenOrder>, progress: Option<Progress>) -> Option<Ve
 fn address_of(station: &Station, order: Order) -> Option<u8>
     ensures { result ≡ address_of_name station.now (unit_named order) }
 {
-    let name = order.name()?;
-    let row = station.row(name)?;
-    row.address
+    let Some(name) = order.name() else {
+        return None;
+    };
+    match station.row(name) {
+        Some(Row { address, .. }) => address,
+        None => None,
+    }
 }
 
 /// The address from which a station sends: the one that it holds, or 254.

@@ -53,8 +53,8 @@ pub struct Outlook {
 
 impl OpenOrder {
     /// What it does at this time.
-    pub fn due(self, outlook: Outlook, now: u64) -> Deed
-        ensures { result ≡ order_due self outlook now }
+    pub fn due(&self, outlook: Outlook, now: u64) -> Deed
+        ensures { result ≡ order_due self.now outlook now }
     {
         match self.stage {
             Stage::Waits { from, known_by } if from <= now => self.due_to_go(
@@ -69,8 +69,8 @@ impl OpenOrder {
     }
 
     /// What it does where nothing came in time: it is written again, or ends.
-    fn due_unanswered(self, asked: Asked, outlook: Outlook, now: u64) -> Deed
-        ensures { result ≡ (if asked.answered then Deed.Ends Finding.Answered else unanswered self.order self outlook asked.until now) }
+    fn due_unanswered(&self, asked: Asked, outlook: Outlook, now: u64) -> Deed
+        ensures { result ≡ (if asked.answered then Deed.Ends Finding.Answered else unanswered self.now.order self.now outlook asked.until now) }
     {
         if asked.answered {
             return Deed::Ends(Finding::Answered);
@@ -82,8 +82,8 @@ impl OpenOrder {
     }
 
     /// What it does where it is to be written.
-    fn due_to_go(self, outlook: Outlook, known_by: u64, now: u64) -> Deed
-        ensures { result ≡ turns.due_to_go self outlook known_by now }
+    fn due_to_go(&self, outlook: Outlook, known_by: u64, now: u64) -> Deed
+        ensures { result ≡ turns.due_to_go self.now outlook known_by now }
     {
         if outlook.held.is_none() {
             return Deed::Ends(Finding::LostAddress);

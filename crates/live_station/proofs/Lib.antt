@@ -7,4 +7,6 @@ pub mod Acknowledging
 pub mod Found
 pub mod Staying
 pub mod Owing
+pub mod Writing
+pub mod Beginning
 pub mod Echoes

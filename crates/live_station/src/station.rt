@@ -221,7 +221,7 @@ impl LiveStation {
     ///
     /// Refused: `Full`, where as much waits as there is room for and the frame is a request or one of a session; `OutOfMemory`. Then
     /// nothing changed.
-    #[tactic(auto, using(crate::proofs::Ears::stands_own, crate::proofs::Ears::stands_other, crate::proofs::Ears::entry_own, crate::proofs::Ears::entry_other))]
+    #[tactic(auto, using(crate::proofs::Ears::stands_own, crate::proofs::Ears::entry_own))]
     pub fn hear<L: Lists>(
         &mut self,
         alloc: Global,
@@ -260,7 +260,7 @@ impl LiveStation {
     /// Hears what a frame says that the station is told of.
     ///
     /// Refused: `OutOfMemory`; then nothing changed.
-    #[tactic(auto, using(crate::proofs::Claimers::named_as_before, crate::proofs::Sources::reacts_from_holder, crate::proofs::Sources::reacts_with_room, crate::proofs::Sources::reacts_from_source))]
+    #[tactic(auto, using(crate::proofs::Claimers::named_as_before, crate::proofs::Sources::reacts_with_room))]
     fn hear_told<L: Lists>(
         &mut self,
         alloc: Global,

@@ -1,2 +1,6 @@
+mod ByteLemmas
+mod GrammarLemmas
 mod NumberLemmas
+mod SpellingLemmas
+mod SplitLemmas
 mod WordLemmas

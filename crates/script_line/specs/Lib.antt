@@ -1,3 +1,6 @@
+pub mod Bytes
+pub mod Grammar
 pub mod Line
 pub mod Numbers
+pub mod Spelled
 pub mod Station

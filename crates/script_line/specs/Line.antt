@@ -1,5 +1,5 @@
-use Rattle.std.specs.Prelude.{ℕ, ◌≡◌, ◌⊎◌, ◌==◌, Bool, List, [], length, drop, slice_index}
-use Rattle.std.specs.List.{prefix_len, before_first}
+use Rattle.std.specs.Prelude.{ℕ, ◌≡◌, ◌⊎◌, ◌==◌, Bool, nat_lt, List, [], length, drop, filter, slice_index}
+use Rattle.std.specs.List.{prefix_len, before_first, slice_split}
 
 -- the character `#`
 abbrev pub number_sign : ℕ
@@ -24,3 +24,7 @@ first_word line = before_first is_space (from_word line)
 -- what stands behind the first word
 abbrev pub behind_word : List ℕ → List ℕ
 behind_word line = drop (length (first_word line)) (from_word line)
+
+-- the words of a line: its parts between spaces, but for the empty ones
+unfoldable pub script_words : List ℕ → List (List ℕ)
+script_words line = filter (λ part. nat_lt 0 (length part)) (slice_split is_space line)

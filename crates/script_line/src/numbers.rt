@@ -3,6 +3,7 @@ ghost use Rattle.std.specs.Option.{SomeIff};
 ghost use Rattle.hex_text.specs.Hex.{hex_value, IsHexText};
 ghost use Rattle.trouble_code.specs.LampBytes.{lamps_value};
 ghost use Rattle.script_line.specs.Numbers.{decimal_value, IsNumberBelow};
+ghost use Rattle.script_line.specs.Spelled.{lamps_spelled, number_below};
 
 use hex_text::read_hex;
 use trouble_code::Lamps;
@@ -10,7 +11,8 @@ use trouble_code::Lamps;
 /// The number that decimal digits spell, below 2^32; `None` for any other word.
 #[tactic(auto, using(crate::proofs::NumberLemmas::none_read, crate::proofs::NumberLemmas::next_digit, crate::proofs::NumberLemmas::no_digit, crate::proofs::NumberLemmas::too_large, crate::proofs::NumberLemmas::all_read))]
 pub fn read_number(word: &str) -> Option<u32>
-    ensures { SomeIff result (IsNumberBelow (2 ^ 32) word.now) (decimal_value word.now) }
+    ensures value { SomeIff result (IsNumberBelow (2 ^ 32) word.now) (decimal_value word.now) }
+    ensures spelled { result ≡ number_below (2 ^ 32) word.now }
 {
     if word.is_empty() {
         return None;
@@ -31,7 +33,8 @@ pub fn read_number(word: &str) -> Option<u32>
 
 /// The number that decimal digits spell, below 256; `None` for any other word.
 pub fn read_small_number(word: &str) -> Option<u8>
-    ensures { SomeIff result (IsNumberBelow 256 word.now) (decimal_value word.now) }
+    ensures value { SomeIff result (IsNumberBelow 256 word.now) (decimal_value word.now) }
+    ensures spelled { result ≡ number_below 256 word.now }
 {
     match read_number(word) {
         Some(number) if number < 256 => Some(number as u8),
@@ -43,6 +46,7 @@ pub fn read_small_number(word: &str) -> Option<u8>
 /// any other word.
 pub fn read_lamps(word: &str) -> Option<Lamps>
     ensures accepted { IsSome result ↔ IsHexText 4 word.now }
+    ensures spelled { result ≡ lamps_spelled word.now }
     ensures value { IfSome result (λ l. l ≡ lamps_value (hex_value word.now / 256) (hex_value word.now % 256)) }
 {
     let number = read_hex(word, 4)?;

@@ -1,15 +1,16 @@
-ghost use Rattle.std.specs.Prelude.{◌≡◌, ◌↔◌, IsTrue, IfSome, true};
-ghost use Rattle.script_line.specs.Line.{IsSilent, first_word};
-ghost use Rattle.script_line.specs.Numbers.{SpellsNumber};
-ghost use Rattle.script_line.specs.Station.{NamesStation, is_of_station, station_word};
+ghost use Rattle.std.specs.Prelude.{◌≡◌, ◌↔◌, IsTrue, bytes_eq};
+ghost use Rattle.script_line.specs.Grammar.{FormReads, ask_form, asked_word, change_form, command_form, garage2_form, garage_form, join_form, kind_word, lamps_word, line_spelled, name_place, number, number_or_one, bus_form, of_garage, of_seat, receiver_word, shown_form, small_number, station_form, station_words, unit_kind_form, unit_kind_of, whole};
+ghost use Rattle.script_line.specs.Line.{IsSilent, script_words};
+ghost use Rattle.script_line.specs.Spelled.{asked_spelled, kind_spelled, name_spelled, pgn_spelled, receiver_spelled};
 
 use crate::command::{Asked, CodeChange, Command, NameWord, Receiver, ScriptLine, StationWords};
 use crate::frames::read_frame;
 use crate::numbers::{read_lamps, read_number, read_small_number};
 use crate::words::Words;
-use can_frame::Pgn;
+use can_frame::{Pgn, PgnTooLarge};
 use dm_messages::Kind;
 use name_field::Name;
+use trouble_code::Lamps;
 use unit_trait::UnitKind;
 
 /// Whether a line has no answer: it is empty, or begins with `#`.
@@ -25,14 +26,11 @@ pub fn is_silent(line: &str) -> bool
 /// The line that words spell: a command, and before it `at` and the number of a station where it is one of a station. `None`
 /// for an unknown word, a missing or an extra one, a number out of its range, or `at` before any other command.
 pub fn read_line(line: &str) -> Option<ScriptLine>
-    ensures station { IfSome result (λ read. NamesStation line.now → SpellsNumber (station_word line.now) read.station) }
-    ensures of_station { IfSome result (λ read. NamesStation line.now → is_of_station read.command ≡ true) }
-    ensures first { IfSome result (λ read. ¬ NamesStation line.now → read.station ≡ 0) }
+    ensures { result ≡ line_spelled line.now }
 {
     let mut words = Words::of(line);
     let keyword = words.next_word()?;
-    // To compare a `str` is a call, and no command has two characters.
-    if keyword.len() == 2 && keyword == "at" {
+    if spells(keyword, b"at") {
         return read_of_station(&mut words);
     }
     match read_to_end(keyword, &mut words) {
@@ -46,8 +44,7 @@ pub fn read_line(line: &str) -> Option<ScriptLine>
 
 /// The line that the words behind `at` spell: the number of a station, and a command of one.
 fn read_of_station(words: &mut Words<'_>) -> Option<ScriptLine>
-    ensures station { IfSome result (λ read. SpellsNumber (first_word words.old.rest.now) read.station) }
-    ensures of_station { IfSome result (λ read. is_of_station read.command ≡ true) }
+    ensures { result ≡ whole station_form (script_words words.old.rest.now) }
 {
     let station = next_number(words)?;
     match read_to_end(words.next_word()?, words) {
@@ -57,7 +54,9 @@ fn read_of_station(words: &mut Words<'_>) -> Option<ScriptLine>
 }
 
 /// The command of a first word and all those behind it.
-fn read_to_end(keyword: &str, words: &mut Words<'_>) -> Option<Command> {
+fn read_to_end(keyword: &str, words: &mut Words<'_>) -> Option<Command>
+    ensures { result ≡ whole (command_form keyword.now) (script_words words.old.rest.now) }
+{
     let command = read_command(keyword, words);
     match words.next_word() {
         None => command,
@@ -67,34 +66,73 @@ fn read_to_end(keyword: &str, words: &mut Words<'_>) -> Option<Command> {
 
 /// The command of a first word and those behind it, which may be followed by others. The commands of which scripts have most
 /// stand first, and are told by their bytes: to compare a `str` is a call.
-fn read_command(keyword: &str, words: &mut Words<'_>) -> Option<Command> {
-    match keyword.as_bytes() {
-        [b'h', b'e', b'a', b'r'] => Some(Command::Hear {
+fn read_command(keyword: &str, words: &mut Words<'_>) -> Option<Command>
+    ensures { FormReads (command_form keyword.now) words.old.rest.now result words.new.rest.now }
+{
+    if spells(keyword, b"hear") {
+        return Some(Command::Hear {
             seat: next_number(words)?,
             most: next_count(words)?,
-        }),
-        [b'd', b'm', b'1'] => Some(Command::Dm1 {
-            seat: next_number(words)?,
-        }),
-        [b'r', b'o', b'u', b'n', b'd'] => Some(Command::Round {
-            count: next_number(words)?,
-        }),
-        [b'c', b'a', b'r', b'r', b'y'] => Some(Command::Carry {
-            most: next_count(words)?,
-        }),
-        [b'r', b'e', b'a', b'd'] => Some(Command::Read {
-            most: next_count(words)?,
-        }),
-        [b'i', b'n', b'j', b'e', b'c', b't'] => Some(Command::Inject {
-            frame: read_frame(words)?,
-        }),
-        _ => read_of_garage(keyword, words),
+        });
     }
+    if spells(keyword, b"dm1") {
+        return Some(Command::Dm1 {
+            seat: next_number(words)?,
+        });
+    }
+    if spells(keyword, b"round") {
+        return Some(Command::Round {
+            count: next_number(words)?,
+        });
+    }
+    read_of_bus(keyword, words)
+}
+
+/// The other commands of the bus, and all others.
+#[inline]
+fn read_of_bus(keyword: &str, words: &mut Words<'_>) -> Option<Command>
+    ensures { FormReads (bus_form keyword.now) words.old.rest.now result words.new.rest.now }
+{
+    if spells(keyword, b"carry") {
+        return Some(Command::Carry {
+            most: next_count(words)?,
+        });
+    }
+    if spells(keyword, b"read") {
+        return Some(Command::Read {
+            most: next_count(words)?,
+        });
+    }
+    if spells(keyword, b"inject") {
+        return Some(Command::Inject {
+            frame: read_frame(words)?,
+        });
+    }
+    read_of_garage(keyword, words)
+}
+
+/// Whether a word has these letters.
+#[inline(always)]
+fn spells(word: &str, letters: &[u8]) -> bool
+    ensures { result ≡ bytes_eq word.now letters.now }
+{
+    let bytes = word.as_bytes();
+    if bytes.len() != letters.len() {
+        return false;
+    }
+    for i in 0..letters.len() {
+        if bytes[i] != letters[i] {
+            return false;
+        }
+    }
+    true
 }
 
 /// The commands of the garage and its station.
 #[inline(never)]
-fn read_of_garage(keyword: &str, words: &mut Words<'_>) -> Option<Command> {
+fn read_of_garage(keyword: &str, words: &mut Words<'_>) -> Option<Command>
+    ensures { FormReads (of_garage keyword.now) words.old.rest.now result words.new.rest.now }
+{
     match keyword {
         "garage" => read_garage(words),
         "garage2" => read_two_stations(words),
@@ -119,7 +157,9 @@ fn read_of_garage(keyword: &str, words: &mut Words<'_>) -> Option<Command> {
 }
 
 /// The commands of one seat, whose number is the next word.
-fn read_of_seat(keyword: &str, words: &mut Words<'_>) -> Option<Command> {
+fn read_of_seat(keyword: &str, words: &mut Words<'_>) -> Option<Command>
+    ensures { FormReads (of_seat keyword.now) words.old.rest.now result words.new.rest.now }
+{
     let seat = next_number(words)?;
     match keyword {
         "set" => read_change(seat, CodeChange::Set, words),
@@ -128,7 +168,7 @@ fn read_of_seat(keyword: &str, words: &mut Words<'_>) -> Option<Command> {
         "unpend" => read_change(seat, CodeChange::Unpend, words),
         "lamps" => Some(Command::Lamps {
             seat,
-            lamps: read_lamps(words.next_word()?)?,
+            lamps: next_lamps(words)?,
         }),
         "think" => Some(Command::Think { seat }),
         "turn" => Some(Command::Turn { seat }),
@@ -138,7 +178,9 @@ fn read_of_seat(keyword: &str, words: &mut Words<'_>) -> Option<Command> {
     }
 }
 
-fn read_garage(words: &mut Words<'_>) -> Option<Command> {
+fn read_garage(words: &mut Words<'_>) -> Option<Command>
+    ensures { FormReads garage_form words.old.rest.now result words.new.rest.now }
+{
     let station = next_station(words)?;
     Some(Command::Garage {
         name: station.name,
@@ -149,7 +191,9 @@ fn read_garage(words: &mut Words<'_>) -> Option<Command> {
     })
 }
 
-fn read_two_stations(words: &mut Words<'_>) -> Option<Command> {
+fn read_two_stations(words: &mut Words<'_>) -> Option<Command>
+    ensures { FormReads garage2_form words.old.rest.now result words.new.rest.now }
+{
     Some(Command::Garage2 {
         first: next_station(words)?,
         second: next_station(words)?,
@@ -157,7 +201,9 @@ fn read_two_stations(words: &mut Words<'_>) -> Option<Command> {
     })
 }
 
-fn read_join(words: &mut Words<'_>) -> Option<Command> {
+fn read_join(words: &mut Words<'_>) -> Option<Command>
+    ensures { FormReads join_form words.old.rest.now result words.new.rest.now }
+{
     Some(Command::Join {
         name: next_name(words)?,
         address: next_small_number(words)?,
@@ -165,7 +211,9 @@ fn read_join(words: &mut Words<'_>) -> Option<Command> {
     })
 }
 
-fn read_change(seat: u32, change: CodeChange, words: &mut Words<'_>) -> Option<Command> {
+fn read_change(seat: u32, change: CodeChange, words: &mut Words<'_>) -> Option<Command>
+    ensures { FormReads (change_form seat change) words.old.rest.now result words.new.rest.now }
+{
     Some(Command::Change {
         seat,
         change,
@@ -175,40 +223,102 @@ fn read_change(seat: u32, change: CodeChange, words: &mut Words<'_>) -> Option<C
     })
 }
 
-fn read_ask(words: &mut Words<'_>) -> Option<Command> {
-    let receiver = match words.next_word()? {
+fn read_ask(words: &mut Words<'_>) -> Option<Command>
+    ensures { FormReads ask_form words.old.rest.now result words.new.rest.now }
+{
+    Some(Command::Ask {
+        receiver: next_receiver(words)?,
+        asked: next_asked(words)?,
+    })
+}
+
+fn read_shown(words: &mut Words<'_>) -> Option<Command>
+    ensures { FormReads shown_form words.old.rest.now result words.new.rest.now }
+{
+    Some(Command::Shown {
+        name: next_name(words)?,
+        kind: next_kind(words)?,
+    })
+}
+
+fn next_receiver(words: &mut Words<'_>) -> Option<Receiver>
+    ensures { FormReads receiver_word words.old.rest.now result words.new.rest.now }
+{
+    Some(read_receiver(words.next_word()?))
+}
+
+fn read_receiver(word: &str) -> Receiver
+    ensures { result ≡ receiver_spelled word.now }
+{
+    match word {
         "all" => Receiver::All,
         name => Receiver::Unit {
-            name: Name::read_hex(name),
+            name: read_name(name),
         },
-    };
-    let asked = match words.next_word()? {
-        "dm1" => Asked::Dm1,
-        "dm2" => Asked::Dm2,
-        "dm3" => Asked::Dm3,
-        "dm6" => Asked::Dm6,
-        "dm11" => Asked::Dm11,
-        "claim" => Asked::Claim,
-        number => Asked::Other {
-            pgn: Pgn::new(read_number(number)?),
-        },
-    };
-    Some(Command::Ask { receiver, asked })
+    }
 }
 
-fn read_shown(words: &mut Words<'_>) -> Option<Command> {
-    let name = next_name(words)?;
-    let kind = match words.next_word()? {
-        "dm1" => Kind::Dm1,
-        "dm2" => Kind::Dm2,
-        "dm6" => Kind::Dm6,
-        _ => return None,
-    };
-    Some(Command::Shown { name, kind })
+fn next_asked(words: &mut Words<'_>) -> Option<Asked>
+    ensures { FormReads asked_word words.old.rest.now result words.new.rest.now }
+{
+    read_asked(words.next_word()?)
 }
 
-fn next_unit_kind(words: &mut Words<'_>) -> Option<UnitKind> {
-    match words.next_word()? {
+fn read_asked(word: &str) -> Option<Asked>
+    ensures { result ≡ asked_spelled word.now }
+{
+    match word {
+        "dm1" => Some(Asked::Dm1),
+        "dm2" => Some(Asked::Dm2),
+        "dm3" => Some(Asked::Dm3),
+        "dm6" => Some(Asked::Dm6),
+        "dm11" => Some(Asked::Dm11),
+        "claim" => Some(Asked::Claim),
+        number => Some(Asked::Other {
+            pgn: read_pgn(read_number(number)?),
+        }),
+    }
+}
+
+fn read_pgn(number: u32) -> Result<Pgn, PgnTooLarge>
+    ensures { result ≡ pgn_spelled number }
+{
+    Pgn::new(number)
+}
+
+fn next_kind(words: &mut Words<'_>) -> Option<Kind>
+    ensures { FormReads kind_word words.old.rest.now result words.new.rest.now }
+{
+    read_kind(words.next_word()?)
+}
+
+fn read_kind(word: &str) -> Option<Kind>
+    ensures { result ≡ kind_spelled word.now }
+{
+    match word {
+        "dm1" => Some(Kind::Dm1),
+        "dm2" => Some(Kind::Dm2),
+        "dm6" => Some(Kind::Dm6),
+        _ => None,
+    }
+}
+
+fn next_lamps(words: &mut Words<'_>) -> Option<Lamps>
+    ensures { FormReads lamps_word words.old.rest.now result words.new.rest.now }
+{
+    read_lamps(words.next_word()?)
+}
+
+fn next_unit_kind(words: &mut Words<'_>) -> Option<UnitKind>
+    ensures { FormReads unit_kind_form words.old.rest.now result words.new.rest.now }
+{
+    read_unit_kind(words.next_word()?, words)
+}
+
+fn read_unit_kind(word: &str, words: &mut Words<'_>) -> Option<UnitKind>
+    ensures { FormReads (unit_kind_of word.now) words.old.rest.now result words.new.rest.now }
+{
+    match word {
         "plain" => Some(UnitKind::Plain),
         "guarded" => Some(UnitKind::Guarded),
         "flicker" => Some(UnitKind::Flicker {
@@ -219,7 +329,9 @@ fn next_unit_kind(words: &mut Words<'_>) -> Option<UnitKind> {
     }
 }
 
-fn next_station(words: &mut Words<'_>) -> Option<StationWords> {
+fn next_station(words: &mut Words<'_>) -> Option<StationWords>
+    ensures { FormReads station_words words.old.rest.now result words.new.rest.now }
+{
     Some(StationWords {
         name: next_name(words)?,
         address: next_small_number(words)?,
@@ -228,22 +340,34 @@ fn next_station(words: &mut Words<'_>) -> Option<StationWords> {
     })
 }
 
-fn next_name(words: &mut Words<'_>) -> Option<NameWord> {
-    Some(Name::read_hex(words.next_word()?))
+fn next_name(words: &mut Words<'_>) -> Option<NameWord>
+    ensures { FormReads name_place words.old.rest.now result words.new.rest.now }
+{
+    Some(read_name(words.next_word()?))
+}
+
+fn read_name(word: &str) -> NameWord
+    ensures { result ≡ name_spelled word.now }
+{
+    Name::read_hex(word)
 }
 
 fn next_number(words: &mut Words<'_>) -> Option<u32>
-    ensures { IfSome result (SpellsNumber (first_word words.old.rest.now)) }
+    ensures { FormReads number words.old.rest.now result words.new.rest.now }
 {
     read_number(words.next_word()?)
 }
 
-fn next_small_number(words: &mut Words<'_>) -> Option<u8> {
+fn next_small_number(words: &mut Words<'_>) -> Option<u8>
+    ensures { FormReads small_number words.old.rest.now result words.new.rest.now }
+{
     read_small_number(words.next_word()?)
 }
 
 /// A number that may be left out, and is then 1.
-fn next_count(words: &mut Words<'_>) -> Option<u32> {
+fn next_count(words: &mut Words<'_>) -> Option<u32>
+    ensures { FormReads number_or_one words.old.rest.now result words.new.rest.now }
+{
     match words.next_word() {
         None => Some(1),
         Some(word) => read_number(word),

@@ -1,5 +1,5 @@
-ghost use Rattle.std.specs.Prelude.{◌≡◌, ◌<◌, [], length, MatchOption};
-ghost use Rattle.script_line.specs.Line.{first_word, behind_word};
+ghost use Rattle.std.specs.Prelude.{◌≡◌, ◌<◌, [], ◌∷◌, length, MatchOption};
+ghost use Rattle.script_line.specs.Line.{first_word, behind_word, script_words};
 
 /// The words of a line that are still to be read.
 #[derive(Clone, Copy)]
@@ -36,6 +36,8 @@ impl<'a> Words<'a> {
         ensures word { MatchOption result (first_word self.old.rest.now ≡ [])
             (λ word. (word.now ≡ first_word self.old.rest.now) × (0 < length word.now)) }
         ensures rest { self.new.rest.now ≡ behind_word self.old.rest.now }
+        ensures words { MatchOption result ((script_words self.old.rest.now ≡ []) × (script_words self.new.rest.now ≡ []))
+            (λ word. script_words self.old.rest.now ≡ word.now ∷ script_words self.new.rest.now) }
     {
         let bytes = self.rest.as_bytes();
         let mut start = 0;

@@ -7,12 +7,11 @@ use Rattle.journal.specs.Journal.{GarageValue}
 use Rattle.script_answer.specs.Text.{answer_text}
 use Rattle.script_answer.specs.declared.answer.LineAnswer.{LineAnswer}
 use Rattle.script_answer.specs.declared.refusal.Refusal.{Refusal}
+use Rattle.script_line.specs.Grammar.{line_spelled}
 use Rattle.script_line.specs.Line.{IsSilent}
-use Rattle.script_line.specs.Numbers.{SpellsNumber}
-use Rattle.script_line.specs.Station.{NamesStation, is_of_station, station_word}
 use Rattle.script_line.specs.declared.command.Command.{Command}
 use Rattle.script_line.specs.declared.command.ScriptLine.{ScriptLine}
-use Rattle.script_run.specs.Lines.{AnswersLine, AnswersAll, BenchDoes, IsScriptAnswered, IsRead, LineDoes, StandDoes, StationDoes, WritesText, unit_joined_by}
+use Rattle.script_run.specs.Lines.{AnswersLine, AnswersAll, BenchDoes, IsScriptAnswered, LineDoes, StandDoes, StationDoes, WritesText, unit_joined_by}
 use Rattle.script_run.specs.Moves.{MovesByJoining}
 use Rattle.script_run.specs.Queries.{query_text}
 
@@ -56,11 +55,11 @@ silent_line lines line s old told new silent same h =
     (h.0 ++ [], answers_more lines line None s s h.0 [] h.1 (inl (silent, refl, refl)), Appends-trans old told new h.0 [] h.2 (subst (λ x. Appends told x []) (sym same) (Appends-nil told)))
 
 -- an answered one
-pub line_more : (lines : List (List ℕ)) (line : List ℕ) (read : Option ScriptLine) (s t : Option GarageValue) (old told begun after new : Option (List ℕ)) → ¬ IsSilent line → IsRead line read → begun ≡ told → new ≡ after
+pub line_more : (lines : List (List ℕ)) (line : List ℕ) (read : Option ScriptLine) (s t : Option GarageValue) (old told begun after new : Option (List ℕ)) → ¬ IsSilent line → read ≡ line_spelled line → begun ≡ told → new ≡ after
     → SoFar lines s old told → WritesText begun after (λ text. StandDoes read s text t) → SoFar (lines ++ line ∷ []) t old new
 line_more lines line read s t old told begun after new spoken is same kept h w =
     let appends : Appends told new w.0 = subst (λ x. Appends told x w.0) (sym kept) (subst (λ x. Appends x after w.0) same w.2) in
-    (h.0 ++ w.0, answers_more lines line None s t h.0 w.0 h.1 (inr (spoken, (read, is, w.1))), Appends-trans old told new h.0 w.0 h.2 appends)
+    (h.0 ++ w.0, answers_more lines line None s t h.0 w.0 h.1 (inr (spoken, subst (λ x. StandDoes x s w.0 t) is w.1)), Appends-trans old told new h.0 w.0 h.2 appends)
 
 -- a command at a bench, and a unit that joins it
 bench_line : (read : Option ScriptLine) (g g' : GarageValue) (text : List ℕ) → unit_joined_by read ≡ None → BenchDoes read g text g' → LineDoes read g text g'
@@ -70,11 +69,6 @@ bench_line read g g' text none h =
 join_line : (read : Option ScriptLine) (name address : ℕ) (r : Result LineAnswer Refusal) (g g' : GarageValue) → unit_joined_by read ≡ Some (name, address) → MovesByJoining name address r g g' → LineDoes read g (answer_text r) g'
 join_line read name address r g g' some h =
     subst (λ o. MatchOption o (BenchDoes read g (answer_text r) g') (λ j. (x : Result LineAnswer Refusal) × (answer_text r ≡ answer_text x) × MovesByJoining j.0 j.1 x g g')) (sym some) (r, refl, h)
-
-pub is_read : (line : List ℕ) (read : Option ScriptLine) → IfSome read (λ l. NamesStation line → SpellsNumber (station_word line) l.station) → IfSome read (λ l. NamesStation line → is_of_station l.command ≡ true)
-    → IfSome read (λ l. ¬ NamesStation line → l.station ≡ 0) → IsRead line read
-is_read line None station of first = tt
-is_read line (Some l) station of first = ((λ names. (station names, of names)), first)
 
 -- what one way to answer a line came to, where all ways meet
 pub came_to : {S B X Y : Type 0} (lent : S → GName) (told : S → Option (List ℕ)) (garage : B → GarageValue) (read : Option ScriptLine) (x x' y y' : Option B) (begun after m : S) (a b : Result X Y)

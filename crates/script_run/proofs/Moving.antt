@@ -1,8 +1,10 @@
 -- What a command of a script does leaves the garage so.
-use Rattle.std.proofs.Common.{◌≡◌, ℕ, suc, zero, ◌∙◌, List, [], ◌∷◌, ◌++◌, Option, Result, Ok, Err, length, refl, sym, ap, subst, arith, le_of_lt, zero-le, ⊎_elim}
+use Rattle.std.proofs.Common.{◌≡◌, ℕ, suc, zero, ◌∙◌, List, [], ◌∷◌, ◌++◌, Option, Result, Ok, Err, length, refl, sym, ap, subst, arith, ⊎_elim, inl, inr, IsSome}
 use Rattle.unit_trait.specs.declared.question.Question.{Question}
 use Rattle.node_core.specs.declared.heard.Answer.{Answer as UnitAnswer}
-use Rattle.journal.specs.Journal.{Adds, GarageValue}
+use Rattle.trouble_code.specs.LampBytes.{LampsValue}
+use Rattle.journal.specs.Journal.{Adds, GarageValue, state_of}
+use Rattle.journal.specs.Steps.{next_for}
 use Rattle.journal.specs.declared.event.Event.{Event}
 use Rattle.journal.specs.declared.event.Event.TheVariants as event
 use Rattle.bus_ledger.specs.declared.traffic.Carried.TheVariants as carried
@@ -13,16 +15,18 @@ use Rattle.garage.specs.Hearing.{HasHeardAll, HearsMany}
 use Rattle.garage.specs.Rounds.{AreRounds, EachReads, HaveRounds, HearInTurn, IsListeningCut, IsReadOf, IsRoundCut, Listens}
 use Rattle.garage.specs.declared.answers.Begin.TheVariants as begin
 use Rattle.garage.specs.declared.error.GarageError.{GarageError}
+use Rattle.garage.specs.declared.error.GarageError.TheVariants.{Stranger}
 use Rattle.script_answer.specs.declared.answer.LineAnswer.{LineAnswer}
 use Rattle.script_answer.specs.declared.answer.LineAnswer.TheVariants as answer
 use Rattle.script_answer.specs.declared.refusal.Refusal.{Refusal}
 use Rattle.script_answer.specs.declared.refusal.Refusal.TheVariants as refusal
+use Rattle.script_line.specs.declared.command.CodeChange.{CodeChange}
 use Rattle.script_line.specs.declared.command.Command.{Command}
 use Rattle.script_line.specs.declared.command.Command.TheVariants as command
 use Rattle.script_run.specs.Commands.{ActsBy, Does, IsNotThere, Joins, Leaves}
-use Rattle.script_run.specs.Moves.{HeardBy, TellsHearing, Moves, MovesBy, MovesByBeginning, MovesByHearing, MovesByJoining, MovesByRounds}
+use Rattle.script_run.specs.Moves.{HeardBy, IsNoUnit, TellsHearing, Moves, MovesBy, MovesByBeginning, MovesByHearing, MovesByJoining, MovesByLeaving, MovesByRounds, StaysByChanging, StaysByUnit}
 use Rattle.script_run.specs.Steps.{RunsRounds}
-use Rattle.script_run.specs.UnitSteps.{BeginsSo, HearsSo, TurnsSo, UnitDoes}
+use Rattle.script_run.specs.UnitSteps.{BeginsSo, ChangesSo, HearsSo, LightsSo, TurnsSo, UnitDoes}
 
 lead_none : (P : Event → Type 0) (g h : GarageValue) → h ≡ g → LeadTo P [] g h
 unfolding LeadTo
@@ -139,11 +143,8 @@ module _ {P : Type 0} (sitting : P → Sitting) (asked : P → P → Option Ques
   by_rounds most (Err (refusal.Fault e)) g us g' us' h = h
 
   -- a unit that is not there, or unknown, is told as a refusal, and nothing changed
-  refused : (k : ℕ) (r : Result LineAnswer Refusal) (g : GarageValue) (us : List P) (g' : GarageValue) (us' : List P) → IsNotThere sitting k r g us g' us' → (e : Refusal) × (r ≡ Err e) × (g' ≡ g)
-  refused k r g us g' us' = ⊎_elim (λ h. (refusal.NoSeat, h.0, h.1)) (λ h. (_, h.0, h.1))
-
-  heard_none : (k : ℕ) (g g' : GarageValue) → g' ≡ g → HeardBy k 0 g g'
-  heard_none k g g' e = ([], lead_none (TellsHearing k) g g' e, refl)
+  refused : (k : ℕ) (r : Result LineAnswer Refusal) (g : GarageValue) (us : List P) (g' : GarageValue) (us' : List P) → IsNotThere sitting k r g us g' us' → (e : Refusal) × (r ≡ Err e) × (g' ≡ g) × IsNoUnit e
+  refused k r g us g' us' = ⊎_elim (λ h. (refusal.NoSeat, h.0, h.1, inl refl)) (λ h. (refusal.Garage Stranger, h.0, h.1, inr refl))
 
   by_hearing : (k most : ℕ) (r : Result LineAnswer Refusal) (g : GarageValue) (p : P) (g' : GarageValue) (p' : P) → (sitting p).seat ≡ k → HearsSo sitting asked most r g p g' p' → MovesByHearing k most r g g'
   by_hearing k most (Ok (answer.Heard n)) g p g' p' its h =
@@ -159,7 +160,8 @@ module _ {P : Type 0} (sitting : P → Sitting) (asked : P → P → Option Ques
   by_hearing k most (Ok (answer.Stats m u)) g p g' p' its h = h
   by_hearing k most (Ok (answer.Injected n)) g p g' p' its h = h
   by_hearing k most (Ok (answer.Frame f)) g p g' p' its h = h
-  by_hearing k most (Err (refusal.Garage e)) g p g' p' its h = (h.0, le_of_lt h.1, heard_by k h.0 g p g' p' its h.2.heard)
+  by_hearing k most (Err (refusal.Garage e)) g p g' p' its h =
+      inr (e, h.0, refl, h.1, heard_by k h.0 g p g' p' its h.2.heard, subst (λ j. IsSome (next_for (state_of g') j)) its h.2.left, h.2.want)
   by_hearing k most (Err refusal.BadLine) g p g' p' its h = absurd h
   by_hearing k most (Err refusal.NoSeat) g p g' p' its h = absurd h
   by_hearing k most (Err (refusal.Name e)) g p g' p' its h = absurd h
@@ -198,10 +200,33 @@ module _ {P : Type 0} (sitting : P → Sitting) (asked : P → P → Option Ques
   by_turning k (Err (refusal.Frame e)) g p g' p' its h = absurd h
   by_turning k (Err (refusal.Fault e)) g p g' p' its h = absurd h
 
-  by_leaving : (k : ℕ) (r : Result LineAnswer Refusal) (g : GarageValue) (us : List P) (g' : GarageValue) (us' : List P) → Leaves sitting k r g us g' us' → MovesBy (event.Leave k) r g g'
+  by_leaving : (k : ℕ) (r : Result LineAnswer Refusal) (g : GarageValue) (us : List P) (g' : GarageValue) (us' : List P) → Leaves sitting k r g us g' us' → MovesByLeaving k r g g'
   by_leaving k r g us g' us' = ⊎_elim
-      (λ h. subst (λ x. MovesBy (event.Leave k) x g g') (sym h.0) (refl, h.1))
-      (λ h. let n = refused k r g us g' us' h in subst (λ x. MovesBy (event.Leave k) x g g') (sym n.1) n.2)
+      (λ h. subst (λ x. MovesByLeaving k x g g') (sym h.0) (refl, h.1))
+      (λ h. let n = refused k r g us g' us' h in subst (λ x. MovesByLeaving k x g g') (sym n.1) (n.3, n.2))
+
+  by_changing : (c : CodeChange) (spn fmi count : ℕ) (r : Result LineAnswer Refusal) (g : GarageValue) (p : P) (g' : GarageValue) (p' : P) → g' ≡ g → ChangesSo sitting c spn fmi count r p p' → StaysByChanging r g g'
+  by_changing c spn fmi count (Ok a) g p g' p' same h = (h.0, same)
+  by_changing c spn fmi count (Err (refusal.Fault e)) g p g' p' same h = same
+  by_changing c spn fmi count (Err refusal.BadLine) g p g' p' same h = absurd h
+  by_changing c spn fmi count (Err refusal.NoSeat) g p g' p' same h = absurd h
+  by_changing c spn fmi count (Err (refusal.Name e)) g p g' p' same h = absurd h
+  by_changing c spn fmi count (Err (refusal.Pgn e)) g p g' p' same h = absurd h
+  by_changing c spn fmi count (Err (refusal.Frame e)) g p g' p' same h = absurd h
+  by_changing c spn fmi count (Err (refusal.Garage e)) g p g' p' same h = absurd h
+
+  none_changed : (e : Refusal) (g g' : GarageValue) → IsNoUnit e → g' ≡ g → StaysByChanging (Err e) g g'
+  none_changed (refusal.Fault e) g g' none same = same
+  none_changed refusal.BadLine g g' none same = (none, same)
+  none_changed refusal.NoSeat g g' none same = (none, same)
+  none_changed (refusal.Name e) g g' none same = (none, same)
+  none_changed (refusal.Pgn e) g g' none same = (none, same)
+  none_changed (refusal.Frame e) g g' none same = (none, same)
+  none_changed (refusal.Garage e) g g' none same = (none, same)
+
+  by_lighting : (lamps : LampsValue) (r : Result LineAnswer Refusal) (g : GarageValue) (p : P) (g' : GarageValue) (p' : P) → g' ≡ g → LightsSo sitting lamps r p p' → StaysByUnit r g g'
+  by_lighting lamps (Ok a) g p g' p' same h = (h.0, same)
+  by_lighting lamps (Err e) g p g' p' same h = absurd h
 
   pub by_joining : (name address : ℕ) (r : Result LineAnswer Refusal) (g : GarageValue) (us : List P) (g' : GarageValue) (us' : List P) → Joins sitting name address r g us g' us' → MovesByJoining name address r g g'
   by_joining name address (Ok (answer.Seat k)) g us g' us' h = h.0
@@ -226,10 +251,10 @@ module _ {P : Type 0} (sitting : P → Sitting) (asked : P → P → Option Ques
 
   -- what one unit did, or that there is none, by what it leaves of the garage
   by_one : (k : ℕ) (c : Command) (Q : Result LineAnswer Refusal → Type 0) (r : Result LineAnswer Refusal) (g : GarageValue) (us : List P) (g' : GarageValue) (us' : List P)
-      → ((p p' : P) → (sitting p).seat ≡ k → UnitDoes sitting asked c r g p g' p' → Q r) → ((e : Refusal) → r ≡ Err e → g' ≡ g → Q r) → ActsBy sitting asked k c r g us g' us' → Q r
+      → ((p p' : P) → (sitting p).seat ≡ k → UnitDoes sitting asked c r g p g' p' → Q r) → ((e : Refusal) → r ≡ Err e → g' ≡ g → IsNoUnit e → Q r) → ActsBy sitting asked k c r g us g' us' → Q r
   by_one k c Q r g us g' us' did none = ⊎_elim
       (λ h. did h.before h.after h.its h.did)
-      (λ h. let n = refused k r g us g' us' h in none n.0 n.1 n.2)
+      (λ h. let n = refused k r g us g' us' h in none n.0 n.1 n.2 n.3)
 
   pub moves : (y : ℕ) (c : Command) (r : Result LineAnswer Refusal) (g : GarageValue) (us : List P) (g' : GarageValue) (us' : List P) → Does sitting asked y c r g us g' us' → Moves y c r g g'
   moves y (command.Carry most) r g us g' us' h = h.0
@@ -239,15 +264,18 @@ module _ {P : Type 0} (sitting : P → Sitting) (asked : P → P → Option Ques
   moves y (command.Command name address) r g us g' us' h = h.0
   moves y (command.Inject frame) r g us g' us' h = h.0
   moves y (command.Hear k most) r g us g' us' h = by_one k (command.Hear k most) (λ x. MovesByHearing k most x g g') r g us g' us'
-      (λ p p' its d. by_hearing k most r g p g' p' its d) (λ e is same. subst (λ x. MovesByHearing k most x g g') (sym is) (0, zero-le, heard_none k g g' same)) h
+      (λ p p' its d. by_hearing k most r g p g' p' its d) (λ e is same none. subst (λ x. MovesByHearing k most x g g') (sym is) (inl (none, same))) h
   moves y (command.Dm1 k) r g us g' us' h = by_one k (command.Dm1 k) (λ x. MovesByBeginning k x g g') r g us g' us'
-      (λ p p' its d. by_beginning k r g p g' p' its d) (λ e is same. subst (λ x. MovesByBeginning k x g g') (sym is) same) h
+      (λ p p' its d. by_beginning k r g p g' p' its d) (λ e is same none. subst (λ x. MovesByBeginning k x g g') (sym is) same) h
   moves y (command.Turn k) r g us g' us' h = by_one k (command.Turn k) (λ x. MovesBy (event.Turned k) x g g') r g us g' us'
-      (λ p p' its d. by_turning k r g p g' p' its d) (λ e is same. subst (λ x. MovesBy (event.Turned k) x g g') (sym is) same) h
+      (λ p p' its d. by_turning k r g p g' p' its d) (λ e is same none. subst (λ x. MovesBy (event.Turned k) x g g') (sym is) same) h
   moves y (command.Leave k) r g us g' us' h = by_leaving k r g us g' us' h
-  moves y (command.Change k c spn fmi count) r g us g' us' h = by_one k (command.Change k c spn fmi count) (λ x. g' ≡ g) r g us g' us' (λ p p' its d. d.0) (λ e is same. same) h
-  moves y (command.Lamps k lamps) r g us g' us' h = by_one k (command.Lamps k lamps) (λ x. g' ≡ g) r g us g' us' (λ p p' its d. d.0) (λ e is same. same) h
-  moves y (command.Think k) r g us g' us' h = by_one k (command.Think k) (λ x. g' ≡ g) r g us g' us' (λ p p' its d. d.0) (λ e is same. same) h
+  moves y (command.Change k c spn fmi count) r g us g' us' h = by_one k (command.Change k c spn fmi count) (λ x. StaysByChanging x g g') r g us g' us'
+      (λ p p' its d. by_changing c spn fmi count r g p g' p' d.0 d.1) (λ e is same none. subst (λ x. StaysByChanging x g g') (sym is) (none_changed e g g' none same)) h
+  moves y (command.Lamps k lamps) r g us g' us' h = by_one k (command.Lamps k lamps) (λ x. StaysByUnit x g g') r g us g' us'
+      (λ p p' its d. by_lighting lamps r g p g' p' d.0 d.1) (λ e is same none. subst (λ x. StaysByUnit x g g') (sym is) (none, same)) h
+  moves y (command.Think k) r g us g' us' h = by_one k (command.Think k) (λ x. StaysByUnit x g g') r g us g' us'
+      (λ p p' its d. subst (λ x. StaysByUnit x g g') (sym d.1.0) (refl, d.0)) (λ e is same none. subst (λ x. StaysByUnit x g g') (sym is) (none, same)) h
   moves y (command.Garage name address window grant limit) r g us g' us' h = h.1
   moves y (command.Garage2 limit first second) r g us g' us' h = h.1
   moves y (command.Join name address kind) r g us g' us' h = h.1

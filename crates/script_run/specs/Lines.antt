@@ -14,9 +14,8 @@ use Rattle.script_answer.specs.declared.answer.LineAnswer.{LineAnswer}
 use Rattle.script_answer.specs.declared.answer.LineAnswer.TheVariants.{Done}
 use Rattle.script_answer.specs.declared.refusal.Refusal.{Refusal}
 use Rattle.script_answer.specs.declared.refusal.Refusal.TheVariants.{BadLine, Garage, Name}
+use Rattle.script_line.specs.Grammar.{line_spelled}
 use Rattle.script_line.specs.Line.{IsSilent}
-use Rattle.script_line.specs.Numbers.{SpellsNumber}
-use Rattle.script_line.specs.Station.{NamesStation, is_of_station, station_word}
 use Rattle.script_line.specs.declared.command.Command.{Command}
 use Rattle.script_line.specs.declared.command.Command.TheVariants as command
 use Rattle.script_line.specs.declared.command.ScriptLine.{ScriptLine}
@@ -115,13 +114,9 @@ abbrev pub StandDoes : Option ScriptLine → Option GarageValue → List ℕ →
 StandDoes read None text s = FirstDoes read text s
 StandDoes read (Some g) text s = IsSomeAnd s (λ g'. LineDoes read g text g')
 
--- the command that a line was read as, if any, is of the station that the line names
-abbrev pub IsRead : List ℕ → Option ScriptLine → Type 0
-IsRead line read = IfSome read (λ l. (NamesStation line → SpellsNumber (station_word line) l.station × (is_of_station l.command ≡ true)) × (¬ NamesStation line → l.station ≡ 0))
-
--- a line was answered so: one that is empty or a comment by nothing
+-- a line was answered so: one that is empty or a comment by nothing, any other by what the command does that it spells, if it spells one
 abbrev pub AnswersLine : List ℕ → Option GarageValue → List ℕ → Option GarageValue → Type 0
-AnswersLine line s text s' = (IsSilent line × (text ≡ []) × (s' ≡ s)) ⊎ ((¬ IsSilent line) × ((read : Option ScriptLine) × IsRead line read × StandDoes read s text s'))
+AnswersLine line s text s' = (IsSilent line × (text ≡ []) × (s' ≡ s)) ⊎ ((¬ IsSilent line) × StandDoes (line_spelled line) s text s')
 
 -- lines were answered one after another, each once, and this was written
 unfoldable pub AnswersAll : List (List ℕ) → Option GarageValue → List ℕ → Option GarageValue → Type 0

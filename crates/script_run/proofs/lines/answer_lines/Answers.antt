@@ -4,9 +4,9 @@ use Rattle.std.proofs.KnownBytes.{Appends-nil}
 use Rattle.std.proofs.lemmas.Iterator.Consumers.{YieldsList-end}
 use Rattle.std.proofs.lemmas.Iterator.Splits.{YieldsList-from_lines}
 use Rattle.std.proofs.lemmas.List.{map-append}
-use Rattle.script_run.specs.Lines.{IsRead, StandDoes, WritesText}
+use Rattle.script_run.specs.Lines.{StandDoes, WritesText}
 use Rattle.script_run.specs.Moves.{MovesByJoining}
-use Rattle.script_run.proofs.Answering.{answered_all, answers_none, came_to, is_read, line_more, on_both, on_err, silent_line, wrote_bench, wrote_line}
+use Rattle.script_run.proofs.Answering.{answered_all, answers_none, came_to, line_more, on_both, on_err, silent_line, wrote_bench, wrote_line}
 use Rattle.script_run.proofs.lines.answer_lines.OwnLists.{at-1-1, own-1}
 use Rattle.script_run.proofs.lines.answer_lines.Goals.{in-Some-bench+in-Some-joining, in-Ok, in-Err, in-Some-bench+in-None-joining, in-None-bench, in-None, in-Some+else-begin_line+then-is_err}
 use Rattle.script_run.proofs.lines.answer_lines.Goals as goal
@@ -25,7 +25,7 @@ loop-line-preserved-then-begin_line g c = (
 pub loop-line-preserved : goal.loop-line-preserved
 loop-line-preserved g c =
     let ended : IsOk c.end_line-heard.result = search rules in
-    let is : IsRead c.in-Some.line.now c.read_line-read.result = is_read c.in-Some.line.now c.read_line-read.result c.read_line-read.ensures.station c.read_line-read.ensures.of_station c.read_line-read.ensures.first in
+    let is = c.read_line-read.ensures in
     let did : (g.L.AnswerSink.lent c.match-bench.sink ≡ g.L.AnswerSink.lent c.begin_line.new.self) × OnOk c.match-bench.answered (WritesText (g.L.AnswerSink.told c.begin_line.new.self) (g.L.AnswerSink.told c.match-bench.sink)
     (λ text. StandDoes c.read_line-read.result (option_map (λ b. b.garage) c.loop-line.bench) text (option_map (λ b. b.garage) c.match-bench.bench))) = elim c.match-bench.branch [
       | in-Some-bench+in-Some-joining w ↦ elim w.match-new.branch [

@@ -170,7 +170,7 @@ class Page:
                 self.changes.append([event, self.label(self.key(event)), f"a {event['kind'].upper()} that could not be read"])
             elif told in ("dm1", "dm2", "dm6"):
                 self.changes.append([event, self.label(self.key(event)), f"{told.upper()}: {self.brief(event)}"])
-            if told not in ("unit", "missed") and event["name"] is None:
+            if told not in ("unit", "missed", "vin") and event["name"] is None:
                 heard.add(self.key(event))
 
     def end_span(self, key, at):
@@ -330,6 +330,7 @@ class Unit:
     def row(self):
         """Its row of the table: what it is called, then each cell."""
         said = f" {Name(self.row_of['name']).words()}" if self.row_of["name"] else ""
+        said += f" VIN {' '.join(self.row_of['vin'].split())}" if "vin" in self.row_of else ""
         address = self.row_of["address"] if self.row_of["address"] is not None else "not known" if self.presence == "unknown" else "none"
         counts = [str(sum(run["times"] for run in self.row_of[kind])) for kind in ("dm1", "dm2", "dm6")]
         return [self.page.label(self.key) + said, str(address), self.lamps(), self.faults(), self.ever(), *counts]

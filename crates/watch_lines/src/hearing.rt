@@ -5,7 +5,7 @@ use candump_line::Line;
 use log_lines::LogFault;
 use std::alloc::Global;
 use std::io::Write;
-use watch_reports::{Assumed, ReportOptions, write_broken, write_changes};
+use watch_reports::{Assumed, ReportOptions, write_broken, write_changes, write_vin};
 
 /// Has the watches hear the line of this number, and writes what that changes. Where it is the first of its bus, the assumed owners
 /// come before it.
@@ -74,7 +74,10 @@ fn tell_at<W: Write>(
 
 /// Whether the newest line changed anything of a bus.
 fn has_news(one: &BusWatch) -> bool {
-    one.changes.lost.is_some() || one.changes.change.is_some() || !one.watch.broken().is_empty()
+    one.changes.lost.is_some()
+        || one.changes.change.is_some()
+        || !one.watch.broken().is_empty()
+        || one.watch.vin_told().is_some()
 }
 
 /// Writes and keeps what the line of this number changed of a bus.
@@ -90,6 +93,9 @@ fn tell<W: Write>(
     write_changes(writer, one, options, kept.start(), number, &one.changes)?;
     if !one.watch.broken().is_empty() {
         write_broken(writer, one, options, kept.start(), number)?;
+    }
+    if one.watch.vin_told().is_some() {
+        write_vin(writer, one, options, kept.start(), number)?;
     }
     kept.tell(place, one)
 }

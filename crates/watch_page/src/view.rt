@@ -63,11 +63,14 @@ pub(crate) fn who_of(sender: &Sender) -> Who {
 
 /// How many places of units a watch has, of which some stay empty.
 pub(crate) fn places_of(watch: &Watch) -> usize {
-    watch.names().saturating_add(watch.units())
+    watch
+        .names()
+        .saturating_add(watch.units())
+        .saturating_add(watch.vins())
 }
 
-/// The sender at this place: first all NAMEs, in the order of their first claims, then the addresses that nobody has claimed. A
-/// place behind the NAMEs where the entry was one of a NAME stays empty.
+/// The sender at this place: first all NAMEs, in the order of their first claims, then the addresses that nobody has claimed, those that
+/// told a VIN alone last. A place behind the NAMEs where the entry, or the VIN, was one of a NAME stays empty.
 pub(crate) fn sender_at(watch: &Watch, place: usize) -> Option<Sender> {
     let names = watch.names();
     if place < names {
@@ -76,8 +79,32 @@ pub(crate) fn sender_at(watch: &Watch, place: usize) -> Option<Sender> {
             None => None,
         };
     }
-    match watch.unit_at(place - names) {
+    match unit_behind_names(watch, place - names) {
         Some(Who::Unclaimed { address, gaps }) => Some(Sender::Unclaimed { address, gaps }),
         _ => None,
     }
+}
+
+/// The unit at this place behind the NAMEs, where it is the first that it has there.
+fn unit_behind_names(watch: &Watch, place: usize) -> Option<Who> {
+    let units = watch.units();
+    if place < units {
+        return watch.unit_at(place);
+    }
+    let who = watch.vin_unit_at(place - units)?;
+    if has_entries(watch, &who) {
+        None
+    } else {
+        Some(who)
+    }
+}
+
+/// Whether a unit has an entry of some kind.
+fn has_entries(watch: &Watch, who: &Who) -> bool {
+    for kind in [Kind::Dm1, Kind::Dm2, Kind::Dm6] {
+        if !watch.runs(*who, kind).is_empty() {
+            return true;
+        }
+    }
+    false
 }

@@ -1,6 +1,6 @@
 use crate::options::{ReportOptions, ReportPart};
 use crate::report_writer::ReportWriter;
-use crate::{broken, objects, report_object, rows, text, text_report};
+use crate::{broken, objects, report_object, rows, text, text_report, vins};
 use bus_watch::{BusWatch, Buses, Changes, WatchChange};
 use candump_line::Time;
 use log_lines::LogFault;
@@ -59,6 +59,26 @@ pub fn write_broken<W: Write>(
     match options.form {
         WatchForm::Text => broken::write_lines(&mut report, one, options, start),
         WatchForm::Json => broken::write_objects(&mut report, one, number),
+        WatchForm::Csv | WatchForm::Html => {}
+    }
+    report.end()
+}
+
+/// Writes the VIN that a unit told by the line of this number, where it had not told it before.
+///
+/// # Errors
+/// - `Write`: a write failed; how much was written by then is not told.
+pub fn write_vin<W: Write>(
+    writer: &mut W,
+    one: &BusWatch,
+    options: &ReportOptions<'_>,
+    start: &Option<Time>,
+    number: u64,
+) -> Result<(), LogFault> {
+    let mut report = ReportWriter::new(writer);
+    match options.form {
+        WatchForm::Text => vins::write_line(&mut report, one, options, start),
+        WatchForm::Json => vins::write_object(&mut report, one, number),
         WatchForm::Csv | WatchForm::Html => {}
     }
     report.end()

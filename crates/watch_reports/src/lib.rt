@@ -18,8 +18,9 @@ mod rows;
 mod text;
 mod text_report;
 mod units;
+mod vins;
 
 pub use assumed::Assumed;
-pub use form::{WatchForm, write_broken, write_changes, write_report};
+pub use form::{WatchForm, write_broken, write_changes, write_report, write_vin};
 pub use options::{ReportOptions, ReportPart};
 pub use units::KINDS;

@@ -10,6 +10,7 @@ use crate::options::{ReportOptions, ReportPart};
 use crate::report_writer::ReportWriter;
 use crate::reported_bus::ReportedBus;
 use crate::units::{KINDS, kind_word, row_at, row_places};
+use crate::vins;
 use bus_watch::{BusWatch, Buses, EntryRun, WatchCounts, Who};
 use dm_messages::Kind;
 use picture::EverInLog;
@@ -89,6 +90,7 @@ fn write_rows<W: Write>(
             report.text(before);
             write_row(report, bus.one, options, who);
             write_ever(report, bus, options.texts, who);
+            vins::write_key(report, &bus.one.watch, who);
             report.text("}");
             before = ",{";
         }
@@ -96,7 +98,7 @@ fn write_rows<W: Write>(
     before
 }
 
-/// A row but for what the unit told at any time, and the end.
+/// A row but for what the unit told at any time, its VIN, and the end.
 fn write_row<W: Write>(
     report: &mut ReportWriter<'_, W>,
     one: &BusWatch,

@@ -5,6 +5,7 @@ use crate::options::{ReportOptions, ReportPart};
 use crate::report_writer::ReportWriter;
 use crate::reported_bus::ReportedBus;
 use crate::units::{KINDS, WhoValue, address_of, has_entries, kind_word, row_at, row_places};
+use crate::vins;
 use bus_watch::{BusWatch, Buses, EntryRun, Watch, Who};
 use can_frame::GLOBAL_ADDRESS;
 use candump_line::Time;
@@ -24,7 +25,7 @@ const HEADER: &str =
 /// Writes the report: a row for each code of each run of equal entries, one without a code for a run without codes, and one
 /// without a kind for a unit without entries. Where each bus is watched, the bus follows; then come what the NAME says of the unit,
 /// the shop's texts for the unit and for the code, the NAME again, what the unit told at any time, what
-/// the FMI says, and what of the entries is not read. The names of the values stand before the first part.
+/// the FMI says, what of the entries is not read, and the unit's VIN. The names of the values stand before the first part.
 pub(crate) fn write_rows<W: Write>(
     report: &mut ReportWriter<'_, W>,
     buses: &Buses,
@@ -62,7 +63,7 @@ fn write_header<W: Write>(report: &mut ReportWriter<'_, W>, names_bus: bool) {
     }
     report.text(",function,instance,manufacturer,identity,unit_text,code_text,name_hex");
     report.text(EVER_HEADER);
-    report.text(",fmi_text,not_read\n");
+    report.text(",fmi_text,not_read,vin\n");
 }
 
 /// The rows of a bus.
@@ -108,7 +109,9 @@ fn write_without_kind<W: Write>(
     report.text(",,,,,,,,,,");
     write_words(report, one, options, who, None);
     write_no_ever(report);
-    report.text(",,\n");
+    report.text(",,");
+    vins::write_value(report, &one.watch, who);
+    report.text("\n");
 }
 
 /// The rows of a kind of messages.
@@ -174,6 +177,7 @@ fn write_row<W: Write>(
     write_ever(report, bus, who, kind, code);
     write_failure_mode(report, code);
     write_trouble(report, run);
+    vins::write_value(report, &bus.one.watch, who);
     report.text("\n");
 }
 

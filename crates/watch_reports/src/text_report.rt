@@ -7,6 +7,7 @@ use crate::options::{ReportOptions, ReportPart};
 use crate::report_writer::ReportWriter;
 use crate::reported_bus::ReportedBus;
 use crate::units::{KINDS, PlainWho, address_of, address_words, row_at, row_places};
+use crate::vins;
 use bus_watch::{BusWatch, Buses, EntryRun, Watch, WatchCounts, Who};
 use candump_line::Time;
 use dm_messages::Kind;
@@ -127,7 +128,7 @@ fn write_row<W: Write>(
         write_entries(report, one.watch.entries(*who, kind));
     }
     write_newest(report, one.watch.runs(*who, Kind::Dm1).last());
-    write_words(report, options, who);
+    write_words(report, one, options, who);
 }
 
 /// The unit, and the address of its NAME.
@@ -178,8 +179,13 @@ fn write_lamps<W: Write>(report: &mut ReportWriter<'_, W>, newest: &EntryRun) {
     write!(report, "{codes:>4} {lamps} ({bytes}){part}");
 }
 
-/// Whether it is assumed, the unit in words where it has a NAME, and a line end.
-fn write_words<W: Write>(report: &mut ReportWriter<'_, W>, options: &ReportOptions<'_>, who: &Who) {
+/// Whether it is assumed, the unit in words where it has a NAME, its VIN where it told one, and a line end.
+fn write_words<W: Write>(
+    report: &mut ReportWriter<'_, W>,
+    one: &BusWatch,
+    options: &ReportOptions<'_>,
+    who: &Who,
+) {
     if is_assumed_unit(options.assumed, who) {
         report.text(" assumed");
     }
@@ -187,6 +193,7 @@ fn write_words<W: Write>(report: &mut ReportWriter<'_, W>, options: &ReportOptio
         let unit = options.units.words_of(name);
         write!(report, "; {unit}");
     }
+    vins::write_in_row(report, &one.watch, who);
     report.text("\n");
 }
 

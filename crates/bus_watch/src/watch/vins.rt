@@ -77,6 +77,13 @@ impl Watch {
         self.vins.told()
     }
 
+    /// Whether it is told of what a unit sends from an address to another one at the time of the newest line: where a VIN is kept.
+    pub fn tells_of(&self, who: Who, source: u8, dest: u8) -> bool
+        ensures { result ≡ vins.is_vin_shown self.now.lists.selection self.now.lists.time who source dest }
+    {
+        self.shows_vin(who, source, dest, None)
+    }
+
     /// Takes a reading, as `take` does. Where frames were missed, no VIN is half read any more.
     #[tactic(auto, using(crate::proofs::VinsRead::takes_aside, crate::proofs::VinsRead::tells_aside))]
     pub(super) fn take_reading(
@@ -173,8 +180,8 @@ impl Watch {
         Ok(changes)
     }
 
-    /// Whose a message is that begins at an address.
-    pub(super) fn who_at(&self, source: u8) -> Who
+    /// Whose a message is that begins at an address: its owner's, or nobody's.
+    pub fn who_at(&self, source: u8) -> Who
         ensures { result ≡ who_in self.now.listener source }
     {
         let listener = self.ear.listener();

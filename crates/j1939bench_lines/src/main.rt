@@ -66,10 +66,11 @@ fn watch<R: Runtime + AllocGlobal>(
     line_commands::look_at_watch_words(rt, &request)?;
     let units = read_texts(rt, words.units)?;
     let texts = read_texts(rt, words.texts)?;
+    let signals = read_texts(rt, words.signals)?;
     let files = ShopFiles {
         units: named(words.units, &units),
         texts: named(words.texts, &texts),
-        signals: None,
+        signals: named(words.signals, &signals),
     };
     watch_with(rt, request, files, is_terminal)
 }

@@ -35,6 +35,14 @@ impl ShopTexts {
             signals: signals_of(alloc, files.signals)?,
         })
     }
+
+    /// The signals whose values are kept, where a file of them is named.
+    pub(crate) fn watched_signals(&self, file: Option<&str>) -> Option<&Signals> {
+        match file {
+            Some(_) => Some(&self.signals),
+            None => None,
+        }
+    }
 }
 
 /// The texts of codes that a file holds; none where there is no file.

@@ -45,6 +45,7 @@ pub(crate) fn options_of<'a>(
         title: title_of(words.file),
         units: &shop.units,
         texts: &shop.texts,
+        signals: shop.watched_signals(words.signals),
         clock,
         strict: words.strict,
     })

@@ -8,27 +8,37 @@
 
 mod appearance;
 mod brief;
+mod curve;
 mod ever;
 mod ever_in_log;
 mod ever_lamps;
 mod handover;
 mod history;
 mod lane;
+mod moments;
 mod picture;
+mod series;
 mod severity;
 mod span;
 mod track;
 mod unit;
+mod value_range;
+mod values_in_log;
 
 pub use appearance::Appearance;
 pub use brief::{Brief, LISTED};
+pub use curve::{Curve, CurvePoint, MOST_POINTS};
 pub use ever::{EVER_CODES, Ever, EverCode};
 pub use ever_in_log::{EVER_UNITS, EverInLog, SILENCE};
 pub use handover::Handover;
 pub use history::{Happened, History, Occurrence};
 pub use lane::{Holding, RunEnd, UnitLane};
+pub use moments::{FRESH, MOMENTS, MOMENT_VALUES, MomentValue};
 pub use picture::{Axis, Picture};
+pub use series::{SeriesKey, SignalSeries, value_of};
 pub use severity::Severity;
 pub use span::{Shows, Span};
 pub use track::Track;
 pub use unit::{DrawnUnit, Sender};
+pub use value_range::{ToldValue, ValueRange};
+pub use values_in_log::{MOST_SERIES, SignalsInLog, VALUE_BYTES, ValuesInLog};

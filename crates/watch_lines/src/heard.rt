@@ -4,7 +4,7 @@ use bus_watch::Buses;
 use log_lines::LogFault;
 use std::alloc::{AllocError, Global};
 use std::io::Write;
-use watch_reports::{ReportOptions, ReportPart, write_report};
+use watch_reports::{ReportOptions, ReportPart, Reported, write_report};
 
 /// What was heard: the watches of the buses, and what is kept beside them.
 #[derive(Drop)]
@@ -20,7 +20,12 @@ impl Heard {
     /// Memory was refused.
     pub(crate) fn new(alloc: Global, options: &WatchOptions<'_>) -> Result<Heard, AllocError> {
         let buses = Buses::new(alloc, options.settings, options.bus);
-        let kept = PageHistory::new(alloc, options.form, options.settings.selection.to);
+        let kept = PageHistory::new(
+            alloc,
+            options.form,
+            options.settings.selection.to,
+            options.signals.is_some(),
+        );
         of_both(buses, kept)
     }
 
@@ -58,14 +63,13 @@ impl Heard {
         options: &ReportOptions<'_>,
         part: ReportPart,
     ) -> Result<(), LogFault> {
-        write_report(
-            writer,
-            &self.buses,
-            self.kept.ever(),
-            self.kept.start(),
-            options,
-            part,
-        )
+        let told = Reported {
+            buses: &self.buses,
+            ever: self.kept.ever(),
+            values: self.kept.values(options.signals),
+            start: self.kept.start(),
+        };
+        write_report(writer, &told, options, part)
     }
 }
 

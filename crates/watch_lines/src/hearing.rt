@@ -1,5 +1,6 @@
 use crate::heard::Heard;
 use crate::kept::PageHistory;
+use crate::values::{hear_values, mark_values};
 use bus_watch::{BusWatch, Hearers};
 use candump_line::Line;
 use log_lines::LogFault;
@@ -21,7 +22,11 @@ pub(crate) fn hear_line<W: Write>(
     if !options.assumed.is_empty() {
         begin_bus(alloc, writer, heard, options, line)?;
     }
-    match heard.buses.hear(alloc, line)? {
+    let hearers = match options.signals {
+        Some(signals) => hear_values(alloc, heard, signals, line)?,
+        None => heard.buses.hear(alloc, line)?,
+    };
+    match hearers {
         Hearers::Nobody => Ok(()),
         Hearers::One(place) | Hearers::New(place) => tell_at(writer, heard, place, options, number),
         Hearers::Every => tell_each(writer, heard, options, number),
@@ -96,6 +101,9 @@ fn tell<W: Write>(
     }
     if one.watch.vin_told().is_some() {
         write_vin(writer, one, options, kept.start(), number)?;
+    }
+    if let Some(signals) = options.signals {
+        mark_values(kept, signals, place, one)?;
     }
     kept.tell(place, one)
 }

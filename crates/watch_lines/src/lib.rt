@@ -13,6 +13,7 @@ mod over;
 mod page;
 mod run;
 mod units;
+mod values;
 
 pub use options::WatchOptions;
 pub use run::{Watched, watch};

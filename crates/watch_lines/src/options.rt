@@ -2,6 +2,7 @@ use bus_watch::{BusShown, Limits, WatchSettings};
 use candump_line::Time;
 use log_lines::ClockForm;
 use shop_texts::{Texts, UnitTexts};
+use signal_values::Signals;
 use watch_reports::{Assumed, ReportOptions, WatchForm};
 
 /// How a log or a live bus is watched.
@@ -22,6 +23,8 @@ pub struct WatchOptions<'a> {
     /// A shop's texts for units, and for codes.
     pub units: &'a UnitTexts,
     pub texts: &'a Texts,
+    /// The signals whose values are kept, where any are.
+    pub signals: Option<&'a Signals>,
     /// How times are told to people; where that is not said, in text as the log has them, and on a page by UTC where they count
     /// from the start of 1970, else since the first.
     pub clock: Option<ClockForm<'a>>,
@@ -37,6 +40,7 @@ impl<'a> WatchOptions<'a> {
             assumed: self.assumed,
             units: self.units,
             texts: self.texts,
+            signals: self.signals,
             clock: self.clock,
         }
     }

@@ -32,6 +32,7 @@ fn write_finished<W: Write>(
         title: options.title,
         picture,
         ever: heard.kept.ever(),
+        values: heard.kept.values(reports.signals),
         buses: heard.buses.watches(),
         units: reports.units,
         texts: reports.texts,

@@ -20,6 +20,7 @@ mod silence;
 mod standing;
 mod style;
 mod table;
+mod values;
 mod view;
 mod words;
 

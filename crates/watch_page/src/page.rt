@@ -6,6 +6,7 @@ use crate::pieces::write_count;
 use crate::standing::Standing;
 use crate::style::style;
 use crate::table::write_table;
+use crate::values::write_values;
 use crate::view::View;
 use crate::words::PageWords;
 use bus_watch::BusWatch;
@@ -42,6 +43,7 @@ fn write_parts<W: Write>(page: &mut Page<W>, view: &View<'_>, standing: &Standin
     write_chips(page, view, standing);
     write_table(page, view, words, standing);
     write_handovers(page, view, words);
+    write_values(page, view, words);
     write_lanes(page, view, words);
     write_changes(page, view, words);
     write_note(page, view.buses);

@@ -18,9 +18,12 @@ mod rows;
 mod text;
 mod text_report;
 mod units;
+mod value_lines;
+mod value_objects;
+mod value_rows;
 mod vins;
 
 pub use assumed::Assumed;
 pub use form::{WatchForm, write_broken, write_changes, write_report, write_vin};
-pub use options::{ReportOptions, ReportPart};
+pub use options::{ReportOptions, ReportPart, Reported};
 pub use units::KINDS;

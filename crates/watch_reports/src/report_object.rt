@@ -6,35 +6,37 @@ use crate::ever_object::write_ever;
 use crate::object_parts::{
     write_bus, write_fields, write_shown, write_text, write_time, write_trouble, write_who,
 };
-use crate::options::{ReportOptions, ReportPart};
+use crate::options::{ReportOptions, ReportPart, Reported};
 use crate::report_writer::ReportWriter;
 use crate::reported_bus::ReportedBus;
 use crate::units::{KINDS, kind_word, row_at, row_places};
+use crate::value_objects::write_values;
 use crate::vins;
-use bus_watch::{BusWatch, Buses, EntryRun, WatchCounts, Who};
+use bus_watch::{BusWatch, EntryRun, WatchCounts, Who};
 use dm_messages::Kind;
 use picture::EverInLog;
 use std::io::Write;
 
-/// Writes the report and a line end: a row for each unit with its runs of entries, the counts of what was heard, and those of the
-/// lines.
+/// Writes the report and a line end: a row for each unit with its runs of entries, the counts of what was heard, those of the
+/// lines, and the values of signals, where those are kept.
 pub(crate) fn write_report<W: Write>(
     report: &mut ReportWriter<'_, W>,
-    buses: &Buses,
-    ever: &EverInLog,
+    told: &Reported<'_>,
     options: &ReportOptions<'_>,
     part: ReportPart,
 ) {
+    let buses = told.buses;
     write_begin(report, part);
-    write_all_rows(report, buses.watches(), ever, options);
+    write_all_rows(report, buses.watches(), told.ever, options);
     write_heard(report, buses.watches());
     write_counts(report, buses.counts());
     if buses.are_each() {
         write_buses(report, buses.watches());
     }
-    write_left_out(report, ever.left_out());
+    write_left_out(report, told.ever.left_out());
     write_partly(report, buses.counts().partly);
     write_count_keys(report, buses);
+    write_values(report, told);
     report.text("}\n");
 }
 

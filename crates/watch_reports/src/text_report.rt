@@ -3,42 +3,41 @@
 use crate::assumed::is_assumed_unit;
 use crate::broken::write_count_line;
 use crate::ever_text::write_ever;
-use crate::options::{ReportOptions, ReportPart};
+use crate::options::{ReportOptions, ReportPart, Reported};
 use crate::report_writer::ReportWriter;
 use crate::reported_bus::ReportedBus;
 use crate::units::{KINDS, PlainWho, address_of, address_words, row_at, row_places};
+use crate::value_lines::write_values;
 use crate::vins;
-use bus_watch::{BusWatch, Buses, EntryRun, Watch, WatchCounts, Who};
-use candump_line::Time;
+use bus_watch::{BusWatch, EntryRun, Watch, WatchCounts, Who};
 use dm_messages::Kind;
 use dm_words::{LampBytes, LampWords};
-use picture::EverInLog;
 use safe_text::Seen;
 use std::io::Write;
 
-/// Writes for each bus what is told of its units, and the counts of what was heard; then those of the lines.
+/// Writes for each bus what is told of its units, and the counts of what was heard; then the values of signals, where those are kept, and
+/// the counts of the lines.
 pub(crate) fn write_report<W: Write>(
     report: &mut ReportWriter<'_, W>,
-    buses: &Buses,
-    ever: &EverInLog,
-    start: &Option<Time>,
+    told: &Reported<'_>,
     options: &ReportOptions<'_>,
     part: ReportPart,
 ) {
     if let ReportPart::Before { line, .. } = part {
         writeln!(report, "over at line {line}, so far:");
     }
-    for (place, one) in buses.watches().iter().enumerate() {
+    for (place, one) in told.buses.watches().iter().enumerate() {
         let bus = ReportedBus {
             one,
             place,
-            ever,
-            start: *start,
+            ever: told.ever,
+            start: *told.start,
         };
         write_bus(report, &bus, options);
     }
-    write_left_out(report, ever.left_out());
-    write_counts(report, buses.counts());
+    write_left_out(report, told.ever.left_out());
+    write_values(report, told, options);
+    write_counts(report, told.buses.counts());
 }
 
 /// What is told of each unit of a bus, first of those whose red stop lamp was on; and the counts of what was heard there.

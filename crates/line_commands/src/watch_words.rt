@@ -46,6 +46,7 @@ pub(crate) fn options_of<'a>(
         units: &shop.units,
         texts: &shop.texts,
         signals: shop.watched_signals(words.signals),
+        since: shop.since(),
         clock,
         strict: words.strict,
     })

@@ -24,6 +24,7 @@ mod track;
 mod unit;
 mod value_range;
 mod values_in_log;
+mod visit;
 
 pub use appearance::Appearance;
 pub use brief::{Brief, LISTED};
@@ -42,3 +43,4 @@ pub use track::Track;
 pub use unit::{DrawnUnit, Sender};
 pub use value_range::{ToldValue, ValueRange};
 pub use values_in_log::{MOST_SERIES, SignalsInLog, VALUE_BYTES, ValuesInLog};
+pub use visit::{EarlierVisit, Since, SinceThen, VisitCode, VisitUnit};

@@ -2,6 +2,7 @@ use crate::kept::PageHistory;
 use crate::options::WatchOptions;
 use bus_watch::Buses;
 use log_lines::LogFault;
+use picture::{EarlierVisit, SinceThen};
 use std::alloc::{AllocError, Global};
 use std::io::Write;
 use watch_reports::{ReportOptions, ReportPart, Reported, write_report};
@@ -34,6 +35,21 @@ impl Heard {
         self.kept.settle(&self.buses);
     }
 
+    /// What changed since an earlier visit, where one is given.
+    ///
+    /// # Errors
+    /// Memory was refused.
+    pub(crate) fn since(
+        &self,
+        alloc: Global,
+        visit: Option<&EarlierVisit>,
+    ) -> Result<Option<Vec<SinceThen>>, AllocError> {
+        match visit {
+            Some(visit) => Ok(Some(visit.changes(alloc, self.kept.ever())?)),
+            None => Ok(None),
+        }
+    }
+
     /// Before the line of this number each bus is begun anew: what is to be kept until then is.
     ///
     /// # Errors
@@ -53,7 +69,7 @@ impl Heard {
         Ok(())
     }
 
-    /// Reports what was heard so far.
+    /// Reports what was heard so far, and what changed since an earlier visit.
     ///
     /// # Errors
     /// A write failed.
@@ -62,11 +78,13 @@ impl Heard {
         writer: &mut W,
         options: &ReportOptions<'_>,
         part: ReportPart,
+        since: Option<&[SinceThen]>,
     ) -> Result<(), LogFault> {
         let told = Reported {
             buses: &self.buses,
             ever: self.kept.ever(),
             values: self.kept.values(options.signals),
+            since,
             start: self.kept.start(),
         };
         write_report(writer, &told, options, part)

@@ -17,4 +17,4 @@ mod values;
 
 pub use options::WatchOptions;
 pub use run::{Watched, watch};
-pub use watch_reports::{Assumed, WatchForm};
+pub use watch_reports::{Assumed, WatchForm, read_visit};

@@ -17,6 +17,7 @@ mod moment;
 mod page;
 mod pieces;
 mod silence;
+mod since;
 mod standing;
 mod style;
 mod table;

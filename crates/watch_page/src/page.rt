@@ -3,6 +3,7 @@ use crate::chips::write_chips;
 use crate::lanes::write_lanes;
 use crate::moment::write_time;
 use crate::pieces::write_count;
+use crate::since::write_since;
 use crate::standing::Standing;
 use crate::style::style;
 use crate::table::write_table;
@@ -41,6 +42,7 @@ fn write_parts<W: Write>(page: &mut Page<W>, view: &View<'_>, standing: &Standin
     let words = &PageWords::of(view);
     write_head(page, view, words);
     write_chips(page, view, standing);
+    write_since(page, view, words);
     write_table(page, view, words, standing);
     write_handovers(page, view, words);
     write_values(page, view, words);

@@ -2,7 +2,7 @@ use bus_watch::{BusWatch, Watch, Who};
 use dm_messages::Kind;
 use log_lines::ClockForm;
 use name_field::Name;
-use picture::{DrawnUnit, Ever, EverInLog, Picture, Sender, Severity, SignalsInLog};
+use picture::{DrawnUnit, Ever, EverInLog, Picture, Sender, Severity, SignalsInLog, SinceThen};
 use shop_texts::{Texts, UnitTexts};
 use std::alloc::Global;
 
@@ -17,6 +17,8 @@ pub struct View<'a> {
     pub ever: &'a EverInLog,
     /// The values of signals, where those are kept.
     pub values: Option<SignalsInLog<'a>>,
+    /// What changed since an earlier visit, where one is given.
+    pub since: Option<&'a [SinceThen]>,
     /// The buses, in the order of the numbers that units have.
     pub buses: &'a [BusWatch],
     pub units: &'a UnitTexts,

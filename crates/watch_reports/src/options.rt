@@ -3,7 +3,7 @@ use crate::form::WatchForm;
 use bus_watch::Buses;
 use candump_line::Time;
 use log_lines::ClockForm;
-use picture::{EverInLog, SignalsInLog};
+use picture::{EverInLog, SignalsInLog, SinceThen};
 use shop_texts::{Texts, UnitTexts};
 use signal_values::Signals;
 
@@ -39,6 +39,8 @@ pub struct Reported<'a> {
     pub ever: &'a EverInLog,
     /// The values of signals, where those are kept.
     pub values: Option<SignalsInLog<'a>>,
+    /// What changed since an earlier visit, where one is given.
+    pub since: Option<&'a [SinceThen]>,
     /// The time of the first line that has one.
     pub start: &'a Option<Time>,
 }

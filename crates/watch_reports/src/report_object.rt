@@ -9,6 +9,7 @@ use crate::object_parts::{
 use crate::options::{ReportOptions, ReportPart, Reported};
 use crate::report_writer::ReportWriter;
 use crate::reported_bus::ReportedBus;
+use crate::since::write_objects as write_since;
 use crate::units::{KINDS, kind_word, row_at, row_places};
 use crate::value_objects::write_values;
 use crate::vins;
@@ -37,6 +38,7 @@ pub(crate) fn write_report<W: Write>(
     write_partly(report, buses.counts().partly);
     write_count_keys(report, buses);
     write_values(report, told);
+    write_since(report, told, options);
     report.text("}\n");
 }
 

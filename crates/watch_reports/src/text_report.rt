@@ -6,6 +6,7 @@ use crate::ever_text::write_ever;
 use crate::options::{ReportOptions, ReportPart, Reported};
 use crate::report_writer::ReportWriter;
 use crate::reported_bus::ReportedBus;
+use crate::since::write_lines as write_since;
 use crate::units::{KINDS, PlainWho, address_of, address_words, row_at, row_places};
 use crate::value_lines::write_values;
 use crate::vins;
@@ -15,8 +16,8 @@ use dm_words::{LampBytes, LampWords};
 use safe_text::Seen;
 use std::io::Write;
 
-/// Writes for each bus what is told of its units, and the counts of what was heard; then the values of signals, where those are kept, and
-/// the counts of the lines.
+/// Writes for each bus what is told of its units, and the counts of what was heard; then the values of signals, where those are kept;
+/// what changed since an earlier visit, where one is given; and the counts of the lines.
 pub(crate) fn write_report<W: Write>(
     report: &mut ReportWriter<'_, W>,
     told: &Reported<'_>,
@@ -37,6 +38,7 @@ pub(crate) fn write_report<W: Write>(
     }
     write_left_out(report, told.ever.left_out());
     write_values(report, told, options);
+    write_since(report, told, options);
     write_counts(report, told.buses.counts());
 }
 

@@ -7,7 +7,6 @@ use Rattle.picture.specs.ValuesTold.{RangesOver}
 use Rattle.picture.specs.declared.value_range.ToldValue.{ToldValue}
 use Rattle.picture.specs.declared.value_range.ValueRange.{ValueRange}
 
-
 newest_among : (v : ToldValue) (heard : List ToldValue) → Contains (v ∷ heard) v
 newest_among v heard = Contains-append_left (v ∷ []) heard v (Contains-push [] v)
 

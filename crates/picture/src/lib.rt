@@ -34,7 +34,7 @@ pub use ever_in_log::{EVER_UNITS, EverInLog, SILENCE};
 pub use handover::Handover;
 pub use history::{Happened, History, Occurrence};
 pub use lane::{Holding, RunEnd, UnitLane};
-pub use moments::{FRESH, MOMENTS, MOMENT_VALUES, MomentValue};
+pub use moments::{FRESH, MOMENT_VALUES, MOMENTS, MomentValue};
 pub use picture::{Axis, Picture};
 pub use series::{SeriesKey, SignalSeries, value_of};
 pub use severity::Severity;

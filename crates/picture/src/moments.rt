@@ -10,7 +10,7 @@ use std::collections::BTreeMap;
 use trouble_code::Dtc;
 
 /// How many values are kept of a moment, at most.
-pub const MOMENT_VALUES: usize = 12;
+pub const MOMENT_VALUES: usize = 8;
 
 /// How many moments are kept, and of how many codes, at most.
 pub const MOMENTS: usize = 512;
@@ -55,12 +55,17 @@ impl Moments {
         }
     }
 
-    /// The values at the first time of a code of a unit.
-    pub(crate) fn of(&self, unit: &DrawnUnit, code: Dtc) -> &[MomentValue] {
-        let Some(place) = self.codes.get(&unit_code(unit, code)) else {
-            return &[];
-        };
-        match self.moments.get(*place) {
+    /// Which moment is the first time of a code of a unit.
+    pub(crate) fn place_of(&self, unit: &DrawnUnit, code: Dtc) -> Option<usize> {
+        match self.codes.get(&unit_code(unit, code)) {
+            Some(place) => Some(*place),
+            None => None,
+        }
+    }
+
+    /// The values of a moment.
+    pub(crate) fn values(&self, place: usize) -> &[MomentValue] {
+        match self.moments.get(place) {
             Some(values) => values.as_slice(),
             None => &[],
         }

@@ -1,5 +1,5 @@
 use crate::curve::{CurvePoint, MOST_POINTS};
-use crate::moments::{MOMENTS, MOMENT_VALUES, MomentValue, Moments};
+use crate::moments::{MOMENT_VALUES, MOMENTS, MomentValue, Moments};
 use crate::series::{SeriesKey, SignalSeries, value_units};
 use crate::unit::DrawnUnit;
 use crate::value_range::ToldValue;
@@ -52,9 +52,14 @@ impl ValuesInLog {
         &self.series
     }
 
-    /// The values at the moment at which a unit first listed a code by DM1; none where that is not kept.
-    pub fn at_first(&self, unit: &DrawnUnit, code: Dtc) -> &[MomentValue] {
-        self.moments.of(unit, code)
+    /// Which moment it was at which a unit first listed a code by DM1, where that is kept.
+    pub fn first_moment(&self, unit: &DrawnUnit, code: Dtc) -> Option<usize> {
+        self.moments.place_of(unit, code)
+    }
+
+    /// The values at a moment.
+    pub fn at_moment(&self, place: usize) -> &[MomentValue] {
+        self.moments.values(place)
     }
 
     /// How many values of further signals are not kept.

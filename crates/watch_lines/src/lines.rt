@@ -149,13 +149,7 @@ impl<'a, W: Write, E: Write> LineWatch<'a, W, E> {
     fn write_last(&mut self, since: Option<&[SinceThen]>) -> Result<(), LogFault> {
         let options = &self.options.reports;
         match options.form {
-            WatchForm::Html => write_page(
-                self.writer,
-                self.alloc,
-                self.heard,
-                self.options,
-                since,
-            ),
+            WatchForm::Html => write_page(self.writer, self.alloc, self.heard, self.options, since),
             _ => {
                 let part = ReportPart::Last {
                     is_all: !self.is_anew,

@@ -74,9 +74,10 @@ pub(crate) fn mark_values(
     place: usize,
     one: &BusWatch,
 ) -> Result<(), LogFault> {
-    let (Some(values), Some(WatchChange::Entry { who, kind })) =
-        (kept.values_mut(), one.changes.change)
-    else {
+    let (Some(values), Some(WatchChange::Entry { who, kind })) = (
+        kept.values_mut(),
+        one.changes.change,
+    ) else {
         return Ok(());
     };
     if kind != Kind::Dm1 {

@@ -44,11 +44,19 @@ fn write_active<W: Write>(
             write_lamp(page, words, ever, lamp);
         }
     }
-    for code in listed_of(ever.codes()) {
+    let codes = listed_of(ever.codes());
+    for (place, code) in codes.iter().enumerate() {
         page.markup("<div>");
         write_code(page, words, code);
         page.markup("</div>");
-        write_at_first(page, view, words, unit, code.code);
+        write_at_first(
+            page,
+            view,
+            words,
+            unit,
+            code,
+            codes.get(place.saturating_add(1)),
+        );
     }
     write_more(page, ever);
     write_last_heard(page, words, ever.last_heard());

@@ -7,12 +7,12 @@ use crate::view::View;
 use crate::words::PageWords;
 use log_lines::Fraction;
 use picture::{
-    Curve, DrawnUnit, MomentValue, SeriesKey, SignalSeries, SignalsInLog, ToldValue, value_of,
+    Curve, DrawnUnit, EverCode, MomentValue, SeriesKey, SignalSeries, SignalsInLog, ToldValue,
+    value_of,
 };
 use safe_text::Page;
 use signal_values::Signal;
 use std::io::Write;
-use trouble_code::Dtc;
 
 /// How large the page may be when a further signal is begun, in bytes, and how many signals are listed at most.
 const ROOM: u64 = 4_200_000;
@@ -31,11 +31,7 @@ const HEIGHT: u128 = 28;
 
 /// Writes the values of signals, where they are kept: a row for each signal of each unit with the newest value, the least, the greatest and
 /// how it went; of very many the first, and how many further ones there are.
-pub(crate) fn write_values<W: Write>(
-    page: &mut Page<W>,
-    view: &View<'_>,
-    words: &PageWords<'_>,
-) {
+pub(crate) fn write_values<W: Write>(page: &mut Page<W>, view: &View<'_>, words: &PageWords<'_>) {
     let Some(values) = &view.values else {
         return;
     };
@@ -127,12 +123,7 @@ fn write_number<W: Write>(
 }
 
 /// A value with its unit of measure.
-fn write_value<W: Write>(
-    page: &mut Page<W>,
-    words: &PageWords<'_>,
-    signal: &Signal,
-    units: i128,
-) {
+fn write_value<W: Write>(page: &mut Page<W>, words: &PageWords<'_>, signal: &Signal, units: i128) {
     page.made_text(value_of(signal, units).to_string(words.alloc));
     if !signal.unit.is_empty() {
         page.markup(" ");
@@ -208,23 +199,29 @@ fn height_within(below: u128, range: u128) -> u64
     height.min(HEIGHT) as u64
 }
 
-/// Writes the values at the moment at which a unit first listed a code by DM1, where any are kept.
+/// Writes the values at the moment at which a unit first listed a code by DM1, where any are kept, and it did not list the next code
+/// first at the same one.
 pub(crate) fn write_at_first<W: Write>(
     page: &mut Page<W>,
     view: &View<'_>,
     words: &PageWords<'_>,
     unit: &DrawnUnit,
-    code: Dtc,
+    code: &EverCode,
+    next: Option<&EverCode>,
 ) {
     let Some(values) = &view.values else {
         return;
     };
-    let told = values.values.at_first(unit, code);
-    if told.is_empty() {
+    let Some(moment) = values.values.first_moment(unit, code.code) else {
         return;
+    };
+    if let Some(next) = next {
+        if values.values.first_moment(unit, next.code) == Some(moment) {
+            return;
+        }
     }
-    page.markup("<div class=\"then\">At its first time: ");
-    write_all_at_first(page, words, values, told);
+    page.markup("<div class=\"then\">At that first time: ");
+    write_all_at_first(page, words, values, values.values.at_moment(moment));
     page.markup("</div>");
 }
 

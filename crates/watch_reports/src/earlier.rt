@@ -33,12 +33,14 @@ pub fn read_visit(alloc: Global, file: &[u8]) -> Result<EarlierVisit, SheetFault
 const BEGIN: &[u8] = b"{\"event\":\"report\",";
 
 /// That the last line is no report.
-const NO_REPORT: RowFault<'static> =
-    RowFault::NoValue("file", "its last line", "a report, as watch --format json writes it");
+const NO_REPORT: RowFault<'static> = RowFault::NoValue(
+    "file",
+    "its last line",
+    "a report, as watch --format json writes it",
+);
 
 /// That a report can't be read.
-const NO_VISIT: RowFault<'static> =
-    RowFault::NoValue("report", "it", "JSON as watch writes it");
+const NO_VISIT: RowFault<'static> = RowFault::NoValue("report", "it", "JSON as watch writes it");
 
 /// What is wrong with a line.
 fn refused(alloc: Global, number: u64, fault: RowFault<'_>) -> SheetFault {

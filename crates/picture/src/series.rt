@@ -1,7 +1,7 @@
 ghost use Rattle.std.specs.Prelude.{◌≡◌, ◌+ℤ◌, ◌*ℤ◌, IfSome};
 ghost use Rattle.signal_values.specs.Bits.{raw_of};
 ghost use Rattle.signal_values.specs.Presence.{IsThere};
-ghost use Rattle.signal_values.specs.Values.{bits_as_number, decimal_units};
+ghost use Rattle.signal_values.specs.Values.{bits_as_number, decimal_units, sense_of};
 
 use crate::curve::Curve;
 use crate::unit::DrawnUnit;
@@ -57,6 +57,7 @@ impl SignalSeries {
 /// as a number, times the factor, and the offset. None where it is not there, is an error or not available.
 pub(crate) fn value_units(signal: &Signal, bytes: &[u8], page: Option<u64>) -> Option<i128>
     ensures there { IfSome result (λ units. IsThere signal.now bytes.now page) }
+    ensures sense { let l = signal.now.layout in IfSome result (λ units. sense_of l.is_signed l.field.count (raw_of l.field bytes.now) ≡ Sense.Value) }
     ensures value { let l = signal.now.layout in IfSome result (λ units. units ≡
         (bits_as_number l.is_signed l.field.count (raw_of l.field bytes.now) *ℤ l.scaling.factor) +ℤ l.scaling.offset) }
 {

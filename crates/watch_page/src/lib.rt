@@ -23,6 +23,7 @@ mod style;
 mod table;
 mod values;
 mod view;
+mod vins;
 mod words;
 
 pub use page::write_page;

@@ -9,6 +9,7 @@ use crate::style::style;
 use crate::table::write_table;
 use crate::values::write_values;
 use crate::view::View;
+use crate::vins::write_vins;
 use crate::words::PageWords;
 use bus_watch::BusWatch;
 use log_lines::{DurationWords, Fraction};
@@ -57,6 +58,7 @@ fn write_head<W: Write>(page: &mut Page<W>, view: &View<'_>, words: &PageWords<'
     write_count(page, "", view.picture.lines(), " lines");
     write_buses(page, view.buses);
     page.markup("</p>\n");
+    write_vins(page, view);
 }
 
 fn write_title<W: Write>(page: &mut Page<W>, title: &str) {

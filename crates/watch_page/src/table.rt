@@ -9,11 +9,12 @@ use crate::pieces::{write_between, write_count};
 use crate::silence::write_silence;
 use crate::standing::{ALL_ORDERS, Listed, Presence, Standing};
 use crate::view::View;
+use crate::vins::write_vin;
 use crate::words::PageWords;
 use bus_watch::{EntryRun, Watch, Who};
 use candump_line::Time;
 use dm_messages::{Kind, Trouble};
-use dm_words::{AsciiText, unread_parts};
+use dm_words::unread_parts;
 use log_lines::Fraction;
 use name_field::Name;
 use picture::{DrawnUnit, Sender};
@@ -206,19 +207,6 @@ fn write_who<W: Write>(page: &mut Page<W>, view: &View<'_>, unit: &DrawnUnit) {
     page.markup("</div>");
     write_vin(page, view, unit);
     page.markup("</td>");
-}
-
-/// The VIN of a unit, where it told one.
-fn write_vin<W: Write>(page: &mut Page<W>, view: &View<'_>, unit: &DrawnUnit) {
-    let Some((watch, who)) = view.watched(unit) else {
-        return;
-    };
-    let vin = watch.vin(who);
-    if !vin.is_empty() {
-        page.markup("<div class=\"name\">VIN ");
-        page.made_text(AsciiText(vin).to_string(view.alloc));
-        page.markup("</div>");
-    }
 }
 
 fn write_address<W: Write>(page: &mut Page<W>, address: Option<u8>, presence: Presence) {

@@ -52,7 +52,7 @@ pub(crate) fn write_values<W: Write>(page: &mut Page<W>, view: &View<'_>, words:
 
 /// The head of the table.
 fn head() -> &'static str {
-    "<h2>Values</h2>\n<table role=\"table\"><thead role=\"rowgroup\"><tr role=\"row\"><th role=\"columnheader\">Signal</th>\
+    "<h2>Values</h2>\n<table role=\"table\" class=\"values\"><thead role=\"rowgroup\"><tr role=\"row\"><th role=\"columnheader\">Signal</th>\
 <th role=\"columnheader\">Unit</th><th role=\"columnheader\" class=\"num\">Newest</th><th role=\"columnheader\" class=\"num\">Least</th>\
 <th role=\"columnheader\" class=\"num\">Greatest</th><th role=\"columnheader\">How it went</th></tr></thead><tbody role=\"rowgroup\">\n"
 }
@@ -131,12 +131,12 @@ fn write_value<W: Write>(page: &mut Page<W>, words: &PageWords<'_>, signal: &Sig
     }
 }
 
-/// A line through the greatest and the least value of each stretch of time, from the first to the last.
+/// A line through the greatest and the least value of each stretch of time, from the first to the last; none where all are the same.
 fn write_curve<W: Write>(page: &mut Page<W>, one: &SignalSeries) {
     let Some(curve) = &one.curve else {
         return;
     };
-    if curve.points().len() < 2 {
+    if curve.points().len() < 2 || one.range.least.units == one.range.greatest.units {
         return;
     }
     page.markup(curve_begin());

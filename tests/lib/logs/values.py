@@ -116,7 +116,7 @@ def values_that_are_kept():
 def values_at_first_times():
     """On the page a code's first time has the values that came within 10 s before it, the engine's speed first; of one moment once; and a curve."""
     claim, engine = "18EEFF00#A000000000000000", "0CF00400#00000020030000FF"
-    frames = [claim, engine, "18FECA00#04FFB8040301FFFF", "0CF00400#00000020040000FF", "18FECA00#04FFB8040301BE000201", *["0CF00400#00000020050000FF"] * 3]
+    frames = [claim, engine, "18FECA00#04FFB8040301FFFF", "0CF00400#00000020040000FF", "18FECA00#04FFBE000201FFFF", *["0CF00400#00000020050000FF"] * 3]
     log = "".join(f"({at}.000000) can0 {it}\n" for at, it in enumerate(frames, 1)).encode()
     page = run(["watch", "--signals", FILE, "--format", "html"], log)[1]
     text = re.sub(r"<[^>]*>", "", page)

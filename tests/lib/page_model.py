@@ -253,6 +253,10 @@ class Page:
         buses = ", ".join(it["bus"] for it in self.report.get("buses", []) if it["bus"])
         return f"{duration(self.end - self.start)}), {self.report['lines']['all']} lines" + (f", bus {buses}" if buses else "") + "</p>"
 
+    def vins(self):
+        """Those that units told, of which the page has up to three in its head."""
+        return {" ".join(row["vin"].split()) for row in self.report["rows"] if "vin" in row}
+
     def place(self, time):
         """Where a time stands, in percent of the width."""
         return 100 * (time - self.start) / max(1, self.end - self.start)
@@ -413,6 +417,11 @@ def text_of(markup):
 def tight(text):
     """The same text where the page has elements that touch."""
     return re.sub(r" ([;:,.])", r"\1", text)
+
+
+def vins_of(page):
+    """The VINs in its head."""
+    return [text_of(it) for it in re.findall(r'<p class="vin">VIN <b>(.*?)</b></p>', page)]
 
 
 def rows_of(page):

@@ -30,7 +30,7 @@ pub struct SignalSeries {
 
 impl SignalSeries {
     /// Of one value.
-    pub(crate) fn of(alloc: Global, value: ToldValue, has_curve: bool) -> SignalSeries {
+    pub(crate) fn of(alloc: Global, value: &ToldValue, has_curve: bool) -> SignalSeries {
         SignalSeries {
             range: ValueRange::of(value),
             curve: if has_curve {
@@ -45,8 +45,8 @@ impl SignalSeries {
     ///
     /// # Errors
     /// Memory was refused: it is not drawn.
-    pub(crate) fn draw(&mut self, value: ToldValue) -> Result<(), AllocError> {
-        match (&mut self.curve, value.time) {
+    pub(crate) fn draw(&mut self, value: &ToldValue) -> Result<(), AllocError> {
+        match (&mut self.curve, &value.time) {
             (Some(curve), Some(time)) => curve.hear(time.micros(), value.units),
             _ => Ok(()),
         }

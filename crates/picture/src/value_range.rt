@@ -23,52 +23,53 @@ pub struct ValueRange {
 impl ValueRange {
     /// Of one value.
     #[tactic(auto, using(crate::proofs::Ranging::one_value))]
-    pub fn of(value: ToldValue) -> ValueRange
-        ensures { RangesOver (value ∷ []) result }
+    pub fn of(value: &ToldValue) -> ValueRange
+        ensures { RangesOver (value.now ∷ []) result }
     {
         ValueRange {
             times: 1,
-            newest: value,
-            least: value,
-            greatest: value,
+            newest: *value,
+            least: *value,
+            greatest: *value,
         }
     }
 
     /// Of one value more.
     #[tactic(auto, using(crate::proofs::Ranging::one_value_more))]
-    pub fn hear(&mut self, value: ToldValue)
-        ensures { (heard : List AToldValue) → RangesOver heard self.old → RangesOver (value ∷ heard) self.new }
+    pub fn hear(&mut self, value: &ToldValue)
+        ensures { (heard : List AToldValue) → RangesOver heard self.old → RangesOver (value.now ∷ heard) self.new }
     {
-        let (least, greatest) = (lesser(self.least, value), greater(self.greatest, value));
+        let least = lesser(&self.least, value);
+        let greatest = greater(&self.greatest, value);
         self.times = self.times.saturating_add(1);
-        self.newest = value;
+        self.newest = *value;
         self.least = least;
         self.greatest = greatest;
     }
 }
 
 /// The lesser of two values; of equal ones the one before.
-fn lesser(before: ToldValue, value: ToldValue) -> ToldValue
-    ensures which { (result ≡ before) ⊎ (result ≡ value) }
-    ensures before { result.units ≤ℤ before.units }
-    ensures value { result.units ≤ℤ value.units }
+fn lesser(before: &ToldValue, value: &ToldValue) -> ToldValue
+    ensures which { (result ≡ before.now) ⊎ (result ≡ value.now) }
+    ensures before { result.units ≤ℤ before.now.units }
+    ensures value { result.units ≤ℤ value.now.units }
 {
     if value.units < before.units {
-        value
+        *value
     } else {
-        before
+        *before
     }
 }
 
 /// The greater of two values; of equal ones the one before.
-fn greater(before: ToldValue, value: ToldValue) -> ToldValue
-    ensures which { (result ≡ before) ⊎ (result ≡ value) }
-    ensures before { before.units ≤ℤ result.units }
-    ensures value { value.units ≤ℤ result.units }
+fn greater(before: &ToldValue, value: &ToldValue) -> ToldValue
+    ensures which { (result ≡ before.now) ⊎ (result ≡ value.now) }
+    ensures before { before.now.units ≤ℤ result.units }
+    ensures value { value.now.units ≤ℤ result.units }
 {
     if before.units < value.units {
-        value
+        *value
     } else {
-        before
+        *before
     }
 }

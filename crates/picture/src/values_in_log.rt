@@ -86,15 +86,15 @@ impl ValuesInLog {
         for (place, signal) in group.signals().iter().enumerate() {
             if let Some(units) = value_units(signal, frame.bytes(), page) {
                 let key = key_of(unit, id.source(), id.pgn(), place);
-                self.keep(key, ToldValue { units, time: *time })?;
+                self.keep(&key, &ToldValue { units, time: *time })?;
             }
         }
         Ok(())
     }
 
     /// Keeps a value of a signal, where there is room.
-    fn keep(&mut self, key: SeriesKey, value: ToldValue) -> Result<(), AllocError> {
-        if let Some(one) = self.series.get_mut(&key) {
+    fn keep(&mut self, key: &SeriesKey, value: &ToldValue) -> Result<(), AllocError> {
+        if let Some(one) = self.series.get_mut(key) {
             one.range.hear(value);
             return one.draw(value);
         }
@@ -104,7 +104,7 @@ impl ValuesInLog {
         }
         let mut one = SignalSeries::of(self.alloc, value, self.has_curves);
         one.draw(value)?;
-        self.series.insert(key, one)?;
+        self.series.insert(*key, one)?;
         Ok(())
     }
 

@@ -74,22 +74,36 @@ pub(crate) fn mark_values(
     place: usize,
     one: &BusWatch,
 ) -> Result<(), LogFault> {
-    let (Some(values), Some(WatchChange::Entry { who, kind })) = (
-        kept.values_mut(),
-        one.changes.change,
-    ) else {
+    let Some(
+        WatchChange::Entry {
+            who,
+            kind: Kind::Dm1,
+        },
+    ) = &one.changes.change
+    else {
         return Ok(());
     };
-    if kind != Kind::Dm1 {
-        return Ok(());
-    }
-    if let Some(run) = one.watch.runs(who, kind).last() {
-        values.mark(
-            signals,
-            &unit_of(bus_at(place), who),
-            run.shown.codes.as_slice(),
-            &run.first,
-        )?;
+    if let Some(values) = kept.values_mut() {
+        mark(values, signals, bus_at(place), &one.watch, who)?;
     }
     Ok(())
+}
+
+/// Keeps the values of the moment of a unit's newest DM1.
+fn mark(
+    values: &mut ValuesInLog,
+    signals: &Signals,
+    bus: u16,
+    watch: &Watch,
+    who: &Who,
+) -> Result<(), AllocError> {
+    match watch.runs(*who, Kind::Dm1).last() {
+        Some(run) => values.mark(
+            signals,
+            &unit_of(bus, *who),
+            run.shown.codes.as_slice(),
+            &run.first,
+        ),
+        None => Ok(()),
+    }
 }

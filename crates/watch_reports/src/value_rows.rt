@@ -79,7 +79,7 @@ fn write_signal<W: Write>(report: &mut ReportWriter<'_, W>, key: &SeriesKey, sig
 
 /// The newest value, and the least and the greatest with their times.
 fn write_range<W: Write>(report: &mut ReportWriter<'_, W>, signal: &Signal, one: &SignalSeries) {
-    let range = one.range;
+    let range = &one.range;
     let newest = value_of(signal, range.newest.units);
     write!(report, ",{newest}");
     write_one(report, signal, &range.least);

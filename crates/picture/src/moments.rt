@@ -148,8 +148,12 @@ fn order_of(unit: &DrawnUnit, signals: &Signals, key: &SeriesKey) -> Option<usiz
     if key.unit.bus != unit.bus {
         return None;
     }
-    let rank = rank_of(spn_of(signals, key));
-    Some(2 * rank + usize::from(key.unit != *unit))
+    let order = rank_of(spn_of(signals, key)).saturating_mul(2);
+    if key.unit == *unit {
+        Some(order)
+    } else {
+        Some(order.saturating_add(1))
+    }
 }
 
 /// The place of a parameter among those that come first; behind them where it is none.

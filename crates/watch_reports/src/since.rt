@@ -17,9 +17,16 @@ pub(crate) fn write_lines<W: Write>(
     told: &Reported<'_>,
     options: &ReportOptions<'_>,
 ) {
-    let Some(changes) = told.since else {
-        return;
-    };
+    if let Some(changes) = told.since {
+        write_each_line(report, options, changes);
+    }
+}
+
+fn write_each_line<W: Write>(
+    report: &mut ReportWriter<'_, W>,
+    options: &ReportOptions<'_>,
+    changes: &[SinceThen],
+) {
     for change in changes {
         write_line(report, options, change);
     }
@@ -63,17 +70,24 @@ pub(crate) fn write_objects<W: Write>(
     told: &Reported<'_>,
     options: &ReportOptions<'_>,
 ) {
-    let Some(changes) = told.since else {
-        return;
-    };
-    report.text(",\"since\":[");
+    if let Some(changes) = told.since {
+        report.text(",\"since\":[");
+        write_each_object(report, options, changes);
+        report.text("]");
+    }
+}
+
+fn write_each_object<W: Write>(
+    report: &mut ReportWriter<'_, W>,
+    options: &ReportOptions<'_>,
+    changes: &[SinceThen],
+) {
     let mut before = "{";
     for change in changes {
         report.text(before);
         write_object(report, options, change);
         before = ",{";
     }
-    report.text("]");
 }
 
 fn write_object<W: Write>(

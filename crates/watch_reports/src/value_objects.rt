@@ -14,19 +14,24 @@ pub(crate) fn write_values<W: Write>(report: &mut ReportWriter<'_, W>, told: &Re
         return;
     };
     report.text(",\"values\":[");
-    let mut before = "{";
+    let mut is_first = true;
     for (key, one) in values.values.series() {
         if report.has_failed() {
             return;
         }
         if let Some(signal) = values.signal_of(key) {
-            report.text(before);
+            report.text(opening(is_first));
             write_series(report, told, key, signal, one);
-            before = ",{";
+            is_first = false;
         }
     }
     report.text("]");
     write_left_out(report, values.values.left_out());
+}
+
+/// How an object of a list begins.
+fn opening(is_first: bool) -> &'static str {
+    if is_first { "{" } else { ",{" }
 }
 
 fn write_left_out<W: Write>(report: &mut ReportWriter<'_, W>, left_out: u64) {

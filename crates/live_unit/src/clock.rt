@@ -51,7 +51,7 @@ pub struct UnitClock {
 
 impl UnitClock {
     /// Nothing was written yet, so nothing is put off.
-    pub(crate) fn at_start(alloc: Global) -> UnitClock
+    pub fn at_start(alloc: Global) -> UnitClock
         ensures { result ≡ clock_at_start }
     {
         UnitClock {
@@ -66,7 +66,7 @@ impl UnitClock {
     }
 
     /// The times after a frame of a lane was written.
-    pub(crate) fn write(&mut self, settings: &UnitSettings, lane: Lane, now: u64)
+    pub fn write(&mut self, settings: &UnitSettings, lane: Lane, now: u64)
         ensures { self.new ≡ clock_written settings.now lane now self.old }
     {
         match lane {
@@ -83,7 +83,7 @@ impl UnitClock {
 
     /// The times after a frame was heard: whether the open session was held open by it, and which address the unit, of this NAME,
     /// held before it and holds after it.
-    pub(crate) fn hear(
+    pub fn hear(
         &mut self,
         held_open: bool,
         before: Option<u8>,

@@ -15,6 +15,6 @@ mod waiting;
 
 pub use clock::{ANSWER_WITHIN, HELD_FOR, UnitClock, UnitSettings};
 pub use error::LiveError;
-pub use node::{Act, LiveNode};
-pub use queue::QueueCounts;
+pub use node::{Act, LiveNode, frame_from, lane_due};
+pub use queue::{Lane, MOST_PUT, Queue, QueueCounts};
 pub use unit::LiveUnit;

@@ -471,8 +471,8 @@ fn has_to_tell(memory: &FaultMemory) -> bool
     !memory.active().is_empty() || lamps != 0
 }
 
-/// The lane whose first frame goes at this time.
-fn lane_due(clock: &UnitClock, now: u64, queue: &Queue) -> Option<Lane>
+/// The lane whose first frame goes at this time; its clock and what waits are of a unit, or of a station.
+pub fn lane_due(clock: &UnitClock, now: u64, queue: &Queue) -> Option<Lane>
     ensures { result ≡ times.lane_due clock.now now queue.now }
 {
     if queue.waits(Lane::Claims) {
@@ -498,8 +498,8 @@ fn lane_due(clock: &UnitClock, now: u64, queue: &Queue) -> Option<Lane>
     }
 }
 
-/// When the first frame of some lane will go.
-fn frame_from(clock: &UnitClock, queue: &Queue) -> u64
+/// When the first frame of some lane will go; the greatest number where none waits.
+pub fn frame_from(clock: &UnitClock, queue: &Queue) -> u64
     ensures { (t : ℕ) → t < result → times.lane_due clock.now t queue.now ≡ None }
 {
     if queue.waits(Lane::Claims) {

@@ -12,12 +12,12 @@ use node_core::{Begun, Heard, Out, Outs, Part, Piece, Withdraw};
 use std::alloc::{AllocError, Global};
 use std::marker::Model;
 
-/// The most frames that a unit ever puts.
-pub(crate) const MOST_PUT: u64 = 1 << 63;
+/// The most frames that are ever put.
+pub const MOST_PUT: u64 = 1 << 63;
 
 /// Where a frame waits.
 #[derive(Clone, Copy, PartialEq, Eq)]
-pub(crate) enum Lane {
+pub enum Lane {
     /// Claims of an address, and that none can be claimed.
     Claims,
     /// Acknowledgments, aborts, and what else has a single frame.
@@ -39,7 +39,7 @@ pub struct QueueCounts {
 
 /// What waits to be written, all of it from one address, and counts of what was.
 #[derive(Drop)]
-pub(crate) struct Queue {
+pub struct Queue {
     source: u8,
     claims: Waiting,
     singles: Waiting,
@@ -65,7 +65,7 @@ impl Queue {
     ghost use Rattle.live_unit.specs.Queue.{BalancesOut};
 
     /// A queue in which nothing waits, with room for what may; what will wait is from this address.
-    pub(crate) fn new(alloc: Global, source: u8) -> Result<Queue, AllocError>
+    pub fn new(alloc: Global, source: u8) -> Result<Queue, AllocError>
         ensures { IfOk result (λ q. q ≡ empty_queue source) }
     {
         Ok(Queue {
@@ -81,7 +81,7 @@ impl Queue {
     }
 
     /// What became of the frames that were put.
-    pub(crate) fn counts(&self) -> QueueCounts
+    pub fn counts(&self) -> QueueCounts
         ensures put { result.put ≡ self.now.put }
         ensures written { result.written ≡ self.now.written }
         ensures withdrawn { result.withdrawn ≡ self.now.withdrawn }
@@ -96,15 +96,15 @@ impl Queue {
         }
     }
 
-    /// Whether fewer frames were put than a unit puts at most.
-    pub(crate) fn may_put(&self) -> bool
+    /// Whether fewer frames were put than are ever put.
+    pub fn may_put(&self) -> bool
         ensures { IsTrue result ↔ (self.now.put < MOST_PUT) }
     {
         self.put < MOST_PUT
     }
 
     /// Whether a piece more may wait in each lane.
-    pub(crate) fn has_room(&self) -> bool
+    pub fn has_room(&self) -> bool
         ensures { IsTrue result ↔ HasFreeLanes self.now }
     {
         !self.claims.is_full()
@@ -114,7 +114,7 @@ impl Queue {
     }
 
     /// Whether a frame waits in the lane.
-    pub(crate) fn waits(&self, lane: Lane) -> bool
+    pub fn waits(&self, lane: Lane) -> bool
         ensures { result ≡ waits (lane_of lane self.now) }
     {
         self.lane(lane).frames() > 0
@@ -139,7 +139,7 @@ impl Queue {
     }
 
     /// Takes the first frame of the lane, in which one waits; it counts as written.
-    pub(crate) fn take(&mut self, lane: Lane) -> Out
+    pub fn take(&mut self, lane: Lane) -> Out
         requires { 0 < length (lane_of lane self.old).outs }
         ensures first { slice_get (lane_of lane self.old).outs 0 ≡ Some result }
         ensures takes { TakesFirst lane self.old self.new }
@@ -239,7 +239,7 @@ impl Queue {
     }
 
     /// Withdraws what waits of a session, or all, or nothing; where it is all, what will wait is from `source`.
-    pub(crate) fn withdraw(&mut self, which: Withdraw, source: u8)
+    pub fn withdraw(&mut self, which: Withdraw, source: u8)
         ensures { self.new ≡ after_withdrawing which source self.old }
     {
         match which {
@@ -258,7 +258,7 @@ impl Queue {
 
     /// Puts frames at the end of their lane; `to_all` is whether a message that begins with them goes to all.
     #[tactic(auto, using(crate::proofs::Lanes::putting_piece))]
-    pub(crate) fn put(&mut self, mut put: Outs, to_all: bool)
+    pub fn put(&mut self, mut put: Outs, to_all: bool)
         requires room { HasFreeLanes self.old ⊎ (put ≡ []) }
         requires few { self.old.put + length put < 2 ^ 64 }
         requires from { All (IsSentFrom self.old.source) put }

@@ -1,0 +1,21 @@
+-- A list of which each element up to an index was changed.
+use Rattle.std.proofs.Common.{ℕ, ◌≡◌, ◌+◌, ◌<◌, List, [], ◌∷◌, ◌++◌, length, take, drop, get_or, map, arith, ap, sym, refl, ◌∙◌, get_or-drop}
+use Rattle.std.proofs.lemmas.List.{set, take_more, take_more_set}
+
+map_more : {A : Type 0} (f : A → A) (xs : List A) (x : A) → map f (xs ++ x ∷ []) ≡ map f xs ++ f x ∷ []
+map_more f [] x = refl
+map_more f (y ∷ xs) x = ap (λ (r : List _). f y ∷ r) (map_more f xs x)
+
+-- the element at the index is as it was
+still : {A : Type 0} (xs ys : List A) (i : ℕ) (d : A) → drop i ys ≡ drop i xs → get_or ys i d ≡ get_or xs i d
+still xs ys i d e =
+    let at : i + 0 ≡ i = omega arith in
+    sym (get_or-drop i ys 0 d ∙ ap (λ k. get_or ys k d) at) ∙ ap (λ (l : List _). get_or l 0 d) e ∙ get_or-drop i xs 0 d ∙ ap (λ k. get_or xs k d) at
+
+-- one more is changed
+pub one_more_changed : {A : Type 0} (f : A → A) (xs ys : List A) (i : ℕ) (x v : A) → i < length xs → i < length ys → take i ys ≡ map f (take i xs)
+    → drop i ys ≡ drop i xs → x ≡ get_or ys i x → v ≡ f x → take (i + 1) (set ys i v) ≡ map f (take (i + 1) xs)
+one_more_changed f xs ys i x v lx ly front back is new =
+    let same : get_or xs i x ≡ x = sym (still xs ys i x back) ∙ sym is in
+    take_more_set ys i v ly ∙ (λ k. front k ++ new k ∷ []) ∙ sym (map_more f (take i xs) x) ∙ ap (λ y. map f (take i xs ++ y ∷ [])) (sym same)
+    ∙ ap (map f) (sym (take_more xs i x lx))

@@ -1,0 +1,12 @@
+pub mod Ears
+pub mod Claimers
+pub mod Sources
+pub mod Turning
+pub mod Positives
+pub mod Acknowledging
+pub mod Found
+pub mod Staying
+pub mod Owing
+pub mod Writing
+pub mod Beginning
+pub mod Echoes

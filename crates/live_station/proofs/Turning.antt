@@ -1,0 +1,103 @@
+-- What a station does stays the same from one time to another, where each time that it waits for has come at both or at neither.
+use Rattle.std.proofs.Common.{◌≡◌, ℕ, Bool, true, false, ◌&&◌, nat_le, Option, Some, None, is_some, if◌then◌else◌, refl, ap, ◌∙◌}
+use Rattle.live_unit.specs.Queue.{QueueValue}
+use Rattle.live_unit.specs.Times.{lane_due}
+use Rattle.live_unit.specs.declared.clock.UnitClock.{UnitClock}
+use Rattle.live_unit.specs.declared.queue.Lane.{Lane}
+use Rattle.live_station.specs.Turns.{StagesAlike, due_to_go, has_come, order_due, staged_due, to_command, to_go_by, to_go_from, to_one, unanswered}
+use Rattle.live_station.specs.Working.{WorkingValue, deed_turn, free_turn, is_settled, order_turn, outlook_of, turn_at, turn_behind}
+use Rattle.live_station.specs.declared.order.Order.{Order}
+use Rattle.live_station.specs.declared.order.Order.TheVariants.{Ask, AskClaim, AskAll, AskAllClaims, Clear, Command}
+use Rattle.live_station.specs.declared.open.Asked.{Asked}
+use Rattle.live_station.specs.declared.open.Stage.{Stage}
+use Rattle.live_station.specs.declared.open.Stage.TheVariants as stage
+use Rattle.live_station.specs.declared.open.OpenOrder.{OpenOrder}
+use Rattle.live_station.specs.declared.open.TheConstants.{MOST_TRIES}
+use Rattle.live_station.specs.declared.turn.Deed.{Deed}
+use Rattle.live_station.specs.declared.turn.Deed.TheVariants as deed
+use Rattle.live_station.specs.declared.turn.Outlook.{Outlook}
+use Rattle.live_station.specs.declared.turn.Turn.{Turn}
+use Rattle.live_station.specs.declared.turn.Turn.TheVariants as turn
+use Rattle.live_station.specs.declared.verdict.Finding.TheVariants.{Answered, Silent}
+
+-- a time has come at both or at neither
+abbrev pub Alike : ℕ → ℕ → ℕ → Type 0
+Alike time t now = nat_le time t ≡ nat_le time now
+
+one_alike : (address known : Option ℕ) (by t now : ℕ) → has_come known t ≡ has_come known now → Alike by t now
+    → to_one address known by t ≡ to_one address known by now
+one_alike (Some to) known by t now e f = refl
+one_alike None known by t now e f = rw (e, f) refl
+
+command_alike : (name address : ℕ) (at known : Option ℕ) (t now : ℕ) → has_come known t ≡ has_come known now
+    → to_command name address at known t ≡ to_command name address at known now
+command_alike name address (Some at) known t now e = refl
+command_alike name address None known t now e = rw e refl
+
+go_alike : (order : Order) (v : Outlook) (by t now : ℕ) → Alike v.clear_from t now → has_come v.known_from t ≡ has_come v.known_from now → Alike by t now
+    → to_go_by order v by t ≡ to_go_by order v by now
+go_alike (Ask name kind) v by t now c e f = one_alike v.address v.known_from by t now e f
+go_alike (AskClaim name) v by t now c e f = one_alike v.address v.known_from by t now e f
+go_alike (AskAll kind) v by t now c e f = refl
+go_alike AskAllClaims v by t now c e f = refl
+go_alike (Clear name what) v by t now c e f =
+    rw c (ap (λ (d : Deed). if nat_le v.clear_from now then d else deed.Nothing) (one_alike v.address v.known_from by t now e f))
+go_alike (Command name address) v by t now c e f = command_alike name address v.address v.known_from t now e
+
+from_alike : (held : Option ℕ) (o : OpenOrder) (v : Outlook) (by t now : ℕ) → Alike v.clear_from t now → has_come v.known_from t ≡ has_come v.known_from now
+    → Alike by t now → to_go_from held o v by t ≡ to_go_from held o v by now
+from_alike None o v by t now c e f = refl
+from_alike (Some own) o v by t now c e f =
+    ap (λ (d : Deed). if nat_le MOST_TRIES o.tries then deed.Ends Silent else d) (go_alike o.order v by t now c e f)
+
+unanswered_alike : (order : Order) (o : OpenOrder) (v : Outlook) (until t now : ℕ) → Alike v.clear_from t now
+    → has_come v.known_from t ≡ has_come v.known_from now → Alike until t now → unanswered order o v until t ≡ unanswered order o v until now
+unanswered_alike (Clear name what) o v until t now c e f = refl
+unanswered_alike (Command name address) o v until t now c e f = refl
+unanswered_alike (Ask name kind) o v until t now c e f = from_alike v.held o v until t now c e f
+unanswered_alike (AskClaim name) o v until t now c e f = from_alike v.held o v until t now c e f
+unanswered_alike (AskAll kind) o v until t now c e f = from_alike v.held o v until t now c e f
+unanswered_alike AskAllClaims o v until t now c e f = from_alike v.held o v until t now c e f
+
+staged_alike : (st : Stage) (o : OpenOrder) (v : Outlook) (t now : ℕ) → StagesAlike st v t now → Alike v.clear_from t now
+    → has_come v.known_from t ≡ has_come v.known_from now → staged_due st o v t ≡ staged_due st o v now
+staged_alike (stage.Waits from by) o v t now (a, b) c e =
+    rw a (ap (λ (d : Deed). if nat_le from now then d else deed.Nothing) (from_alike v.held o v by t now c e b))
+staged_alike (stage.Commands own next) o v t now a c e = rw a refl
+staged_alike (stage.Asked asked) o v t now a c e =
+    rw a (ap (λ (d : Deed). if nat_le asked.until now then (if asked.answered then deed.Ends Answered else d) else deed.Nothing)
+    (unanswered_alike o.order o v asked.until t now c e a))
+
+pub order_alike : (o : OpenOrder) (v : Outlook) (t now : ℕ) → StagesAlike o.stage v t now → Alike v.clear_from t now
+    → has_come v.known_from t ≡ has_come v.known_from now → order_due o v t ≡ order_due o v now
+order_alike o v t now a c e = staged_alike o.stage o v t now a c e
+
+-- ---- the station
+
+lane_alike : (c : UnitClock) (q : QueueValue) (t now : ℕ) → Alike c.claim_from t now → Alike c.settled_from t now → Alike c.packet_from t now
+    → lane_due c t q ≡ lane_due c now q
+lane_alike c q t now e f g = rw (e, f, g) refl
+
+-- its open order does the same
+abbrev pub OrdersAlike : WorkingValue → ℕ → ℕ → Type 0
+OrdersAlike s t now = (o : OpenOrder) → s.order ≡ Some o → order_due o (outlook_of s o.order) t ≡ order_due o (outlook_of s o.order) now
+
+order_turn_alike : (s : WorkingValue) (t now : ℕ) (going : Option OpenOrder) → s.order ≡ going → OrdersAlike s t now
+    → order_turn t s going ≡ order_turn now s going
+order_turn_alike s t now None e a = refl
+order_turn_alike s t now (Some o) e a = ap (λ (d : Deed). deed_turn o d) (a o e)
+
+free_alike : (s : WorkingValue) (t now : ℕ) → Alike s.claims_by t now → OrdersAlike s t now → free_turn t s ≡ free_turn now s
+free_alike s t now e a =
+    rw e (ap (λ (x : Turn). if s.asks_claims && nat_le s.claims_by now && is_some s.station.claimer.held then turn.AsksClaims else x) (order_turn_alike s t now s.order refl a))
+
+behind_alike : (lane : Option Lane) (s : WorkingValue) (t now : ℕ) → Alike s.clock.settled_from t now → free_turn t s ≡ free_turn now s
+    → turn_behind lane t s ≡ turn_behind lane now s
+behind_alike (Some lane) s t now e f = refl
+behind_alike None s t now e f = rw e (ap (λ (x : Turn). if is_settled now s then x else turn.Rests) f)
+
+pub turn_alike : (s : WorkingValue) (t now : ℕ) → Alike s.clock.claim_from t now → Alike s.clock.settled_from t now → Alike s.clock.packet_from t now
+    → Alike s.claims_by t now → OrdersAlike s t now → turn_at t s ≡ turn_at now s
+turn_alike s t now a b c d o =
+    ap (λ (l : Option Lane). turn_behind l t s) (lane_alike s.clock s.queue t now a b c)
+    ∙ behind_alike (lane_due s.clock now s.queue) s t now b (free_alike s t now d o)

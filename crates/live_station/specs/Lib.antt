@@ -1,0 +1,6 @@
+pub mod Ear
+pub mod OpenOrders
+pub mod Signs
+pub mod Turns
+pub mod Working
+pub mod Positive

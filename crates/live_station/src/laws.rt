@@ -1,0 +1,45 @@
+ghost use Rattle.std.specs.Prelude.{◌≡◌, ℕ, ◌∷◌, List, None, Some};
+ghost use Rattle.bus_model.specs.Heard.{StationSettings};
+ghost use Rattle.can_frame.specs.FrameValue.{FrameValue};
+ghost use Rattle.can_frame.specs.declared.reading.Reading.{Reading};
+ghost use Rattle.can_frame.specs.declared.reading.Reading.TheVariants.{Frame};
+ghost use Rattle.dm_messages.specs.declared.kind.Kind.{Kind};
+ghost use Rattle.entry_lists.specs.Entries.{with_listed};
+ghost use Rattle.parameter_group.specs.Group.{Group};
+ghost use Rattle.station_table.specs.Listing.{lists_heard};
+ghost use Rattle.station_table.specs.Reactions.{group_reaction};
+ghost use Rattle.station_table.specs.Steps.{after_group};
+ghost use Rattle.live_station.specs.Ear.{entry_of_told, frames_told};
+ghost use Rattle.live_station.specs.Positive.{AcknowledgesClear, IsOutAs, IsPositive, IsSameRequest, IsUndoubted};
+ghost use Rattle.live_station.specs.Working.{WorkingValue, progress_by};
+ghost use Rattle.live_station.specs.declared.open.Asked.{Asked};
+ghost use Rattle.live_station.specs.declared.open.OpenOrder.{OpenOrder};
+ghost use Rattle.live_station.specs.declared.open.Progress.{Progress};
+ghost use Rattle.live_station.specs.declared.open.Stage.TheVariants as stage;
+ghost use Rattle.live_station.specs.declared.order.Clearing.{Clearing};
+ghost use Rattle.live_station.specs.declared.order.Order.TheVariants.{Clear};
+
+/// The lists that were heard of what the station was told are those before, with the entry that a frame lists at the end of its own: so
+/// who keeps what the station puts into its lists has what it was told.
+#[tactic(auto, using(crate::proofs::Found::lists_after_told))]
+pub fn lists_are_what_was_told()
+    ensures { (r : StationSettings) (f : FrameValue) (h : List Reading) (n : ℕ) (k : Kind)
+        → with_listed (entry_of_told r f h) (lists_heard r (frames_told r h)) n k ≡ lists_heard r (frames_told r (Frame f ∷ h)) n k }
+{}
+
+/// A frame by which an open order is found positive is an acknowledgment of the group by which its NAME was asked to clear, from the
+/// address that was asked, which is the NAME's, to the address from which it was asked, which is the station's.
+pub fn positive_is_acknowledged()
+    ensures { (g : Group) (now : ℕ) (s : WorkingValue) (o : OpenOrder) → s.order ≡ Some o → o.found ≡ None → IsPositive (progress_by g now s)
+        → (name : ℕ) × (what : Clearing) × (a : Asked) × (o.order ≡ Clear name what) × (o.stage ≡ stage.Asked a)
+        × AcknowledgesClear g name what a (after_group s.station g) }
+{}
+
+/// A clear that is out stays out only while nothing puts it in doubt: after each frame that the station is told of, the NAME and the
+/// station hold the addresses between which it was written, and the frame claims the station's for nobody else.
+pub fn a_clear_stays_out_undoubted()
+    ensures { (g : Group) (now : ℕ) (s : WorkingValue) (o : OpenOrder) (name : ℕ) (what : Clearing) (a : Asked) (b : Asked) (p : Progress)
+        → s.order ≡ Some o → o.order ≡ Clear name what → o.found ≡ None → o.stage ≡ stage.Asked a
+        → progress_by g now s ≡ Some p → IsOutAs b p
+        → IsUndoubted name a (group_reaction s.station g).withdraw (after_group s.station g) × IsSameRequest a b }
+{}

@@ -1,0 +1,25 @@
+//! A diagnostic station that takes part in a bus that others are on: it hears frames, says which frame it writes when, and carries
+//! out one order at a time, each with one verdict.
+//!
+//! It has no clock and no bus: the time is handed in with each call, in microseconds of any clock that does not go back, and a
+//! frame that it answers is for its caller to write. The frames that it wrote may come back to it, as a bus tells them.
+#![tactic(auto)]
+
+mod echo;
+mod error;
+mod hearing;
+mod laws;
+mod open;
+mod order;
+mod sign;
+mod station;
+mod times;
+mod turn;
+mod verdict;
+
+pub use error::{HearError, OrderError};
+pub use laws::{a_clear_stays_out_undoubted, lists_are_what_was_told, positive_is_acknowledged};
+pub use open::{Asked, OpenOrder, Part, Progress, Stage};
+pub use order::{Clearing, Order};
+pub use station::{LiveStation, Pulled, StationTimes, Told};
+pub use verdict::{Doubt, Finding, Verdict};

@@ -1,0 +1,792 @@
+ghost use Rattle.std.specs.Prelude.{ℕ, ◌≡◌, ◌≢◌, ◌↔◌, ◌⊎◌, ◌≤◌, ◌<◌, ◌+◌, ◌∷◌, [], IfErr, IfOk, IfSome, IsErrOf, IsSome, List, None, Ok, OnErr, OnOk, Some, false, true, option_map};
+ghost use Rattle.can_frame.specs.Fields.{source_of};
+ghost use Rattle.can_frame.specs.declared.address.TheConstants.{GREATEST_ADDRESS as GREATEST};
+ghost use Rattle.can_frame.specs.declared.reading.Reading.{Reading as AnyReading};
+ghost use Rattle.can_frame.specs.declared.reading.Reading.TheVariants.{Frame as FrameRead, Gap as GapRead};
+ghost use Rattle.address_claim.specs.Frames.{claim_source};
+ghost use Rattle.bus_model.specs.Heard.{StationSettings};
+ghost use Rattle.entry_lists.specs.Entries.{HasPut};
+ghost use Rattle.live_unit.specs.Queue.{empty_queue, frames_waiting, putting};
+ghost use Rattle.node_core.specs.Deed.{plain};
+ghost use Rattle.live_unit.specs.declared.queue.TheConstants.{MOST_PUT as MOST};
+ghost use Rattle.station_table.specs.StandsFor.{StandsFor};
+ghost use Rattle.live_station.specs.Ear.{entry_of_told, frames_told};
+ghost use Rattle.live_station.specs.OpenOrders.{begun_order, order_cut_off, unit_named};
+ghost use Rattle.live_station.specs.Turns.{order_due};
+ghost use Rattle.live_station.specs.Working.{DoesDeed, DoesTurn, HearsOnBus, HearsOwnFrame, IsFirstFrom, IsOwedFrom, IsSentFromOwn, IsUnordered, MissesFrames, OwesAll, LacksRoomToHear, SendsWaiting, address_of_name, after_told, after_reaction, after_stranger, asked_for_claims, begun_station, deed_turn, hearing_on, missing_on, outlook_of, progress_by_stranger, settled_since, still_open, told_of_it, turn_at, verdict_of, with_first};
+ghost use Rattle.live_station.specs.Ear as ear;
+ghost use Rattle.live_station.specs.Working as spec;
+ghost use Rattle.live_unit.specs.Queue.{HasFreeLanes};
+ghost use Rattle.live_unit.specs.Times.{lane_due};
+ghost use Rattle.live_unit.specs.Waits.{later};
+ghost use Rattle.parameter_group.specs.Group.{group_of};
+ghost use Rattle.parameter_group.specs.Said.{IsLawfulGroup, said};
+ghost use Rattle.can_frame.specs.FrameValue.{FrameValue};
+ghost use Rattle.station_table.specs.Listing.{entry_heard};
+ghost use Rattle.station_table.specs.Reactions.{request_for_claims};
+
+use crate::echo::Echo;
+use crate::error::{HearError, OrderError};
+use crate::hearing::{is_own, may_be_answered};
+use crate::open::{ANSWER_WAIT, OpenOrder, Part, Progress, Sight};
+use crate::order::Order;
+use crate::sign::{Sign, sign_to};
+use crate::times::behind;
+use crate::turn::{Deed, Outlook, Turn};
+use crate::verdict::{Finding, Verdict};
+use bus_model::Change;
+use can_frame::{Frame, Frames, GLOBAL_ADDRESS, GREATEST_ADDRESS, NULL_ADDRESS, Pgn, Reading};
+use entry_lists::{Lists, Row};
+use live_unit::{Lane, Queue, QueueCounts, UnitClock, UnitSettings, frame_from, lane_due};
+use name_field::Name;
+use node_core::{Outs, Withdraw};
+use parameter_group::ParameterGroup;
+use requests::{Commanded, Request};
+use station_table::{Outcome, Reaction, Station};
+use std::alloc::{AllocError, Global};
+use std::marker::Model;
+use transport::message_part;
+
+/// What a station keeps to, in microseconds.
+#[derive(Clone, Copy)]
+pub struct StationTimes {
+    /// How long it is at least from a frame of a command to the next: 10,000 to 200,000 (SAE J1939-21).
+    pub gap: u64,
+    /// How long it is from the first claim of an address to anything but a claim: 250,000 (SAE J1939-81).
+    pub settle: u64,
+}
+
+/// What came of a frame, or of frames that were missed.
+#[derive(Clone, Copy)]
+pub struct Told {
+    /// What it changed of what the station knows (`bus_model`). A message that ended is in the lists.
+    pub change: Change,
+    /// The verdict of the open order, which it ended.
+    pub verdict: Option<Verdict>,
+    /// Whether it is from the station's own address, and somebody else wrote it.
+    pub stranger: bool,
+}
+
+/// What goes at a time.
+#[derive(Clone, Copy)]
+pub enum Pulled {
+    /// Nothing more.
+    Nothing,
+    /// A frame, which is written, as far as the station knows: there is no way back.
+    Frame {
+        frame: Frame,
+        /// Whether the open order wrote it.
+        of_order: bool,
+    },
+    /// The verdict of the open order, which ended.
+    Verdict(Verdict),
+}
+
+/// A diagnostic station that takes part in a bus that others are on.
+#[derive(Drop)]
+pub struct LiveStation {
+    name: Name,
+    station: Station,
+    queue: Queue,
+    clock: UnitClock,
+    settings: UnitSettings,
+    echo: Echo,
+    asks_claims: bool,
+    claims_by: u64,
+    clear_from: u64,
+    order: Option<OpenOrder>,
+}
+
+impl Model for LiveStation {
+    ghost use Rattle.std.specs.Prelude.{◌≡◌};
+    ghost use Rattle.address_claim.specs.Frames.{claim_source};
+    ghost use Rattle.live_station.specs.Working.{OwesAll, WorkingValue};
+
+    ghost Value = { WorkingValue };
+
+    ghost view = { λ s. record {
+      station = s.station;
+      queue = s.queue;
+      clock = s.clock;
+      settings = s.settings;
+      echo = s.echo;
+      asks_claims = s.asks_claims;
+      claims_by = s.claims_by;
+      clear_from = s.clear_from;
+      order = s.order;
+    } };
+
+    ghost invariant = { λ s. (s.queue.source ≡ claim_source s.station.claimer.held) × (s.name ≡ s.station.claimer.name) × OwesAll s.queue };
+}
+
+impl LiveStation {
+    /// A station of this NAME that holds the address that it wants, 0 to 253, and grants at most so many packets at once, at least
+    /// one. Its claim waits, and behind that a request for the claims of all; it has heard nothing.
+    #[tactic(auto, using(crate::proofs::Sources::owed_claim))]
+    pub fn new(
+        alloc: Global,
+        name: Name,
+        want: u8,
+        grant: u8,
+        times: StationTimes,
+    ) -> Result<LiveStation, AllocError>
+        requires address_fits { want ≤ GREATEST }
+        requires grants { 0 < grant }
+        ensures value { IfOk result (λ s. s ≡ begun_station name want grant times) }
+        ensures stands { IfOk result (λ s. StandsFor (record { name = name; address = want }) grant s.station (frames_told (record { name = name; address = want }) [])) }
+    {
+        let station = Station::new(alloc, name, want, grant);
+        let queue = queue_of(alloc, want, station.start())?;
+        Ok(LiveStation {
+            name,
+            station,
+            queue,
+            clock: UnitClock::at_start(alloc),
+            settings: UnitSettings {
+                gap: times.gap,
+                settle: times.settle,
+                always: false,
+            },
+            echo: Echo::new(alloc)?,
+            asks_claims: true,
+            claims_by: 0,
+            clear_from: 0,
+            order: None,
+        })
+    }
+
+    /// The address that the station holds, 0 to 253.
+    pub fn held(&self) -> Option<u8>
+        ensures { result ≡ self.now.station.claimer.held }
+    {
+        self.station.held()
+    }
+
+    /// What the station knows: units by NAME, their addresses and acknowledgments, and counts.
+    pub fn station(&self) -> &Station
+        ensures { result.now ≡ self.now.station }
+    {
+        &self.station
+    }
+
+    /// What became of its claims and its answers; requests and commands are not among them.
+    pub fn counts(&self) -> QueueCounts
+        ensures put { result.put ≡ self.now.queue.put }
+        ensures written { result.written ≡ self.now.queue.written }
+        ensures withdrawn { result.withdrawn ≡ self.now.queue.withdrawn }
+        ensures waiting { result.waiting ≡ frames_waiting self.now.queue }
+        ensures balanced { result.put ≡ result.written + result.withdrawn + result.waiting }
+    {
+        self.queue.counts()
+    }
+
+    /// From when on frames may go in the station's name beside what waits: none while it holds no address, or a claim of it waits.
+    pub fn free_from(&self) -> Option<u64>
+        ensures { result ≡ settled_since self.now }
+    {
+        if self.station.held().is_some() && !self.queue.waits(Lane::Claims) {
+            Some(self.clock.settled_from)
+        } else {
+            None
+        }
+    }
+
+    /// From when on a NAME without an address counts as unknown: claims were asked for, and are waited for until then. None while they
+    /// are to be asked for.
+    pub fn known_from(&self) -> Option<u64>
+        ensures { result ≡ spec.known_from self.now }
+    {
+        if self.asks_claims {
+            None
+        } else {
+            Some(self.claims_by)
+        }
+    }
+
+    /// What is asked now, if an order is open.
+    pub fn open(&self) -> Option<Order>
+        ensures { result ≡ option_map (λ o. o.order) self.now.order }
+    {
+        match self.order {
+            Some(open) => Some(open.order),
+            None => None,
+        }
+    }
+
+    /// Hears a frame of the bus. What the station owes for it is withdrawn and put; a message that ends goes to the lists; the open
+    /// order looks at it.
+    ///
+    /// A frame of its own, which the bus told it of, changes nothing. One from its own address that it did not write is somebody
+    /// else's: it is told, and an order that is out is in doubt.
+    ///
+    /// Refused: `Full`, where as much waits as there is room for and the frame is a request or one of a session; `OutOfMemory`. Then
+    /// nothing changed.
+    #[tactic(auto, using(crate::proofs::Ears::stands_own, crate::proofs::Ears::entry_own))]
+    pub fn hear<L: Lists>(
+        &mut self,
+        alloc: Global,
+        frame: &Frame,
+        now: u64,
+        lists: &mut L,
+    ) -> Result<Told, HearError>
+        ensures heard { IfOk result (λ t. HearsOnBus frame.now now t self.old self.new) }
+        ensures stands { OnOk result ((r : StationSettings) (grant : ℕ) (h : List AnyReading) → StandsFor r grant self.old.station (frames_told r h)
+            → StandsFor r grant self.new.station (frames_told r (FrameRead frame.now ∷ h))) }
+        ensures listed { OnOk result ((r : StationSettings) (grant : ℕ) (h : List AnyReading) → StandsFor r grant self.old.station (frames_told r h)
+            → HasPut L.Takes lists.old (entry_of_told r frame.now h) lists.new) }
+        ensures full { IsErrOf result HearError.Full ↔ LacksRoomToHear frame.now self.old }
+        ensures only { IfErr result (λ e. (e ≡ HearError.Full) ⊎ (e ≡ HearError.OutOfMemory)) }
+        ensures err { OnErr result (self.new ≡ self.old) }
+        ensures err_lists { OnErr result (lists.new ≡ lists.old) }
+    {
+        let group = ParameterGroup::read(frame);
+        if self.is_own(frame, &group) {
+            return Ok(self.hear_own(frame, now));
+        }
+        if !self.queue.may_put() || !self.queue.has_room() && may_be_answered(&group) {
+            return Err(HearError::Full);
+        }
+        self.hear_told(alloc, &group, now, lists)
+    }
+
+    /// Whether a frame, which says this, is the station's own.
+    fn is_own(&self, frame: &Frame, group: &ParameterGroup<'_>) -> bool
+        requires { said group.now ≡ group_of frame.now }
+        ensures { result ≡ ear.is_own self.now.station.claimer frame.now }
+    {
+        is_own(self.name, self.station.held(), group, frame.id().source())
+    }
+
+    /// Hears what a frame says that the station is told of.
+    ///
+    /// Refused: `OutOfMemory`; then nothing changed.
+    #[tactic(auto, using(crate::proofs::Claimers::named_as_before, crate::proofs::Sources::reacts_with_room))]
+    fn hear_told<L: Lists>(
+        &mut self,
+        alloc: Global,
+        group: &ParameterGroup<'_>,
+        now: u64,
+        lists: &mut L,
+    ) -> Result<Told, HearError>
+        requires lawful { IsLawfulGroup group.now }
+        requires few { self.old.queue.put < MOST }
+        requires room { (spec.may_be_answered (said group.now) ≡ false) ⊎ HasFreeLanes self.old.queue }
+        ensures heard { IfOk result (λ t. (self.new ≡ after_told (said group.now) now self.old)
+            × (t ≡ told_of_it (said group.now) now self.old)) }
+        ensures stands { OnOk result ((f : FrameValue) → group_of f ≡ said group.now → (r : StationSettings) (grant : ℕ) (h : List AnyReading)
+            → StandsFor r grant self.old.station h → StandsFor r grant self.new.station (FrameRead f ∷ h)) }
+        ensures listed { OnOk result ((f : FrameValue) → group_of f ≡ said group.now → (r : StationSettings) (grant : ℕ) (h : List AnyReading)
+            → StandsFor r grant self.old.station h → HasPut L.Takes lists.old (entry_heard r (FrameRead f) h) lists.new) }
+        ensures only { IfErr result (λ e. e ≡ HearError.OutOfMemory) }
+        ensures err { OnErr result (self.new ≡ self.old) }
+        ensures err_lists { OnErr result (lists.new ≡ lists.old) }
+    {
+        let before = self.station.held();
+        let Outcome { reaction, change } = self.station.take_group(alloc, group, lists)?;
+        let contested = reaction.withdraw;
+        let after = self.station.held();
+        take_in(&mut self.queue, reaction, after);
+        self.clock.hear(false, before, after, now, self.name);
+        let sign = sign_to(self.order, group, &change);
+        let progress = hear_on(self.order, &self.station, sign, contested, false, now);
+        let verdict = go_on(&mut self.order, progress);
+        Ok(Told {
+            change,
+            verdict,
+            stranger: false,
+        })
+    }
+
+    /// Hears that so many frames were missed: owners and all that is half joined are forgotten, the address is claimed again, and
+    /// the claims of all are asked for.
+    ///
+    /// Refused: `Full`, `OutOfMemory`; then nothing changed.
+    pub fn missed<L: Lists>(
+        &mut self,
+        alloc: Global,
+        count: u32,
+        now: u64,
+        lists: &mut L,
+    ) -> Result<Told, HearError>
+        ensures missed { IfOk result (λ t. MissesFrames count now t self.old self.new) }
+        ensures stands { OnOk result ((r : StationSettings) (grant : ℕ) (h : List AnyReading) → StandsFor r grant self.old.station (frames_told r h)
+            → StandsFor r grant self.new.station (frames_told r (GapRead count ∷ h))) }
+        ensures lists { OnOk result (lists.new ≡ lists.old) }
+        ensures full { IsErrOf result HearError.Full ↔ (MOST ≤ self.old.queue.put) }
+        ensures only { IfErr result (λ e. (e ≡ HearError.Full) ⊎ (e ≡ HearError.OutOfMemory)) }
+        ensures err { OnErr result (self.new ≡ self.old) }
+        ensures err_lists { OnErr result (lists.new ≡ lists.old) }
+    {
+        if !self.queue.may_put() {
+            return Err(HearError::Full);
+        }
+        let before = self.station.held();
+        let Outcome { reaction, change } = self.station.take(alloc, Reading::Gap(count), lists)?;
+        let after = self.station.held();
+        take_in(&mut self.queue, reaction, after);
+        self.clock.hear(false, before, after, now, self.name);
+        self.asks_claims = true;
+        let progress = miss_on(self.order, now);
+        let verdict = go_on(&mut self.order, progress);
+        Ok(Told {
+            change,
+            verdict,
+            stranger: false,
+        })
+    }
+
+    /// A frame of the station's own, or somebody else's from its address.
+    fn hear_own(&mut self, frame: &Frame, now: u64) -> Told
+        ensures own { HearsOwnFrame frame.now now result self.old self.new }
+        ensures station { self.new.station ≡ self.old.station }
+    {
+        let stranger = self.echo.hear(frame);
+        let verdict = if stranger {
+            self.hear_stranger(now)
+        } else {
+            None
+        };
+        Told {
+            change: Change::Nothing,
+            verdict,
+            stranger,
+        }
+    }
+
+    /// Somebody else sends from the station's own address.
+    fn hear_stranger(&mut self, now: u64) -> Option<Verdict>
+        ensures is { self.new ≡ after_stranger now self.old }
+        ensures verdict { result ≡ verdict_of (progress_by_stranger now self.old) }
+    {
+        self.clear_from = now.saturating_add(ANSWER_WAIT);
+        let progress = hear_on(self.order, &self.station, Sign::Nothing, false, true, now);
+        go_on(&mut self.order, progress)
+    }
+
+    /// Opens an order; it is carried out by `pull`, in its time.
+    ///
+    /// Refused, in this order: `Open` while another one is open, `NotAnAddress` for a command to hold 254 or 255. Then nothing
+    /// changed.
+    pub fn order(&mut self, order: Order) -> Result<(), OrderError>
+        ensures ok { OnOk result (self.new ≡ record self.old { order = Some (begun_order order) }) }
+        ensures busy { IsErrOf result OrderError.Open ↔ IsSome self.old.order }
+        ensures err { OnErr result (self.new ≡ self.old) }
+    {
+        if self.order.is_some() {
+            return Err(OrderError::Open);
+        }
+        if let Order::Command { address, .. } = order {
+            if address > GREATEST_ADDRESS {
+                return Err(OrderError::NotAnAddress);
+            }
+        }
+        self.order = Some(OpenOrder::new(order));
+        Ok(())
+    }
+
+    /// What goes at this time: a frame that waits; else a request for claims, where one is due; else what the open order does. Where
+    /// nothing goes, `next` says when to look again, which may be at once.
+    pub fn pull(&mut self, now: u64) -> Pulled
+        ensures turn { DoesTurn (turn_at now self.old) now result self.old self.new }
+        ensures source { IsSentFromOwn result self.old.station }
+        ensures unordered { IsUnordered result self.old.station }
+    {
+        match self.turn(now) {
+            Turn::Rests => Pulled::Nothing,
+            Turn::Writes(lane) => self.write_waiting(lane, now),
+            Turn::AsksClaims => self.ask_claims(now),
+            Turn::Does(open, deed) => self.carry_out(open, deed, now),
+        }
+    }
+
+    /// The input ended: the verdict of the open order, which is cut off.
+    pub fn close(&mut self, now: u64) -> Option<Verdict>
+        ensures verdict { result ≡ option_map (order_cut_off now) self.old.order }
+        ensures closed { self.new ≡ record self.old { order = None } }
+    {
+        let open = self.order.take()?;
+        Some(open.cut_off(now))
+    }
+
+    /// When to look again, at this time or later: before that nothing goes, unless a frame is heard or an order is given. The
+    /// greatest number where nothing waits for its time.
+    pub fn next(&self, now: u64) -> u64
+        ensures idle { (t : ℕ) → now ≤ t → t < result → turn_at t self.now ≡ Turn.Rests }
+        ensures ahead { now ≤ result }
+    {
+        match self.turn(now) {
+            Turn::Rests => self.rests_until(now),
+            _ => now,
+        }
+    }
+
+    /// Until when what a station does stays the same.
+    #[tactic(auto, using(crate::proofs::Turning::turn_alike))]
+    fn rests_until(&self, now: u64) -> u64
+        ensures same { (t : ℕ) → now ≤ t → t < result → turn_at t self.now ≡ turn_at now self.now }
+        ensures ahead { now ≤ result }
+    {
+        behind(now, self.clock.claim_from)
+            .min(behind(now, self.clock.settled_from))
+            .min(behind(now, self.clock.packet_from))
+            .min(behind(now, self.claims_by))
+            .min(self.order_rests_until(now))
+    }
+
+    /// Until when what the open order does stays the same.
+    fn order_rests_until(&self, now: u64) -> u64
+        ensures same { (t : ℕ) → now ≤ t → t < result → (o : OpenOrder) → self.now.order ≡ Some o
+            → order_due o (outlook_of self.now o.order) t ≡ order_due o (outlook_of self.now o.order) now }
+        ensures ahead { now ≤ result }
+    {
+        let Some(going) = self.order else {
+            return u64::MAX;
+        };
+        let outlook = self.outlook(going.order);
+        going.next(outlook, now)
+    }
+
+    /// What it does at a time.
+    fn turn(&self, now: u64) -> Turn
+        ensures { result ≡ turn_at now self.now }
+    {
+        match lane_due(&self.clock, now, &self.queue) {
+            Some(lane) => Turn::Writes(lane),
+            None if self.is_settled(now) => self.free_turn(now),
+            None => Turn::Rests,
+        }
+    }
+
+    /// Whether no claim waits and the station has settled.
+    fn is_settled(&self, now: u64) -> bool
+        ensures { result ≡ spec.is_settled now self.now }
+    {
+        !self.queue.waits(Lane::Claims) && self.clock.settled_from <= now
+    }
+
+    /// What it does where nothing waits that goes.
+    fn free_turn(&self, now: u64) -> Turn
+        ensures { result ≡ spec.free_turn now self.now }
+    {
+        if self.is_to_ask_claims(now) {
+            return Turn::AsksClaims;
+        }
+        self.order_turn(now)
+    }
+
+    /// What its open order does.
+    fn order_turn(&self, now: u64) -> Turn
+        ensures { result ≡ spec.order_turn now self.now self.now.order }
+    {
+        let Some(going) = self.order else {
+            return Turn::Rests;
+        };
+        let outlook = self.outlook(going.order);
+        let deed = going.due(outlook, now);
+        turn_of(going, deed)
+    }
+
+    /// Whether claims are to be asked for at this time.
+    fn is_to_ask_claims(&self, now: u64) -> bool
+        ensures { result ≡ spec.is_to_ask_claims now self.now }
+    {
+        self.asks_claims && self.claims_by <= now && self.station.held().is_some()
+    }
+
+    /// Writes the first frame of a lane.
+    #[tactic(auto, using(live_unit::proofs::Timing::due_waits, crate::proofs::Owing::owes_after_taking, crate::proofs::Owing::owed_in_lane))]
+    fn write_waiting(&mut self, lane: Lane, now: u64) -> Pulled
+        requires due { lane_due self.old.clock now self.old.queue ≡ Some lane }
+        ensures sends { SendsWaiting now lane result self.old self.new }
+        ensures source { IsSentFromOwn result self.old.station }
+        ensures unordered { IsUnordered result self.old.station }
+    {
+        self.clear_from = clear_from_claim(lane, self.clock.claimed, now, self.clear_from);
+        let out = self.queue.take(lane);
+        self.clock.write(&self.settings, lane, now);
+        self.echo.write(out.frame);
+        Pulled::Frame {
+            frame: out.frame,
+            of_order: false,
+        }
+    }
+
+    /// Asks for the claims of all.
+    #[tactic(auto, using(crate::proofs::Sources::request_from_own))]
+    fn ask_claims(&mut self, now: u64) -> Pulled
+        ensures is { self.new ≡ asked_for_claims now self.old }
+        ensures pulled { result ≡ Pulled.Frame (request_for_claims self.old.station.claimer) false }
+        ensures source { IsSentFromOwn result self.old.station }
+    {
+        let request = Request {
+            pgn: Pgn::ADDRESS_CLAIMED,
+            dest: GLOBAL_ADDRESS,
+            source: source_of(self.station.held()),
+        };
+        let frame = request.frame();
+        self.asks_claims = false;
+        self.claims_by = now.saturating_add(ANSWER_WAIT);
+        self.echo.write(frame);
+        Pulled::Frame {
+            frame,
+            of_order: false,
+        }
+    }
+
+    /// What an order sees.
+    fn outlook(&self, order: Order) -> Outlook
+        ensures { result ≡ outlook_of self.now order }
+    {
+        Outlook {
+            held: self.station.held(),
+            address: address_of(&self.station, order),
+            known_from: self.known_from(),
+            clear_from: self.clear_from,
+            packet_from: self.clock.packet_from,
+        }
+    }
+
+    /// Does what the open order does at this time.
+    fn carry_out(&mut self, going: OpenOrder, deed: Deed, now: u64) -> Pulled
+        ensures does { DoesDeed deed now going result self.old self.new }
+        ensures source { IsSentFromOwn result self.old.station }
+        ensures unordered { IsUnordered result self.old.station }
+    {
+        match deed {
+            Deed::Nothing => Pulled::Nothing,
+            Deed::Request { to } => self.write_request(going, to, now),
+            Deed::Command {
+                name,
+                address,
+                part,
+            } => {
+                let command = Commanded { name, address };
+                self.write_part(going, command, part, now)
+            }
+            Deed::Ends(finding) => self.end(going, finding, now),
+        }
+    }
+
+    /// Writes the request of the open order.
+    #[tactic(auto, using(crate::proofs::Sources::request_from_own))]
+    fn write_request(&mut self, going: OpenOrder, to: u8, now: u64) -> Pulled
+        ensures does { DoesDeed (Deed.Request to) now going result self.old self.new }
+        ensures source { IsSentFromOwn result self.old.station }
+        ensures unordered { IsUnordered result self.old.station }
+    {
+        let own = source_of(self.station.held());
+        let request = Request {
+            pgn: going.order.pgn(),
+            dest: to,
+            source: own,
+        };
+        let frame = request.frame();
+        self.order = Some(going.write_request(own, to, now));
+        self.echo.write(frame);
+        Pulled::Frame {
+            frame,
+            of_order: true,
+        }
+    }
+
+    /// Writes a frame of a command.
+    #[tactic(auto, using(crate::proofs::Sources::part_from_own))]
+    fn write_part(&mut self, going: OpenOrder, command: Commanded, part: Part, now: u64) -> Pulled
+        ensures does { DoesDeed (Deed.Command command.name command.address part) now going result self.old self.new }
+        ensures source { IsSentFromOwn result self.old.station }
+        ensures unordered { IsUnordered result self.old.station }
+    {
+        let own = source_of(self.station.held());
+        let payload = command.to_bytes();
+        let frame = message_part(
+            &payload,
+            Pgn::COMMANDED_ADDRESS,
+            own,
+            GLOBAL_ADDRESS,
+            part.number(),
+        );
+        self.order = Some(going.write_part(own, part, now));
+        self.clock.write(&self.settings, Lane::Messages, now);
+        self.echo.write(frame);
+        Pulled::Frame {
+            frame,
+            of_order: true,
+        }
+    }
+
+    /// The open order came to this.
+    fn end(&mut self, going: OpenOrder, finding: Finding, now: u64) -> Pulled
+        ensures does { DoesDeed (Deed.Ends finding) now going result self.old self.new }
+        ensures source { IsSentFromOwn result self.old.station }
+        ensures unordered { IsUnordered result self.old.station }
+    {
+        self.clear_from = clear_from_end(going.order, finding, now, self.clear_from);
+        match go_on(&mut self.order, Some(going.end(finding, now))) {
+            Some(verdict) => Pulled::Verdict(verdict),
+            None => Pulled::Nothing,
+        }
+    }
+}
+
+/// A queue in which a claim of this address waits.
+fn queue_of(alloc: Global, source: u8, claim: Frame) -> Result<Queue, AllocError>
+    requires { IsOwedFrom source claim }
+    ensures is { IfOk result (λ q. q ≡ putting false (plain claim ∷ []) (empty_queue source)) }
+    ensures source { IfOk result (λ q. q.source ≡ source) }
+    ensures owes { IfOk result OwesAll }
+{
+    let mut queue = Queue::new(alloc, source)?;
+    put_one(&mut queue, claim);
+    Ok(queue)
+}
+
+/// Puts a frame.
+#[tactic(auto, using(crate::proofs::Owing::source_after_putting))]
+fn put_one(queue: &mut Queue, frame: Frame)
+    requires room { HasFreeLanes queue.old }
+    requires few { queue.old.put < MOST }
+    requires from { IsOwedFrom queue.old.source frame }
+    requires owes { OwesAll queue.old }
+    ensures is { queue.new ≡ putting false (plain frame ∷ []) queue.old }
+    ensures source { queue.new.source ≡ queue.old.source }
+    ensures owes { OwesAll queue.new }
+{
+    queue.put(Outs::plain(frame), false);
+}
+
+/// What a station does by its open order.
+fn turn_of(going: OpenOrder, deed: Deed) -> Turn
+    ensures { result ≡ deed_turn going deed }
+{
+    match deed {
+        Deed::Nothing => Turn::Rests,
+        deed => Turn::Does(going, deed),
+    }
+}
+
+/// From when on a clear goes behind a frame of a lane: the first claim of an address puts it off.
+fn clear_from_claim(lane: Lane, claimed: bool, now: u64, from: u64) -> u64
+    ensures { (c : UnitClock) → c.claimed ≡ claimed → result ≡ spec.clear_from_claim lane c now from }
+{
+    match lane {
+        Lane::Claims if !claimed => now.saturating_add(ANSWER_WAIT),
+        _ => from,
+    }
+}
+
+/// From when on a clear goes behind an order that ended: a clear that nobody answered puts it off.
+fn clear_from_end(order: Order, finding: Finding, now: u64, from: u64) -> u64
+    ensures { result ≡ spec.clear_from_end order finding now from }
+{
+    match (order, finding) {
+        (Order::Clear { .. }, Finding::Silent) => now.saturating_add(ANSWER_WAIT),
+        _ => from,
+    }
+}
+
+/// Withdraws and puts what a station withdraws and puts, but for a request for claims behind its claim, which waits for its time.
+#[tactic(auto, using(crate::proofs::Owing::owes_after_withdrawing))]
+fn take_in(queue: &mut Queue, reaction: Reaction, held: Option<u8>)
+    requires source { (reaction.withdraw ≡ true) ⊎ (claim_source held ≡ queue.old.source) }
+    requires room { (reaction.withdraw ≡ true) ⊎ (HasFreeLanes queue.old ⊎ (reaction.put ≡ [])) }
+    requires few { queue.old.put < MOST }
+    requires from { IsFirstFrom (claim_source held) reaction.put }
+    requires owes { OwesAll queue.old }
+    ensures is { queue.new ≡ after_reaction reaction (claim_source held) queue.old }
+    ensures source { queue.new.source ≡ claim_source held }
+    ensures owes { OwesAll queue.new }
+{
+    if reaction.withdraw {
+        queue.withdraw(Withdraw::All, source_of(held));
+    }
+    put_first(queue, &reaction.put);
+}
+
+/// Puts the first frame, if there is one.
+#[tactic(auto, using(crate::proofs::Owing::owes_after_first, crate::proofs::Owing::source_after_first, crate::proofs::Owing::first_put, crate::proofs::Owing::none_put, crate::proofs::Owing::first_is))]
+fn put_first(queue: &mut Queue, put: &Frames)
+    requires room { HasFreeLanes queue.old ⊎ (put.now ≡ []) }
+    requires few { queue.old.put < MOST }
+    requires from { IsFirstFrom queue.old.source put.now }
+    requires owes { OwesAll queue.old }
+    ensures is { queue.new ≡ with_first put.now queue.old }
+    ensures source { queue.new.source ≡ queue.old.source }
+    ensures owes { OwesAll queue.new }
+{
+    if let Some(first) = put.as_slice().first() {
+        put_one(queue, *first);
+    }
+}
+
+/// What becomes of the open order where frames were missed.
+fn miss_on(order: Option<OpenOrder>, now: u64) -> Option<Progress>
+    ensures { result ≡ missing_on now order }
+{
+    let going = order?;
+    Some(going.miss(now))
+}
+
+/// What becomes of the open order by what a frame says.
+fn hear_on(
+    order: Option<OpenOrder>,
+    station: &Station,
+    sign: Sign,
+    contested: bool,
+    stranger: bool,
+    now: u64,
+) -> Option<Progress>
+    ensures { result ≡ hearing_on station.now sign contested stranger now order }
+{
+    let going = order?;
+    let sight = Sight {
+        held: station.held(),
+        address: address_of(station, going.order),
+        contested,
+        stranger,
+    };
+    Some(going.hear(sign, sight, now))
+}
+
+/// The open order is so far now, if one is open. Its verdict, where it ended.
+fn go_on(order: &mut Option<OpenOrder>, progress: Option<Progress>) -> Option<Verdict>
+    ensures going { order.new ≡ still_open progress }
+    ensures verdict { result ≡ verdict_of progress }
+{
+    match progress {
+        Some(Progress::Goes(open)) => {
+            *order = Some(open);
+            None
+        }
+        Some(Progress::Ends(verdict)) => {
+            *order = None;
+            Some(verdict)
+        }
+        None => {
+            *order = None;
+            None
+        }
+    }
+}
+
+/// The address of the unit that an order is for.
+fn address_of(station: &Station, order: Order) -> Option<u8>
+    ensures { result ≡ address_of_name station.now (unit_named order) }
+{
+    let Some(name) = order.name() else {
+        return None;
+    };
+    match station.row(name) {
+        Some(Row { address, .. }) => address,
+        None => None,
+    }
+}
+
+/// The address from which a station sends: the one that it holds, or 254.
+fn source_of(held: Option<u8>) -> u8
+    ensures { result ≡ claim_source held }
+{
+    match held {
+        Some(address) => address,
+        None => NULL_ADDRESS,
+    }
+}
